@@ -1,0 +1,24 @@
+-- The root of the theorems.
+pub mod Sums
+pub mod Plans
+pub mod WellFormedTest
+pub mod Degrees
+pub mod Reordering
+pub mod Parts
+pub mod TreeNodes
+pub mod Sides
+pub mod Joining
+pub mod SingleEdges
+pub mod Soundness
+pub mod Splitting
+pub mod Completeness
+pub mod Members
+pub mod AgendaInvariant
+pub mod ClosureSize
+pub mod AgendaRun
+pub mod ClosureRun
+pub mod Range
+pub mod CountBound
+pub mod Goals
+pub mod NonEmpty
+pub mod ClosureAgenda

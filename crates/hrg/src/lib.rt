@@ -1,0 +1,1 @@
+// Hyperedge replacement grammars, their chart parsing and its theorems: definitions in specs/, proofs in proofs/, no code.
