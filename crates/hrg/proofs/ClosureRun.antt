@@ -17,7 +17,9 @@ use Rattle.hrg.specs.Grammars.{Kind, terminal, nonterminal, Edge, Graph,
 use Rattle.hrg.specs.Trees.{unplaced, at, FitsEdge}
 use Rattle.hrg.specs.Items.{Item, active, passive, isOpen, joined, restrict, attach, Covers, Joins, LeafRule, leaf-rule, UnaryRule, terminal-rule, root-rule, BinaryRule, nonterminal-rule, join-rule}
 use Rattle.hrg.specs.AgendaRun.{Conclusion}
-use Rattle.hrg.specs.ClosureRun.{sameList, sameItem, guard, eachTo, every, agree, oneToOne, covering, combine, leafAt, leaves, isTerminal, withEdge, terminalAt, rootAt, kept, unaryOf, nonterminalAt, joinAt, binaryOf}
+use Rattle.hrg.specs.WellFormedTest.{Decides, every}
+use Rattle.hrg.proofs.WellFormedTest.{decides-every}
+use Rattle.hrg.specs.ClosureRun.{sameList, sameItem, guard, eachTo, agree, oneToOne, covering, combine, leafAt, leaves, isTerminal, withEdge, terminalAt, rootAt, kept, unaryOf, nonterminalAt, joinAt, binaryOf}
 
 -- ---- tests
 and-in : (a b : Bool) → T a → T b → T (a && b)
@@ -32,7 +34,7 @@ eq-test : {a b : ℕ} → a ≡ b → T (eqb a b)
 eq-test {a} e = subst (λ (z : ℕ). T (eqb a z)) e (eqb-refl a)
 
 -- ---- equality of items
-list-eq : (xs ys : List ℕ) → T (sameList xs ys) → xs ≡ ys
+pub list-eq : (xs ys : List ℕ) → T (sameList xs ys) → xs ≡ ys
 unfolding sameList
 list-eq [] [] h = refl
 list-eq [] (y ∷ ys) h = absurd h
@@ -46,7 +48,7 @@ list-eq (x ∷ xs) (y ∷ ys) h =
 eqb-same : (n : ℕ) → eqb n n ≡ true
 eqb-same n = eq-eqb n n refl
 
-list-same : (xs : List ℕ) → sameList xs xs ≡ true
+pub list-same : (xs : List ℕ) → sameList xs xs ≡ true
 unfolding sameList
 list-same [] = refl
 list-same (x ∷ xs) = simp (eqb-same, list-same xs)
@@ -103,17 +105,14 @@ module _ {A : Type 0} {i : A} where
       go (inl m) below = (n, omega arith, m)
       go (inr m) below = let t = below m in (t .0, omega (arith, t .1), t .2)
 
+itself : (b : Bool) → Decides b (T b)
+itself b = record { sound = λ t. t; complete = λ t. t }
+
 every-in : (n : ℕ) (t : ℕ → Bool) → ((x : ℕ) → x < n → T (t x)) → T (every n t)
-every-in zero t h = tt
-every-in (suc n) t h = and-in (t n) _ (h n (omega arith)) (every-in n t (λ x l. h x (omega arith)))
+every-in n t h = decides-every n (λ x. itself (t x)) .complete h
 
 of-every : (n : ℕ) (t : ℕ → Bool) → T (every n t) → (x : ℕ) → x < n → T (t x)
-of-every zero t h x l = absurd (not-suc-le-zero l)
-of-every (suc n) t h x l = go (decLt x n) (of-every n t (of-and (t n) _ h .1) x)
-  where
-    go : Dec (x < n) → (x < n → T (t x)) → T (t x)
-    go (yes l) below = below l
-    go (no g) below = rw (let e : x ≡ n = omega arith in e) (of-and (t n) _ h .0)
+of-every n t h = decides-every n (λ x. itself (t x)) .sound h
 
 -- ---- the tests of Joins
 agree-in : (a b : ℕ) → (a < unplaced → b < unplaced → a ≡ b) → T (leb unplaced a || leb unplaced b || eqb a b)

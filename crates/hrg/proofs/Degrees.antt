@@ -8,8 +8,8 @@ use native.Mathlib.Omega.{arith}
 use lib.ListN.{length, getD}
 use lib.Dec.{T, eqb, ltb, ltb→lt, lt→ltb}
 use Rattle.hrg.specs.Counts.{flag, hit, occurs}
-use Rattle.hrg.specs.Grammars.{Edge, Graph, edgeAt}
-use Rattle.hrg.specs.Items.{touches, isBoundary}
+use Rattle.hrg.specs.Grammars.{Edge, Graph, touches, edgeAt}
+use Rattle.hrg.specs.Items.{isBoundary}
 use Rattle.hrg.proofs.Sums.{hit-self, hit-ne, hit-suc, occurs-append}
 
 -- the tentacles at x, those of edge number i counted w i times

@@ -5,11 +5,10 @@ use Prim.Native.Nat.{ℕ, zero, suc, _+_, _≤_, _<_}
 use native.Mathlib.Nat.{not-suc-le-zero, add-assoc}
 use native.Mathlib.Omega.{arith}
 use lib.ListN.{length, getD}
-use Rattle.hrg.specs.Counts.{hit, occurs}
+use Rattle.hrg.specs.Counts.{hit, occurs, Reordered, none, keep, swap, trans}
 use Rattle.hrg.specs.Grammars.{Edge, Graph, Grammar, edgeAt}
 use Rattle.hrg.specs.Trees.{at, images, Tree, apply, Parts, end, edge, tree, edgesOf, edgesIn, innerOf, innerIn, applications, applicationsIn, FitsEdge, Fits, FitsParts}
 use Rattle.hrg.proofs.Sums.{occurs-append}
-use Rattle.hrg.proofs.Reordering.{Reordered, none, keep, swap, trans}
 
 infixr 50 _⧺_
 unfoldable pub _⧺_ : Parts → Parts → Parts

@@ -65,7 +65,7 @@ keep-small true v h = h
 keep-small false v h = omega arith
 
 module _ (G : Grammar) (H : Graph) (good : GrammarOk G) (ok : GraphOk G H) where
-  mask-small : (m : ℕ) (gs : List ℕ) → ((e : ℕ) → occurs e gs ≡ bit m e) → ((e : ℕ) → 0 < occurs e gs → e < length (H .edges)) → m < 2 ^ length (H .edges)
+  pub mask-small : (m : ℕ) (gs : List ℕ) → ((e : ℕ) → occurs e gs ≡ bit m e) → ((e : ℕ) → 0 < occurs e gs → e < length (H .edges)) → m < 2 ^ length (H .edges)
   mask-small m gs edges known = bits-lt (length (H .edges)) m (λ e l. sym (edges e) ∙ none-left (occurs e gs) (λ h. omega (arith, known e h)))
 
   active-in : (r p m : ℕ) (f : List ℕ) (n : ℕ) → p < length (planOf G r) → ActiveTruth G H (ruleOf G r) p m f n → In (active r p m f) (activeRange G H r)

@@ -4,14 +4,8 @@ use mathlib.Core.List.{List, [], _∷_, map}
 use Prim.Native.Nat.{ℕ, zero, suc, _+_, _≤_, _<_}
 use native.Mathlib.Nat.{not-suc-le-zero}
 use native.Mathlib.Omega.{arith}
-use Rattle.hrg.specs.Counts.{hit, occurs}
+use Rattle.hrg.specs.Counts.{hit, occurs, Reordered, none, keep, swap, trans}
 use Rattle.hrg.proofs.Sums.{hit-self, hit-eq}
-
-pub data Reordered {A : Type 0} : List A → List A → Type 0 where
-  none : Reordered [] []
-  keep : {a : A} {xs ys : List A} → Reordered xs ys → Reordered (a ∷ xs) (a ∷ ys)
-  swap : {a b : A} {xs : List A} → Reordered (a ∷ b ∷ xs) (b ∷ a ∷ xs)
-  trans : {xs ys zs : List A} → Reordered xs ys → Reordered ys zs → Reordered xs zs
 
 pub reordered-refl : {A : Type 0} (xs : List A) → Reordered xs xs
 reordered-refl [] = none

@@ -9,7 +9,7 @@ use lib.ListN.{length, getD}
 use lib.Seq.{ext-getD}
 use Rattle.masks.specs.Masks.{bit}
 use Rattle.masks.specs.Laws.{bit-empty}
-use Rattle.hrg.specs.Counts.{hit, occurs, tabulate, upTo}
+use Rattle.hrg.specs.Counts.{hit, occurs, tabulate, upTo, Reordered}
 use Rattle.hrg.specs.Grammars.{Edge, Graph, PlanNode, leaf, introduce, join, Rule, Grammar, cost, ruleOf, lhsOf, rightOf, planOf, planNode, edgeAt, noEdge}
 use Rattle.hrg.specs.Trees.{unplaced, at, images, Tree, apply, Parts, end, edgesOf, edgesIn, internals, innerOf, innerIn, applications, applicationsIn, Fits, FitsParts}
 use Rattle.hrg.specs.Deduction.{Reachable, by-axiom, by-unary, by-binary}
@@ -19,7 +19,7 @@ use Rattle.hrg.specs.WellFormed.{GrammarOk, GraphOk, RuleOk}
 use Rattle.hrg.proofs.Sums.{hit-ne, sum-zero, occurs-sum, occurs-find, occurs-append, occurs-upTo, occurs-past, length-tabulate, at-tabulate, tabulate-ext, images-split}
 use Rattle.hrg.proofs.Plans.{below-leaf, below-introduce, below-join, below-known, below-root, introduce-known}
 use Rattle.hrg.proofs.Degrees.{degree, places, degree-same, degree-pos, degree-zero, zero-or}
-use Rattle.hrg.proofs.Reordering.{Reordered, reordered-of, reordered-map}
+use Rattle.hrg.proofs.Reordering.{reordered-of, reordered-map}
 use Rattle.hrg.proofs.Parts.{fits-reorder}
 use Rattle.hrg.proofs.TreeNodes.{images-pos, tree-inside}
 use Rattle.hrg.proofs.Sides.{tentacles, open-in, open-at-in, length-restrict, restrict-open, restrict-shown, below-in, below-of, images-eq, edgesAt, Side, truth-side}

@@ -10,6 +10,7 @@ use Rattle.hrg.specs.Counts.{hit, occurs, tabulate}
 use Rattle.hrg.specs.Grammars.{Kind, terminal, nonterminal, Edge, Graph, PlanNode, leaf, introduce, join, Rule, Grammar, cost, kindOf, ruleOf, rightOf, planOf, planNode, edgeAt}
 use Rattle.hrg.specs.Trees.{unplaced, at, images}
 use Rattle.hrg.specs.Items.{Item, active, passive, below, isOpen, isOpenAt, joined, restrict, nodeFor, attach}
+use Rattle.hrg.specs.WellFormedTest.{every}
 use Rattle.hrg.specs.AgendaRun.{Conclusion, Rules}
 
 -- ---- equality of items
@@ -41,21 +42,17 @@ abbrev pub eachTo : {A : Type 0} → ℕ → (ℕ → List A) → List A
 eachTo zero f = []
 eachTo (suc n) f = f n ++ eachTo n f
 
--- all numbers below n pass
-abbrev pub every : ℕ → (ℕ → Bool) → Bool
-every zero t = true
-every (suc n) t = let rest = every n t in t n && rest
-
 -- ---- Joins
 unfoldable pub agree : ℕ → List ℕ → List ℕ → Bool
+unfolding every
 agree n f g = every n (λ x. leb unplaced (at f x) || leb unplaced (at g x) || eqb (at f x) (at g x))
 
 unfoldable pub oneToOne : ℕ → List ℕ → Bool
-unfolding occurs hit
+unfolding every occurs hit
 oneToOne n j = every n (λ v. leb (occurs v j) 1)
 
 unfoldable pub covering : Graph → ℕ → List ℕ → Bool
-unfolding isOpen member bit occurs hit
+unfolding every isOpen member bit occurs hit
 covering H m h = every (H .nodes) (λ v. let seen = ltb 0 (occurs v h) in not (isOpen H m v) || seen)
 
 -- the item of rule r at plan node p that two sets and maps make, if they do

@@ -36,3 +36,10 @@ consIf false x xs = xs
 unfoldable pub select : (ℕ → Bool) → List ℕ → List ℕ
 select t [] = []
 select t (x ∷ xs) = consIf (t x) x (select t xs)
+
+-- Two lists have the same members, each as often, in some order.
+pub data Reordered {A : Type 0} : List A → List A → Type 0 where
+  none : Reordered [] []
+  keep : {a : A} {xs ys : List A} → Reordered xs ys → Reordered (a ∷ xs) (a ∷ ys)
+  swap : {a b : A} {xs : List A} → Reordered (a ∷ b ∷ xs) (b ∷ a ∷ xs)
+  trans : {xs ys zs : List A} → Reordered xs ys → Reordered ys zs → Reordered xs zs

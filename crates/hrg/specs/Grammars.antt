@@ -1,7 +1,10 @@
 -- Hypergraphs, productions, plans and grammars. Numbers stand for nodes, edges, symbols and rules, from 0 on (01, 'Lines and columns').
-use mathlib.Core.List.{List, []}
-use Prim.Native.Nat.{ℕ}
+use mathlib.Core.Bool.{Bool, true, false, _&&_, _||_}
+use mathlib.Core.List.{List, [], _∷_}
+use Prim.Native.Nat.{ℕ, suc}
 use lib.ListN.{getD}
+use lib.Dec.{ltb}
+use Rattle.hrg.specs.Counts.{occurs}
 
 -- 000 definition 3, 003 definition 3: terminal and nonterminal symbols, each with its rank.
 pub data Kind : Type 0 where
@@ -21,6 +24,11 @@ pub record Graph : Type 0 where
   pub nodes : ℕ
   pub externals : List ℕ
   pub edges : List Edge
+
+-- whether node x lies on an edge whose number passes the test
+unfoldable pub touches : (ℕ → Bool) → List Edge → ℕ → Bool
+touches t [] x = false
+touches t (e ∷ es) x = (t 0 && ltb 0 (occurs x (e .attachment))) || touches (λ i. t (suc i)) es x
 
 -- A production (000 definition 3, 003 definition 3): an edge with the label lhs is replaced by the right side, which is a graph.
 pub record Production : Type 0 where

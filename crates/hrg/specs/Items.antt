@@ -7,7 +7,7 @@ use lib.ListN.{length}
 use lib.Dec.{eqb, ltb}
 use Rattle.masks.specs.Masks.{member, _∪_, Apart as Disjoint, single, full}
 use Rattle.hrg.specs.Counts.{occurs, tabulate}
-use Rattle.hrg.specs.Grammars.{Edge, Graph, PlanNode, leaf, introduce, join, Rule, Grammar, cost, ruleOf, lhsOf, rightOf, planOf, planNode, edgeAt}
+use Rattle.hrg.specs.Grammars.{Edge, Graph, touches, PlanNode, leaf, introduce, join, Rule, Grammar, cost, ruleOf, lhsOf, rightOf, planOf, planNode, edgeAt}
 use Rattle.hrg.specs.Trees.{unplaced, at, images, FitsEdge}
 use Rattle.hrg.specs.Deduction.{System, Reachable}
 
@@ -28,11 +28,6 @@ unfolding belowWithin
 below pl p = belowWithin pl (suc p) p
 
 -- ---- boundary nodes (000 definition 6; 01 calls them open)
--- whether node x lies on an edge whose number passes the test
-unfoldable pub touches : (ℕ → Bool) → List Edge → ℕ → Bool
-touches t [] x = false
-touches t (e ∷ es) x = (t 0 && ltb 0 (occurs x (e .attachment))) || touches (λ i. t (suc i)) es x
-
 -- 'A graph node in an edge set is open if it is external in the graph or lies on an edge outside the set.'
 unfoldable pub isBoundary : (ℕ → Bool) → Graph → ℕ → Bool
 unfolding touches

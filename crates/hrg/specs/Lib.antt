@@ -2,9 +2,11 @@
 pub mod Counts
 pub mod Grammars
 pub mod Trees
+pub mod Replacement
 pub mod Deduction
 pub mod Items
 pub mod Truth
+pub mod ReplacementTruth
 pub mod WellFormed
 pub mod WellFormedTest
 pub mod Agenda

@@ -26,7 +26,7 @@ betweenTest low n high = leb low n && leb n high
 -- every number below n passes
 unfoldable pub every : ℕ → (ℕ → Bool) → Bool
 every zero t = true
-every (suc n) t = t 0 && every n (λ i. t (suc i))
+every (suc n) t = let rest = every n (λ i. t (suc i)) in t 0 && rest
 
 -- some number below n passes
 unfoldable pub some : ℕ → (ℕ → Bool) → Bool
