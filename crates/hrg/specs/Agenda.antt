@@ -44,14 +44,15 @@ pub record Has {Item : Type 0} (es : List (Entry Item)) (i : Item) (n : ℕ) : T
   pub item : entry .item ≡ i
   pub count : entry .count ≤ n
 
--- At the start the axioms wait.
+-- At the start the axioms wait (01: start 'makes the leaf items present').
 pub record Start {Item : Type 0} (S : System Item) (s : State Item) : Type 0 where
   pub handled : s .handled ≡ []
   pub origin : (e : Entry Item) → In e (s .waiting) → Made S [] e
   pub present : (e : Entry Item) → Made S [] e → Has (s .waiting) (e .item) (e .count)
   pub distinct : Distinct (itemsOf (s .waiting))
 
--- One step from s to t. Which entry of least count is handled is left open, and so is the order of those that wait.
+-- One step from s to t (01: 'One step handles one item: of the items present and not handled, one of least count, joined with all handled
+-- items and graph edges'). Which entry of least count is handled is left open, and so is the order of those that wait.
 pub record Step {Item : Type 0} (S : System Item) (s t : State Item) : Type 0 where
   pub chosen : Entry Item
   pub waits : In chosen (s .waiting)
@@ -63,10 +64,10 @@ pub record Step {Item : Type 0} (S : System Item) (s t : State Item) : Type 0 wh
   pub keeps : (e : Entry Item) → In e (s .waiting) → (e .item ≡ chosen .item) ⊎ Has (t .waiting) (e .item) (e .count)
   -- what one rule makes of handled entries is handled, or waits with no larger count
   pub adds : (e : Entry Item) → Made S (t .handled) e → In (e .item) (itemsOf (t .handled)) ⊎ Has (t .waiting) (e .item) (e .count)
-  -- an item found again is the same item
+  -- 'an item found again is the same item, with the lesser count'
   pub distinct : Distinct (itemsOf (t .handled ++ t .waiting))
 
--- A run does the steps given, or as many as are left.
+-- 'A run does the steps given or as many as are left.'
 pub data Run {Item : Type 0} (S : System Item) : ℕ → State Item → State Item → Type 0 where
   stop : {s : State Item} → Run S 0 s s
   idle : {k : ℕ} {s : State Item} → s .waiting ≡ [] → Run S k s s
