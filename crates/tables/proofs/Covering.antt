@@ -1,0 +1,181 @@
+-- Question 6's masks: the mask of a list has every node exactly where each node stands in the list.
+use mathlib.Core.Path.{_≡_, refl, sym, ap, _∙_, subst}
+use mathlib.Core.Bool.{Bool, true, false, _&&_, _||_, cond}
+use mathlib.Core.List.{List, [], _∷_, _++_}
+use Prim.Native.Nat.{ℕ, zero, suc, _+_, _-_, _*_, _≤_, _<_, min}
+use native.Mathlib.Omega.{arith}
+use native.Mathlib.Numerals.{add-one}
+use native.Mathlib.Decide.{ℕ-discrete, decLt}
+use lib.ListN.{length, getD, take, drop, drop-of-length-le}
+use lib.Seq.{drop-cons}
+use lib.Dec.{T, ltb, leb, eqb}
+use borrow.Author.Tests.{lt-ltb, le-ltb, ltb-true, eq-eqb}
+use Rattle.masks.specs.Masks.{bit, member, _∪_, single, full, Added}
+use Rattle.masks.specs.Laws.{bit-empty, member-union, member-single, member-full, member-true, member-false, true-member, false-member, mask-ext}
+use Rattle.hrg.specs.Counts.{hit, occurs, tabulate}
+use Rattle.hrg.specs.WellFormedTest.{Decides, every}
+use Rattle.hrg.proofs.Sums.{hit-self, hit-ne, length-tabulate}
+use Rattle.hrg.proofs.WellFormedTest.{_and_, decides-le, decides-eq, decides-map, decides-every}
+use Rattle.tables.specs.Layout.{word, rankAt, edgeLabel, graphLabel}
+use Rattle.tables.specs.Marks.{marked, marks}
+use Rattle.tables.specs.Questions.{covered, nodesOnEdges, nodesOnGraph}
+use Rattle.tables.proofs.Listing.{true-is, false-is}
+
+-- ---- loops that mark the numbers of a list
+marked-by : (m x r : ℕ) → Added m x r → r ≡ marked m x
+unfolding marked
+marked-by m x r a = go (decLt x 64)
+  where
+    go : Dec (x < 64) → r ≡ cond (ltb x 64) (m ∪ single x) m
+    go (yes h) = rw (lt-ltb x 64 h) (a .value h)
+    go (no h) = rw (le-ltb x 64 (omega arith)) (a .same (omega arith))
+
+pub marks-next : (l : List ℕ) (n k x m r v : ℕ) → n ≡ length l → k < n → x ≡ getD l k 0 → Added m x r → marks m (drop k l) ≡ v → marks r (drop (k + 1) l) ≡ v
+unfolding marks
+marks-next l n k x m r v w h e a p =
+    ap (λ n. marks n (drop (k + 1) l)) (marked-by m x r a ∙ ap (marked m) e)
+    ∙ ap (λ n. marks (marked m (getD l k 0)) (drop n l)) (add-one k)
+    ∙ sym (ap (marks m) (drop-cons l k 0 (omega arith)))
+    ∙ p
+
+pub marks-done : (l : List ℕ) (n k m v : ℕ) → n ≡ length l → n ≤ k → marks m (drop k l) ≡ v → m ≡ v
+unfolding marks
+marks-done l n k m v w h p = sym (ap (marks m) (drop-of-length-le l {i = k} (omega arith))) ∙ p
+
+pub marks-append : (m : ℕ) (xs ys : List ℕ) → marks m (xs ++ ys) ≡ marks (marks m xs) ys
+unfolding marks
+marks-append m [] ys = refl
+marks-append m (x ∷ xs) ys = marks-append (marked m x) xs ys
+
+-- a list made of a function, in the same terms
+tabulate-at : (n : ℕ) (f : ℕ → ℕ) (k : ℕ) → k < n → getD (tabulate n f) k 0 ≡ f k
+unfolding tabulate
+tabulate-at zero f k h = absurd (omega arith)
+tabulate-at (suc n) f zero h = refl
+tabulate-at (suc n) f (suc k) h = tabulate-at n (λ i. f (suc i)) k (omega arith)
+
+pub line-next : (n : ℕ) (f : ℕ → ℕ) (k x m r v : ℕ) → k < n → x ≡ f k → Added m x r → marks m (drop k (tabulate n f)) ≡ v → marks r (drop (k + 1) (tabulate n f)) ≡ v
+line-next n f k x m r v h e a p =
+    marks-next (tabulate n f) n k x m r v (sym (length-tabulate n f)) h (e ∙ sym (tabulate-at n f k h)) a p
+
+pub line-done : (n : ℕ) (f : ℕ → ℕ) (k m v : ℕ) → n ≤ k → marks m (drop k (tabulate n f)) ≡ v → m ≡ v
+line-done n f k m v h p = marks-done (tabulate n f) n k m v (sym (length-tabulate n f)) h p
+
+-- ---- the edges one by one
+pub edges-none : (g : List ℕ) (r : ℕ) → 0 ≡ marks 0 (nodesOnEdges g r 0)
+unfolding marks nodesOnEdges
+edges-none g r = refl
+
+pub edges-next : (g : List ℕ) (r i label rank m x : ℕ) → label ≡ edgeLabel g r i → rank ≡ rankAt g label → m ≡ marks 0 (nodesOnEdges g r i)
+    → x ≡ marks m (tabulate rank (λ k. word g (66 + 25 * r + i) (1 + k))) → x ≡ marks 0 (nodesOnEdges g r (i + 1))
+unfolding nodesOnEdges
+edges-next g r i label rank m x a b c d = d ∙ rw (b, a, c, add-one) (sym (marks-append 0 (nodesOnEdges g r i) (tabulate (rankAt g (edgeLabel g r i)) (λ k. word g (66 + 25 * r + i) (1 + k)))))
+
+pub edges-done : (g : List ℕ) (r n i x : ℕ) → i ≤ n → n ≤ i → x ≡ marks 0 (nodesOnEdges g r i) → x ≡ marks 0 (nodesOnEdges g r n)
+edges-done g r n i x a b p = p ∙ ap (λ k. marks 0 (nodesOnEdges g r k)) (let e : i ≡ n = omega arith in e)
+
+pub graph-none : (g h : List ℕ) → 0 ≡ marks 0 (nodesOnGraph g h 0)
+unfolding marks nodesOnGraph
+graph-none g h = refl
+
+pub graph-next : (g h : List ℕ) (e label rank m x : ℕ) → label ≡ graphLabel h e → rank ≡ rankAt g label → m ≡ marks 0 (nodesOnGraph g h e)
+    → x ≡ marks m (tabulate rank (λ k. word h (1 + e) (1 + k))) → x ≡ marks 0 (nodesOnGraph g h (e + 1))
+unfolding nodesOnGraph
+graph-next g h e label rank m x a b c d = d ∙ rw (b, a, c, add-one) (sym (marks-append 0 (nodesOnGraph g h e) (tabulate (rankAt g (graphLabel h e)) (λ k. word h (1 + e) (1 + k)))))
+
+pub graph-done : (g h : List ℕ) (n i x : ℕ) → i ≤ n → n ≤ i → x ≡ marks 0 (nodesOnGraph g h i) → x ≡ marks 0 (nodesOnGraph g h n)
+graph-done g h n i x a b p = p ∙ ap (λ k. marks 0 (nodesOnGraph g h k)) (let e : i ≡ n = omega arith in e)
+
+-- ---- the members of a mask of a list
+marked-bit : (m y x : ℕ) → x < 64 → (0 < bit (marked m y) x → 0 < bit m x + hit x y) × (0 < bit m x + hit x y → 0 < bit (marked m y) x)
+unfolding marked hit
+marked-bit m y x h = go (decLt y 64)
+  where
+    either : (p q : Bool) → member (m ∪ single y) x ≡ (p || q) → member m x ≡ p → eqb x y ≡ q
+        → (0 < bit (m ∪ single y) x → 0 < bit m x + hit x y) × (0 < bit m x + hit x y → 0 < bit (m ∪ single y) x)
+    either true q u a b = (λ z. omega (arith, member-true m x a), λ z. omega (arith, member-true (m ∪ single y) x u))
+    either false true u a b = (λ z. rw b (omega arith), λ z. omega (arith, member-true (m ∪ single y) x u))
+    either false false u a b = (λ z. omega (arith, member-false (m ∪ single y) x u), λ z. absurd (omega (arith, member-false m x a, (rw b at z))))
+
+    go : Dec (y < 64) → (0 < bit (cond (ltb y 64) (m ∪ single y) m) x → 0 < bit m x + hit x y) × (0 < bit m x + hit x y → 0 < bit (cond (ltb y 64) (m ∪ single y) m) x)
+    go (yes l) = rw (lt-ltb y 64 l) (either (member m x) (eqb x y) (member-union m (single y) x ∙ ap (λ b. member m x || b) (member-single y x)) refl refl)
+    go (no l) = rw (le-ltb y 64 (omega arith)) (λ z. omega arith, λ z. omega (arith, hit-ne x y (λ e. omega arith)))
+
+pub marks-bit : (l : List ℕ) (m x : ℕ) → x < 64 → (0 < bit (marks m l) x → 0 < bit m x + occurs x l) × (0 < bit m x + occurs x l → 0 < bit (marks m l) x)
+unfolding marks occurs
+marks-bit [] m x h = (λ z. omega arith, λ z. omega arith)
+marks-bit (y ∷ l) m x h =
+    let one = marked-bit m y x h in
+    let rest = marks-bit l (marked m y) x h in
+    (λ z. back (bit (marked m y) x) refl (rest .0 z), λ z. rest .1 (forth (bit m x + hit x y) refl z))
+  where
+    back : (k : ℕ) → bit (marked m y) x ≡ k → 0 < bit (marked m y) x + occurs x l → 0 < bit m x + (hit x y + occurs x l)
+    back zero e z = omega arith
+    back (suc k) e z = omega (arith, marked-bit m y x h .0 (omega arith))
+
+    forth : (k : ℕ) → bit m x + hit x y ≡ k → 0 < bit m x + (hit x y + occurs x l) → 0 < bit (marked m y) x + occurs x l
+    forth zero e z = omega arith
+    forth (suc k) e z = omega (arith, marked-bit m y x h .1 (omega arith))
+
+-- ---- every node
+decided : (nodes : ℕ) (l : List ℕ) → Decides (covered nodes l) ((nodes ≤ 64) × ((x : ℕ) → x < min 64 nodes → 0 < occurs x l))
+unfolding covered
+decided nodes l = decides-le nodes 64 and decides-every (min 64 nodes) (λ x. decides-le 1 (occurs x l))
+
+same-bit : (a b e : ℕ) → member a e ≡ member b e → bit a e ≡ bit b e
+same-bit a b e h = go (member b e) h refl
+  where
+    go : (p : Bool) → member a e ≡ p → member b e ≡ p → bit a e ≡ bit b e
+    go true x y = member-true a e x ∙ sym (member-true b e y)
+    go false x y = member-false a e x ∙ sym (member-false b e y)
+
+pos-member : (m x : ℕ) → 0 < bit m x → member m x ≡ true
+pos-member m x h = go (member m x) refl
+  where
+    go : (b : Bool) → member m x ≡ b → member m x ≡ true
+    go true e = e
+    go false e = absurd (omega (arith, member-false m x e))
+
+or-left : (a b c : Bool) → a ≡ (a || c) → c ≡ true → a ≡ true
+or-left true b c p q = refl
+or-left false b c p q = p ∙ q
+
+-- a mask has every node where adding them all changes nothing
+all-there : (m n : ℕ) → Decides (eqb (m ∪ full n) m) ((x : ℕ) → x < n → 0 < bit m x)
+all-there m n = decides-map (decides-eq (m ∪ full n) m) there back
+  where
+    there : (m ∪ full n) ≡ m → (x : ℕ) → x < n → 0 < bit m x
+    there e x h =
+        let both : member m x ≡ (member m x || member (full n) x) = sym (ap (λ k. member k x) e) ∙ member-union m (full n) x in
+        let inside : member m x ≡ true = or-left (member m x) true (member (full n) x) both (member-full n x ∙ lt-ltb x n h) in
+        omega (arith, member-true m x inside)
+
+    at : ((x : ℕ) → x < n → 0 < bit m x) → (x : ℕ) → Dec (x < n) → member (m ∪ full n) x ≡ member m x
+    at f x (yes h) = member-union m (full n) x ∙ rw (pos-member m x (f x h))
+    at f x (no h) = member-union m (full n) x ∙ rw (member-full n x, le-ltb x n (omega arith)) (no-more (member m x))
+      where
+        no-more : (b : Bool) → (b || false) ≡ b
+        no-more true = refl
+        no-more false = refl
+
+    back : ((x : ℕ) → x < n → 0 < bit m x) → (m ∪ full n) ≡ m
+    back f = mask-ext (m ∪ full n) m (λ x. same-bit (m ∪ full n) m x (at f x (decLt x n)))
+
+same-test : {P : Type 0} (a b : Bool) → Decides a P → Decides b P → a ≡ b
+same-test true b d e = true-is b (e .complete (d .sound tt))
+same-test false true d e = absurd (d .complete (e .sound tt))
+same-test false false d e = refl
+
+pub marks-covered : (nodes : ℕ) (l : List ℕ) → (leb nodes 64 && eqb (marks 0 l ∪ full (min nodes 64)) (marks 0 l)) ≡ covered nodes l
+marks-covered nodes l =
+    same-test (leb nodes 64 && eqb (marks 0 l ∪ full (min nodes 64)) (marks 0 l)) (covered nodes l)
+    (decides-map (decides-le nodes 64 and all-there (marks 0 l) (min nodes 64))
+      (λ p. (p .0, λ x h. omega (arith, marks-bit l 0 x (omega arith) .0 (p .1 x (omega arith)), bit-empty x)))
+      (λ p. (p .0, λ x h. marks-bit l 0 x (omega arith) .1 (omega (arith, p .1 x (omega arith), bit-empty x)))))
+    (decided nodes l)
+
+pub covered-by : (nodes n first m : ℕ) (xs ys : List ℕ) (b : Bool) → n ≡ nodes → first ≡ marks 0 xs → m ≡ marks first ys
+    → b ≡ (leb n 64 && eqb (m ∪ full (min n 64)) m) → b ≡ covered nodes (xs ++ ys)
+covered-by nodes n first m xs ys b e p q w =
+    let all : m ≡ marks 0 (xs ++ ys) = q ∙ ap (λ k. marks k ys) p ∙ sym (marks-append 0 xs ys) in
+    w ∙ rw (e, all) (marks-covered nodes (xs ++ ys))

@@ -1,0 +1,10 @@
+-- The root of the definitions.
+pub mod Layout
+pub mod Storing
+pub mod Questions
+pub mod Marks
+pub mod Reading
+pub mod Checking
+pub mod Abstract
+pub mod Walk
+pub mod TableText
