@@ -1,9 +1,9 @@
 -- Each kind of line: the answer at each of its questions, from the code's tests.
+use Prim.Native.Nat.{ℕ, _+_, _≤_, _<_}
+use native.Mathlib.Omega.{arith}
 use mathlib.Core.Path.{_≡_, refl, sym, ap, _∙_}
 use mathlib.Core.Bool.{Bool, true, false, not, _&&_, _||_}
 use mathlib.Core.List.{List, _++_}
-use Prim.Native.Nat.{ℕ, _+_, _≤_, _<_}
-use native.Mathlib.Omega.{arith}
 use lib.ListN.{length, drop}
 use lib.Dec.{eqb, ltb, leb}
 use borrow.Author.Tests.{eq-eqb, ne-eqb, lt-ltb, le-ltb, le-leb, lt-leb, not-true, not-false}
@@ -239,12 +239,12 @@ module _ (g t : List ℕ) (i : ℕ) (fs : List ℕ) (n s symbols kind : ℕ) (en
   unfolding judgeGraphEdge
   is-T rank er = rw (er, ek, en, es, ec)
 
-  pub tie-3 : not fixed-T ≡ true → 3 ≡ judgeGraphEdge g t i fs
-  tie-3 h = ask-no 3 (rest-T (rankAt g s)) fixed-T h ∙ is-T (rankAt g s) refl
+  pub graph-edge-3 : not fixed-T ≡ true → 3 ≡ judgeGraphEdge g t i fs
+  graph-edge-3 h = ask-no 3 (rest-T (rankAt g s)) fixed-T h ∙ is-T (rankAt g s) refl
 
   module _ (h : not fixed-T ≡ false) (rank : ℕ) (er : rank ≡ rankAt g s) where
-    pub tie-4 : (n ≡ 1 + rank → ⊥) → 4 ≡ judgeGraphEdge g t i fs
-    tie-4 q = ask-yes 3 (rest-T rank) 4 fixed-T h (count-no n (1 + rank) (ask 5 (listed (graphNodes t) (drop 1 fs)) last-T) q) ∙ is-T rank er
+    pub graph-edge-4 : (n ≡ 1 + rank → ⊥) → 4 ≡ judgeGraphEdge g t i fs
+    graph-edge-4 q = ask-yes 3 (rest-T rank) 4 fixed-T h (count-no n (1 + rank) (ask 5 (listed (graphNodes t) (drop 1 fs)) last-T) q) ∙ is-T rank er
 
     module _ (q : n ≡ 1 + rank) (v : ℕ) (ev : v ≡ graphNodes t) (b : Bool) (eb : b ≡ listed v (drop 1 fs)) where
       after-T : (x : ℕ) → x ≡ ask 5 b last-T → x ≡ judgeGraphEdge g t i fs
@@ -253,16 +253,16 @@ module _ (g t : List ℕ) (i : ℕ) (fs : List ℕ) (n s symbols kind : ℕ) (en
           (count-yes n (1 + rank) (ask 5 (listed (graphNodes t) (drop 1 fs)) last-T) x q (w ∙ ap (λ c. ask 5 c last-T) (eb ∙ ap (λ k. listed k (drop 1 fs)) ev)))
           ∙ is-T rank er
 
-      pub tie-5 : not b ≡ true → 5 ≡ judgeGraphEdge g t i fs
-      tie-5 w = after-T 5 (ask-no 5 last-T b w)
+      pub graph-edge-5 : not b ≡ true → 5 ≡ judgeGraphEdge g t i fs
+      graph-edge-5 w = after-T 5 (ask-no 5 last-T b w)
 
       module _ (w : not b ≡ false) (e : ℕ) (ee : e ≡ graphEdges t) where
-        pub tie-open : i + 1 < e → 0 ≡ judgeGraphEdge g t i fs
-        tie-open z = after-T 0 (ask-yes 5 last-T 0 b w (rw (← ee) (open-yet 6 (i + 1) e (covered (graphNodes t) (nodesOnGraph g t i ++ drop 1 fs)) z)))
+        pub graph-edge-open : i + 1 < e → 0 ≡ judgeGraphEdge g t i fs
+        graph-edge-open z = after-T 0 (ask-yes 5 last-T 0 b w (rw (← ee) (open-yet 6 (i + 1) e (covered (graphNodes t) (nodesOnGraph g t i ++ drop 1 fs)) z)))
 
         module _ (z : e ≤ i + 1) (c : Bool) (ecv : c ≡ covered (graphNodes t) (nodesOnGraph g t i ++ drop 1 fs)) where
-          pub tie-6 : not c ≡ true → 6 ≡ judgeGraphEdge g t i fs
-          tie-6 y = after-T 6 (ask-yes 5 last-T 6 b w (rw (← ee, ← ecv) (last-no 6 (i + 1) e c z y)))
+          pub graph-edge-6 : not c ≡ true → 6 ≡ judgeGraphEdge g t i fs
+          graph-edge-6 y = after-T 6 (ask-yes 5 last-T 6 b w (rw (← ee, ← ecv) (last-no 6 (i + 1) e c z y)))
 
-          pub tie-0 : not c ≡ false → 0 ≡ judgeGraphEdge g t i fs
-          tie-0 y = after-T 0 (ask-yes 5 last-T 0 b w (rw (← ee, ← ecv) (last-yes 6 (i + 1) e c z y)))
+          pub graph-edge-0 : not c ≡ false → 0 ≡ judgeGraphEdge g t i fs
+          graph-edge-0 y = after-T 0 (ask-yes 5 last-T 0 b w (rw (← ee, ← ecv) (last-yes 6 (i + 1) e c z y)))

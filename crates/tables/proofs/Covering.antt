@@ -1,25 +1,25 @@
 -- Question 6's masks: the mask of a list has every node exactly where each node stands in the list.
-use mathlib.Core.Path.{_≡_, refl, sym, ap, _∙_, subst}
-use mathlib.Core.Bool.{Bool, true, false, _&&_, _||_, cond}
-use mathlib.Core.List.{List, [], _∷_, _++_}
-use Prim.Native.Nat.{ℕ, zero, suc, _+_, _-_, _*_, _≤_, _<_, min}
+use Prim.Native.Nat.{ℕ, zero, suc, _+_, _*_, _≤_, _<_, min}
 use native.Mathlib.Omega.{arith}
 use native.Mathlib.Numerals.{add-one}
-use native.Mathlib.Decide.{ℕ-discrete, decLt}
-use lib.ListN.{length, getD, take, drop, drop-of-length-le}
+use native.Mathlib.Decide.{decLt}
+use mathlib.Core.Path.{_≡_, refl, sym, ap, _∙_}
+use mathlib.Core.Bool.{Bool, true, false, _&&_, _||_, cond}
+use mathlib.Core.List.{List, [], _∷_, _++_}
+use lib.ListN.{length, getD, drop, drop-of-length-le}
 use lib.Seq.{drop-cons}
-use lib.Dec.{T, ltb, leb, eqb}
-use borrow.Author.Tests.{lt-ltb, le-ltb, ltb-true, eq-eqb}
+use lib.Dec.{ltb, leb, eqb}
+use borrow.Author.Tests.{lt-ltb, le-ltb}
 use Rattle.masks.specs.Masks.{bit, member, _∪_, single, full, Added}
-use Rattle.masks.specs.Laws.{bit-empty, member-union, member-single, member-full, member-true, member-false, true-member, false-member, mask-ext}
+use Rattle.masks.specs.Laws.{bit-empty, member-union, member-single, member-full, member-true, member-false, mask-ext}
 use Rattle.hrg.specs.Counts.{hit, occurs, tabulate}
 use Rattle.hrg.specs.WellFormedTest.{Decides, every}
-use Rattle.hrg.proofs.Sums.{hit-self, hit-ne, length-tabulate}
+use Rattle.hrg.proofs.Sums.{hit-ne, length-tabulate}
 use Rattle.hrg.proofs.WellFormedTest.{_and_, decides-le, decides-eq, decides-map, decides-every}
 use Rattle.tables.specs.Layout.{word, rankAt, edgeLabel, graphLabel}
 use Rattle.tables.specs.Marks.{marked, marks}
 use Rattle.tables.specs.Questions.{covered, nodesOnEdges, nodesOnGraph}
-use Rattle.tables.proofs.Listing.{true-is, false-is}
+use Rattle.tables.proofs.Listing.{true-is}
 
 -- ---- loops that mark the numbers of a list
 marked-by : (m x r : ℕ) → Added m x r → r ≡ marked m x
@@ -48,7 +48,7 @@ marks-append m [] ys = refl
 marks-append m (x ∷ xs) ys = marks-append (marked m x) xs ys
 
 -- a list made of a function, in the same terms
-tabulate-at : (n : ℕ) (f : ℕ → ℕ) (k : ℕ) → k < n → getD (tabulate n f) k 0 ≡ f k
+pub tabulate-at : (n : ℕ) (f : ℕ → ℕ) (k : ℕ) → k < n → getD (tabulate n f) k 0 ≡ f k
 unfolding tabulate
 tabulate-at zero f k h = absurd (omega arith)
 tabulate-at (suc n) f zero h = refl
@@ -170,8 +170,8 @@ pub marks-covered : (nodes : ℕ) (l : List ℕ) → (leb nodes 64 && eqb (marks
 marks-covered nodes l =
     same-test (leb nodes 64 && eqb (marks 0 l ∪ full (min nodes 64)) (marks 0 l)) (covered nodes l)
     (decides-map (decides-le nodes 64 and all-there (marks 0 l) (min nodes 64))
-      (λ p. (p .0, λ x h. omega (arith, marks-bit l 0 x (omega arith) .0 (p .1 x (omega arith)), bit-empty x)))
-      (λ p. (p .0, λ x h. marks-bit l 0 x (omega arith) .1 (omega (arith, p .1 x (omega arith), bit-empty x)))))
+    (λ p. (p .0, λ x h. omega (arith, marks-bit l 0 x (omega arith) .0 (p .1 x (omega arith)), bit-empty x)))
+    (λ p. (p .0, λ x h. marks-bit l 0 x (omega arith) .1 (omega (arith, p .1 x (omega arith), bit-empty x)))))
     (decided nodes l)
 
 pub covered-by : (nodes n first m : ℕ) (xs ys : List ℕ) (b : Bool) → n ≡ nodes → first ≡ marks 0 xs → m ≡ marks first ys

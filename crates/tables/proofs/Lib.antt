@@ -5,6 +5,8 @@ pub mod Asking
 pub mod Listing
 pub mod Covering
 pub mod Planning
+pub mod CheckRun
+pub mod CheckEnds
 pub mod StoredLaws
 pub mod Refusals
 -- an accepted table is a well-formed grammar or graph

@@ -1,19 +1,19 @@
 -- Question 5's loop: the mask of the nodes seen counts each of them once.
-use mathlib.Core.Path.{_≡_, refl, sym, ap, _∙_, subst}
-use mathlib.Core.Bool.{Bool, true, false, _&&_}
-use mathlib.Core.List.{List, [], _∷_, _++_}
-use Prim.Native.Nat.{ℕ, zero, suc, _+_, _-_, _*_, _≤_, _<_, min}
+use Prim.Native.Nat.{ℕ, suc, _+_, _-_, _≤_, _<_, min}
 use native.Mathlib.Omega.{arith}
 use native.Mathlib.Numerals.{add-one}
 use native.Mathlib.Decide.{ℕ-discrete}
+use mathlib.Core.Path.{_≡_, refl, sym, ap, _∙_, subst}
+use mathlib.Core.Bool.{Bool, true, false}
+use mathlib.Core.List.{List, [], _∷_}
 use lib.ListN.{length, getD, take, drop, length-drop}
 use lib.Seq.{split-at, take-suc, take-all, getD-drop}
-use lib.Dec.{T, ltb, leb}
+use lib.Dec.{T}
 use Rattle.masks.specs.Masks.{bit, member, _∪_, single, Apart, Added, Found}
 use Rattle.masks.specs.Laws.{bit-le, bit-empty, bit-union, sum-disjoint, bit-single-self, bit-single-other, member-true, member-false}
 use Rattle.hrg.specs.Counts.{hit, occurs}
-use Rattle.hrg.specs.WellFormedTest.{Decides, each}
-use Rattle.hrg.proofs.Sums.{occurs-append, hit-self, hit-eq, hit-ne}
+use Rattle.hrg.specs.WellFormedTest.{Decides}
+use Rattle.hrg.proofs.Sums.{occurs-append, hit-self, hit-ne}
 use Rattle.hrg.proofs.WellFormedTest.{_and_, decides-le, decides-each}
 use Rattle.tables.specs.Questions.{listed}
 
@@ -62,7 +62,7 @@ seen-all nodes l seen i s h =
     let whole : take i l ≡ l = take-all i l h in
     true-is (listed nodes l) (decided nodes l .complete (
       (λ y p. s .below y (rw whole p)),
-      λ y p. omega (arith, s .bits y, bit-le seen y, ap (occurs y) whole)
+      λ y p. omega (arith, s .bits y, bit-le seen y, ap (occurs y) whole),
     ))
 
 module _ (nodes : ℕ) (l : List ℕ) (seen i x : ℕ) (h : i < length l) (v : x ≡ getD l i 0) where
@@ -136,6 +136,6 @@ module _ (nodes : ℕ) (fs : List ℕ) (start : ℕ) where
       look-more top b m w p f q a = record {
         begun = omega (arith, s .begun);
         part =
-          subst (Seen nodes (drop start fs) m) (let z : k - start + 1 ≡ k + 1 - start = omega (arith, s .begun) in z)
-          (seen-more nodes (drop start fs) seen (k - start) x inner value (s .part) (omega arith) (sym (f .value) ∙ q) m (a .value (omega arith)));
+            subst (Seen nodes (drop start fs) m) (let z : k - start + 1 ≡ k + 1 - start = omega (arith, s .begun) in z)
+            (seen-more nodes (drop start fs) seen (k - start) x inner value (s .part) (omega arith) (sym (f .value) ∙ q) m (a .value (omega arith)));
       }

@@ -1,15 +1,15 @@
 -- Question 7's counts: children and introduced edges, line by line.
-use mathlib.Core.Path.{_≡_, refl, sym, ap, _∙_, subst}
-use mathlib.Core.Bool.{Bool, true, false, _&&_, cond}
-use mathlib.Core.List.{List, [], _∷_, _++_}
-use Prim.Native.Nat.{ℕ, zero, suc, _+_, _-_, _*_, _≤_, _<_, min}
+use Prim.Native.Nat.{ℕ, zero, suc, _+_, _≤_, _<_, min}
 use native.Mathlib.Omega.{arith}
 use native.Mathlib.Numerals.{add-one}
+use mathlib.Core.Path.{_≡_, refl, sym, ap, _∙_}
+use mathlib.Core.Bool.{Bool, true, false, _&&_}
+use mathlib.Core.List.{List, _++_}
+use lib.Dec.{ltb, eqb}
 use borrow.Author.Count.{below-more}
-use lib.Dec.{T, ltb, leb, eqb}
-use borrow.Author.Tests.{eq-eqb, ne-eqb, lt-ltb, le-ltb}
+use borrow.Author.Tests.{ne-eqb, lt-ltb, le-ltb}
 use Rattle.hrg.specs.Counts.{hit, occurs}
-use Rattle.hrg.specs.WellFormedTest.{Decides, each, every}
+use Rattle.hrg.specs.WellFormedTest.{each, every}
 use Rattle.hrg.proofs.Sums.{occurs-append, hit-self, hit-ne}
 use Rattle.tables.specs.Layout.{planKind, planFirst, planSecond, ruleEdges}
 use Rattle.tables.specs.Questions.{childrenOf, introducedBy, childrenBefore, introducedBefore, planSoFar, planWhole}

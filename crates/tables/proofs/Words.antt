@@ -1,13 +1,13 @@
 -- Laws of words and places.
-use mathlib.Core.Path.{_≡_, refl, sym, ap, _∙_, subst}
-use mathlib.Core.Bool.{Bool, true, false, _&&_, cond}
-use mathlib.Core.List.{List, [], _∷_, _++_, append-assoc}
-use Prim.Native.Nat.{ℕ, zero, suc, _+_, _-_, _*_, _≤_, _<_, min}
+use Prim.Native.Nat.{ℕ, zero, suc, _+_, _*_, _≤_, _<_, min}
 use native.Mathlib.Omega.{arith}
 use native.Mathlib.Numerals.{add-one}
+use mathlib.Core.Path.{_≡_, refl, sym, ap, _∙_}
+use mathlib.Core.Bool.{Bool, true, false, _&&_, cond}
+use mathlib.Core.List.{List, _++_, append-assoc}
 use lib.ListN.{length, getD, take, drop, set, length-take, List·getD-eq-default}
 use lib.Seq.{getD-take, take-all, paste-zero, paste-suc}
-use lib.Dec.{ltb, leb, eqb}
+use lib.Dec.{ltb}
 use borrow.Author.Tests.{ltb-true, lt-leb, le-leb}
 use Rattle.hrg.specs.Counts.{tabulate}
 use Rattle.hrg.proofs.Sums.{length-tabulate}

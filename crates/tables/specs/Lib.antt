@@ -5,6 +5,7 @@ pub mod Questions
 pub mod Marks
 pub mod Reading
 pub mod Checking
+pub mod Concluding
 pub mod Abstract
 pub mod Walk
 pub mod TableText

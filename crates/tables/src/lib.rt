@@ -1,4 +1,5 @@
 // Tables of a grammar and a graph: their layout, questions 3 to 7, and question 8's check.
+pub mod checking;
 pub mod layout;
 mod marks;
 mod plans;

@@ -10,8 +10,8 @@ ghost use Rattle.hrg.specs.Counts.{tabulate};
 ghost use Rattle.tables.specs.Layout.{fieldsIn, word, ruleNodes, graphNodes};
 ghost use Rattle.tables.specs.Questions.{listed, covered, nodesOnEdges, nodesOnGraph};
 ghost use Rattle.tables.specs.Marks.{marked, marks};
-use crate::layout;
 use crate::Fields;
+use crate::layout;
 
 // Whether the fields from `from` on are in range and distinct.
 pub(crate) fn listed(f: Fields, from: u64, nodes: u64) -> bool

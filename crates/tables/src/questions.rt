@@ -5,11 +5,11 @@ ghost use Prim.Native.Nat.{_+_, _≤_};
 ghost use lib.Dec.{eqb, ltb};
 ghost use Rattle.tables.specs.Layout.{inTable, fieldsIn, rulePlan};
 ghost use Rattle.tables.specs.Questions.{ask, planWhole, judgeGrammar, judgeSymbol, judgeRule, judgeRuleEdge, judgePlan, judgeGraph, judgeGraphEdge, judge};
+use crate::Due;
+use crate::Fields;
 use crate::layout;
 use crate::marks;
 use crate::plans;
-use crate::Due;
-use crate::Fields;
 
 // `G`: symbols (1-64), rules (1-64), start symbol.
 fn judge_grammar(f: Fields) -> u64
@@ -19,7 +19,10 @@ fn judge_grammar(f: Fields) -> u64
     let symbols = layout::field(f, 0);
     let rules = layout::field(f, 1);
     let start = layout::field(f, 2);
-    let fixed = (3 <= n) & ((1 <= symbols) & (symbols <= 64)) & ((1 <= rules) & (rules <= 64)) & (start < symbols);
+    let fixed = (3 <= n)
+        & ((1 <= symbols) & (symbols <= 64))
+        & ((1 <= rules) & (rules <= 64))
+        & (start < symbols);
     if !fixed {
         return 3;
     }
@@ -115,7 +118,16 @@ fn judge_rule_edge(g: &[u64], r: u64, i: u64, f: Fields) -> u64
 }
 
 // Questions 4 and 7 for a plan line of a known kind.
-fn judge_known_plan(g: &[u64], r: u64, q: u64, n: u64, kind: u64, first: u64, second: u64, kept: bool) -> u64
+fn judge_known_plan(
+    g: &[u64],
+    r: u64,
+    q: u64,
+    n: u64,
+    kind: u64,
+    first: u64,
+    second: u64,
+    kept: bool,
+) -> u64
     requires { ⌜ q ≤ 15 ⌝ }
     ensures { λ x. ⌜ x ≡ ask 4 (eqb n 3) (ask 7 (kept && (ltb (q + 1) (rulePlan (now (g .entry)) r) || planWhole (now (g .entry)) r q kind first second)) 0) ⌝ }
 {
@@ -147,9 +159,36 @@ fn judge_plan(g: &[u64], r: u64, q: u64, f: Fields) -> u64
         return 3;
     }
     match kind {
-        0 => judge_known_plan(g, r, q, n, 0, first, second, plans::leaf_so_far(g, r, q, first, second)),
-        1 => judge_known_plan(g, r, q, n, 1, first, second, plans::introduce_so_far(g, r, q, first, second)),
-        2 => judge_known_plan(g, r, q, n, 2, first, second, plans::join_so_far(g, r, q, first, second)),
+        0 => judge_known_plan(
+            g,
+            r,
+            q,
+            n,
+            0,
+            first,
+            second,
+            plans::leaf_so_far(g, r, q, first, second),
+        ),
+        1 => judge_known_plan(
+            g,
+            r,
+            q,
+            n,
+            1,
+            first,
+            second,
+            plans::introduce_so_far(g, r, q, first, second),
+        ),
+        2 => judge_known_plan(
+            g,
+            r,
+            q,
+            n,
+            2,
+            first,
+            second,
+            plans::join_so_far(g, r, q, first, second),
+        ),
         _ => 3,
     }
 }

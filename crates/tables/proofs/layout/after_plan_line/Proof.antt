@@ -1,61 +1,42 @@
-use native.Mathlib.Omega.{arith}
-use Prim.Native.Nat.{ℕ, _+_, _-_, _*_, _≤_, _<_}
-use mathlib.Core.Path.{_≡_, refl, sym, ap, _∙_}
-use lib.ListN.{length, getD, take, drop, set, length-set, length-drop}
-use borrow.Author.Tests.{eq-eqb, ne-eqb, lt-ltb, le-ltb, le-leb, lt-leb}
+-- The code's two tests are those of the order of lines.
+use borrow.Author.Tests.{lt-ltb, le-ltb}
 use borrow.Author.Needs.{needs}
 use Rattle.tables.specs.Reading.{next}
 use Rattle.tables.proofs.layout.after_plan_line.Statement.{statement}
 use Rattle.tables.proofs.layout.after_plan_line.Tie as tie
-use Rattle.tables.proofs.layout.after_plan_line.Reads as reads
-use Rattle.tables.proofs.layout.after_plan_line.Lts as lts
-use Rattle.tables.proofs.layout.at_most.Reads as at-most-reads
-use Rattle.tables.proofs.layout.rule_count.Reads as rule-count-reads
-use Rattle.tables.proofs.layout.rule_plan.Reads as rule-plan-reads
 
--- src/layout.rt:249:8
 add-if1 : tie.Need-add-if1
 add-if1 c = search needs
 
--- src/layout.rt:249:28
 rule-plan-requires : tie.Need-rule-plan-requires
 rule-plan-requires c κs = search needs
 
--- src/layout.rt:249:16
 at-most-requires : tie.Need-at-most-requires
 at-most-requires c κs = search needs
 
--- src/layout.rt:250:33
 add-t8 : tie.Need-add-t8
 add-t8 c = search needs
 
--- src/layout.rt:250:9
 returns : tie.Need-returns
 unfolding next
 returns c = simp (← c .before .before .rule-plan .ensures, ← c .before .at-most .ensures, lt-ltb _ _ (c .if1 .taken))
 
--- src/layout.rt:252:8
 add-if2 : tie.Need-add-if2
 add-if2 c = search needs
 
--- src/layout.rt:252:28
 rule-count-requires : tie.Need-rule-count-requires
 rule-count-requires c κs = search needs
 
--- src/layout.rt:252:16
 at-most-requires-2 : tie.Need-at-most-requires-2
 at-most-requires-2 c κs = search needs
 
--- src/layout.rt:253:26
 add-t9 : tie.Need-add-t9
 add-t9 c = search needs
 
--- src/layout.rt:253:9
 returns-2 : tie.Need-returns-2
 unfolding next
 returns-2 c = simp (← c .before .before .before .before .before .rule-plan .ensures, ← c .before .before .before .before .at-most .ensures, le-ltb _ _ (c .before .before .before .if1 .left), ← c .before .before .rule-count .ensures, ← c .before .at-most2 .ensures, lt-ltb _ _ (c .if2 .taken))
 
--- src/layout.rt:245:1
 returns-3 : tie.Need-returns-3
 unfolding next
 returns-3 c = simp (← c .before .before .before .before .before .rule-plan .ensures, ← c .before .before .before .before .at-most .ensures, le-ltb _ _ (c .before .before .before .if1 .left), ← c .before .before .rule-count .ensures, ← c .before .at-most2 .ensures, le-ltb _ _ (c .if2 .left))

@@ -1,83 +1,62 @@
-use native.Mathlib.Omega.{arith}
-use Prim.Native.Nat.{ℕ, _+_, _-_, _*_, _≤_, _<_}
-use mathlib.Core.Path.{_≡_, refl, sym, ap, _∙_}
-use lib.ListN.{length, getD, take, drop, set, length-set, length-drop}
-use borrow.Author.Tests.{eq-eqb, ne-eqb, lt-ltb, le-ltb, le-leb, lt-leb}
+-- Each arm is its clause of the definition.
+use mathlib.Core.Path.{sym, ap}
 use borrow.Author.Needs.{needs}
 use Rattle.tables.specs.Layout.{inTable}
 use Rattle.tables.proofs.layout.in_table.Statement.{statement}
 use Rattle.tables.proofs.layout.in_table.Tie as tie
-use Rattle.tables.proofs.layout.in_table.Reads as reads
-use Rattle.tables.proofs.layout.in_table.Lts as lts
 
--- src/layout.rt:194:25
 enum-told : tie.Need-enum-told
 enum-told c = search needs
 
--- src/layout.rt:195:21
 enum-known-due : tie.Need-enum-known-due
 enum-known-due c = search needs
 
--- src/layout.rt:196:19
 enum-known-due-2 : tie.Need-enum-known-due-2
 enum-known-due-2 c = search needs
 
--- src/layout.rt:197:23
 enum-known-due-3 : tie.Need-enum-known-due-3
 enum-known-due-3 c = search needs
 
--- src/layout.rt:198:23
 enum-known-due-4 : tie.Need-enum-known-due-4
 enum-known-due-4 c = search needs
 
--- src/layout.rt:199:23
 enum-told-2 : tie.Need-enum-told-2
 enum-told-2 c = search needs
 
--- src/layout.rt:200:24
 enum-known-due-5 : tie.Need-enum-known-due-5
 enum-known-due-5 c = search needs
 
--- src/layout.rt:201:25
 enum-told-3 : tie.Need-enum-told-3
 enum-told-3 c = search needs
 
--- src/layout.rt:190:1
 returns : tie.Need-returns
 unfolding inTable
 returns c = search needs
 
--- src/layout.rt:190:1
 returns-2 : tie.Need-returns-2
 unfolding inTable
 returns-2 c = sym (ap inTable (c .before .due .given .1))
 
--- src/layout.rt:190:1
 returns-3 : tie.Need-returns-3
 unfolding inTable
 returns-3 c = sym (ap inTable (c .before .due2 .given .1))
 
--- src/layout.rt:190:1
 returns-4 : tie.Need-returns-4
 unfolding inTable
 returns-4 c = sym (ap inTable (c .before .due3 .given .1))
 
--- src/layout.rt:190:1
 returns-5 : tie.Need-returns-5
 unfolding inTable
 returns-5 c = sym (ap inTable (c .before .due4 .given .1))
 
--- src/layout.rt:190:1
 returns-6 : tie.Need-returns-6
 unfolding inTable
 returns-6 c = search needs
 
--- src/layout.rt:190:1
 returns-7 : tie.Need-returns-7
 unfolding inTable
 returns-7 c = sym (ap inTable (c .before .due5 .given .1))
 
--- src/layout.rt:190:1
 returns-8 : tie.Need-returns-8
 unfolding inTable
 returns-8 c = search needs

@@ -1,111 +1,80 @@
+-- Each arm is its clause of the order of lines; a line that passed the test has small numbers.
 use native.Mathlib.Omega.{arith}
-use Prim.Native.Nat.{ℕ, _+_, _-_, _*_, _≤_, _<_}
-use mathlib.Core.Path.{_≡_, refl, sym, ap, _∙_}
-use lib.ListN.{length, getD, take, drop, set, length-set, length-drop}
-use borrow.Author.Tests.{eq-eqb, ne-eqb, lt-ltb, le-ltb, le-leb, lt-leb}
-use borrow.Author.Needs.{needs}
+use mathlib.Core.Path.{_∙_}
 use borrow.Author.Tests.{not-true, not-false}
+use borrow.Author.Needs.{needs}
 use Rattle.tables.specs.Reading.{next}
 use Rattle.tables.specs.declared.Due.the-variants.{Nothing}
 use Rattle.tables.proofs.Words.{known, chosen, passed}
 use Rattle.tables.proofs.layout.next_due.Statement.{statement}
 use Rattle.tables.proofs.layout.next_due.Tie as tie
-use Rattle.tables.proofs.layout.next_due.Reads as reads
-use Rattle.tables.proofs.layout.next_due.Lts as lts
-use Rattle.tables.proofs.layout.after_graph_edge.Reads as after-graph-edge-reads
-use Rattle.tables.proofs.layout.after_plan_line.Reads as after-plan-line-reads
-use Rattle.tables.proofs.layout.after_rule_edge.Reads as after-rule-edge-reads
-use Rattle.tables.proofs.layout.after_symbol.Reads as after-symbol-reads
-use Rattle.tables.proofs.layout.in_table.Reads as in-table-reads
 
--- src/layout.rt:272:9
 in-table-requires : tie.Need-in-table-requires
 in-table-requires c κs = search needs
 
--- src/layout.rt:273:9
 returns : tie.Need-returns
 returns c = passed _ _ (next (c .before .before .before .args .t .now)) Nothing (c .before .in-table .ensures) (not-true _ (c .if1 .taken))
 
--- src/layout.rt:276:25
 enum-told : tie.Need-enum-told
 enum-told c = search needs
 
--- src/layout.rt:277:21
 enum-known-due : tie.Need-enum-known-due
 enum-known-due c = search needs
 
--- src/layout.rt:277:27
 after-symbol-requires : tie.Need-after-symbol-requires
 after-symbol-requires c κs = let h = known _ _ _ (c .before .before .before .before .in-table .ensures) (not-false _ (c .before .before .before .if1 .left)) (c .before .due .given .1) in omega arith
 
--- src/layout.rt:278:19
 enum-known-due-2 : tie.Need-enum-known-due-2
 enum-known-due-2 c = search needs
 
--- src/layout.rt:279:23
 enum-known-due-3 : tie.Need-enum-known-due-3
 enum-known-due-3 c = search needs
 
--- src/layout.rt:279:32
 after-rule-edge-requires : tie.Need-after-rule-edge-requires
 after-rule-edge-requires c κs = let h = known _ _ _ (c .before .before .before .before .in-table .ensures) (not-false _ (c .before .before .before .if1 .left)) (c .before .due3 .given .1) in omega arith
 
--- src/layout.rt:280:23
 enum-known-due-4 : tie.Need-enum-known-due-4
 enum-known-due-4 c = search needs
 
--- src/layout.rt:280:32
 after-plan-line-requires : tie.Need-after-plan-line-requires
 after-plan-line-requires c κs = let h = known _ _ _ (c .before .before .before .before .in-table .ensures) (not-false _ (c .before .before .before .if1 .left)) (c .before .due4 .given .1) in omega arith
 
--- src/layout.rt:281:23
 enum-told-2 : tie.Need-enum-told-2
 enum-told-2 c = search needs
 
--- src/layout.rt:282:24
 enum-known-due-5 : tie.Need-enum-known-due-5
 enum-known-due-5 c = search needs
 
--- src/layout.rt:282:30
 after-graph-edge-requires : tie.Need-after-graph-edge-requires
 after-graph-edge-requires c κs = let h = known _ _ _ (c .before .before .before .before .in-table .ensures) (not-false _ (c .before .before .before .if1 .left)) (c .before .due5 .given .1) in omega arith
 
--- src/layout.rt:283:25
 enum-told-3 : tie.Need-enum-told-3
 enum-told-3 c = search needs
 
--- src/layout.rt:269:1
 returns-2 : tie.Need-returns-2
 unfolding next
 returns-2 c = chosen _ _ _ (next (c .before .before .before .before .before .args .t .now)) Nothing (c .before .before .before .in-table .ensures) (not-false _ (c .before .before .if1 .left)) (c .enum-told .given .1)
 
--- src/layout.rt:269:1
 returns-3 : tie.Need-returns-3
 returns-3 c = c .after-symbol .ensures ∙ chosen _ _ _ (next (c .before .before .before .before .before .before .before .args .t .now)) Nothing (c .before .before .before .before .before .in-table .ensures) (not-false _ (c .before .before .before .before .if1 .left)) (c .before .before .due .given .1)
 
--- src/layout.rt:269:1
 returns-4 : tie.Need-returns-4
 unfolding next
 returns-4 c = chosen _ _ _ (next (c .before .before .before .before .before .before .args .t .now)) Nothing (c .before .before .before .before .in-table .ensures) (not-false _ (c .before .before .before .if1 .left)) (c .before .due2 .given .1)
 
--- src/layout.rt:269:1
 returns-5 : tie.Need-returns-5
 returns-5 c = c .after-rule-edge .ensures ∙ chosen _ _ _ (next (c .before .before .before .before .before .before .before .args .t .now)) Nothing (c .before .before .before .before .before .in-table .ensures) (not-false _ (c .before .before .before .before .if1 .left)) (c .before .before .due3 .given .1)
 
--- src/layout.rt:269:1
 returns-6 : tie.Need-returns-6
 returns-6 c = c .after-plan-line .ensures ∙ chosen _ _ _ (next (c .before .before .before .before .before .before .before .args .t .now)) Nothing (c .before .before .before .before .before .in-table .ensures) (not-false _ (c .before .before .before .before .if1 .left)) (c .before .before .due4 .given .1)
 
--- src/layout.rt:269:1
 returns-7 : tie.Need-returns-7
 unfolding next
 returns-7 c = chosen _ _ _ (next (c .before .before .before .before .before .args .t .now)) Nothing (c .before .before .before .in-table .ensures) (not-false _ (c .before .before .if1 .left)) (c .enum-told2 .given .1)
 
--- src/layout.rt:269:1
 returns-8 : tie.Need-returns-8
 returns-8 c = c .after-graph-edge .ensures ∙ chosen _ _ _ (next (c .before .before .before .before .before .before .before .args .t .now)) Nothing (c .before .before .before .before .before .in-table .ensures) (not-false _ (c .before .before .before .before .if1 .left)) (c .before .before .due5 .given .1)
 
--- src/layout.rt:269:1
 returns-9 : tie.Need-returns-9
 unfolding next
 returns-9 c = chosen _ _ _ (next (c .before .before .before .before .before .args .t .now)) Nothing (c .before .before .before .in-table .ensures) (not-false _ (c .before .before .if1 .left)) (c .enum-told3 .given .1)

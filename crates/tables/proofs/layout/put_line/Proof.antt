@@ -1,18 +1,14 @@
+-- A loop that copies nine fields into the table, told as a list that is pasted.
+use Prim.Native.Nat.{_-_, _≤_}
 use native.Mathlib.Omega.{arith}
-use Prim.Native.Nat.{ℕ, _+_, _-_, _*_, _≤_, _<_}
-use mathlib.Core.Path.{_≡_, refl, sym, ap, _∙_}
-use lib.ListN.{length, getD, take, drop, set, length-set, length-drop}
-use borrow.Author.Tests.{eq-eqb, ne-eqb, lt-ltb, le-ltb, le-leb, lt-leb}
+use mathlib.Core.Path.{_≡_, refl}
+use lib.ListN.{length, length-set}
 use borrow.Author.Needs.{needs}
-use Rattle.tables.proofs.Words.{paste-start, put-next}
 use Rattle.tables.specs.Storing.{pasted}
 use Rattle.tables.specs.Layout.{block, fieldsIn}
-use Rattle.tables.proofs.Words.{put-done}
+use Rattle.tables.proofs.Words.{paste-start, put-next, put-done}
 use Rattle.tables.proofs.layout.put_line.Statement.{statement}
 use Rattle.tables.proofs.layout.put_line.Tie as tie
-use Rattle.tables.proofs.layout.put_line.Reads as reads
-use Rattle.tables.proofs.layout.put_line.Lts as lts
-use Rattle.tables.proofs.layout.field.Reads as field-reads
 
 abbrev Inv-loop : tie.InvT-loop
 Inv-loop t₀ at f j₀ t j = (j ≤ 9) × (length t ≡ length t₀) × (t ≡ pasted t₀ at (block (fieldsIn f)) j)
@@ -20,43 +16,33 @@ Inv-loop t₀ at f j₀ t j = (j ≤ 9) × (length t ≡ length t₀) × (t ≡ 
 abbrev μ-loop : tie.MeasureT-loop
 μ-loop t₀ at f j₀ t j = 9 - j
 
--- src/layout.rt:314:5
 loop-holds : tie.Need-loop-holds Inv-loop μ-loop
 loop-holds c = (omega arith, refl, paste-start _ _ _)
 
--- src/layout.rt:315:32
 field-requires : tie.Need-field-requires Inv-loop μ-loop
 field-requires c κs = search needs
 
--- src/layout.rt:315:12
 add-t : tie.Need-add-t Inv-loop μ-loop
 add-t c = search needs
 
--- src/layout.rt:315:9
 mul-t : tie.Need-mul-t Inv-loop μ-loop
 mul-t c = search needs
 
--- src/layout.rt:315:9
 slice-write-t : tie.Need-slice-write-t Inv-loop μ-loop
 slice-write-t c = search needs
 
--- src/layout.rt:316:9
 add-j : tie.Need-add-j Inv-loop μ-loop
 add-j c = search needs
 
--- src/layout.rt:314:5
 loop-less : tie.Need-loop-less Inv-loop μ-loop
 loop-less c = search needs
 
--- src/layout.rt:314:5
 loop-again : tie.Need-loop-again Inv-loop μ-loop
 loop-again c = (omega arith, simp length-set (c .before .before .loop .inv .1), put-next _ _ _ _ _ _ (omega arith) (c .before .loop-test .taken) (c .field .ensures) (c .before .before .loop .inv .2))
 
--- src/layout.rt:309:1
 same-length : tie.Need-same-length Inv-loop μ-loop
 same-length c = c .before .loop .inv .1
 
--- src/layout.rt:309:1
 returns : tie.Need-returns Inv-loop μ-loop
 returns c = put-done _ _ _ _ _ (c .before .loop .inv .0) (c .loop-test .left) (c .before .loop .inv .2)
 

@@ -1,21 +1,13 @@
-use native.Mathlib.Omega.{arith}
-use Prim.Native.Nat.{ℕ, _+_, _-_, _*_, _≤_, _<_}
-use mathlib.Core.Path.{_≡_, refl, sym, ap, _∙_}
-use lib.ListN.{length, getD, take, drop, set, length-set, length-drop}
-use borrow.Author.Tests.{eq-eqb, ne-eqb, lt-ltb, le-ltb, le-leb, lt-leb}
+-- A rule's own line is at its first place.
+use mathlib.Core.Path.{_∙_}
 use borrow.Author.Needs.{needs}
 use Rattle.tables.proofs.Words.{rule-line}
 use Rattle.tables.proofs.layout.rule_symbol.Statement.{statement}
 use Rattle.tables.proofs.layout.rule_symbol.Tie as tie
-use Rattle.tables.proofs.layout.rule_symbol.Reads as reads
-use Rattle.tables.proofs.layout.rule_symbol.Lts as lts
-use Rattle.tables.proofs.layout.rule_word.Reads as rule-word-reads
 
--- src/layout.rt:100:5
 rule-word-requires : tie.Need-rule-word-requires
 rule-word-requires c κs = search needs
 
--- src/layout.rt:97:1
 returns : tie.Need-returns
 returns c = c .rule-word .ensures ∙ rule-line _ _ _
 

@@ -1,19 +1,13 @@
-use native.Mathlib.Omega.{arith}
-use Prim.Native.Nat.{ℕ, _+_, _-_, _*_, _≤_, _<_}
-use mathlib.Core.Path.{_≡_, refl, sym, ap, _∙_}
-use lib.ListN.{length, getD, take, drop, set, length-set, length-drop}
-use borrow.Author.Tests.{eq-eqb, ne-eqb, lt-ltb, le-ltb, le-leb, lt-leb}
+-- The mask with the fields still to come is the mask of all.
+use Prim.Native.Nat.{_-_}
+use mathlib.Core.Path.{_≡_, refl}
+use lib.ListN.{drop}
 use borrow.Author.Needs.{needs}
 use Rattle.tables.specs.Layout.{fieldsIn}
 use Rattle.tables.specs.Marks.{marks}
 use Rattle.tables.proofs.Covering.{marks-next, marks-done}
 use Rattle.tables.proofs.marks.mark_fields.Statement.{statement}
 use Rattle.tables.proofs.marks.mark_fields.Tie as tie
-use Rattle.tables.proofs.marks.mark_fields.Reads as reads
-use Rattle.tables.proofs.marks.mark_fields.Lts as lts
-use Rattle.masks.proofs.with.Reads as with-reads
-use Rattle.tables.proofs.layout.field.Reads as field-reads
-use Rattle.tables.proofs.layout.field_count.Reads as field-count-reads
 
 abbrev Inv-loop : tie.InvT-loop
 Inv-loop m f from n mask₀ k₀ mask k = marks mask (drop k (fieldsIn f)) ≡ marks m (drop from (fieldsIn f))
@@ -21,35 +15,27 @@ Inv-loop m f from n mask₀ k₀ mask k = marks mask (drop k (fieldsIn f)) ≡ m
 abbrev μ-loop : tie.MeasureT-loop
 μ-loop m f from n mask₀ k₀ mask k = n - k
 
--- src/marks.rt:42:9
 field-count-requires : tie.Need-field-count-requires Inv-loop μ-loop
 field-count-requires c κs = search needs
 
--- src/marks.rt:45:5
 loop-holds : tie.Need-loop-holds Inv-loop μ-loop
 loop-holds c = refl
 
--- src/marks.rt:46:34
 field-requires : tie.Need-field-requires Inv-loop μ-loop
 field-requires c κs = search needs
 
--- src/marks.rt:46:9
 with-requires : tie.Need-with-requires Inv-loop μ-loop
 with-requires c κs = search needs
 
--- src/marks.rt:47:9
 add-k : tie.Need-add-k Inv-loop μ-loop
 add-k c = search needs
 
--- src/marks.rt:45:5
 loop-less : tie.Need-loop-less Inv-loop μ-loop
 loop-less c = search needs
 
--- src/marks.rt:45:5
 loop-again : tie.Need-loop-again Inv-loop μ-loop
 loop-again c = marks-next _ _ _ _ _ _ _ (c .before .before .before .before .field-count .ensures .0) (c .before .before .loop-test .taken) (c .before .field .ensures) (c .with .ensures) (c .before .before .before .loop .inv)
 
--- src/marks.rt:39:1
 returns : tie.Need-returns Inv-loop μ-loop
 returns c = marks-done _ _ _ _ _ (c .before .before .field-count .ensures .0) (c .loop-test .left) (c .before .loop .inv)
 

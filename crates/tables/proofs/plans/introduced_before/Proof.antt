@@ -1,20 +1,13 @@
+-- The count over the plan lines passed, one line a turn.
+use Prim.Native.Nat.{_-_, _*_, _≤_}
 use native.Mathlib.Omega.{arith}
-use Prim.Native.Nat.{ℕ, _+_, _-_, _*_, _≤_, _<_}
-use mathlib.Core.Path.{_≡_, refl, sym, ap, _∙_}
-use lib.ListN.{length, getD, take, drop, set, length-set, length-drop}
-use borrow.Author.Tests.{eq-eqb, ne-eqb, lt-ltb, le-ltb, le-leb, lt-leb}
+use mathlib.Core.Path.{_≡_}
 use borrow.Author.Needs.{needs}
 use Rattle.hrg.specs.Counts.{occurs}
 use Rattle.tables.specs.Questions.{introducedBefore}
 use Rattle.tables.proofs.Planning.{introduced-start, introduced-next, introduced-done}
 use Rattle.tables.proofs.plans.introduced_before.Statement.{statement}
 use Rattle.tables.proofs.plans.introduced_before.Tie as tie
-use Rattle.tables.proofs.plans.introduced_before.Reads as reads
-use Rattle.tables.proofs.plans.introduced_before.Lts as lts
-use Rattle.tables.proofs.layout.plan_first.Reads as plan-first-reads
-use Rattle.tables.proofs.layout.plan_kind.Reads as plan-kind-reads
-use Rattle.tables.proofs.layout.plan_second.Reads as plan-second-reads
-use Rattle.tables.proofs.plans.introduced_in.Reads as introduced-in-reads
 
 abbrev Inv-loop : tie.InvT-loop
 Inv-loop g r n i sum₀ q₀ sum q = (q ≤ n) × (sum ≤ 1 * q) × (sum ≡ occurs i (introducedBefore g r q))
@@ -22,43 +15,33 @@ Inv-loop g r n i sum₀ q₀ sum q = (q ≤ n) × (sum ≤ 1 * q) × (sum ≡ oc
 abbrev μ-loop : tie.MeasureT-loop
 μ-loop g r n i sum₀ q₀ sum q = n - q
 
--- src/plans.rt:68:5
 loop-holds : tie.Need-loop-holds Inv-loop μ-loop
 loop-holds c = (omega arith, omega arith, introduced-start _ _ _)
 
--- src/plans.rt:69:13
 plan-kind-requires : tie.Need-plan-kind-requires Inv-loop μ-loop
 plan-kind-requires c κs = search needs
 
--- src/plans.rt:70:13
 plan-first-requires : tie.Need-plan-first-requires Inv-loop μ-loop
 plan-first-requires c κs = search needs
 
--- src/plans.rt:71:13
 plan-second-requires : tie.Need-plan-second-requires Inv-loop μ-loop
 plan-second-requires c κs = search needs
 
--- src/plans.rt:72:16
 introduced-in-requires : tie.Need-introduced-in-requires Inv-loop μ-loop
 introduced-in-requires c κs = search needs
 
--- src/plans.rt:72:9
 add-sum : tie.Need-add-sum Inv-loop μ-loop
 add-sum c = search needs
 
--- src/plans.rt:73:9
 add-q : tie.Need-add-q Inv-loop μ-loop
 add-q c = search needs
 
--- src/plans.rt:68:5
 loop-less : tie.Need-loop-less Inv-loop μ-loop
 loop-less c = search needs
 
--- src/plans.rt:68:5
 loop-again : tie.Need-loop-again Inv-loop μ-loop
 loop-again c = (omega arith, omega arith, introduced-next _ _ _ _ _ _ _ _ _ (c .before .before .before .plan-kind .ensures) (c .before .before .plan-first .ensures) (c .before .plan-second .ensures) (c .before .before .before .before .before .loop .inv .2) (c .introduced-in .ensures .0))
 
--- src/plans.rt:62:1
 returns : tie.Need-returns Inv-loop μ-loop
 returns c = (introduced-done _ _ _ _ _ _ (c .before .loop .inv .0) (c .loop-test .left) (c .before .loop .inv .2), omega arith)
 

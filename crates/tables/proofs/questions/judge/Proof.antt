@@ -1,130 +1,93 @@
+-- Each arm is its kind of line; a line that passed the test has small numbers.
 use native.Mathlib.Omega.{arith}
-use Prim.Native.Nat.{ℕ, _+_, _-_, _*_, _≤_, _<_}
-use mathlib.Core.Path.{_≡_, refl, sym, ap, _∙_}
-use lib.ListN.{length, getD, take, drop, set, length-set, length-drop}
-use borrow.Author.Tests.{eq-eqb, ne-eqb, lt-ltb, le-ltb, le-leb, lt-leb}
-use borrow.Author.Needs.{needs}
+use mathlib.Core.Path.{_∙_}
 use borrow.Author.Tests.{not-true, not-false}
+use borrow.Author.Needs.{needs}
 use Rattle.tables.specs.Layout.{fieldsIn}
 use Rattle.tables.specs.Questions.{judge}
 use Rattle.tables.proofs.Words.{known, chosen, passed}
 use Rattle.tables.proofs.questions.judge.Statement.{statement}
 use Rattle.tables.proofs.questions.judge.Tie as tie
-use Rattle.tables.proofs.questions.judge.Reads as reads
-use Rattle.tables.proofs.questions.judge.Lts as lts
-use Rattle.tables.proofs.layout.in_table.Reads as in-table-reads
-use Rattle.tables.proofs.questions.judge_grammar.Reads as judge-grammar-reads
-use Rattle.tables.proofs.questions.judge_graph.Reads as judge-graph-reads
-use Rattle.tables.proofs.questions.judge_graph_edge.Reads as judge-graph-edge-reads
-use Rattle.tables.proofs.questions.judge_plan.Reads as judge-plan-reads
-use Rattle.tables.proofs.questions.judge_rule.Reads as judge-rule-reads
-use Rattle.tables.proofs.questions.judge_rule_edge.Reads as judge-rule-edge-reads
-use Rattle.tables.proofs.questions.judge_symbol.Reads as judge-symbol-reads
 
--- src/questions.rt:211:9
 in-table-requires : tie.Need-in-table-requires
 in-table-requires c κs = search needs
 
--- src/questions.rt:212:9
 returns : tie.Need-returns
 returns c = passed _ _ (λ d. judge (c .before .before .before .before .args .g .now) (c .before .before .before .before .args .t .now) d (fieldsIn (c .before .before .before .before .args .f))) 2 (c .before .in-table .ensures) (not-true _ (c .if1 .taken))
 
--- src/questions.rt:215:25
 enum-told : tie.Need-enum-told
 enum-told c = search needs
 
--- src/questions.rt:215:25
 judge-grammar-requires : tie.Need-judge-grammar-requires
 judge-grammar-requires c κs = search needs
 
--- src/questions.rt:216:21
 enum-known-due : tie.Need-enum-known-due
 enum-known-due c = search needs
 
--- src/questions.rt:216:27
 judge-symbol-requires : tie.Need-judge-symbol-requires
 judge-symbol-requires c κs = search needs
 
--- src/questions.rt:217:19
 enum-known-due-2 : tie.Need-enum-known-due-2
 enum-known-due-2 c = search needs
 
--- src/questions.rt:217:25
 judge-rule-requires : tie.Need-judge-rule-requires
 judge-rule-requires c κs = search needs
 
--- src/questions.rt:218:23
 enum-known-due-3 : tie.Need-enum-known-due-3
 enum-known-due-3 c = search needs
 
--- src/questions.rt:218:32
 judge-rule-edge-requires : tie.Need-judge-rule-edge-requires
 judge-rule-edge-requires c κs = let h = known _ _ _ (c .before .before .before .before .in-table .ensures) (not-false _ (c .before .before .before .if1 .left)) (c .before .due3 .given .1) in omega arith
 
--- src/questions.rt:219:23
 enum-known-due-4 : tie.Need-enum-known-due-4
 enum-known-due-4 c = search needs
 
--- src/questions.rt:219:32
 judge-plan-requires : tie.Need-judge-plan-requires
 judge-plan-requires c κs = let h = known _ _ _ (c .before .before .before .before .in-table .ensures) (not-false _ (c .before .before .before .if1 .left)) (c .before .due4 .given .1) in omega arith
 
--- src/questions.rt:220:23
 enum-told-2 : tie.Need-enum-told-2
 enum-told-2 c = search needs
 
--- src/questions.rt:220:23
 judge-graph-requires : tie.Need-judge-graph-requires
 judge-graph-requires c κs = search needs
 
--- src/questions.rt:221:24
 enum-known-due-5 : tie.Need-enum-known-due-5
 enum-known-due-5 c = search needs
 
--- src/questions.rt:221:30
 judge-graph-edge-requires : tie.Need-judge-graph-edge-requires
 judge-graph-edge-requires c κs = let h = known _ _ _ (c .before .before .before .before .in-table .ensures) (not-false _ (c .before .before .before .if1 .left)) (c .before .due5 .given .1) in omega arith
 
--- src/questions.rt:222:25
 enum-told-3 : tie.Need-enum-told-3
 enum-told-3 c = search needs
 
--- src/questions.rt:208:1
 returns-2 : tie.Need-returns-2
 unfolding judge
 returns-2 c = c .judge-grammar .ensures ∙ chosen _ _ _ (λ d. judge (c .before .before .before .before .before .before .before .args .g .now) (c .before .before .before .before .before .before .before .args .t .now) d (fieldsIn (c .before .before .before .before .before .before .before .args .f))) 2 (c .before .before .before .before .in-table .ensures) (not-false _ (c .before .before .before .if1 .left)) (c .before .enum-told .given .1)
 
--- src/questions.rt:208:1
 returns-3 : tie.Need-returns-3
 unfolding judge
 returns-3 c = c .judge-symbol .ensures ∙ chosen _ _ _ (λ d. judge (c .before .before .before .before .before .before .before .before .args .g .now) (c .before .before .before .before .before .before .before .before .args .t .now) d (fieldsIn (c .before .before .before .before .before .before .before .before .args .f))) 2 (c .before .before .before .before .before .in-table .ensures) (not-false _ (c .before .before .before .before .if1 .left)) (c .before .before .due .given .1)
 
--- src/questions.rt:208:1
 returns-4 : tie.Need-returns-4
 unfolding judge
 returns-4 c = c .judge-rule .ensures ∙ chosen _ _ _ (λ d. judge (c .before .before .before .before .before .before .before .before .args .g .now) (c .before .before .before .before .before .before .before .before .args .t .now) d (fieldsIn (c .before .before .before .before .before .before .before .before .args .f))) 2 (c .before .before .before .before .before .in-table .ensures) (not-false _ (c .before .before .before .before .if1 .left)) (c .before .before .due2 .given .1)
 
--- src/questions.rt:208:1
 returns-5 : tie.Need-returns-5
 unfolding judge
 returns-5 c = c .judge-rule-edge .ensures ∙ chosen _ _ _ (λ d. judge (c .before .before .before .before .before .before .before .before .args .g .now) (c .before .before .before .before .before .before .before .before .args .t .now) d (fieldsIn (c .before .before .before .before .before .before .before .before .args .f))) 2 (c .before .before .before .before .before .in-table .ensures) (not-false _ (c .before .before .before .before .if1 .left)) (c .before .before .due3 .given .1)
 
--- src/questions.rt:208:1
 returns-6 : tie.Need-returns-6
 unfolding judge
 returns-6 c = c .judge-plan .ensures ∙ chosen _ _ _ (λ d. judge (c .before .before .before .before .before .before .before .before .args .g .now) (c .before .before .before .before .before .before .before .before .args .t .now) d (fieldsIn (c .before .before .before .before .before .before .before .before .args .f))) 2 (c .before .before .before .before .before .in-table .ensures) (not-false _ (c .before .before .before .before .if1 .left)) (c .before .before .due4 .given .1)
 
--- src/questions.rt:208:1
 returns-7 : tie.Need-returns-7
 unfolding judge
 returns-7 c = c .judge-graph .ensures ∙ chosen _ _ _ (λ d. judge (c .before .before .before .before .before .before .before .args .g .now) (c .before .before .before .before .before .before .before .args .t .now) d (fieldsIn (c .before .before .before .before .before .before .before .args .f))) 2 (c .before .before .before .before .in-table .ensures) (not-false _ (c .before .before .before .if1 .left)) (c .before .enum-told2 .given .1)
 
--- src/questions.rt:208:1
 returns-8 : tie.Need-returns-8
 unfolding judge
 returns-8 c = c .judge-graph-edge .ensures ∙ chosen _ _ _ (λ d. judge (c .before .before .before .before .before .before .before .before .args .g .now) (c .before .before .before .before .before .before .before .before .args .t .now) d (fieldsIn (c .before .before .before .before .before .before .before .before .args .f))) 2 (c .before .before .before .before .before .in-table .ensures) (not-false _ (c .before .before .before .before .if1 .left)) (c .before .before .due5 .given .1)
 
--- src/questions.rt:208:1
 returns-9 : tie.Need-returns-9
 unfolding judge
 returns-9 c = chosen _ _ _ (λ d. judge (c .before .before .before .before .before .before .args .g .now) (c .before .before .before .before .before .before .args .t .now) d (fieldsIn (c .before .before .before .before .before .before .args .f))) 2 (c .before .before .before .in-table .ensures) (not-false _ (c .before .before .if1 .left)) (c .enum-told3 .given .1)

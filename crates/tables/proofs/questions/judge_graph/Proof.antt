@@ -1,61 +1,39 @@
-use native.Mathlib.Omega.{arith}
-use Prim.Native.Nat.{ℕ, _+_, _-_, _*_, _≤_, _<_}
-use mathlib.Core.Path.{_≡_, refl, sym, ap, _∙_}
-use lib.ListN.{length, getD, take, drop, set, length-set, length-drop}
-use borrow.Author.Tests.{eq-eqb, ne-eqb, lt-ltb, le-ltb, le-leb, lt-leb}
+-- The answer at each question of an `H` line (proofs/Asking).
 use borrow.Author.Needs.{needs}
 use Rattle.tables.proofs.Asking.{graph-3, graph-4, graph-5, graph-0}
 use Rattle.tables.proofs.questions.judge_graph.Statement.{statement}
 use Rattle.tables.proofs.questions.judge_graph.Tie as tie
-use Rattle.tables.proofs.questions.judge_graph.Reads as reads
-use Rattle.tables.proofs.questions.judge_graph.Lts as lts
-use Rattle.tables.proofs.layout.field.Reads as field-reads
-use Rattle.tables.proofs.layout.field_count.Reads as field-count-reads
-use Rattle.tables.proofs.layout.rank_at.Reads as rank-at-reads
-use Rattle.tables.proofs.layout.start_symbol.Reads as start-symbol-reads
-use Rattle.tables.proofs.marks.listed.Reads as listed-reads
 
--- src/questions.rt:161:9
 field-count-requires : tie.Need-field-count-requires
 field-count-requires c κs = search needs
 
--- src/questions.rt:162:9
 field-requires : tie.Need-field-requires
 field-requires c κs = search needs
 
--- src/questions.rt:163:9
 field-requires-2 : tie.Need-field-requires-2
 field-requires-2 c κs = search needs
 
--- src/questions.rt:166:9
 returns : tie.Need-returns
 returns c = graph-3 _ _ _ _ _ (c .before .before .before .field-count .ensures .0) (c .before .before .field .ensures) (c .before .field2 .ensures) (c .if1 .taken)
 
--- src/questions.rt:168:38
 start-symbol-requires : tie.Need-start-symbol-requires
 start-symbol-requires c κs = search needs
 
--- src/questions.rt:168:19
 rank-at-requires : tie.Need-rank-at-requires
 rank-at-requires c κs = search needs
 
--- src/questions.rt:168:15
 add-due : tie.Need-add-due
 add-due c = search needs
 
--- src/questions.rt:170:9
 returns-2 : tie.Need-returns-2
 returns-2 c = graph-4 _ _ _ _ _ (c .before .before .before .before .before .before .field-count .ensures .0) (c .before .before .before .before .before .field .ensures) (c .before .before .before .before .field2 .ensures) (c .before .before .before .if1 .left) _ _ (c .before .before .start-symbol .ensures) (c .before .rank-at .ensures .0) (c .if2 .taken)
 
--- src/questions.rt:172:9
 listed-requires : tie.Need-listed-requires
 listed-requires c κs = search needs
 
--- src/questions.rt:173:9
 returns-3 : tie.Need-returns-3
 returns-3 c = graph-5 _ _ _ _ _ (c .before .before .before .before .before .before .before .before .field-count .ensures .0) (c .before .before .before .before .before .before .before .field .ensures) (c .before .before .before .before .before .before .field2 .ensures) (c .before .before .before .before .before .if1 .left) _ _ (c .before .before .before .before .start-symbol .ensures) (c .before .before .before .rank-at .ensures .0) (c .before .before .if2 .left) _ (c .before .listed .ensures) (c .if3 .taken)
 
--- src/questions.rt:158:1
 returns-4 : tie.Need-returns-4
 returns-4 c = graph-0 _ _ _ _ _ (c .before .before .before .before .before .before .before .before .field-count .ensures .0) (c .before .before .before .before .before .before .before .field .ensures) (c .before .before .before .before .before .before .field2 .ensures) (c .before .before .before .before .before .if1 .left) _ _ (c .before .before .before .before .start-symbol .ensures) (c .before .before .before .rank-at .ensures .0) (c .before .before .if2 .left) _ (c .before .listed .ensures) (c .if3 .left)
 

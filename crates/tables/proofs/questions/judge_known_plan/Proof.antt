@@ -1,46 +1,30 @@
-use native.Mathlib.Omega.{arith}
-use Prim.Native.Nat.{ℕ, _+_, _-_, _*_, _≤_, _<_}
-use mathlib.Core.Path.{_≡_, refl, sym, ap, _∙_}
-use lib.ListN.{length, getD, take, drop, set, length-set, length-drop}
-use borrow.Author.Tests.{eq-eqb, ne-eqb, lt-ltb, le-ltb, le-leb, lt-leb}
+-- The answers at questions 4 and 7 of a `P` line (proofs/Asking).
 use borrow.Author.Needs.{needs}
 use Rattle.tables.proofs.Asking.{known-4, known-7, known-open, known-last, known-0}
 use Rattle.tables.proofs.questions.judge_known_plan.Statement.{statement}
 use Rattle.tables.proofs.questions.judge_known_plan.Tie as tie
-use Rattle.tables.proofs.questions.judge_known_plan.Reads as reads
-use Rattle.tables.proofs.questions.judge_known_plan.Lts as lts
-use Rattle.tables.proofs.layout.rule_plan.Reads as rule-plan-reads
-use Rattle.tables.proofs.plans.whole.Reads as whole-reads
 
--- src/questions.rt:123:9
 returns : tie.Need-returns
 returns c = known-4 (c .before .before .args .g .now) (c .before .before .args .r) (c .before .before .args .q) (c .before .before .args .n) (c .before .before .args .kind) (c .before .before .args .first) (c .before .before .args .second) (c .before .before .args .kept) (c .if1 .taken)
 
--- src/questions.rt:126:9
 returns-2 : tie.Need-returns-2
 returns-2 c = known-7 (c .before .before .before .args .g .now) (c .before .before .before .args .r) (c .before .before .before .args .q) (c .before .before .before .args .n) (c .before .before .before .args .kind) (c .before .before .before .args .first) (c .before .before .before .args .second) (c .before .before .before .args .kept) (c .before .if1 .left) (c .if2 .taken)
 
--- src/questions.rt:128:8
 add-if3 : tie.Need-add-if3
 add-if3 c = search needs
 
--- src/questions.rt:128:16
 rule-plan-requires : tie.Need-rule-plan-requires
 rule-plan-requires c κs = search needs
 
--- src/questions.rt:129:9
 returns-3 : tie.Need-returns-3
 returns-3 c = known-open (c .before .before .before .before .before .args .g .now) (c .before .before .before .before .before .args .r) (c .before .before .before .before .before .args .q) (c .before .before .before .before .before .args .n) (c .before .before .before .before .before .args .kind) (c .before .before .before .before .before .args .first) (c .before .before .before .before .before .args .second) (c .before .before .before .before .before .args .kept) (c .before .before .before .if1 .left) (c .before .before .if2 .left) _ (c .before .rule-plan .ensures) (c .if3 .taken)
 
--- src/questions.rt:131:9
 whole-requires : tie.Need-whole-requires
 whole-requires c κs = search needs
 
--- src/questions.rt:132:9
 returns-4 : tie.Need-returns-4
 returns-4 c = known-last (c .before .before .before .before .before .before .before .args .g .now) (c .before .before .before .before .before .before .before .args .r) (c .before .before .before .before .before .before .before .args .q) (c .before .before .before .before .before .before .before .args .n) (c .before .before .before .before .before .before .before .args .kind) (c .before .before .before .before .before .before .before .args .first) (c .before .before .before .before .before .before .before .args .second) (c .before .before .before .before .before .before .before .args .kept) (c .before .before .before .before .before .if1 .left) (c .before .before .before .before .if2 .left) _ (c .before .before .before .rule-plan .ensures) (c .before .before .if3 .left) _ (c .before .whole .ensures) (c .if4 .taken)
 
--- src/questions.rt:118:1
 returns-5 : tie.Need-returns-5
 returns-5 c = known-0 (c .before .before .before .before .before .before .before .args .g .now) (c .before .before .before .before .before .before .before .args .r) (c .before .before .before .before .before .before .before .args .q) (c .before .before .before .before .before .before .before .args .n) (c .before .before .before .before .before .before .before .args .kind) (c .before .before .before .before .before .before .before .args .first) (c .before .before .before .before .before .before .before .args .second) (c .before .before .before .before .before .before .before .args .kept) (c .before .before .before .before .before .if1 .left) (c .before .before .before .before .if2 .left) _ (c .before .before .before .rule-plan .ensures) (c .before .before .if3 .left) _ (c .before .whole .ensures) (c .if4 .left)
 

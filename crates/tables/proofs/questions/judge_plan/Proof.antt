@@ -1,78 +1,52 @@
+-- The answer at question 3 of a `P` line, and by its kind at the others (proofs/Asking).
 use native.Mathlib.Omega.{arith}
-use Prim.Native.Nat.{ℕ, _+_, _-_, _*_, _≤_, _<_}
-use mathlib.Core.Path.{_≡_, refl, sym, ap, _∙_}
-use lib.ListN.{length, getD, take, drop, set, length-set, length-drop}
-use borrow.Author.Tests.{eq-eqb, ne-eqb, lt-ltb, le-ltb, le-leb, lt-leb}
 use borrow.Author.Needs.{needs}
 use Rattle.tables.proofs.Asking.{plan-3, plan-kind, plan-by}
 use Rattle.tables.proofs.questions.judge_plan.Statement.{statement}
 use Rattle.tables.proofs.questions.judge_plan.Tie as tie
-use Rattle.tables.proofs.questions.judge_plan.Reads as reads
-use Rattle.tables.proofs.questions.judge_plan.Lts as lts
-use Rattle.tables.proofs.layout.field.Reads as field-reads
-use Rattle.tables.proofs.layout.field_count.Reads as field-count-reads
-use Rattle.tables.proofs.plans.introduce_so_far.Reads as introduce-so-far-reads
-use Rattle.tables.proofs.plans.join_so_far.Reads as join-so-far-reads
-use Rattle.tables.proofs.plans.leaf_so_far.Reads as leaf-so-far-reads
-use Rattle.tables.proofs.questions.judge_known_plan.Reads as judge-known-plan-reads
 
--- src/questions.rt:142:9
 field-count-requires : tie.Need-field-count-requires
 field-count-requires c κs = search needs
 
--- src/questions.rt:143:9
 field-requires : tie.Need-field-requires
 field-requires c κs = search needs
 
--- src/questions.rt:144:9
 field-requires-2 : tie.Need-field-requires-2
 field-requires-2 c κs = search needs
 
--- src/questions.rt:145:9
 field-requires-3 : tie.Need-field-requires-3
 field-requires-3 c κs = search needs
 
--- src/questions.rt:147:9
 returns : tie.Need-returns
 returns c = plan-3 _ _ _ _ _ _ _ _ (c .before .before .before .before .field-count .ensures .0) (c .before .before .before .field .ensures) (c .before .before .field2 .ensures) (c .before .field3 .ensures) (c .if1 .taken)
 
--- src/questions.rt:150:61
 leaf-so-far-requires : tie.Need-leaf-so-far-requires
 leaf-so-far-requires c κs = search needs
 
--- src/questions.rt:150:14
 judge-known-plan-requires : tie.Need-judge-known-plan-requires
 judge-known-plan-requires c κs = search needs
 
--- src/questions.rt:151:61
 introduce-so-far-requires : tie.Need-introduce-so-far-requires
 introduce-so-far-requires c κs = search needs
 
--- src/questions.rt:151:14
 judge-known-plan-requires-2 : tie.Need-judge-known-plan-requires-2
 judge-known-plan-requires-2 c κs = search needs
 
--- src/questions.rt:152:61
 join-so-far-requires : tie.Need-join-so-far-requires
 join-so-far-requires c κs = search needs
 
--- src/questions.rt:152:14
 judge-known-plan-requires-3 : tie.Need-judge-known-plan-requires-3
 judge-known-plan-requires-3 c κs = search needs
 
--- src/questions.rt:138:1
 returns-2 : tie.Need-returns-2
 returns-2 c = plan-by _ _ _ _ _ _ _ _ (c .before .before .before .before .before .before .before .field-count .ensures .0) (c .before .before .before .before .before .before .field .ensures) (c .before .before .before .before .before .field2 .ensures) (c .before .before .before .before .field3 .ensures) (c .before .before .before .if1 .left) 0 (c .before .before .match .keys1) (omega arith) _ (c .before .leaf-so-far .ensures) _ (c .judge-known-plan .ensures)
 
--- src/questions.rt:138:1
 returns-3 : tie.Need-returns-3
 returns-3 c = plan-by _ _ _ _ _ _ _ _ (c .before .before .before .before .before .before .before .field-count .ensures .0) (c .before .before .before .before .before .before .field .ensures) (c .before .before .before .before .before .field2 .ensures) (c .before .before .before .before .field3 .ensures) (c .before .before .before .if1 .left) 1 (c .before .before .match .keys2) (omega arith) _ (c .before .introduce-so-far .ensures) _ (c .judge-known-plan2 .ensures)
 
--- src/questions.rt:138:1
 returns-4 : tie.Need-returns-4
 returns-4 c = plan-by _ _ _ _ _ _ _ _ (c .before .before .before .before .before .before .before .field-count .ensures .0) (c .before .before .before .before .before .before .field .ensures) (c .before .before .before .before .before .field2 .ensures) (c .before .before .before .before .field3 .ensures) (c .before .before .before .if1 .left) 2 (c .before .before .match .keys3) (omega arith) _ (c .before .join-so-far .ensures) _ (c .judge-known-plan3 .ensures)
 
--- src/questions.rt:138:1
 returns-5 : tie.Need-returns-5
 returns-5 c = plan-kind _ _ _ _ _ _ _ _ (c .before .before .before .before .before .field-count .ensures .0) (c .before .before .before .before .field .ensures) (c .before .before .before .field2 .ensures) (c .before .before .field3 .ensures) (c .before .if1 .left) (c .match .rest .0 .0 .1) (c .match .rest .0 .1) (c .match .rest .1)
 

@@ -1,84 +1,54 @@
-use native.Mathlib.Omega.{arith}
-use Prim.Native.Nat.{ℕ, _+_, _-_, _*_, _≤_, _<_}
-use mathlib.Core.Path.{_≡_, refl, sym, ap, _∙_}
-use lib.ListN.{length, getD, take, drop, set, length-set, length-drop}
-use borrow.Author.Tests.{eq-eqb, ne-eqb, lt-ltb, le-ltb, le-leb, lt-leb}
+-- The answer at each question of a rule's `E` line (proofs/Asking).
 use borrow.Author.Needs.{needs}
 use Rattle.tables.proofs.Asking.{edge-3, edge-4, edge-5, edge-6, edge-open, edge-0}
 use Rattle.tables.proofs.questions.judge_rule_edge.Statement.{statement}
 use Rattle.tables.proofs.questions.judge_rule_edge.Tie as tie
-use Rattle.tables.proofs.questions.judge_rule_edge.Reads as reads
-use Rattle.tables.proofs.questions.judge_rule_edge.Lts as lts
-use Rattle.tables.proofs.layout.field.Reads as field-reads
-use Rattle.tables.proofs.layout.field_count.Reads as field-count-reads
-use Rattle.tables.proofs.layout.rank_at.Reads as rank-at-reads
-use Rattle.tables.proofs.layout.rule_edges.Reads as rule-edges-reads
-use Rattle.tables.proofs.layout.rule_nodes.Reads as rule-nodes-reads
-use Rattle.tables.proofs.layout.symbol_count.Reads as symbol-count-reads
-use Rattle.tables.proofs.marks.listed.Reads as listed-reads
-use Rattle.tables.proofs.marks.rule_covered.Reads as rule-covered-reads
 
--- src/questions.rt:93:9
 field-count-requires : tie.Need-field-count-requires
 field-count-requires c κs = search needs
 
--- src/questions.rt:94:9
 field-requires : tie.Need-field-requires
 field-requires c κs = search needs
 
--- src/questions.rt:95:9
 symbol-count-requires : tie.Need-symbol-count-requires
 symbol-count-requires c κs = search needs
 
--- src/questions.rt:96:9
 rank-at-requires : tie.Need-rank-at-requires
 rank-at-requires c κs = search needs
 
--- src/questions.rt:99:9
 returns : tie.Need-returns
 returns c = edge-3 _ _ _ _ _ _ _ _ (c .before .before .before .before .field-count .ensures .0) (c .before .before .before .field .ensures) (c .before .before .symbol-count .ensures) (c .before .rank-at .ensures .0) (c .if1 .taken)
 
--- src/questions.rt:101:15
 add-due : tie.Need-add-due
 add-due c = search needs
 
--- src/questions.rt:103:9
 returns-2 : tie.Need-returns-2
 returns-2 c = edge-4 _ _ _ _ _ _ _ _ (c .before .before .before .before .before .field-count .ensures .0) (c .before .before .before .before .field .ensures) (c .before .before .before .symbol-count .ensures) (c .before .before .rank-at .ensures .0) (c .before .if1 .left) (c .if2 .taken)
 
--- src/questions.rt:105:29
 rule-nodes-requires : tie.Need-rule-nodes-requires
 rule-nodes-requires c κs = search needs
 
--- src/questions.rt:105:9
 listed-requires : tie.Need-listed-requires
 listed-requires c κs = search needs
 
--- src/questions.rt:106:9
 returns-3 : tie.Need-returns-3
 returns-3 c = edge-5 _ _ _ _ _ _ _ _ (c .before .before .before .before .before .before .before .before .field-count .ensures .0) (c .before .before .before .before .before .before .before .field .ensures) (c .before .before .before .before .before .before .symbol-count .ensures) (c .before .before .before .before .before .rank-at .ensures .0) (c .before .before .before .before .if1 .left) (c .before .before .before .if2 .left) _ (c .before .before .rule-nodes .ensures) _ (c .before .listed .ensures) (c .if3 .taken)
 
--- src/questions.rt:108:8
 add-if4 : tie.Need-add-if4
 add-if4 c = search needs
 
--- src/questions.rt:108:16
 rule-edges-requires : tie.Need-rule-edges-requires
 rule-edges-requires c κs = search needs
 
--- src/questions.rt:109:9
 returns-4 : tie.Need-returns-4
 returns-4 c = edge-open _ _ _ _ _ _ _ _ (c .before .before .before .before .before .before .before .before .before .before .field-count .ensures .0) (c .before .before .before .before .before .before .before .before .before .field .ensures) (c .before .before .before .before .before .before .before .before .symbol-count .ensures) (c .before .before .before .before .before .before .before .rank-at .ensures .0) (c .before .before .before .before .before .before .if1 .left) (c .before .before .before .before .before .if2 .left) _ (c .before .before .before .before .rule-nodes .ensures) _ (c .before .before .before .listed .ensures) (c .before .before .if3 .left) _ (c .before .rule-edges .ensures) (c .if4 .taken)
 
--- src/questions.rt:111:9
 rule-covered-requires : tie.Need-rule-covered-requires
 rule-covered-requires c κs = search needs
 
--- src/questions.rt:112:9
 returns-5 : tie.Need-returns-5
 returns-5 c = edge-6 _ _ _ _ _ _ _ _ (c .before .before .before .before .before .before .before .before .before .before .before .before .field-count .ensures .0) (c .before .before .before .before .before .before .before .before .before .before .before .field .ensures) (c .before .before .before .before .before .before .before .before .before .before .symbol-count .ensures) (c .before .before .before .before .before .before .before .before .before .rank-at .ensures .0) (c .before .before .before .before .before .before .before .before .if1 .left) (c .before .before .before .before .before .before .before .if2 .left) _ (c .before .before .before .before .before .before .rule-nodes .ensures) _ (c .before .before .before .before .before .listed .ensures) (c .before .before .before .before .if3 .left) _ (c .before .before .before .rule-edges .ensures) (c .before .before .if4 .left) _ (c .before .rule-covered .ensures) (c .if5 .taken)
 
--- src/questions.rt:89:1
 returns-6 : tie.Need-returns-6
 returns-6 c = edge-0 _ _ _ _ _ _ _ _ (c .before .before .before .before .before .before .before .before .before .before .before .before .field-count .ensures .0) (c .before .before .before .before .before .before .before .before .before .before .before .field .ensures) (c .before .before .before .before .before .before .before .before .before .before .symbol-count .ensures) (c .before .before .before .before .before .before .before .before .before .rank-at .ensures .0) (c .before .before .before .before .before .before .before .before .if1 .left) (c .before .before .before .before .before .before .before .if2 .left) _ (c .before .before .before .before .before .before .rule-nodes .ensures) _ (c .before .before .before .before .before .listed .ensures) (c .before .before .before .before .if3 .left) _ (c .before .before .before .rule-edges .ensures) (c .before .before .if4 .left) _ (c .before .rule-covered .ensures) (c .if5 .left)
 
