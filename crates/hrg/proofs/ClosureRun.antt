@@ -26,11 +26,11 @@ and-in : (a b : Bool) → T a → T b → T (a && b)
 and-in true b x y = y
 and-in false b x y = absurd x
 
-of-and : (a b : Bool) → T (a && b) → T a × T b
+pub of-and : (a b : Bool) → T (a && b) → T a × T b
 of-and true b h = (tt, h)
 of-and false b h = absurd h
 
-eq-test : {a b : ℕ} → a ≡ b → T (eqb a b)
+pub eq-test : {a b : ℕ} → a ≡ b → T (eqb a b)
 eq-test {a} e = subst (λ (z : ℕ). T (eqb a z)) e (eqb-refl a)
 
 -- ---- equality of items
@@ -81,11 +81,11 @@ same-refl (passive s m L) = simp (eqb-same, list-same) tt
 
 -- ---- lists by tests
 module _ {A : Type 0} {i : A} where
-  in-guard : (b : Bool) {l : List A} → T b → In i l → In i (guard b l)
+  pub in-guard : (b : Bool) {l : List A} → T b → In i l → In i (guard b l)
   in-guard true h m = m
   in-guard false h m = absurd h
 
-  of-guard : (b : Bool) {l : List A} → In i (guard b l) → T b × In i l
+  pub of-guard : (b : Bool) {l : List A} → In i (guard b l) → T b × In i l
   of-guard true m = (tt, m)
   of-guard false m = absurd (in-nil m)
 
@@ -97,7 +97,7 @@ module _ {A : Type 0} {i : A} where
       go (yes l) below = in-right (f n) (below l)
       go (no g) below = in-left {s = f n} (eachTo n f) (rw (let e : n ≡ k = omega arith in e) m)
 
-  of-to : (n : ℕ) (f : ℕ → List A) → In i (eachTo n f) → (k : ℕ) × (k < n) × In i (f k)
+  pub of-to : (n : ℕ) (f : ℕ → List A) → In i (eachTo n f) → (k : ℕ) × (k < n) × In i (f k)
   of-to zero f m = absurd (in-nil m)
   of-to (suc n) f m = go (in-append (f n) m) (of-to n f)
     where
@@ -158,7 +158,7 @@ module _ (H : Graph) (R : Rule) (r p m₁ m₂ : ℕ) (f g : List ℕ) where
   abbrev both : List ℕ
   both = joined size f g
 
-  in-combine : {m : ℕ} {h : List ℕ} → Joins H R p m₁ m₂ f g m h → In (active r p m h) (combine H R r p m₁ m₂ f g)
+  pub in-combine : {m : ℕ} {h : List ℕ} → Joins H R p m₁ m₂ f g m h → In (active r p m h) (combine H R r p m₁ m₂ f g)
   unfolding combine agree oneToOne
   in-combine w =
       in-guard (disjoint m₁ m₂) (holds-disjoint m₁ m₂ (w .disjoint))
@@ -167,7 +167,7 @@ module _ (H : Graph) (R : Rule) (r p m₁ m₂ : ℕ) (f g : List ℕ) where
       (in-guard (covering H (m₁ ∪ m₂) (restrict R p both)) (covering-in H _ _ (rw (w .union, w .map) at (w .covers)))
       (here (cc)))))
 
-  of-combine : (P : Item → Type 0) → ((m : ℕ) (h : List ℕ) → Joins H R p m₁ m₂ f g m h → P (active r p m h)) → {i : Item} → In i (combine H R r p m₁ m₂ f g) → P i
+  pub of-combine : (P : Item → Type 0) → ((m : ℕ) (h : List ℕ) → Joins H R p m₁ m₂ f g m h → P (active r p m h)) → {i : Item} → In i (combine H R r p m₁ m₂ f g) → P i
   unfolding combine agree oneToOne
   of-combine P found k =
       let a = of-guard (disjoint m₁ m₂) k in
@@ -208,7 +208,7 @@ module _ (G : Grammar) where
       let b = of-to (length (planOf G (a .0))) (leafAs (a .0)) (a .2) in
       of-leaf (a .0) (b .0) (planNode (planOf G (a .0)) (b .0)) (a .1) (b .1) refl (b .2)
 
-terminal-test : (k : Kind) → T (isTerminal k) → k ≡ terminal
+pub terminal-test : (k : Kind) → T (isTerminal k) → k ≡ terminal
 terminal-test terminal t = refl
 terminal-test nonterminal t = absurd t
 
