@@ -14,3 +14,7 @@ pub mod Runs
 pub mod RunFacts
 -- K1 to K9 on records
 pub mod Cases
+-- a chart's words
+pub mod WordLaws
+pub mod Written
+pub mod Rewritten

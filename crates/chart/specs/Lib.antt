@@ -3,3 +3,4 @@ pub mod Records
 pub mod Consequences
 pub mod Steps
 pub mod RunFacts
+pub mod Words

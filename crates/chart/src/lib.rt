@@ -1,4 +1,5 @@
 // The chart: items in records of their own, in the order found, and the run over them in steps.
+mod words;
 
 // An item of the chart: an active one of a rule at a plan node, or a passive one of a symbol; its edge set as a mask, its count, whether it is
 // handled, the graph nodes of the rule's nodes or the listed nodes (64: none), and what it was made of.

@@ -1,0 +1,60 @@
+-- The part has the length that its end says.
+use native.Mathlib.Omega.{arith}
+use mathlib.Core.Path.{sym}
+use borrow.Author.Needs.{needs}
+use lib.Seq.{length-take-le}
+use Rattle.cases.proofs.short_grammar.Statement.{statement}
+use Rattle.cases.proofs.short_grammar.Tie as tie
+
+fill-requires : tie.Need-fill-requires
+fill-requires c κs = search needs
+
+same-length : tie.Need-same-length
+same-length c = search needs
+
+returns : tie.Need-returns
+returns c = search needs
+
+slice-relend-prefix-read-grammar : tie.Need-slice-relend-prefix-read-grammar
+slice-relend-prefix-read-grammar c = search needs
+
+slice-aggregate-read-grammar : tie.Need-slice-aggregate-read-grammar
+slice-aggregate-read-grammar c = sym (length-take-le _ _ (omega arith))
+
+read-grammar-requires : tie.Need-read-grammar-requires
+read-grammar-requires c κs = search needs
+
+refusal-requires : tie.Need-refusal-requires
+refusal-requires c κs = search needs
+
+slice-aggregate-print-case : tie.Need-slice-aggregate-print-case
+slice-aggregate-print-case c = search needs
+
+print-case-requires : tie.Need-print-case-requires
+print-case-requires c κs = search needs
+
+is-filled-requires : tie.Need-is-filled-requires
+is-filled-requires c κs = search needs
+
+same-length-2 : tie.Need-same-length-2
+same-length-2 c = search needs
+
+returns-2 : tie.Need-returns-2
+returns-2 c = search needs
+
+pub short-grammar-spec : {M : Type 1} → statement M
+short-grammar-spec =
+    tie.close
+    (tie.spec
+    fill-requires
+    same-length
+    returns
+    slice-relend-prefix-read-grammar
+    slice-aggregate-read-grammar
+    read-grammar-requires
+    refusal-requires
+    slice-aggregate-print-case
+    print-case-requires
+    is-filled-requires
+    same-length-2
+    returns-2)

@@ -1,0 +1,28 @@
+-- Beyond 2^59 records there is no word: a slice is shorter.
+use native.Mathlib.Omega.{arith}
+use Prim.Native.Nat.{_-_}
+use borrow.Author.Needs.{needs}
+use Rattle.chart.proofs.WordLaws.{field-past, field-at}
+use Rattle.chart.proofs.words.field.Statement.{statement}
+use Rattle.chart.proofs.words.field.Tie as tie
+
+returns : tie.Need-returns
+returns c = field-past (c .before .before .args .chart .now) (c .before .before .args .j) (c .before .before .args .k) (omega arith)
+
+mul-word : tie.Need-mul-word
+mul-word c = search needs
+
+add-word : tie.Need-add-word
+add-word c = search needs
+
+add-word-2 : tie.Need-add-word-2
+add-word-2 c = search needs
+
+word-requires : tie.Need-word-requires
+word-requires c κs = search needs
+
+returns-2 : tie.Need-returns-2
+returns-2 c = field-at (c .before .before .before .args .chart .now) (c .before .before .before .args .j) (c .before .before .before .args .k) _ (c .word .ensures)
+
+pub field-spec : {M : Type 1} → statement M
+field-spec = tie.close (tie.spec returns mul-word add-word add-word-2 word-requires returns-2)

@@ -1,0 +1,51 @@
+-- A search from behind: what is found below is what the whole search finds.
+use native.Mathlib.Omega.{arith}
+use Prim.Native.Nat.{_-_, _≤_}
+use mathlib.Core.Path.{_≡_, refl, _∙_}
+use borrow.Author.Needs.{needs}
+use Rattle.chart.specs.Words.{recordsAt}
+use Rattle.chart.specs.Steps.{lastSame}
+use Rattle.chart.proofs.WordLaws.{find-hit, find-miss, find-end}
+use Rattle.chart.proofs.words.find.Statement.{statement}
+use Rattle.chart.proofs.words.find.Tie as tie
+
+abbrev Inv-loop : tie.InvT-loop
+Inv-loop chart x n i₀ i = (i ≤ n) × (lastSame x (recordsAt chart n) i ≡ lastSame x (recordsAt chart n) n)
+
+abbrev μ-loop : tie.MeasureT-loop
+μ-loop chart x n i₀ i = i
+
+loop-holds : tie.Need-loop-holds Inv-loop μ-loop
+loop-holds c = (omega arith, refl)
+
+sub-i : tie.Need-sub-i Inv-loop μ-loop
+sub-i c = omega arith
+
+same-at-requires : tie.Need-same-at-requires Inv-loop μ-loop
+same-at-requires c κs = search needs
+
+returns : tie.Need-returns Inv-loop μ-loop
+returns c = find-hit (c .before .before .before .before .before .args .chart .now) (c .before .before .before .before .before .args .x) (c .before .before .before .before .before .args .n) (c .before .before .before .loop .i) _ (omega arith) (omega arith) (c .before .same-at .result) (c .before .same-at .ensures) (c .if1 .taken) ∙ c .before .before .before .loop .inv .1
+
+loop-less : tie.Need-loop-less Inv-loop μ-loop
+loop-less c = omega arith
+
+loop-again : tie.Need-loop-again Inv-loop μ-loop
+loop-again c = (omega arith, find-miss (c .before .before .before .before .before .args .chart .now) (c .before .before .before .before .before .args .x) (c .before .before .before .before .before .args .n) (c .before .before .before .loop .i) _ (omega arith) (omega arith) (c .before .same-at .result) (c .before .same-at .ensures) (c .if1 .left) ∙ c .before .before .before .loop .inv .1)
+
+returns-2 : tie.Need-returns-2 Inv-loop μ-loop
+returns-2 c = find-end (c .before .before .before .args .chart .now) (c .before .before .before .args .x) (c .before .before .before .args .n) (c .before .loop .i) (omega arith) ∙ c .before .loop .inv .1
+
+pub find-spec : {M : Type 1} → statement M
+find-spec =
+    tie.close
+    (tie.spec
+    Inv-loop
+    μ-loop
+    loop-holds
+    sub-i
+    same-at-requires
+    returns
+    loop-less
+    loop-again
+    returns-2)

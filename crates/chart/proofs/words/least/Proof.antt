@@ -1,0 +1,39 @@
+-- The choice among the records so far.
+use native.Mathlib.Omega.{arith}
+use Prim.Native.Nat.{_-_, _≤_}
+use mathlib.Core.Path.{_≡_, ap, _∙_}
+use borrow.Author.Needs.{needs}
+use Rattle.chart.specs.Words.{recordsAt}
+use Rattle.chart.specs.Steps.{leastWaiting}
+use Rattle.chart.proofs.WordLaws.{least-start, least-next}
+use Rattle.chart.proofs.words.least.Statement.{statement}
+use Rattle.chart.proofs.words.least.Tie as tie
+
+abbrev Inv-loop : tie.InvT-loop
+Inv-loop chart n best₀ i₀ best i = (i ≤ n) × (best ≡ leastWaiting (recordsAt chart n) i)
+
+abbrev μ-loop : tie.MeasureT-loop
+μ-loop chart n best₀ i₀ best i = n - i
+
+loop-holds : tie.Need-loop-holds Inv-loop μ-loop
+loop-holds c = (omega arith, least-start _)
+
+lesser-of-requires : tie.Need-lesser-of-requires Inv-loop μ-loop
+lesser-of-requires c κs = search needs
+
+add-i : tie.Need-add-i Inv-loop μ-loop
+add-i c = omega arith
+
+loop-less : tie.Need-loop-less Inv-loop μ-loop
+loop-less c = omega arith
+
+loop-again : tie.Need-loop-again Inv-loop μ-loop
+loop-again c = (omega arith, least-next (c .before .before .before .before .args .chart .now) (c .before .before .before .before .args .n) (c .before .before .loop .i) (c .before .before .loop .best) _ (c .before .loop-test .taken) (c .before .before .loop .inv .1) (c .lesser-of .ensures))
+
+returns : tie.Need-returns Inv-loop μ-loop
+returns c = c .before .loop .inv .1 ∙ ap (leastWaiting (recordsAt (c .before .before .before .args .chart .now) (c .before .before .before .args .n))) (omega arith)
+
+pub least-spec : {M : Type 1} → statement M
+least-spec =
+    tie.close
+    (tie.spec Inv-loop μ-loop loop-holds lesser-of-requires add-i loop-less loop-again returns)

@@ -1,0 +1,7 @@
+-- The root of the laws.
+pub mod Known
+pub mod PlanMasks
+pub mod Touching
+pub mod EdgeMaps
+pub mod MapLaws
+pub mod Combining

@@ -1,0 +1,184 @@
+-- The laws of the loops over maps: agreement, a map place by place, one-to-one, and the images.
+use mathlib.Core.Path.{_≡_, refl, sym, ap, ap₂, _∙_}
+use mathlib.Core.Bool.{Bool, true, false, _&&_, _||_, not}
+use mathlib.Core.List.{List, [], _∷_}
+use Prim.Native.Nat.{ℕ, zero, suc, _+_, _≤_, _<_}
+use native.Mathlib.Omega.{arith}
+use native.Mathlib.Decide.{decLt}
+use lib.ListN.{length, getD, set, take, replicate, length-set}
+use lib.Seq.{getD-set-same, getD-set-other, take-length}
+use lib.Dec.{eqb, leb, ltb}
+use borrow.Author.Tests.{lt-ltb, le-leb, lt-leb, ltb-true, ltb-false, eqb-true, eqb-false}
+use Rattle.masks.specs.Masks.{member, Added, Found}
+use Rattle.hrg.specs.Counts.{hit, occurs, tabulate}
+use Rattle.hrg.specs.Trees.{unplaced, at}
+use Rattle.hrg.specs.Items.{orElse, joined, keepIf}
+use Rattle.hrg.specs.WellFormedTest.{every}
+use Rattle.hrg.specs.ClosureRun.{agree, oneToOne}
+use Rattle.hrg.proofs.Sums.{hit-self, hit-ne, length-tabulate, at-tabulate}
+use Rattle.hrg.proofs.Degrees.{and-true}
+use Rattle.tables.proofs.Planning.{every-false}
+use Rattle.tables.proofs.Listing.{occurs-around, occurs-next}
+use Rattle.joins.specs.Joins.{NodesIn, padded}
+use Rattle.joins.proofs.PlanMasks.{member-none, some-sum, some-hit}
+use Rattle.joins.proofs.EdgeMaps.{at-past, is-padded, at-none}
+
+-- inside a list the value for numbers past its end does not matter
+pub getD-any : (l : List ℕ) (i d e : ℕ) → i < length l → getD l i d ≡ getD l i e
+getD-any [] i d e h = absurd (omega arith)
+getD-any (x ∷ l) zero d e h = refl
+getD-any (x ∷ l) (suc i) d e h = getD-any l i d e (omega arith)
+
+-- a test that passes at each number
+pub every-true : (n : ℕ) (t : ℕ → Bool) → ((i : ℕ) → i < n → t i ≡ true) → every n t ≡ true
+unfolding every
+every-true zero t h = refl
+every-true (suc n) t h = rw (h 0 (omega arith), every-true n (λ i. t (suc i)) (λ i l. h (suc i) (omega arith)))
+
+pub every-same : (n : ℕ) (t u : ℕ → Bool) → ((i : ℕ) → i < n → t i ≡ u i) → every n t ≡ every n u
+unfolding every
+every-same zero t u h = refl
+every-same (suc n) t u h = ap₂ _&&_ (h 0 (omega arith)) (every-same n (λ i. t (suc i)) (λ i. u (suc i)) (λ i l. h (suc i) (omega arith)))
+
+-- ---- agreement
+abbrev pub agreeAt : List ℕ → List ℕ → ℕ → Bool
+agreeAt f k x = leb unplaced (at f x) || leb unplaced (at k x) || eqb (at f x) (at k x)
+
+three : (a b : ℕ) (p q r : Bool) → ltb a 64 ≡ p → ltb b 64 ≡ q → eqb a b ≡ r → (leb 64 a || leb 64 b || eqb a b) ≡ not (p && q && not r)
+three a b true true r x y z = rw (lt-leb 64 a (ltb-true a 64 x), lt-leb 64 b (ltb-true b 64 y), z) (twice r)
+  where
+    twice : (r : Bool) → r ≡ not (not r)
+    twice true = refl
+    twice false = refl
+three a b true false r x y z = rw (le-leb 64 b (ltb-false b 64 y)) (or-yes (leb 64 a))
+  where
+    or-yes : (p : Bool) → (p || true || eqb a b) ≡ true
+    or-yes true = refl
+    or-yes false = refl
+three a b false q r x y z = rw (le-leb 64 a (ltb-false a 64 x))
+
+agree-test : (f k : List ℕ) (i a b : ℕ) → i < length f → i < length k → a ≡ getD f i 0 → b ≡ getD k i 0 → agreeAt f k i ≡ not (ltb a 64 && ltb b 64 && not (eqb a b))
+agree-test f k i a b h l x y =
+    ap₂ (λ (a b : ℕ). leb 64 a || leb 64 b || eqb a b) (getD-any f i unplaced 0 h ∙ sym x) (getD-any k i unplaced 0 l ∙ sym y) ∙ three a b (ltb a 64) (ltb b 64) (eqb a b) refl refl refl
+
+pub record Agreed (f k : List ℕ) (i : ℕ) : Type 0 where
+  pub each : (x : ℕ) → x < i → agreeAt f k x ≡ true
+
+module _ (f k : List ℕ) (size : length f ≡ 8) (size′ : length k ≡ 8) where
+  pub agree-none : Agreed f k 0
+  agree-none = record { each = λ x h. absurd (omega arith) }
+
+  pub agree-not : (n i a b : ℕ) → n ≤ 8 → i < n → a ≡ getD f i 0 → b ≡ getD k i 0 → (ltb a 64 && ltb b 64 && not (eqb a b)) ≡ true → false ≡ agree n f k
+  unfolding agree
+  agree-not n i a b few h x y t = every-false n (agreeAt f k) i h (agree-test f k i a b (omega arith) (omega arith) x y ∙ ap not t)
+
+  pub agree-next : (n i a b : ℕ) → n ≤ 8 → i < n → a ≡ getD f i 0 → b ≡ getD k i 0 → (ltb a 64 && ltb b 64 && not (eqb a b)) ≡ false → Agreed f k i → Agreed f k (i + 1)
+  agree-next n i a b few h x y t before = record { each = λ z l. go z l (decLt z i) }
+    where
+      go : (z : ℕ) → z < i + 1 → Dec (z < i) → agreeAt f k z ≡ true
+      go z l (yes d) = before .each z d
+      go z l (no d) = let e : z ≡ i = omega arith in ap (agreeAt f k) e ∙ agree-test f k i a b (omega arith) (omega arith) x y ∙ ap not t
+
+  pub agree-all : (n i : ℕ) → n ≤ i → Agreed f k i → true ≡ agree n f k
+  unfolding agree
+  agree-all n i h all = sym (every-true n (agreeAt f k) (λ x l. all .each x (omega arith)))
+
+-- ---- a map, place by place
+pub record Placed (t : ℕ → ℕ) (i : ℕ) (f : List ℕ) : Type 0 where
+  pub size : length f ≡ 8
+  pub before : (x : ℕ) → x < i → at f x ≡ t x
+  pub after : (x : ℕ) → i ≤ x → at f x ≡ unplaced
+
+pub placed-none : (t : ℕ → ℕ) → Placed t 0 (replicate 8 unplaced)
+placed-none t = record { size = refl; before = λ x h. absurd (omega arith); after = λ x h. at-none 8 x }
+
+pub placed-next : (t : ℕ → ℕ) (i v : ℕ) (f : List ℕ) → i < 8 → v ≡ t i → Placed t i f → Placed t (i + 1) (set f i v)
+placed-next t i v f h e p = record {
+  size = length-set f i v ∙ p .size;
+  before = λ x l. go x l (decLt x i);
+  after = λ x l. getD-set-other f i x v unplaced (λ d. omega arith) ∙ p .after x (omega arith);
+}
+  where
+    go : (x : ℕ) → x < i + 1 → Dec (x < i) → at (set f i v) x ≡ t x
+    go x l (yes d) = getD-set-other f i x v unplaced (λ s. omega arith) ∙ p .before x d
+    go x l (no d) = let s : x ≡ i = omega arith in rw s (getD-set-same f i v unplaced (omega (arith, p .size)) ∙ e)
+
+pub placed-all : (t : ℕ → ℕ) (n i : ℕ) (f : List ℕ) → i ≤ n → n ≤ i → Placed t i f → f ≡ padded (tabulate n t)
+placed-all t n i f a b p = is-padded f (tabulate n t) (p .size) (λ x h. go x (decLt x n))
+  where
+    go : (x : ℕ) → Dec (x < n) → at f x ≡ at (tabulate n t) x
+    go x (yes d) = p .before x (omega arith) ∙ sym (at-tabulate n t x d)
+    go x (no d) = p .after x (omega arith) ∙ sym (at-past (tabulate n t) x (omega (arith, length-tabulate n t)))
+
+-- two maps as one, and a map without closed nodes
+module _ (f k : List ℕ) (size : length f ≡ 8) (size′ : length k ≡ 8) where
+  pub merge-next : (i v : ℕ) (j : List ℕ) → i < 8 → v ≡ orElse (getD f i 0) (getD k i 0) → Placed (λ x. orElse (at f x) (at k x)) i j → Placed (λ x. orElse (at f x) (at k x)) (i + 1) (set j i v)
+  merge-next i v j h e p =
+      placed-next (λ x. orElse (at f x) (at k x)) i v j h (e ∙ ap₂ orElse (getD-any f i 0 unplaced (omega arith)) (getD-any k i 0 unplaced (omega arith))) p
+
+pub merge-all : (f k : List ℕ) (n i : ℕ) (j : List ℕ) → i ≤ n → n ≤ i → Placed (λ x. orElse (at f x) (at k x)) i j → j ≡ padded (joined n f k)
+unfolding joined
+merge-all f k n i j a b p = placed-all (λ x. orElse (at f x) (at k x)) n i j a b p
+
+pub restrict-next : (j : List ℕ) (i v m : ℕ) (t : List ℕ) (b : Bool) → length j ≡ 8 → i < 8 → Found m i b → v ≡ keepIf b (getD j i 0) → Placed (λ x. keepIf (member m x) (at j x)) i t
+    → Placed (λ x. keepIf (member m x) (at j x)) (i + 1) (set t i v)
+restrict-next j i v m t b size h found e p =
+    placed-next (λ x. keepIf (member m x) (at j x)) i v t h (e ∙ ap₂ keepIf (found .value) (getD-any j i 0 unplaced (omega arith))) p
+
+-- ---- the images so far
+pub seen-none : (j : List ℕ) → NodesIn 0 (take 0 j)
+unfolding occurs
+seen-none j = record { members = λ x h. member-none x }
+
+pub seen-next : (j : List ℕ) (i v m n : ℕ) → i < length j → v ≡ getD j i 0 → Added m v n → NodesIn m (take i j) → NodesIn n (take (i + 1) j)
+seen-next j i v m n h e added before = record {
+  members = λ x l.
+      added .members x l
+      ∙ rw (before .members x l, e, ← some-hit x (getD j i 0), ← some-sum (occurs x (take i j)) (hit x (getD j i 0)))
+      (ap (λ k. ltb 0 k) (sym (occurs-next x j i h)));
+}
+
+pub seen-all : (j : List ℕ) (i m : ℕ) → length j ≡ 8 → i ≤ 8 → 8 ≤ i → NodesIn m (take i j) → NodesIn m j
+seen-all j i m size a b here = let e : i ≡ length j = omega arith in rw (e, take-length j) at here
+
+-- ---- one-to-one
+pub record Once (nodes : ℕ) (j : List ℕ) (i m : ℕ) : Type 0 where
+  pub seen : NodesIn m (take i j)
+  pub once : (v : ℕ) → v < nodes → occurs v (take i j) ≤ 1
+
+pub once-none : (nodes : ℕ) (j : List ℕ) → Once nodes j 0 0
+unfolding occurs
+once-none nodes j = record { seen = seen-none j; once = λ v h. omega arith }
+
+module _ (nodes : ℕ) (j : List ℕ) (size : length j ≡ 8) (few : nodes ≤ 64) (i v seen : ℕ) (again : Bool) (h : i < 8) (e : v ≡ getD j i 0) (found : Found seen v again) (o : Once nodes j i seen) where
+  pub once-not : (again && ltb v nodes) ≡ true → false ≡ oneToOne nodes j
+  unfolding oneToOne
+  once-not t =
+      let (a, b) = and-true again (ltb v nodes) t in
+      let inside : v < nodes = ltb-true v nodes b in
+      let before : 0 < occurs v (take i j) = ltb-true 0 (occurs v (take i j)) (sym (o .seen .members v (omega arith)) ∙ sym (found .value) ∙ a) in
+      every-false nodes (λ v. leb (occurs v j) 1) v inside
+      (lt-leb (occurs v j) 1 (omega (arith, occurs-around v j i (omega arith), ap (λ w. hit v w) (sym e), hit-self v)))
+
+  pub once-next : (n : ℕ) → Added seen v n → (again && ltb v nodes) ≡ false → Once nodes j (i + 1) n
+  once-next n added t = record { seen = seen-next j i v seen n (omega arith) e added (o .seen); once = λ w l. go w l (eqb w v) refl }
+    where
+      fresh : (p : Bool) → again ≡ p → v < nodes → occurs v (take i j) ≡ 0
+      fresh true a l = let z : _≡_ {A = Bool} true false = sym (ap₂ _&&_ a (lt-ltb v nodes l)) ∙ t in absurd (never z)
+        where
+          never : true ≡ false → ⊥
+          never z = let y : _≡_ {A = ℕ} 0 1 = cc in omega arith
+      fresh false a l = omega (arith, ltb-false 0 (occurs v (take i j)) (sym (o .seen .members v (omega arith)) ∙ sym (found .value) ∙ a))
+
+      go : (w : ℕ) → w < nodes → (p : Bool) → eqb w v ≡ p → occurs w (take (i + 1) j) ≤ 1
+      go w l true d =
+          let s : w ≡ v = eqb-true w v d in
+          rw s (omega (arith, occurs-next v j i (omega arith), ap (λ w. hit v w) (sym e), hit-self v, fresh again refl (omega arith)))
+      go w l false d =
+          omega (arith, occurs-next w j i (omega arith), ap (λ u. hit w u) (sym e), hit-ne w v (eqb-false w v d), o .once w l)
+
+pub once-all : (nodes : ℕ) (j : List ℕ) (i seen : ℕ) → length j ≡ 8 → i ≤ 8 → 8 ≤ i → Once nodes j i seen → true ≡ oneToOne nodes j
+unfolding oneToOne
+once-all nodes j i seen size a b o =
+    let e : i ≡ length j = omega arith in
+    sym (every-true nodes (λ v. leb (occurs v j) 1) (λ v l. le-leb (occurs v j) 1 (rw (e, take-length j) at (o .once v l))))

@@ -1,0 +1,108 @@
+-- What the functions say of accepted tables: masks of rule edges and of open nodes, and maps of eight rule nodes.
+use mathlib.Core.Path.{_≡_}
+use mathlib.Core.Bool.{Bool, true, false, _&&_, _||_, not}
+use mathlib.Core.List.{List, [], _∷_}
+use Prim.Native.Nat.{ℕ, zero, suc, _+_, _<_}
+use lib.ListN.{getD, replicate}
+use lib.Dec.{ltb}
+use Rattle.masks.specs.Masks.{member, _∪_}
+use Rattle.hrg.specs.Counts.{occurs, tabulate}
+use Rattle.hrg.specs.Grammars.{ruleOf, rightOf, planOf, edgeAt}
+use Rattle.hrg.specs.Trees.{unplaced, at}
+use Rattle.hrg.specs.Items.{Item, active, passive, below, isOpen, isOpenAt, joined}
+use Rattle.hrg.specs.ClosureRun.{agree, oneToOne}
+use Rattle.tables.specs.Layout.{word, rankAt, ruleCount, ruleEdges, rulePlan}
+use Rattle.tables.specs.Checking.{checkGrammar, checkGraph}
+use Rattle.tables.specs.Abstract.{grammarOf, graphOf}
+use Rattle.joins.specs.declared.Sides.{Sides}
+use Rattle.joins.specs.declared.Merged.{Merged}
+use Rattle.joins.specs.declared.Joined.{Joined}
+
+-- ---- what callers know
+-- an accepted grammar table and a graph table accepted with it
+pub record Accepted (g h : List ℕ) : Type 0 where
+  pub grammar : checkGrammar g ≡ true
+  pub graph : checkGraph g h ≡ true
+
+-- a plan node of an accepted grammar table
+pub record KnownNode (g : List ℕ) (r p : ℕ) : Type 0 where
+  pub grammar : checkGrammar g ≡ true
+  pub rule : r < ruleCount g
+  pub node : p < rulePlan g r
+
+-- an edge of a rule of it
+pub record KnownEdge (g : List ℕ) (r i : ℕ) : Type 0 where
+  pub grammar : checkGrammar g ≡ true
+  pub rule : r < ruleCount g
+  pub edge : i < ruleEdges g r
+
+-- ---- what lies below a plan node
+-- m is the set of the rule edges below plan node p
+pub record EdgesBelow (g : List ℕ) (r p m : ℕ) : Type 0 where
+  pub members : (i : ℕ) → member m i ≡ ltb 0 (occurs i (below (planOf (grammarOf g) r) p))
+
+-- ms has the sets for the plan nodes before q
+pub record MasksBelow (g : List ℕ) (r q : ℕ) (ms : List ℕ) : Type 0 where
+  pub each : (p : ℕ) → p < q → EdgesBelow g r p (getD ms p 0)
+
+-- ---- open nodes
+-- m is the set of the nodes of a list
+pub record NodesIn (m : ℕ) (l : List ℕ) : Type 0 where
+  pub members : (x : ℕ) → x < 64 → member m x ≡ ltb 0 (occurs x l)
+
+-- the nodes of the edge at place p of table t
+unfoldable pub lineNodes : List ℕ → List ℕ → ℕ → List ℕ
+unfolding tabulate
+lineNodes g t p = tabulate (rankAt g (word t p 0)) (λ k. word t p (1 + k))
+
+-- some number below n passes both tests
+unfoldable pub someBoth : (ℕ → Bool) → (ℕ → Bool) → ℕ → Bool
+someBoth t a zero = false
+someBoth t a (suc n) = someBoth t a n || (t n && a n)
+
+-- one edge more, of the set or not, with its nodes
+abbrev pub sideWith : Sides → Bool → ℕ → Sides
+sideWith s true on = record { inside = s .inside ∪ on; outside = s .outside }
+sideWith s false on = record { inside = s .inside; outside = s .outside ∪ on }
+
+-- the nodes on the edges of the set m, and on the others, of n edges at the places from base on
+pub record SidesOf (g t : List ℕ) (base n m : ℕ) (s : Sides) : Type 0 where
+  pub inside : (x : ℕ) → x < 64 → member (s .inside) x ≡ someBoth (λ i. member m i) (λ i. ltb 0 (occurs x (lineNodes g t (base + i)))) n
+  pub outside : (x : ℕ) → x < 64 → member (s .outside) x ≡ someBoth (λ i. not (member m i)) (λ i. ltb 0 (occurs x (lineNodes g t (base + i)))) n
+
+-- m is the set of the nodes that are inside and external or outside
+pub record Boundary (s : Sides) (externals m : ℕ) : Type 0 where
+  pub members : (x : ℕ) → x < 64 → member m x ≡ (member (s .inside) x && (member externals x || member (s .outside) x))
+
+-- m is the set of the open rule nodes at plan node p
+pub record OpenAt (g : List ℕ) (r p m : ℕ) : Type 0 where
+  pub members : (x : ℕ) → x < 64 → member m x ≡ isOpenAt (ruleOf (grammarOf g) r) p x
+
+-- o is the set of the open graph nodes of the edge set m
+pub record OpenIn (g h : List ℕ) (m o : ℕ) : Type 0 where
+  pub members : (v : ℕ) → v < 64 → member o v ≡ isOpen (graphOf g h) m v
+
+-- ---- maps of rule nodes
+-- a map of at most eight rule nodes, in eight places
+unfoldable pub padded : List ℕ → List ℕ
+unfolding tabulate
+padded f = tabulate 8 (λ x. at f x)
+
+-- the nodes of edge i of rule r
+abbrev pub edgeNodes : List ℕ → ℕ → ℕ → List ℕ
+edgeNodes g r i = edgeAt (rightOf (grammarOf g) r .edges) i .attachment
+
+-- ---- what two sets and maps make
+-- whether two maps of n nodes are one map and one-to-one, and that map
+pub record Merges (n nodes : ℕ) (f k : List ℕ) (x : Merged) : Type 0 where
+  pub test : x .ok ≡ (agree n f k && oneToOne nodes (joined n f k))
+  pub map : x .ok ≡ true → x .nodes ≡ padded (joined n f k)
+
+abbrev pub nothing : Joined
+nothing = record { found = false; edges = 0; nodes = replicate 8 unplaced }
+
+-- the item that `combine` makes, if it does: its set, and its map in eight places
+unfoldable pub joinedOf : List Item → Joined
+joinedOf [] = nothing
+joinedOf (active r p m t ∷ is) = record { found = true; edges = m; nodes = padded t }
+joinedOf (passive s m L ∷ is) = nothing

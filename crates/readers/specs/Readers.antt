@@ -1,0 +1,34 @@
+-- What the readers' contracts say: the answer and every lent word by the outcome of crate `tables`.
+use mathlib.Core.Path.{_≡_}
+use mathlib.Core.Bool.{Bool}
+use mathlib.Core.List.{List}
+use Prim.Native.Nat.{ℕ}
+use Rattle.lines.specs.Lines.{Line}
+use Rattle.tables.specs.Reading.{Verdict, accepted, goOn, Outcome}
+use Rattle.tables.specs.declared.Answer.{Answer}
+use Rattle.tables.specs.declared.Due.{Due}
+use Rattle.tables.specs.declared.Due.the-variants.{Grammar, Symbol, Rule, RuleEdge, PlanLine, Graph, GraphEdge, Nothing}
+
+-- a reader answers and leaves in the lent table what the outcome says
+pub record Gives (o : Outcome) (answer : Answer) (table : List ℕ) : Type 0 where
+  pub answers : answer ≡ o .answer
+  pub leaves : table ≡ o .table
+
+-- the verdict of a reading that ended with refusal k, or with 0 and the table t
+abbrev pub verdictOf : ℕ → List ℕ → Verdict
+verdictOf k t = goOn k (accepted t)
+
+-- the line with these bytes
+abbrev pub lineWith : List ℕ → Bool → Line
+lineWith bytes ended = record { bytes = bytes; ended = ended }
+
+-- at the end of a text: refusal 2 where a line is due
+abbrev pub missing : Due → ℕ
+missing Nothing = 0
+missing Grammar = 2
+missing (Symbol s) = 2
+missing (Rule r) = 2
+missing (RuleEdge r i) = 2
+missing (PlanLine r q) = 2
+missing Graph = 2
+missing (GraphEdge e) = 2

@@ -1,0 +1,202 @@
+// The readers of a grammar text and a graph text: line by line into a local table, which is copied to the lent one when the whole text has passed.
+ghost use mathlib.Core.Path.{_≡_};
+ghost use mathlib.Core.Bool.{true};
+ghost use mathlib.Core.List.{_++_};
+ghost use Prim.Native.Nat.{_≤_, _<_};
+ghost use lib.ListN.{length, drop};
+ghost use lib.Dec.{eqb};
+ghost use Rattle.lines.specs.Fields.{fieldsOf};
+ghost use Rattle.lines.specs.Shape.{shapeOf, kindLetter};
+ghost use Rattle.lines.specs.Lines.{countingLines};
+ghost use Rattle.tables.specs.Layout.{placeOf, letterDue, inTable, fieldsIn, stored};
+ghost use Rattle.tables.specs.Reading.{next, judgeLine, readLines, delivered, readGrammar};
+ghost use Rattle.tables.specs.Checking.{readGraph};
+ghost use Rattle.tables.specs.Storing.{Room};
+ghost use Rattle.readers.specs.Readers.{Gives, verdictOf, lineWith, missing};
+use tables::Answer;
+use tables::Due;
+use tables::Fields;
+
+// ---- question 2: a kind of line for each letter, and whether one of that kind is due
+fn grammar_due(due: Due) -> bool
+    ensures { λ r. ⌜ r ≡ eqb 71 (kindLetter (letterDue due)) ⌝ }
+{
+    if let Due::Grammar = due { true } else { false }
+}
+
+fn symbol_due(due: Due) -> bool
+    ensures { λ r. ⌜ r ≡ eqb 83 (kindLetter (letterDue due)) ⌝ }
+{
+    if let Due::Symbol(_) = due {
+        true
+    } else {
+        false
+    }
+}
+
+fn rule_due(due: Due) -> bool
+    ensures { λ r. ⌜ r ≡ eqb 82 (kindLetter (letterDue due)) ⌝ }
+{
+    if let Due::Rule(_) = due { true } else { false }
+}
+
+fn edge_due(due: Due) -> bool
+    ensures { λ r. ⌜ r ≡ eqb 69 (kindLetter (letterDue due)) ⌝ }
+{
+    match due {
+        Due::RuleEdge(_, _) => true,
+        Due::GraphEdge(_) => true,
+        _ => false,
+    }
+}
+
+fn plan_due(due: Due) -> bool
+    ensures { λ r. ⌜ r ≡ eqb 80 (kindLetter (letterDue due)) ⌝ }
+{
+    if let Due::PlanLine(_, _) = due {
+        true
+    } else {
+        false
+    }
+}
+
+fn graph_due(due: Due) -> bool
+    ensures { λ r. ⌜ r ≡ eqb 72 (kindLetter (letterDue due)) ⌝ }
+{
+    if let Due::Graph = due { true } else { false }
+}
+
+// Whether a line of this letter is due; one of any other letter never is.
+fn letter_due(letter: u8, due: Due) -> bool
+    requires { ⌜ 0 < letter ⌝ }
+    ensures { λ r. ⌜ r ≡ eqb letter (kindLetter (letterDue due)) ⌝ }
+{
+    match letter {
+        b'G' => grammar_due(due),
+        b'S' => symbol_due(due),
+        b'R' => rule_due(due),
+        b'E' => edge_due(due),
+        b'P' => plan_due(due),
+        b'H' => graph_due(due),
+        _ => false,
+    }
+}
+
+// ---- one line
+fn fields_of(line: &[u8]) -> Fields
+    requires { ⌜ shapeOf (now line) ≡ true ⌝ }
+    ensures { λ r. ⌜ fieldsIn r ≡ fieldsOf (now (line .entry)) ⌝ }
+{
+    let count = lines::field_count(line);
+    let mut values = [0u64; 18];
+    let mut k = 0;
+    while k < count {
+        values[k] = lines::number(line, k);
+        k += 1;
+    }
+    Fields {
+        values,
+        count: count as u64,
+    }
+}
+
+// Questions 1 to 7 for one line.
+fn judge_line(g: &[u64], t: &[u64], due: Due, line: &[u8], ended: bool) -> u64
+    requires { ⌜ inTable due ≡ true ⌝ }
+    ensures { λ r. ⌜ r ≡ judgeLine (now (g .entry)) (now (t .entry)) due (lineWith (now (line .entry)) ended) ⌝ }
+{
+    if !ended {
+        return 1;
+    }
+    if !lines::shape(line) {
+        return 1;
+    }
+    if !letter_due(lines::letter_byte(line), due) {
+        return 2;
+    }
+    tables::questions::judge(g, t, due, fields_of(line))
+}
+
+// Stores the fields of a line that has passed, and answers what is due after it.
+fn store_line(t: &mut [u64], due: Due, line: &[u8]) -> Due
+    requires { ⌜ Room (length (now t)) due × (shapeOf (now line) ≡ true) ⌝ }
+    ensures { λ r. ⌜ (now (t .exit) ≡ stored (now (t .entry)) (placeOf due) (fieldsOf (now (line .entry)))) × (r ≡ next (now (t .exit)) due) ⌝ }
+{
+    tables::layout::store(t, due, fields_of(line));
+    tables::layout::next_due(t, due)
+}
+
+// 0 where no line is missing.
+fn missing_line(due: Due) -> u64
+    ensures { λ r. ⌜ r ≡ missing due ⌝ }
+{
+    if let Due::Nothing = due { 0 } else { 2 }
+}
+
+// Reads the lines of a text into the table t, from the line `first` on: the first refusal, or 0.
+fn read_lines(g: &[u64], t: &mut [u64], first: Due, text: &[u8]) -> u64
+    requires { ⌜ Room (length (now t)) first ⌝ }
+    ensures { λ r. ⌜ verdictOf r (now (t .exit)) ≡ readLines (now (g .entry)) (now (t .entry)) first (countingLines (now (text .entry))) ⌝ }
+{
+    let mut due = first;
+    let mut at = 0;
+    while at < text.len() {
+        let line = lines::next_counting(text, at);
+        let start = lines::counting_start(text, at);
+        let k = judge_line(g, t, due, line, lines::is_ended(text, start));
+        if k != 0 {
+            return k;
+        }
+        due = store_line(t, due, line);
+        at = lines::after_line(text, start);
+    }
+    missing_line(due)
+}
+
+fn copy(from: &[u64], to: &mut [u64])
+    requires { ⌜ length (now from) ≤ length (now to) ⌝ }
+    ensures { λ r. ⌜ now (to .exit) ≡ now (from .entry) ++ drop (length (now (from .entry))) (now (to .entry)) ⌝ }
+{
+    let mut i = 0;
+    while i < from.len() {
+        to[i] = from[i];
+        i += 1;
+    }
+}
+
+// The answer to a text that was read into the table t, with its refusal or 0: the lent table is looked at after the whole text, and written only when
+// the answer is Done.
+fn deliver(refusal: u64, t: &[u64], table: &mut [u64]) -> Answer
+    ensures { λ r. ⌜ Gives (delivered (length (now (t .entry))) (verdictOf refusal (now (t .entry))) (now (table .entry))) r (now (table .exit)) ⌝ }
+{
+    if refusal != 0 {
+        return Answer::Refused(refusal);
+    }
+    if t.len() <= table.len() {
+        copy(t, table);
+        return Answer::Done;
+    }
+    Answer::Refused(8)
+}
+
+// Reads a grammar text into the lent table. Every refusal leaves the lent table as it was.
+pub fn read_grammar(text: &[u8], table: &mut [u64]) -> Answer
+    ensures { λ r. ⌜ Gives (readGrammar (now (text .entry)) (now (table .entry))) r (now (table .exit)) ⌝ }
+{
+    let none = [0u64; 0];
+    let mut t = [0u64; 14985];
+    let k = read_lines(&none, &mut t, Due::Grammar, text);
+    deliver(k, &t, table)
+}
+
+// Reads a graph text with a grammar table into the lent table. The grammar table is judged before the text.
+pub fn read_graph(grammar: &[u64], text: &[u8], table: &mut [u64]) -> Answer
+    ensures { λ r. ⌜ Gives (readGraph (now (grammar .entry)) (now (text .entry)) (now (table .entry))) r (now (table .exit)) ⌝ }
+{
+    if !tables::checking::check_grammar(grammar) {
+        return Answer::Refused(8);
+    }
+    let mut t = [0u64; 585];
+    let k = read_lines(grammar, &mut t, Due::Graph, text);
+    deliver(k, &t, table)
+}
