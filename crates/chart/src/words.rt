@@ -48,7 +48,7 @@ pub fn mark_of(chart: &[u64]) -> u64
     word(chart, 1)
 }
 
-// Word k of the record at place j, 0 past the end.
+// Word k of the record at place j, 0 past the end. No slice is so long that it has a place 2^59.
 fn field(chart: &[u64], j: u64, k: u64) -> u64
     requires { ⌜ k < 16 ⌝ }
     ensures { λ r. ⌜ r ≡ fieldAt (now (chart .entry)) j k ⌝ }
@@ -160,6 +160,7 @@ fn same(x: Record, y: Record) -> bool
     item & (low & high)
 }
 
+// Whether the item of a record is handled.
 pub fn is_handled(x: Record) -> bool
     ensures { λ r. ⌜ r ≡ isHandled x ⌝ }
 {

@@ -12,7 +12,9 @@ same-length : tie.Need-same-length
 same-length c = search needs
 
 returns : tie.Need-returns
-returns c = add-marked (c .before .before .before .before .args .chart .now) (c .before .before .before .before .args .x) _ (c .before .mark-of .ensures) (c .if1 .taken)
+returns c =
+    let s = c .before .before .before .before .args in
+    add-marked (s .chart .now) (s .x) _ (c .before .mark-of .ensures) (c .if1 .taken)
 
 item-count-requires : tie.Need-item-count-requires
 item-count-requires c κs = search needs
@@ -36,13 +38,21 @@ same-length-2 : tie.Need-same-length-2
 same-length-2 c = search needs
 
 returns-2 : tie.Need-returns-2
-returns-2 c = add-found (c .before .before .before .before .before .before .before .before .before .before .before .before .before .before .before .args .chart .now) (c .before .before .before .before .before .before .before .before .before .before .before .before .before .before .before .args .x) _ (c .before .before .before .before .before .before .before .before .before .item-count .result) (c .before .before .before .before .before .before .before .find .result) (c .before .before .before .before .before .before .before .before .before .before .before .before .mark-of .ensures) (c .before .before .before .before .before .before .before .before .before .before .before .if1 .left) (c .before .before .before .before .before .before .before .before .before .item-count .ensures) (c .before .before .before .before .before .before .before .find .ensures) _ _ (cc) (c .before .before .improve .ensures)
+returns-2 c =
+    let s = c .before .before .before .before .before .before .before .before .before .before .before .before .before .before .before .args in
+    let item-count = c .before .before .before .before .before .before .before .before .before .item-count in
+    let find = c .before .before .before .before .before .before .before .find in
+    add-found (s .chart .now) (s .x) _ (item-count .result) (find .result) (c .before .before .before .before .before .before .before .before .before .before .before .before .mark-of .ensures) (c .before .before .before .before .before .before .before .before .before .before .before .if1 .left) (item-count .ensures) (find .ensures) _ _ (cc) (c .before .before .improve .ensures)
 
 same-length-3 : tie.Need-same-length-3
 same-length-3 c = search needs
 
 returns-3 : tie.Need-returns-3
-returns-3 c = add-new (c .before .before .before .before .before .before .before .before .before .before .before .before .before .before .args .chart .now) (c .before .before .before .before .before .before .before .before .before .before .before .before .before .before .args .x) _ (c .before .before .before .before .before .before .before .before .item-count .result) (c .before .before .before .before .before .before .find .result) (c .before .before .before .before .before .before .before .before .before .before .before .mark-of .ensures) (c .before .before .before .before .before .before .before .before .before .before .if1 .left) (c .before .before .before .before .before .before .before .before .item-count .ensures) (c .before .before .before .before .before .before .find .ensures) _ (cc) (c .before .before .append .ensures)
+returns-3 c =
+    let s = c .before .before .before .before .before .before .before .before .before .before .before .before .before .before .args in
+    let item-count = c .before .before .before .before .before .before .before .before .item-count in
+    let find = c .before .before .before .before .before .before .find in
+    add-new (s .chart .now) (s .x) _ (item-count .result) (find .result) (c .before .before .before .before .before .before .before .before .before .before .before .mark-of .ensures) (c .before .before .before .before .before .before .before .before .before .before .if1 .left) (item-count .ensures) (find .ensures) _ (cc) (c .before .before .append .ensures)
 
 pub add-spec : {M : Type 1} → statement M
 add-spec =

@@ -7,7 +7,9 @@ use Rattle.chart.proofs.words.append.Statement.{statement}
 use Rattle.chart.proofs.words.append.Tie as tie
 
 returns : tie.Need-returns
-returns c = append-short (c .before .before .args .chart .now) (c .before .before .args .n) (c .before .before .args .x) (c .if1 .taken)
+returns c =
+    let s = c .before .before .args in
+    append-short (s .chart .now) (s .n) (s .x) (c .if1 .taken)
 
 capacity-of-requires : tie.Need-capacity-of-requires
 capacity-of-requires c κs = search needs
@@ -19,7 +21,9 @@ same-length : tie.Need-same-length
 same-length c = search needs
 
 returns-2 : tie.Need-returns-2
-returns-2 c = append-full (c .before .before .before .before .before .args .chart .now) (c .before .before .before .before .before .args .n) (c .before .before .before .before .before .args .x) (omega arith)
+returns-2 c =
+    let s = c .before .before .before .before .before .args in
+    append-full (s .chart .now) (s .n) (s .x) (omega arith)
 
 save-requires : tie.Need-save-requires
 save-requires c κs = search needs
@@ -34,7 +38,9 @@ same-length-2 : tie.Need-same-length-2
 same-length-2 c = search needs
 
 returns-3 : tie.Need-returns-3
-returns-3 c = append-room (c .before .before .before .before .before .before .before .before .before .args .chart .now) _ (c .before .before .before .before .before .before .before .before .before .args .n) (c .before .before .before .before .before .before .before .before .before .args .x) (omega arith) (c .before .before .save .ensures)
+returns-3 c =
+    let s = c .before .before .before .before .before .before .before .before .before .args in
+    append-room (s .chart .now) _ (s .n) (s .x) (omega arith) (c .before .before .save .ensures)
 
 pub append-spec : {M : Type 1} → statement M
 append-spec =

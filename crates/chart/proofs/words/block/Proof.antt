@@ -33,10 +33,17 @@ loop-less : tie.Need-loop-less Inv-loop μ-loop
 loop-less c = omega arith
 
 loop-again : tie.Need-loop-again Inv-loop μ-loop
-loop-again c = (omega arith, simp length-set (c .before .before .loop .inv .1), copied-more (c .before .before .loop .ws) (c .before .before .before .before .args .chart .now) (c .before .before .before .before .args .j) (c .before .before .loop .k) (c .field .result) (omega arith) (c .field .ensures) (c .before .before .loop .inv .2))
+loop-again c =
+    let l = c .before .before .loop in
+    let s = c .before .before .before .before .args in
+    let field = c .field in
+    (omega arith, simp length-set (l .inv .1), copied-more (l .ws) (s .chart .now) (s .j) (l .k) (field .result) (omega arith) (field .ensures) (l .inv .2))
 
 returns : tie.Need-returns Inv-loop μ-loop
-returns c = copied-all (c .before .loop .ws) (c .before .before .before .args .chart .now) (c .before .before .before .args .j) (c .before .loop .k) (c .before .loop .inv .1) (c .loop-test .left) (c .before .loop .inv .2)
+returns c =
+    let l = c .before .loop in
+    let s = c .before .before .before .args in
+    copied-all (l .ws) (s .chart .now) (s .j) (l .k) (l .inv .1) (c .loop-test .left) (l .inv .2)
 
 pub block-spec : {M : Type 1} → statement M
 block-spec =

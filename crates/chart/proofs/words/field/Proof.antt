@@ -7,7 +7,9 @@ use Rattle.chart.proofs.words.field.Statement.{statement}
 use Rattle.chart.proofs.words.field.Tie as tie
 
 returns : tie.Need-returns
-returns c = field-past (c .before .before .args .chart .now) (c .before .before .args .j) (c .before .before .args .k) (omega arith)
+returns c =
+    let s = c .before .before .args in
+    field-past (s .chart .now) (s .j) (s .k) (omega arith)
 
 mul-word : tie.Need-mul-word
 mul-word c = search needs
@@ -22,7 +24,9 @@ word-requires : tie.Need-word-requires
 word-requires c κs = search needs
 
 returns-2 : tie.Need-returns-2
-returns-2 c = field-at (c .before .before .before .args .chart .now) (c .before .before .before .args .j) (c .before .before .before .args .k) _ (c .word .ensures)
+returns-2 c =
+    let s = c .before .before .before .args in
+    field-at (s .chart .now) (s .j) (s .k) _ (c .word .ensures)
 
 pub field-spec : {M : Type 1} → statement M
 field-spec = tie.close (tie.spec returns mul-word add-word add-word-2 word-requires returns-2)

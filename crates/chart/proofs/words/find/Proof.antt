@@ -25,16 +25,27 @@ same-at-requires : tie.Need-same-at-requires Inv-loop μ-loop
 same-at-requires c κs = search needs
 
 returns : tie.Need-returns Inv-loop μ-loop
-returns c = find-hit (c .before .before .before .before .before .args .chart .now) (c .before .before .before .before .before .args .x) (c .before .before .before .before .before .args .n) (c .before .before .before .loop .i) _ (omega arith) (omega arith) (c .before .same-at .result) (c .before .same-at .ensures) (c .if1 .taken) ∙ c .before .before .before .loop .inv .1
+returns c =
+    let s = c .before .before .before .before .before .args in
+    let l = c .before .before .before .loop in
+    let same-at = c .before .same-at in
+    find-hit (s .chart .now) (s .x) (s .n) (l .i) _ (omega arith) (omega arith) (same-at .result) (same-at .ensures) (c .if1 .taken) ∙ l .inv .1
 
 loop-less : tie.Need-loop-less Inv-loop μ-loop
 loop-less c = omega arith
 
 loop-again : tie.Need-loop-again Inv-loop μ-loop
-loop-again c = (omega arith, find-miss (c .before .before .before .before .before .args .chart .now) (c .before .before .before .before .before .args .x) (c .before .before .before .before .before .args .n) (c .before .before .before .loop .i) _ (omega arith) (omega arith) (c .before .same-at .result) (c .before .same-at .ensures) (c .if1 .left) ∙ c .before .before .before .loop .inv .1)
+loop-again c =
+    let s = c .before .before .before .before .before .args in
+    let l = c .before .before .before .loop in
+    let same-at = c .before .same-at in
+    (omega arith, find-miss (s .chart .now) (s .x) (s .n) (l .i) _ (omega arith) (omega arith) (same-at .result) (same-at .ensures) (c .if1 .left) ∙ l .inv .1)
 
 returns-2 : tie.Need-returns-2 Inv-loop μ-loop
-returns-2 c = find-end (c .before .before .before .args .chart .now) (c .before .before .before .args .x) (c .before .before .before .args .n) (c .before .loop .i) (omega arith) ∙ c .before .loop .inv .1
+returns-2 c =
+    let s = c .before .before .before .args in
+    let l = c .before .loop in
+    find-end (s .chart .now) (s .x) (s .n) (l .i) (omega arith) ∙ l .inv .1
 
 pub find-spec : {M : Type 1} → statement M
 find-spec =

@@ -12,13 +12,19 @@ same-length : tie.Need-same-length
 same-length c = search needs
 
 returns : tie.Need-returns
-returns c = improve-handled (c .before .before .before .before .before .args .chart .now) (c .before .before .before .before .before .args .j) (c .before .before .before .before .before .args .x) (c .before .before .load .result) (c .before .before .load .ensures) (c .if1 .taken)
+returns c =
+    let s = c .before .before .before .before .before .args in
+    let load = c .before .before .load in
+    improve-handled (s .chart .now) (s .j) (s .x) (load .result) (load .ensures) (c .if1 .taken)
 
 same-length-2 : tie.Need-same-length-2
 same-length-2 c = search needs
 
 returns-2 : tie.Need-returns-2
-returns-2 c = improve-less (c .before .before .before .before .before .before .before .before .args .chart .now) (c .before .before .before .before .before .before .before .before .args .j) (c .before .before .before .before .before .before .before .before .args .x) (c .before .before .before .before .before .load .result) (c .before .before .before .before .before .load .ensures) (c .before .before .before .if1 .left) (c .if2 .taken)
+returns-2 c =
+    let s = c .before .before .before .before .before .before .before .before .args in
+    let load = c .before .before .before .before .before .load in
+    improve-less (s .chart .now) (s .j) (s .x) (load .result) (load .ensures) (c .before .before .before .if1 .left) (c .if2 .taken)
 
 save-requires : tie.Need-save-requires
 save-requires c κs = search needs
@@ -27,7 +33,10 @@ same-length-3 : tie.Need-same-length-3
 same-length-3 c = search needs
 
 returns-3 : tie.Need-returns-3
-returns-3 c = improve-more (c .before .before .before .before .before .before .before .before .before .before .before .before .before .args .chart .now) (c .before .before .before .before .before .before .before .before .before .before .before .before .before .args .j) (c .before .before .before .before .before .before .before .before .before .before .before .before .before .args .x) (c .before .before .before .before .before .before .before .before .before .before .load .result) (c .before .before .before .before .before .before .before .before .before .before .load .ensures) _ (c .before .before .before .before .before .before .before .before .if1 .left) (c .before .before .before .before .before .if2 .left) (c .before .before .save .ensures)
+returns-3 c =
+    let s = c .before .before .before .before .before .before .before .before .before .before .before .before .before .args in
+    let load = c .before .before .before .before .before .before .before .before .before .before .load in
+    improve-more (s .chart .now) (s .j) (s .x) (load .result) (load .ensures) _ (c .before .before .before .before .before .before .before .before .if1 .left) (c .before .before .before .before .before .if2 .left) (c .before .before .save .ensures)
 
 pub improve-spec : {M : Type 1} → statement M
 improve-spec =

@@ -28,10 +28,15 @@ loop-less : tie.Need-loop-less Inv-loop μ-loop
 loop-less c = omega arith
 
 loop-again : tie.Need-loop-again Inv-loop μ-loop
-loop-again c = (omega arith, least-next (c .before .before .before .before .args .chart .now) (c .before .before .before .before .args .n) (c .before .before .loop .i) (c .before .before .loop .best) _ (c .before .loop-test .taken) (c .before .before .loop .inv .1) (c .lesser-of .ensures))
+loop-again c =
+    let s = c .before .before .before .before .args in
+    let l = c .before .before .loop in
+    (omega arith, least-next (s .chart .now) (s .n) (l .i) (l .best) _ (c .before .loop-test .taken) (l .inv .1) (c .lesser-of .ensures))
 
 returns : tie.Need-returns Inv-loop μ-loop
-returns c = c .before .loop .inv .1 ∙ ap (leastWaiting (recordsAt (c .before .before .before .args .chart .now) (c .before .before .before .args .n))) (omega arith)
+returns c =
+    let s = c .before .before .before .args in
+    c .before .loop .inv .1 ∙ ap (leastWaiting (recordsAt (s .chart .now) (s .n))) (omega arith)
 
 pub least-spec : {M : Type 1} → statement M
 least-spec =

@@ -9,7 +9,10 @@ field-requires : tie.Need-field-requires
 field-requires c κs = search needs
 
 returns : tie.Need-returns
-returns c = lesser-handled (c .before .before .before .args .chart .now) (c .before .before .before .args .i) (c .before .field .result) (c .before .field .ensures) (c .before .before .before .args .best) (c .if1 .taken)
+returns c =
+    let s = c .before .before .before .args in
+    let field = c .before .field in
+    lesser-handled (s .chart .now) (s .i) (field .result) (field .ensures) (s .best) (c .if1 .taken)
 
 enum-told : tie.Need-enum-told
 enum-told c = search needs
@@ -24,13 +27,22 @@ field-requires-3 : tie.Need-field-requires-3
 field-requires-3 c κs = search needs
 
 returns-2 : tie.Need-returns-2
-returns-2 c = lesser-stays (c .before .before .before .before .before .before .before .before .before .args .chart .now) (c .before .before .before .before .before .before .before .before .before .args .i) (c .before .before .before .before .before .before .before .field .result) (c .before .before .before .before .before .before .before .field .ensures) (c .before .before .before .before .before .before .before .before .before .args .best) _ _ _ (c .before .before .before .before .before .before .if1 .left) (c .before .before .before .before .best .given .1) (c .before .before .field2 .ensures) (c .before .field3 .ensures) (c .if2 .taken)
+returns-2 c =
+    let s = c .before .before .before .before .before .before .before .before .before .args in
+    let field = c .before .before .before .before .before .before .before .field in
+    lesser-stays (s .chart .now) (s .i) (field .result) (field .ensures) (s .best) _ _ _ (c .before .before .before .before .before .before .if1 .left) (c .before .before .before .before .best .given .1) (c .before .before .field2 .ensures) (c .before .field3 .ensures) (c .if2 .taken)
 
 returns-3 : tie.Need-returns-3
-returns-3 c = lesser-first (c .before .before .before .before .before .args .chart .now) (c .before .before .before .before .before .args .i) (c .before .before .before .field .result) (c .before .before .before .field .ensures) (c .before .before .before .before .before .args .best) (c .before .before .if1 .left) (cc)
+returns-3 c =
+    let s = c .before .before .before .before .before .args in
+    let field = c .before .before .before .field in
+    lesser-first (s .chart .now) (s .i) (field .result) (field .ensures) (s .best) (c .before .before .if1 .left) (cc)
 
 returns-4 : tie.Need-returns-4
-returns-4 c = lesser-moves (c .before .before .before .before .before .before .before .before .before .args .chart .now) (c .before .before .before .before .before .before .before .before .before .args .i) (c .before .before .before .before .before .before .before .field .result) (c .before .before .before .before .before .before .before .field .ensures) (c .before .before .before .before .before .before .before .before .before .args .best) _ _ _ (c .before .before .before .before .before .before .if1 .left) (c .before .before .before .before .best .given .1) (c .before .before .field2 .ensures) (c .before .field3 .ensures) (c .if2 .left)
+returns-4 c =
+    let s = c .before .before .before .before .before .before .before .before .before .args in
+    let field = c .before .before .before .before .before .before .before .field in
+    lesser-moves (s .chart .now) (s .i) (field .result) (field .ensures) (s .best) _ _ _ (c .before .before .before .before .before .before .if1 .left) (c .before .before .before .before .best .given .1) (c .before .before .field2 .ensures) (c .before .field3 .ensures) (c .if2 .left)
 
 pub lesser-of-spec : {M : Type 1} → statement M
 lesser-of-spec =

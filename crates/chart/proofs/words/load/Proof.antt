@@ -12,7 +12,10 @@ record-of-requires : tie.Need-record-of-requires
 record-of-requires c κs = search needs
 
 returns : tie.Need-returns
-returns c = record-of-block (c .before .before .before .args .chart .now) (c .before .block .result) (c .before .before .before .args .j) _ (c .before .block .ensures) (c .record-of .ensures)
+returns c =
+    let s = c .before .before .before .args in
+    let block = c .before .block in
+    record-of-block (s .chart .now) (block .result) (s .j) _ (block .ensures) (c .record-of .ensures)
 
 pub load-spec : {M : Type 1} → statement M
 load-spec = tie.close (tie.spec block-requires record-of-requires returns)

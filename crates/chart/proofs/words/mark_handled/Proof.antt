@@ -13,28 +13,42 @@ same-length : tie.Need-same-length
 same-length c = search needs
 
 returns : tie.Need-returns
-returns c = mark-none (c .before .before .before .before .args .chart .now) (c .before .before .before .before .args .j) (omega arith)
+returns c =
+    let s = c .before .before .before .before .args in
+    mark-none (s .chart .now) (s .j) (omega arith)
 
 mul-chart : tie.Need-mul-chart
-mul-chart c = omega (arith, place-fits (c .before .before .before .before .args .chart .now) (c .before .before .before .before .args .j) (omega arith))
+mul-chart c =
+    let s = c .before .before .before .before .args in
+    omega (arith, place-fits (s .chart .now) (s .j) (omega arith))
 
 add-chart : tie.Need-add-chart
-add-chart c = omega (arith, place-fits (c .before .before .before .before .args .chart .now) (c .before .before .before .before .args .j) (omega arith))
+add-chart c =
+    let s = c .before .before .before .before .args in
+    omega (arith, place-fits (s .chart .now) (s .j) (omega arith))
 
 add-chart-2 : tie.Need-add-chart-2
-add-chart-2 c = omega (arith, place-fits (c .before .before .before .before .args .chart .now) (c .before .before .before .before .args .j) (omega arith))
+add-chart-2 c =
+    let s = c .before .before .before .before .args in
+    omega (arith, place-fits (s .chart .now) (s .j) (omega arith))
 
 mul-chart-2 : tie.Need-mul-chart-2
-mul-chart-2 c = omega (arith, place-fits (c .before .before .before .before .args .chart .now) (c .before .before .before .before .args .j) (omega arith))
+mul-chart-2 c =
+    let s = c .before .before .before .before .args in
+    omega (arith, place-fits (s .chart .now) (s .j) (omega arith))
 
 slice-write-chart : tie.Need-slice-write-chart
-slice-write-chart c = omega (arith, place-fits (c .before .before .before .before .args .chart .now) (c .before .before .before .before .args .j) (omega arith))
+slice-write-chart c =
+    let s = c .before .before .before .before .args in
+    omega (arith, place-fits (s .chart .now) (s .j) (omega arith))
 
 same-length-2 : tie.Need-same-length-2
 same-length-2 c = search needs
 
 returns-2 : tie.Need-returns-2
-returns-2 c = mark-some (c .before .before .before .before .args .chart .now) (c .before .before .before .before .args .j) (omega arith)
+returns-2 c =
+    let s = c .before .before .before .before .args in
+    mark-some (s .chart .now) (s .j) (omega arith)
 
 pub mark-handled-spec : {M : Type 1} → statement M
 mark-handled-spec =

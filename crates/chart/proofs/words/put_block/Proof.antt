@@ -40,7 +40,9 @@ loop-less : tie.Need-loop-less Inv-loop μ-loop
 loop-less c = omega arith
 
 loop-again : tie.Need-loop-again Inv-loop μ-loop
-loop-again c = (omega arith, simp length-set (c .before .loop .inv .1), paste-next _ _ _ _ _ (omega arith) (search needs) (c .before .loop .inv .2))
+loop-again c =
+    let l = c .before .loop in
+    (omega arith, simp length-set (l .inv .1), paste-next _ _ _ _ _ (omega arith) (search needs) (l .inv .2))
 
 same-length : tie.Need-same-length Inv-loop μ-loop
 same-length c = c .before .loop .inv .1

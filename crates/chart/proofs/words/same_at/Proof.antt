@@ -9,7 +9,10 @@ field-requires : tie.Need-field-requires
 field-requires c κs = search needs
 
 returns : tie.Need-returns
-returns c = other-edges (c .before .before .before .before .args .x) (c .before .before .before .before .args .chart .now) (c .before .before .before .before .args .j) (c .before .before .field .result) (c .before .before .field .ensures) (c .if1 .taken)
+returns c =
+    let s = c .before .before .before .before .args in
+    let field = c .before .before .field in
+    other-edges (s .x) (s .chart .now) (s .j) (field .result) (field .ensures) (c .if1 .taken)
 
 load-requires : tie.Need-load-requires
 load-requires c κs = search needs

@@ -13,25 +13,35 @@ same-length : tie.Need-same-length
 same-length c = search needs
 
 returns : tie.Need-returns
-returns c = save-none (c .before .before .before .before .args .chart .now) (c .before .before .before .before .args .j) (c .before .before .before .before .args .x) (omega arith)
+returns c =
+    let s = c .before .before .before .before .args in
+    save-none (s .chart .now) (s .j) (s .x) (omega arith)
 
 mul-at : tie.Need-mul-at
-mul-at c = omega (arith, place-fits (c .before .before .before .before .args .chart .now) (c .before .before .before .before .args .j) (omega arith))
+mul-at c =
+    let s = c .before .before .before .before .args in
+    omega (arith, place-fits (s .chart .now) (s .j) (omega arith))
 
 add-at : tie.Need-add-at
-add-at c = omega (arith, place-fits (c .before .before .before .before .args .chart .now) (c .before .before .before .before .args .j) (omega arith))
+add-at c =
+    let s = c .before .before .before .before .args in
+    omega (arith, place-fits (s .chart .now) (s .j) (omega arith))
 
 words-of-requires : tie.Need-words-of-requires
 words-of-requires c κs = search needs
 
 put-block-requires : tie.Need-put-block-requires
-put-block-requires c κs = omega (arith, place-fits (c .before .before .before .before .before .before .args .chart .now) (c .before .before .before .before .before .before .args .j) (omega arith))
+put-block-requires c κs =
+    let s = c .before .before .before .before .before .before .args in
+    omega (arith, place-fits (s .chart .now) (s .j) (omega arith))
 
 same-length-2 : tie.Need-same-length-2
 same-length-2 c = search needs
 
 returns-2 : tie.Need-returns-2
-returns-2 c = save-some (c .before .before .before .before .before .before .before .before .before .args .chart .now) _ (c .before .before .before .before .before .before .before .before .before .args .j) (c .before .before .before .before .before .before .before .before .before .args .x) (omega arith) (cc)
+returns-2 c =
+    let s = c .before .before .before .before .before .before .before .before .before .args in
+    save-some (s .chart .now) _ (s .j) (s .x) (omega arith) (cc)
 
 pub save-spec : {M : Type 1} → statement M
 save-spec =
