@@ -79,10 +79,6 @@ and-yes : (b : Bool) → (b && true) ≡ b
 and-yes true = refl
 and-yes false = refl
 
-and-assoc : (a b c : Bool) → (a && (b && c)) ≡ (a && b && c)
-and-assoc true b c = refl
-and-assoc false b c = refl
-
 module _ (g : List ℕ) (r q first second : ℕ) where
   pub leaf-ok : (eqb first 0 && eqb second 0) ≡ planSoFar g r q 0 first second
   unfolding planSoFar each childrenOf introducedBy

@@ -67,17 +67,6 @@ chosen due d b f x e h p = rw (← e, h, p)
 pub passed : {A : Type 0} (due : Due) (b : Bool) (f : Due → A) (x : A) → b ≡ inTable due → b ≡ false → x ≡ cond (inTable due) (f due) x
 passed due b f x e h = rw (← e, h)
 
-pub place-lt : (d : Due) → Inside d → placeOf d < 1665
-unfolding placeOf
-place-lt Grammar h = omega arith
-place-lt (Symbol s) h = omega arith
-place-lt (Rule r) h = omega arith
-place-lt (RuleEdge r i) h = omega arith
-place-lt (PlanLine r q) h = omega arith
-place-lt Graph h = omega arith
-place-lt (GraphEdge e) h = omega arith
-place-lt Nothing h = omega arith
-
 -- ---- fields
 pub field-past : (vs : List ℕ) (n k : ℕ) → n ≤ k → 0 ≡ getD (take n vs) k 0
 field-past vs n k h = sym (List·getD-eq-default (take n vs) 0 {n = k} (omega (arith, length-take n vs)))

@@ -9,7 +9,7 @@ ghost use lib.ListN.{drop};
 ghost use Rattle.hrg.specs.Counts.{tabulate};
 ghost use Rattle.tables.specs.Layout.{fieldsIn, word, ruleNodes, graphNodes};
 ghost use Rattle.tables.specs.Questions.{listed, covered, nodesOnEdges, nodesOnGraph};
-ghost use Rattle.tables.specs.Marks.{marked, marks};
+ghost use Rattle.tables.specs.Marks.{marks};
 use crate::Fields;
 use crate::layout;
 

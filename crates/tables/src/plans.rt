@@ -1,9 +1,8 @@
 // Question 7: the children and the introduced edges of a rule's plan lines, counted.
 ghost use mathlib.Core.Path.{_≡_};
 ghost use mathlib.Core.List.{_++_};
-ghost use mathlib.Core.Bool.{_&&_};
-ghost use Prim.Native.Nat.{_+_, _*_, _≤_, min};
-ghost use lib.Dec.{ltb, eqb};
+ghost use Prim.Native.Nat.{_+_, _≤_, min};
+ghost use lib.Dec.{ltb};
 ghost use Rattle.hrg.specs.Counts.{occurs, hit};
 ghost use Rattle.hrg.specs.WellFormedTest.{every};
 ghost use Rattle.tables.specs.Layout.{ruleEdges};
@@ -91,13 +90,7 @@ fn introduced_times(g: &[u64], r: u64, q: u64, kind: u64, first: u64, second: u6
     introduced_before(g, r, q, i) + introduced_in(kind, first, second, i)
 }
 
-// ---- a plan line keeps the plan rules so far
-pub(crate) fn leaf_so_far(g: &[u64], r: u64, q: u64, first: u64, second: u64) -> bool
-    ensures { λ x. ⌜ x ≡ planSoFar (now (g .entry)) r q 0 first second ⌝ }
-{
-    (first == 0) & (second == 0)
-}
-
+// ---- a plan line over children keeps the plan rules so far
 pub(crate) fn introduce_so_far(g: &[u64], r: u64, q: u64, first: u64, second: u64) -> bool
     requires { ⌜ q ≤ 16 ⌝ }
     ensures { λ x. ⌜ x ≡ planSoFar (now (g .entry)) r q 1 first second ⌝ }

@@ -159,36 +159,18 @@ fn judge_plan(g: &[u64], r: u64, q: u64, f: Fields) -> u64
         return 3;
     }
     match kind {
-        0 => judge_known_plan(
-            g,
-            r,
-            q,
-            n,
-            0,
-            first,
-            second,
-            plans::leaf_so_far(g, r, q, first, second),
-        ),
-        1 => judge_known_plan(
-            g,
-            r,
-            q,
-            n,
-            1,
-            first,
-            second,
-            plans::introduce_so_far(g, r, q, first, second),
-        ),
-        2 => judge_known_plan(
-            g,
-            r,
-            q,
-            n,
-            2,
-            first,
-            second,
-            plans::join_so_far(g, r, q, first, second),
-        ),
+        0 => {
+            let kept = (first == 0) & (second == 0);
+            judge_known_plan(g, r, q, n, 0, first, second, kept)
+        }
+        1 => {
+            let kept = plans::introduce_so_far(g, r, q, first, second);
+            judge_known_plan(g, r, q, n, 1, first, second, kept)
+        }
+        2 => {
+            let kept = plans::join_so_far(g, r, q, first, second);
+            judge_known_plan(g, r, q, n, 2, first, second, kept)
+        }
         _ => 3,
     }
 }

@@ -1,6 +1,8 @@
 -- The answer at each question of a `G` line (proofs/Asking).
 use borrow.Author.Needs.{needs}
-use Rattle.tables.proofs.Asking.{grammar-3, grammar-4, grammar-0}
+use borrow.Author.Tests.{eq-eqb, ne-eqb}
+use Rattle.tables.specs.Questions.{judgeGrammar}
+use Rattle.tables.proofs.Asking.{ask-not}
 use Rattle.tables.proofs.questions.judge_grammar.Statement.{statement}
 use Rattle.tables.proofs.questions.judge_grammar.Tie as tie
 
@@ -17,13 +19,16 @@ field-requires-3 : tie.Need-field-requires-3
 field-requires-3 c κs = search needs
 
 returns : tie.Need-returns
-returns c = grammar-3 _ _ _ _ _ (c .before .before .before .before .field-count .ensures .0) (c .before .before .before .field .ensures) (c .before .before .field2 .ensures) (c .before .field3 .ensures) (c .if1 .taken)
+unfolding judgeGrammar
+returns c = simp (← c .before .before .before .before .field-count .ensures .0, ← c .before .before .before .field .ensures, ← c .before .before .field2 .ensures, ← c .before .field3 .ensures, ask-not, c .if1 .taken)
 
 returns-2 : tie.Need-returns-2
-returns-2 c = grammar-4 _ _ _ _ _ (c .before .before .before .before .before .field-count .ensures .0) (c .before .before .before .before .field .ensures) (c .before .before .before .field2 .ensures) (c .before .before .field3 .ensures) (c .before .if1 .left) (c .if2 .taken)
+unfolding judgeGrammar
+returns-2 c = simp (← c .before .before .before .before .before .field-count .ensures .0, ← c .before .before .before .before .field .ensures, ← c .before .before .before .field2 .ensures, ← c .before .before .field3 .ensures, ask-not, c .before .if1 .left, ne-eqb _ _ (c .if2 .taken))
 
 returns-3 : tie.Need-returns-3
-returns-3 c = grammar-0 _ _ _ _ _ (c .before .before .before .before .before .field-count .ensures .0) (c .before .before .before .before .field .ensures) (c .before .before .before .field2 .ensures) (c .before .before .field3 .ensures) (c .before .if1 .left) (c .if2 .left)
+unfolding judgeGrammar
+returns-3 c = simp (← c .before .before .before .before .before .field-count .ensures .0, ← c .before .before .before .before .field .ensures, ← c .before .before .before .field2 .ensures, ← c .before .before .field3 .ensures, ask-not, c .before .if1 .left, eq-eqb _ _ (c .if2 .left))
 
 pub judge-grammar-spec : {M : Type 1} → statement M
 judge-grammar-spec =

@@ -1,6 +1,8 @@
 -- The answer at each question of an `H` line (proofs/Asking).
 use borrow.Author.Needs.{needs}
-use Rattle.tables.proofs.Asking.{graph-3, graph-4, graph-5, graph-0}
+use borrow.Author.Tests.{eq-eqb, ne-eqb}
+use Rattle.tables.specs.Questions.{judgeGraph}
+use Rattle.tables.proofs.Asking.{ask-not}
 use Rattle.tables.proofs.questions.judge_graph.Statement.{statement}
 use Rattle.tables.proofs.questions.judge_graph.Tie as tie
 
@@ -14,7 +16,8 @@ field-requires-2 : tie.Need-field-requires-2
 field-requires-2 c κs = search needs
 
 returns : tie.Need-returns
-returns c = graph-3 _ _ _ _ _ (c .before .before .before .field-count .ensures .0) (c .before .before .field .ensures) (c .before .field2 .ensures) (c .if1 .taken)
+unfolding judgeGraph
+returns c = simp (← c .before .before .before .field-count .ensures .0, ← c .before .before .field .ensures, ← c .before .field2 .ensures, ask-not, c .if1 .taken)
 
 start-symbol-requires : tie.Need-start-symbol-requires
 start-symbol-requires c κs = search needs
@@ -26,16 +29,19 @@ add-due : tie.Need-add-due
 add-due c = search needs
 
 returns-2 : tie.Need-returns-2
-returns-2 c = graph-4 _ _ _ _ _ (c .before .before .before .before .before .before .field-count .ensures .0) (c .before .before .before .before .before .field .ensures) (c .before .before .before .before .field2 .ensures) (c .before .before .before .if1 .left) _ _ (c .before .before .start-symbol .ensures) (c .before .rank-at .ensures .0) (c .if2 .taken)
+unfolding judgeGraph
+returns-2 c = simp (← c .before .before .before .before .before .before .field-count .ensures .0, ← c .before .before .before .before .before .field .ensures, ← c .before .before .before .before .field2 .ensures, ← c .before .before .start-symbol .ensures, ← c .before .rank-at .ensures .0, ask-not, c .before .before .before .if1 .left, ne-eqb _ _ (c .if2 .taken))
 
 listed-requires : tie.Need-listed-requires
 listed-requires c κs = search needs
 
 returns-3 : tie.Need-returns-3
-returns-3 c = graph-5 _ _ _ _ _ (c .before .before .before .before .before .before .before .before .field-count .ensures .0) (c .before .before .before .before .before .before .before .field .ensures) (c .before .before .before .before .before .before .field2 .ensures) (c .before .before .before .before .before .if1 .left) _ _ (c .before .before .before .before .start-symbol .ensures) (c .before .before .before .rank-at .ensures .0) (c .before .before .if2 .left) _ (c .before .listed .ensures) (c .if3 .taken)
+unfolding judgeGraph
+returns-3 c = simp (← c .before .before .before .before .before .before .before .before .field-count .ensures .0, ← c .before .before .before .before .before .before .before .field .ensures, ← c .before .before .before .before .before .before .field2 .ensures, ← c .before .before .before .before .start-symbol .ensures, ← c .before .before .before .rank-at .ensures .0, ask-not, c .before .before .before .before .before .if1 .left, eq-eqb _ _ (c .before .before .if2 .left), ← c .before .listed .ensures, c .if3 .taken)
 
 returns-4 : tie.Need-returns-4
-returns-4 c = graph-0 _ _ _ _ _ (c .before .before .before .before .before .before .before .before .field-count .ensures .0) (c .before .before .before .before .before .before .before .field .ensures) (c .before .before .before .before .before .before .field2 .ensures) (c .before .before .before .before .before .if1 .left) _ _ (c .before .before .before .before .start-symbol .ensures) (c .before .before .before .rank-at .ensures .0) (c .before .before .if2 .left) _ (c .before .listed .ensures) (c .if3 .left)
+unfolding judgeGraph
+returns-4 c = simp (← c .before .before .before .before .before .before .before .before .field-count .ensures .0, ← c .before .before .before .before .before .before .before .field .ensures, ← c .before .before .before .before .before .before .field2 .ensures, ← c .before .before .before .before .start-symbol .ensures, ← c .before .before .before .rank-at .ensures .0, ask-not, c .before .before .before .before .before .if1 .left, eq-eqb _ _ (c .before .before .if2 .left), ← c .before .listed .ensures, c .if3 .left)
 
 pub judge-graph-spec : {M : Type 1} → statement M
 judge-graph-spec =

@@ -1,6 +1,8 @@
 -- The answer at each question of a graph's `E` line (proofs/Asking).
 use borrow.Author.Needs.{needs}
-use Rattle.tables.proofs.Asking.{graph-edge-3, graph-edge-4, graph-edge-5, graph-edge-6, graph-edge-open, graph-edge-0}
+use borrow.Author.Tests.{eq-eqb, ne-eqb, lt-ltb, le-ltb, not-true, not-false}
+use Rattle.tables.specs.Questions.{judgeGraphEdge}
+use Rattle.tables.proofs.Asking.{ask-not}
 use Rattle.tables.proofs.questions.judge_graph_edge.Statement.{statement}
 use Rattle.tables.proofs.questions.judge_graph_edge.Tie as tie
 
@@ -17,7 +19,8 @@ kind-of-requires : tie.Need-kind-of-requires
 kind-of-requires c κs = search needs
 
 returns : tie.Need-returns
-returns c = graph-edge-3 _ _ _ _ _ _ _ _ (c .before .before .before .before .field-count .ensures .0) (c .before .before .before .field .ensures) (c .before .before .symbol-count .ensures) (c .before .kind-of .ensures) (c .if1 .taken)
+unfolding judgeGraphEdge
+returns c = simp (← c .before .before .before .before .field-count .ensures .0, ← c .before .before .before .field .ensures, ← c .before .before .symbol-count .ensures, ← c .before .kind-of .ensures, ask-not, c .if1 .taken)
 
 rank-at-requires : tie.Need-rank-at-requires
 rank-at-requires c κs = search needs
@@ -26,7 +29,8 @@ add-due : tie.Need-add-due
 add-due c = search needs
 
 returns-2 : tie.Need-returns-2
-returns-2 c = graph-edge-4 _ _ _ _ _ _ _ _ (c .before .before .before .before .before .before .field-count .ensures .0) (c .before .before .before .before .before .field .ensures) (c .before .before .before .before .symbol-count .ensures) (c .before .before .before .kind-of .ensures) (c .before .before .if1 .left) _ (c .before .rank-at .ensures .0) (c .if2 .taken)
+unfolding judgeGraphEdge
+returns-2 c = simp (← c .before .before .before .before .before .before .field-count .ensures .0, ← c .before .before .before .before .before .field .ensures, ← c .before .before .before .before .symbol-count .ensures, ← c .before .before .before .kind-of .ensures, ← c .before .rank-at .ensures .0, ask-not, c .before .before .if1 .left, ne-eqb _ _ (c .if2 .taken))
 
 graph-nodes-requires : tie.Need-graph-nodes-requires
 graph-nodes-requires c κs = search needs
@@ -35,7 +39,8 @@ listed-requires : tie.Need-listed-requires
 listed-requires c κs = search needs
 
 returns-3 : tie.Need-returns-3
-returns-3 c = graph-edge-5 _ _ _ _ _ _ _ _ (c .before .before .before .before .before .before .before .before .before .field-count .ensures .0) (c .before .before .before .before .before .before .before .before .field .ensures) (c .before .before .before .before .before .before .before .symbol-count .ensures) (c .before .before .before .before .before .before .kind-of .ensures) (c .before .before .before .before .before .if1 .left) _ (c .before .before .before .before .rank-at .ensures .0) (c .before .before .before .if2 .left) _ (c .before .before .graph-nodes .ensures) _ (c .before .listed .ensures) (c .if3 .taken)
+unfolding judgeGraphEdge
+returns-3 c = rw (← c .before .before .before .before .before .before .before .before .before .field-count .ensures .0, ← c .before .before .before .before .before .before .before .before .field .ensures, ← c .before .before .before .before .before .before .before .symbol-count .ensures, ← c .before .before .before .before .before .before .kind-of .ensures, ← c .before .before .before .before .rank-at .ensures .0, ← c .before .before .graph-nodes .ensures, ← c .before .listed .ensures) (simp (ask-not, c .before .before .before .before .before .if1 .left, eq-eqb _ _ (c .before .before .before .if2 .left), not-true (c .before .listed .result) (c .if3 .taken)))
 
 add-if4 : tie.Need-add-if4
 add-if4 c = search needs
@@ -44,16 +49,19 @@ graph-edges-requires : tie.Need-graph-edges-requires
 graph-edges-requires c κs = search needs
 
 returns-4 : tie.Need-returns-4
-returns-4 c = graph-edge-open _ _ _ _ _ _ _ _ (c .before .before .before .before .before .before .before .before .before .before .before .field-count .ensures .0) (c .before .before .before .before .before .before .before .before .before .before .field .ensures) (c .before .before .before .before .before .before .before .before .before .symbol-count .ensures) (c .before .before .before .before .before .before .before .before .kind-of .ensures) (c .before .before .before .before .before .before .before .if1 .left) _ (c .before .before .before .before .before .before .rank-at .ensures .0) (c .before .before .before .before .before .if2 .left) _ (c .before .before .before .before .graph-nodes .ensures) _ (c .before .before .before .listed .ensures) (c .before .before .if3 .left) _ (c .before .graph-edges .ensures) (c .if4 .taken)
+unfolding judgeGraphEdge
+returns-4 c = rw (← c .before .before .before .before .before .before .before .before .before .before .before .field-count .ensures .0, ← c .before .before .before .before .before .before .before .before .before .before .field .ensures, ← c .before .before .before .before .before .before .before .before .before .symbol-count .ensures, ← c .before .before .before .before .before .before .before .before .kind-of .ensures, ← c .before .before .before .before .before .before .rank-at .ensures .0, ← c .before .graph-edges .ensures, ← c .before .before .before .before .graph-nodes .ensures, ← c .before .before .before .listed .ensures) (simp (ask-not, c .before .before .before .before .before .before .before .if1 .left, eq-eqb _ _ (c .before .before .before .before .before .if2 .left), not-false (c .before .before .before .listed .result) (c .before .before .if3 .left), lt-ltb _ _ (c .if4 .taken)))
 
 graph-covered-requires : tie.Need-graph-covered-requires
 graph-covered-requires c κs = search needs
 
 returns-5 : tie.Need-returns-5
-returns-5 c = graph-edge-6 _ _ _ _ _ _ _ _ (c .before .before .before .before .before .before .before .before .before .before .before .before .before .field-count .ensures .0) (c .before .before .before .before .before .before .before .before .before .before .before .before .field .ensures) (c .before .before .before .before .before .before .before .before .before .before .before .symbol-count .ensures) (c .before .before .before .before .before .before .before .before .before .before .kind-of .ensures) (c .before .before .before .before .before .before .before .before .before .if1 .left) _ (c .before .before .before .before .before .before .before .before .rank-at .ensures .0) (c .before .before .before .before .before .before .before .if2 .left) _ (c .before .before .before .before .before .before .graph-nodes .ensures) _ (c .before .before .before .before .before .listed .ensures) (c .before .before .before .before .if3 .left) _ (c .before .before .before .graph-edges .ensures) (c .before .before .if4 .left) _ (c .before .graph-covered .ensures) (c .if5 .taken)
+unfolding judgeGraphEdge
+returns-5 c = rw (← c .before .before .before .before .before .before .before .before .before .before .before .before .before .field-count .ensures .0, ← c .before .before .before .before .before .before .before .before .before .before .before .before .field .ensures, ← c .before .before .before .before .before .before .before .before .before .before .before .symbol-count .ensures, ← c .before .before .before .before .before .before .before .before .before .before .kind-of .ensures, ← c .before .before .before .before .before .before .before .before .rank-at .ensures .0, ← c .before .graph-covered .ensures, ← c .before .before .before .graph-edges .ensures, ← c .before .before .before .before .before .before .graph-nodes .ensures, ← c .before .before .before .before .before .listed .ensures) (simp (ask-not, c .before .before .before .before .before .before .before .before .before .if1 .left, eq-eqb _ _ (c .before .before .before .before .before .before .before .if2 .left), not-false (c .before .before .before .before .before .listed .result) (c .before .before .before .before .if3 .left), le-ltb _ _ (c .before .before .if4 .left), not-true (c .before .graph-covered .result) (c .if5 .taken)))
 
 returns-6 : tie.Need-returns-6
-returns-6 c = graph-edge-0 _ _ _ _ _ _ _ _ (c .before .before .before .before .before .before .before .before .before .before .before .before .before .field-count .ensures .0) (c .before .before .before .before .before .before .before .before .before .before .before .before .field .ensures) (c .before .before .before .before .before .before .before .before .before .before .before .symbol-count .ensures) (c .before .before .before .before .before .before .before .before .before .before .kind-of .ensures) (c .before .before .before .before .before .before .before .before .before .if1 .left) _ (c .before .before .before .before .before .before .before .before .rank-at .ensures .0) (c .before .before .before .before .before .before .before .if2 .left) _ (c .before .before .before .before .before .before .graph-nodes .ensures) _ (c .before .before .before .before .before .listed .ensures) (c .before .before .before .before .if3 .left) _ (c .before .before .before .graph-edges .ensures) (c .before .before .if4 .left) _ (c .before .graph-covered .ensures) (c .if5 .left)
+unfolding judgeGraphEdge
+returns-6 c = rw (← c .before .before .before .before .before .before .before .before .before .before .before .before .before .field-count .ensures .0, ← c .before .before .before .before .before .before .before .before .before .before .before .before .field .ensures, ← c .before .before .before .before .before .before .before .before .before .before .before .symbol-count .ensures, ← c .before .before .before .before .before .before .before .before .before .before .kind-of .ensures, ← c .before .before .before .before .before .before .before .before .rank-at .ensures .0, ← c .before .graph-covered .ensures, ← c .before .before .before .graph-edges .ensures, ← c .before .before .before .before .before .before .graph-nodes .ensures, ← c .before .before .before .before .before .listed .ensures) (simp (ask-not, c .before .before .before .before .before .before .before .before .before .if1 .left, eq-eqb _ _ (c .before .before .before .before .before .before .before .if2 .left), not-false (c .before .before .before .before .before .listed .result) (c .before .before .before .before .if3 .left), le-ltb _ _ (c .before .before .if4 .left), not-false (c .before .graph-covered .result) (c .if5 .left)))
 
 pub judge-graph-edge-spec : {M : Type 1} → statement M
 judge-graph-edge-spec =

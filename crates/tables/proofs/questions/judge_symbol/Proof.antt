@@ -1,6 +1,8 @@
 -- The answer at each question of an `S` line (proofs/Asking).
 use borrow.Author.Needs.{needs}
-use Rattle.tables.proofs.Asking.{symbol-3, symbol-4, symbol-0}
+use borrow.Author.Tests.{eq-eqb, ne-eqb}
+use Rattle.tables.specs.Questions.{judgeSymbol}
+use Rattle.tables.proofs.Asking.{ask-not}
 use Rattle.tables.proofs.questions.judge_symbol.Statement.{statement}
 use Rattle.tables.proofs.questions.judge_symbol.Tie as tie
 
@@ -20,13 +22,16 @@ start-symbol-requires : tie.Need-start-symbol-requires
 start-symbol-requires c κs = search needs
 
 returns : tie.Need-returns
-returns c = symbol-3 _ _ _ _ _ _ _ _ (c .before .before .before .before .before .field-count .ensures .0) (c .before .before .before .before .field .ensures) (c .before .before .before .field2 .ensures) (c .before .before .field3 .ensures) (c .before .start-symbol .ensures) (c .if1 .taken)
+unfolding judgeSymbol
+returns c = simp (← c .before .before .before .before .before .field-count .ensures .0, ← c .before .before .before .before .field .ensures, ← c .before .before .before .field2 .ensures, ← c .before .before .field3 .ensures, ← c .before .start-symbol .ensures, ask-not, c .if1 .taken)
 
 returns-2 : tie.Need-returns-2
-returns-2 c = symbol-4 _ _ _ _ _ _ _ _ (c .before .before .before .before .before .before .field-count .ensures .0) (c .before .before .before .before .before .field .ensures) (c .before .before .before .before .field2 .ensures) (c .before .before .before .field3 .ensures) (c .before .before .start-symbol .ensures) (c .before .if1 .left) (c .if2 .taken)
+unfolding judgeSymbol
+returns-2 c = simp (← c .before .before .before .before .before .before .field-count .ensures .0, ← c .before .before .before .before .before .field .ensures, ← c .before .before .before .before .field2 .ensures, ← c .before .before .before .field3 .ensures, ← c .before .before .start-symbol .ensures, ask-not, c .before .if1 .left, ne-eqb _ _ (c .if2 .taken))
 
 returns-3 : tie.Need-returns-3
-returns-3 c = symbol-0 _ _ _ _ _ _ _ _ (c .before .before .before .before .before .before .field-count .ensures .0) (c .before .before .before .before .before .field .ensures) (c .before .before .before .before .field2 .ensures) (c .before .before .before .field3 .ensures) (c .before .before .start-symbol .ensures) (c .before .if1 .left) (c .if2 .left)
+unfolding judgeSymbol
+returns-3 c = simp (← c .before .before .before .before .before .before .field-count .ensures .0, ← c .before .before .before .before .before .field .ensures, ← c .before .before .before .before .field2 .ensures, ← c .before .before .before .field3 .ensures, ← c .before .before .start-symbol .ensures, ask-not, c .before .if1 .left, eq-eqb _ _ (c .if2 .left))
 
 pub judge-symbol-spec : {M : Type 1} → statement M
 judge-symbol-spec =
