@@ -4,7 +4,7 @@ use mathlib.Core.List.{List, [], _∷_, _++_, map}
 use Prim.Native.Nat.{ℕ, _+_, _≤_, _<_}
 use lib.ListN.{length, getD}
 use lib.Dec.{eqb}
-use Rattle.hrg.specs.Counts.{occurs, upTo, select}
+use Rattle.hrg.specs.Counts.{occurs, tabulate, upTo, select}
 use Rattle.hrg.specs.Grammars.{terminal, nonterminal, Edge, Graph, Grammar, cost, kindOf, ruleOf, lhsOf, rightOf, edgeAt}
 
 -- A placement gives each rule node its graph node. 64 stands for 'no node': graph nodes are below it.
@@ -13,6 +13,11 @@ unplaced = 64
 
 abbrev pub at : List ℕ → ℕ → ℕ
 at place x = getD place x unplaced
+
+-- eight places, 64 where there is no node
+unfoldable pub padded : List ℕ → List ℕ
+unfolding tabulate
+padded l = tabulate 8 (λ k. at l k)
 
 -- the graph nodes of some rule nodes, in order
 abbrev pub images : List ℕ → List ℕ → List ℕ

@@ -14,7 +14,7 @@ use Rattle.masks.specs.Masks.{bit, member, _∪_, disjoint, within, Subset}
 use Rattle.masks.specs.Laws.{bit-le, member-true, member-false, true-member, lt-bits, within-holds, holds-within}
 use Rattle.hrg.specs.Counts.{hit, occurs, tabulate}
 use Rattle.hrg.specs.Grammars.{Graph, Rule, touches, ruleOf, edgeAt}
-use Rattle.hrg.specs.Trees.{unplaced, at}
+use Rattle.hrg.specs.Trees.{unplaced, at, padded}
 use Rattle.hrg.specs.Items.{Item, active, orElse, joined, keepIf, restrict, below, isBoundary, isOpen, isOpenAt}
 use Rattle.hrg.specs.WellFormedTest.{every}
 use Rattle.hrg.specs.ClosureRun.{guard, agree, oneToOne, covering, combine}
@@ -24,7 +24,7 @@ use Rattle.tables.specs.Layout.{ruleNodes, graphNodes}
 use Rattle.tables.specs.Abstract.{grammarOf, graphOf}
 use Rattle.joins.specs.declared.Joined.{Joined}
 use Rattle.joins.specs.declared.Merged.{Merged}
-use Rattle.joins.specs.Joins.{Accepted, KnownNode, NodesIn, OpenAt, OpenIn, someBoth, padded, Merges, nothing, joinedOf}
+use Rattle.joins.specs.Joins.{Accepted, KnownNode, NodesIn, OpenAt, OpenIn, someBoth, Merges, nothing, joinedOf}
 use Rattle.joins.proofs.Known.{rule-ok, right-nodes, nodes-few, graph-ok, graph-nodes, graph-nodes-few}
 use Rattle.joins.proofs.Touching.{touches-some}
 use Rattle.joins.proofs.EdgeMaps.{at-padded}

@@ -11,7 +11,7 @@ use lib.Dec.{eqb}
 use borrow.Author.Tests.{eq-eqb, ne-eqb, eqb-true, eqb-false}
 use Rattle.hrg.specs.Counts.{hit, occurs, tabulate}
 use Rattle.hrg.specs.Grammars.{Edge, Rule, ruleOf, edgeAt}
-use Rattle.hrg.specs.Trees.{unplaced, at}
+use Rattle.hrg.specs.Trees.{unplaced, at, padded}
 use Rattle.hrg.specs.Items.{either, nodeFor, attach}
 use Rattle.hrg.specs.WellFormed.{EdgeOk}
 use Rattle.hrg.proofs.Sums.{hit-self, occurs-at, length-tabulate, at-tabulate, none-left}
@@ -19,7 +19,7 @@ use Rattle.tables.specs.Layout.{rankAt, ruleNodes, edgeLabel, edgeNode}
 use Rattle.tables.specs.Abstract.{grammarOf}
 use Rattle.tables.proofs.StoredLaws.{getD-tabulate}
 use Rattle.tables.proofs.WellFormedAccepted.{rule-is, edge-is}
-use Rattle.joins.specs.Joins.{KnownEdge, padded, edgeNodes}
+use Rattle.joins.specs.Joins.{KnownEdge, edgeNodes}
 use Rattle.joins.proofs.Known.{rule-ok, right-nodes, right-edges, nodes-few}
 
 -- ---- maps in eight places

@@ -11,7 +11,7 @@ use lib.Dec.{eqb, leb, ltb}
 use borrow.Author.Tests.{lt-ltb, le-leb, lt-leb, ltb-true, ltb-false, eqb-true, eqb-false}
 use Rattle.masks.specs.Masks.{member, Added, Found}
 use Rattle.hrg.specs.Counts.{hit, occurs, tabulate}
-use Rattle.hrg.specs.Trees.{unplaced, at}
+use Rattle.hrg.specs.Trees.{unplaced, at, padded}
 use Rattle.hrg.specs.Items.{orElse, joined, keepIf}
 use Rattle.hrg.specs.WellFormedTest.{every}
 use Rattle.hrg.specs.ClosureRun.{agree, oneToOne}
@@ -19,7 +19,7 @@ use Rattle.hrg.proofs.Sums.{hit-self, hit-ne, length-tabulate, at-tabulate}
 use Rattle.hrg.proofs.Degrees.{and-true}
 use Rattle.tables.proofs.Planning.{every-false}
 use Rattle.tables.proofs.Listing.{occurs-around, occurs-next}
-use Rattle.joins.specs.Joins.{NodesIn, padded}
+use Rattle.joins.specs.Joins.{NodesIn}
 use Rattle.joins.proofs.PlanMasks.{member-none, some-sum, some-hit}
 use Rattle.joins.proofs.EdgeMaps.{at-past, is-padded, at-none}
 

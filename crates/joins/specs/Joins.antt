@@ -8,7 +8,7 @@ use lib.Dec.{ltb}
 use Rattle.masks.specs.Masks.{member, _∪_}
 use Rattle.hrg.specs.Counts.{occurs, tabulate}
 use Rattle.hrg.specs.Grammars.{ruleOf, rightOf, planOf, edgeAt}
-use Rattle.hrg.specs.Trees.{unplaced, at}
+use Rattle.hrg.specs.Trees.{unplaced, padded}
 use Rattle.hrg.specs.Items.{Item, active, passive, below, isOpen, isOpenAt, joined}
 use Rattle.hrg.specs.ClosureRun.{agree, oneToOne}
 use Rattle.tables.specs.Layout.{word, rankAt, ruleCount, ruleEdges, rulePlan}
@@ -83,11 +83,6 @@ pub record OpenIn (g h : List ℕ) (m o : ℕ) : Type 0 where
   pub members : (v : ℕ) → v < 64 → member o v ≡ isOpen (graphOf g h) m v
 
 -- ---- maps of rule nodes
--- a map of at most eight rule nodes, in eight places
-unfoldable pub padded : List ℕ → List ℕ
-unfolding tabulate
-padded f = tabulate 8 (λ x. at f x)
-
 -- the nodes of edge i of rule r
 abbrev pub edgeNodes : List ℕ → ℕ → ℕ → List ℕ
 edgeNodes g r i = edgeAt (rightOf (grammarOf g) r .edges) i .attachment

@@ -3,10 +3,10 @@ ghost use mathlib.Core.Path.{_≡_};
 ghost use Prim.Native.Nat.{_≤_};
 ghost use Rattle.masks.specs.Masks.{member};
 ghost use Rattle.hrg.specs.Counts.{tabulate};
-ghost use Rattle.hrg.specs.Trees.{at};
+ghost use Rattle.hrg.specs.Trees.{at, padded};
 ghost use Rattle.hrg.specs.Items.{orElse, joined, keepIf};
 ghost use Rattle.hrg.specs.ClosureRun.{agree, oneToOne};
-ghost use Rattle.joins.specs.Joins.{NodesIn, padded};
+ghost use Rattle.joins.specs.Joins.{NodesIn};
 
 // Whether no node has two images by two maps of n nodes.
 pub(crate) fn agree(n: u64, f: [u64; 8], k: [u64; 8]) -> bool

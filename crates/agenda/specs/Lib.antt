@@ -1,0 +1,5 @@
+-- The root of the definitions.
+pub mod Records
+pub mod Consequences
+pub mod Steps
+pub mod RunFacts

@@ -1,6 +1,0 @@
--- The root of the definitions.
-pub mod Records
-pub mod Consequences
-pub mod Steps
-pub mod RunFacts
-pub mod Words

@@ -1,0 +1,489 @@
+-- Records that are saved in a chart's words, and what adding and handling a record make of the chart that the words stand for.
+use Prim.Native.Nat.{ℕ, zero, suc, _+_, _-_, _*_, _/_, _≤_, _<_}
+use mathlib.Core.Path.{_≡_, refl, sym, ap, _∙_, subst}
+use mathlib.Core.Logic.{_≢_}
+use mathlib.Core.List.{List, [], _∷_, _++_, append-assoc, append-nil}
+use mathlib.Core.Bool.{Bool, true, false, cond, _||_}
+use native.Mathlib.Omega.{arith}
+use native.Mathlib.Decide.{decLt}
+use lib.Dec.{eqb, ltb, leb}
+use lib.ListN.{length, length-append, getD, take, drop, set, length-set, length-drop, length-take, take-append-drop, List·getD-append}
+use lib.Seq.{paste, length-paste, length-take-le, take-paste, drop-paste, getD-set-same, getD-set-other, getD-take, getD-drop, getD-append-add, getD-at, ext-getD, drop-drop}
+use borrow.Author.Tests.{lt-ltb, ltb-true}
+use Rattle.hrg.specs.Counts.{tabulate}
+use Rattle.agenda.specs.declared.Record.{Record}
+use Rattle.agenda.specs.declared.Found.{Found}
+use Rattle.agenda.specs.declared.Found.the-variants.{At, Nowhere}
+use Rattle.agenda.specs.Records.{isHandled}
+use Rattle.agenda.specs.Consequences.{recordIn, noRecord}
+use Rattle.agenda.specs.Steps.{Chart, improved, handledNow, lastSame, placed, added}
+use Rattle.records.specs.Words.{Fits, capacity, itemCount, fieldAt, blockAt, ofWords, recordAt, recordsAt, chartOf, wordsOf, pasted, saved, allWords, written, improvedAt, appendedTo, placedIn, addedTo, markedAt}
+use Rattle.records.proofs.WordLaws.{eight, words-by, copied-all, length-records, record-in, place-fits, Below, one, last-below}
+
+-- ---- what was pasted, and what stays
+module _ (d s : List ℕ) (at n : ℕ) (hd : at + n ≤ length d) (hs : n ≤ length s) where
+  length-pasted : length (pasted d at s n) ≡ length d
+  unfolding pasted
+  length-pasted = length-paste d at s n hd hs
+
+  pasted-at : (k : ℕ) → k < n → getD (pasted d at s n) (at + k) 0 ≡ getD s k 0
+  unfolding pasted
+  pasted-at k h =
+      sym (getD-take (at + n) (paste d at s n) (at + k) 0 (omega arith))
+      ∙ ap (λ (l : List ℕ). getD l (at + k) 0) (take-paste d at s n (omega arith) hs)
+      ∙ ap (λ m. getD (take at d ++ take n s) (m + k) 0) (sym (length-take-le at d (omega arith)))
+      ∙ getD-append-add (take at d) (take n s) k 0
+      ∙ getD-take n s k 0 h
+
+  pasted-below : (j : ℕ) → j < at → getD (pasted d at s n) j 0 ≡ getD d j 0
+  unfolding pasted
+  pasted-below j h =
+      sym (getD-take (at + n) (paste d at s n) j 0 (omega arith))
+      ∙ ap (λ (l : List ℕ). getD l j 0) (take-paste d at s n (omega arith) hs)
+      ∙ List·getD-append (take at d) (take n s) 0 j (omega (arith, length-take-le at d (omega arith)))
+      ∙ getD-take at d j 0 h
+
+  pasted-past : (j : ℕ) → at + n ≤ j → getD (pasted d at s n) j 0 ≡ getD d j 0
+  unfolding pasted
+  pasted-past j h =
+      let e : j ≡ at + n + (j - (at + n)) = omega arith in
+      ap (λ m. getD (paste d at s n) m 0) e
+      ∙ sym (getD-drop (at + n) (paste d at s n) (j - (at + n)) 0)
+      ∙ ap (λ (l : List ℕ). getD l (j - (at + n)) 0) (drop-paste d at s n (omega arith) hs)
+      ∙ getD-drop (at + n) d (j - (at + n)) 0
+      ∙ ap (λ m. getD d m 0) (sym e)
+
+-- ---- records and their words
+length-words : (x : Record) → length (x .nodes) ≡ 8 → length (wordsOf x) ≡ 16
+length-words x e = ap length (sym (words-by x e))
+
+of-words : (x : Record) → length (x .nodes) ≡ 8 → ofWords (wordsOf x) ≡ x
+unfolding ofWords
+of-words x e =
+    sym (ap ofWords (words-by x e))
+    ∙ (λ i. record { kind = x .kind; of = x .of; plan = x .plan; edges = x .edges; count = x .count; handled = x .handled; nodes = eight (x .nodes) e i; first = x .first; second = x .second })
+
+words-again : (w : List ℕ) (j : ℕ) → wordsOf (recordAt w j) ≡ blockAt w j
+unfolding wordsOf recordAt ofWords blockAt tabulate
+words-again w j = refl
+
+-- a record that is read has eight places
+pub eight-nodes : (w : List ℕ) (j : ℕ) → length (recordAt w j .nodes) ≡ 8
+unfolding recordAt ofWords
+eight-nodes w j = refl
+
+same-tabulate : (n : ℕ) (f g : ℕ → ℕ) → ((k : ℕ) → k < n → f k ≡ g k) → tabulate n f ≡ tabulate n g
+unfolding tabulate
+same-tabulate zero f g q = refl
+same-tabulate (suc n) f g q = λ i. q 0 (omega arith) i ∷ same-tabulate n (λ k. f (suc k)) (λ k. g (suc k)) (λ k l. q (suc k) (omega arith)) i
+
+-- words that agree at a place have the same record there
+record-by : (v w : List ℕ) (j : ℕ) → ((k : ℕ) → k < 16 → getD v (2 + 16 * j + k) 0 ≡ getD w (2 + 16 * j + k) 0) → recordAt v j ≡ recordAt w j
+unfolding recordAt blockAt
+record-by v w j p = ap ofWords (same-tabulate 16 (λ k. getD v (2 + 16 * j + k) 0) (λ k. getD w (2 + 16 * j + k) 0) p)
+
+-- ---- a record that is saved
+module _ (w : List ℕ) (j : ℕ) (x : Record) (h : j < capacity w) (e : length (x .nodes) ≡ 8) where
+  saved-is : saved w j x ≡ pasted w (2 + 16 * j) (wordsOf x) 16
+  unfolding saved
+  saved-is = rw (lt-ltb j (capacity w) h)
+
+  fits : 2 + 16 * j + 16 ≤ length w
+  fits = place-fits w j h
+
+  long : 16 ≤ length (wordsOf x)
+  long = omega (arith, length-words x e)
+
+  pub length-saved : length (saved w j x) ≡ length w
+  length-saved = ap length saved-is ∙ length-pasted w (wordsOf x) (2 + 16 * j) 16 fits long
+
+  pub saved-before : (i : ℕ) → i < 2 + 16 * j → getD (saved w j x) i 0 ≡ getD w i 0
+  saved-before i l = ap (λ (v : List ℕ). getD v i 0) saved-is ∙ pasted-below w (wordsOf x) (2 + 16 * j) 16 fits long i l
+
+  pub saved-behind : (i : ℕ) → 2 + 16 * j + 16 ≤ i → getD (saved w j x) i 0 ≡ getD w i 0
+  saved-behind i l = ap (λ (v : List ℕ). getD v i 0) saved-is ∙ pasted-past w (wordsOf x) (2 + 16 * j) 16 fits long i l
+
+  saved-word : (k : ℕ) → k < 16 → getD (wordsOf x) k 0 ≡ fieldAt (saved w j x) j k
+  unfolding fieldAt
+  saved-word k l = sym (ap (λ (v : List ℕ). getD v (2 + 16 * j + k) 0) saved-is ∙ pasted-at w (wordsOf x) (2 + 16 * j) 16 fits long k l)
+
+  -- the record is read again
+  pub saved-same : recordAt (saved w j x) j ≡ x
+  unfolding recordAt
+  saved-same = ap ofWords (sym (copied-all (wordsOf x) (saved w j x) j 16 (length-words x e) (omega arith) saved-word)) ∙ of-words x e
+
+  -- the others stay
+  pub saved-other : (k : ℕ) → k ≢ j → recordAt (saved w j x) k ≡ recordAt w k
+  saved-other k ne = record-by (saved w j x) w k (λ i l. go i l (decLt k j))
+    where
+      go : (i : ℕ) → i < 16 → Dec (k < j) → getD (saved w j x) (2 + 16 * k + i) 0 ≡ getD w (2 + 16 * k + i) 0
+      go i l (yes d) = saved-before (2 + 16 * k + i) (omega arith)
+      go i l (no d) = saved-behind (2 + 16 * k + i) (omega arith)
+
+-- a word of the header leaves the records
+header-records : (w : List ℕ) (i a k : ℕ) → i < 2 → recordAt (set w i a) k ≡ recordAt w k
+header-records w i a k h = record-by (set w i a) w k (λ m l. getD-set-other w i (2 + 16 * k + m) a 0 (omega arith))
+
+-- ---- words and the chart that they stand for
+words-append : (xs ys : List Record) → allWords (xs ++ ys) ≡ allWords xs ++ allWords ys
+unfolding allWords
+words-append [] ys = refl
+words-append (x ∷ xs) ys = ap (λ (l : List ℕ). wordsOf x ++ l) (words-append xs ys) ∙ sym (append-assoc (wordsOf x) (allWords xs) (allWords ys))
+
+word-behind : (v : List ℕ) (n i : ℕ) → getD (drop (2 + 16 * n) v) i 0 ≡ fieldAt v n i
+unfolding fieldAt
+word-behind v n i = getD-drop (2 + 16 * n) v i 0
+
+-- the words from a record on are its own and those behind it
+next-record : (v : List ℕ) (n : ℕ) → 2 + 16 * n + 16 ≤ length v → drop (2 + 16 * n) v ≡ wordsOf (recordAt v n) ++ drop (2 + 16 * n + 16) v
+next-record v n h =
+    let rest : List ℕ = drop (2 + 16 * n) v in
+    let e : take 16 rest ≡ blockAt v n =
+    copied-all (take 16 rest) v n 16 (simp (length-take, length-drop) (omega arith)) (omega arith) (λ i l. getD-take 16 rest i 0 l ∙ word-behind v n i)
+    in
+    sym (take-append-drop 16 rest) ∙ ap (λ (l : List ℕ). l ++ drop 16 rest) (e ∙ sym (words-again v n)) ∙ ap (λ (l : List ℕ). wordsOf (recordAt v n) ++ l) (drop-drop 16 (2 + 16 * n) v)
+
+all-records : (v : List ℕ) (n : ℕ) → 2 + 16 * n ≤ length v → drop 2 v ≡ allWords (recordsAt v n) ++ drop (2 + 16 * n) v
+unfolding allWords recordsAt
+all-records v zero h = refl
+all-records v (suc n) h =
+    all-records v n (omega arith)
+    ∙ ap (λ (l : List ℕ). allWords (recordsAt v n) ++ l) (next-record v n (omega arith) ∙ ap (λ m. wordsOf (recordAt v n) ++ drop m v) (let q : 2 + 16 * n + 16 ≡ 2 + 16 * suc n = omega arith in q))
+    ∙ sym (append-assoc (allWords (recordsAt v n)) (wordsOf (recordAt v n)) (drop (2 + 16 * suc n) v))
+    ∙ ap (λ (l : List ℕ). l ++ drop (2 + 16 * suc n) v)
+    (ap (λ (l : List ℕ). allWords (recordsAt v n) ++ l) (sym (append-nil (wordsOf (recordAt v n)))) ∙ sym (words-append (recordsAt v n) (recordAt v n ∷ [])))
+
+two-words : (v : List ℕ) → 2 ≤ length v → v ≡ getD v 0 0 ∷ getD v 1 0 ∷ drop 2 v
+two-words [] h = absurd (omega arith)
+two-words (a ∷ []) h = absurd (omega arith)
+two-words (a ∷ b ∷ l) h = refl
+
+-- words v where w stood before, with the header and the records of the chart c, and behind them what w has
+pub record Standing (v w : List ℕ) (c : Chart) (n : ℕ) : Type 0 where
+  pub number : length (c .records) ≡ n
+  pub room : 2 + 16 * n ≤ length v
+  pub long : length v ≡ length w
+  pub first : getD v 0 0 ≡ n
+  pub second : getD v 1 0 ≡ c .mark
+  pub at : (k : ℕ) → k < n → recordAt v k ≡ recordIn (c .records) k
+  pub behind : (i : ℕ) → 2 + 16 * n ≤ i → getD v i 0 ≡ getD w i 0
+
+same-records : (v : List ℕ) (rs : List Record) (n : ℕ) → length rs ≡ n → ((k : ℕ) → k < n → recordAt v k ≡ recordIn rs k) → recordsAt v n ≡ rs
+same-records v rs n e p =
+    ext-getD noRecord (recordsAt v n) rs (length-records v n ∙ sym e)
+    (λ k l. record-in v n k (omega (arith, length-records v n)) ∙ p k (omega (arith, length-records v n)))
+
+same-behind : (v w : List ℕ) (a : ℕ) → length v ≡ length w → ((i : ℕ) → a ≤ i → getD v i 0 ≡ getD w i 0) → drop a v ≡ drop a w
+same-behind v w a e p =
+    ext-getD 0 (drop a v) (drop a w) (simp length-drop (omega arith)) (λ i l. getD-drop a v i 0 ∙ p (a + i) (omega arith) ∙ sym (getD-drop a w i 0))
+
+pub written-by : (v w : List ℕ) (c : Chart) (n : ℕ) → Standing v w c n → v ≡ written w c
+unfolding written
+written-by v w c n s =
+    let a : 2 ≤ length v = omega (arith, s .room) in
+    two-words v a
+    ∙ ap (λ (l : List ℕ). getD v 0 0 ∷ getD v 1 0 ∷ l) (all-records v n (s .room) ∙ ap (λ (rs : List Record). allWords rs ++ drop (2 + 16 * n) v) (same-records v (c .records) n (s .number) (s .at)) ∙ ap (λ (l : List ℕ). allWords (c .records) ++ l) (same-behind v w (2 + 16 * n) (s .long) (s .behind)))
+    ∙ ap (λ m. m ∷ getD v 1 0 ∷ (allWords (c .records) ++ drop (2 + 16 * n) w)) (s .first)
+    ∙ ap (λ m. n ∷ m ∷ (allWords (c .records) ++ drop (2 + 16 * n) w)) (s .second)
+    ∙ ap (λ m. m ∷ c .mark ∷ (allWords (c .records) ++ drop (2 + 16 * m) w)) (sym (s .number))
+
+-- ---- a chart within its capacity
+count-is : (w : List ℕ) → Fits w → itemCount w ≡ getD w 0 0
+unfolding itemCount
+count-is w f = let l = f .number in omega arith
+
+count-fits : (w : List ℕ) → itemCount w ≤ capacity w
+unfolding itemCount
+count-fits w = omega arith
+
+records-fit : (w : List ℕ) (n : ℕ) → 2 ≤ length w → n ≤ capacity w → 2 + 16 * n ≤ length w
+unfolding capacity
+records-fit w n a b = omega arith
+
+abbrev chartIn : List ℕ → ℕ → Chart
+chartIn w n = record { mark = getD w 1 0; records = recordsAt w n }
+
+module _ (w : List ℕ) (n : ℕ) (f : Fits w) (ne : n ≡ getD w 0 0) where
+  within : n ≤ capacity w
+  within = let l = f .number in omega arith
+
+  roomy : 2 + 16 * n ≤ length w
+  roomy = records-fit w n (f .header) within
+
+  -- the words stand for their own chart
+  kept : w ≡ written w (chartIn w n)
+  kept =
+      written-by w w (chartIn w n) n
+      (record { number = length-records w n; room = roomy; long = refl; first = sym ne; second = refl; at = λ k l. sym (record-in w n k l); behind = λ i l. refl })
+
+  -- one more item than there is place for
+  marked : set w 1 1 ≡ written w (record { mark = 1; records = recordsAt w n })
+  marked =
+      let h = f .header in
+      written-by (set w 1 1) w (record { mark = 1; records = recordsAt w n }) n
+      (record {
+        number = length-records w n;
+        room = omega (arith, roomy, length-set w 1 1);
+        long = length-set w 1 1;
+        first = getD-set-other w 1 0 1 0 (omega arith) ∙ sym ne;
+        second = getD-set-same w 1 1 0 (omega arith);
+        at = λ k l. header-records w 1 1 k (omega arith) ∙ sym (record-in w n k l);
+        behind = λ i l. getD-set-other w 1 i 1 0 (omega arith);
+      })
+
+  -- words that differ from w in one record
+  module _ (j : ℕ) (h : j < n) (v : List ℕ) (y : Record) (long : length v ≡ length w) (same : recordAt v j ≡ y)
+      (before : (i : ℕ) → i < 2 + 16 * j → getD v i 0 ≡ getD w i 0) (behind : (i : ℕ) → 2 + 16 * j + 16 ≤ i → getD v i 0 ≡ getD w i 0) where
+    record-else : (k : ℕ) → k ≢ j → recordAt v k ≡ recordAt w k
+    record-else k d = record-by v w k (λ i l. go i l (decLt k j))
+      where
+        go : (i : ℕ) → i < 16 → Dec (k < j) → getD v (2 + 16 * k + i) 0 ≡ getD w (2 + 16 * k + i) 0
+        go i l (yes q) = before (2 + 16 * k + i) (omega arith)
+        go i l (no q) = behind (2 + 16 * k + i) (omega arith)
+
+    one-record : (k : ℕ) → k < n → recordAt v k ≡ recordIn (set (recordsAt w n) j y) k
+    one-record k l = go (decLt k j) (decLt j k)
+      where
+        else : k ≢ j → recordAt v k ≡ recordIn (set (recordsAt w n) j y) k
+        else d = record-else k d ∙ sym (record-in w n k l) ∙ sym (getD-set-other (recordsAt w n) j k y noRecord d)
+
+        go : Dec (k < j) → Dec (j < k) → recordAt v k ≡ recordIn (set (recordsAt w n) j y) k
+        go (yes d) q = else (λ z. omega arith)
+        go (no d) (yes q) = else (λ z. omega arith)
+        go (no d) (no q) =
+            let z : k ≡ j = omega arith in
+            subst (λ (i : ℕ). recordAt v i ≡ recordIn (set (recordsAt w n) j y) i) (sym z)
+            (same ∙ sym (getD-set-same (recordsAt w n) j y noRecord (omega (arith, length-records w n))))
+
+    replaced : v ≡ written w (record { mark = getD w 1 0; records = set (recordsAt w n) j y })
+    replaced =
+        written-by v w (record { mark = getD w 1 0; records = set (recordsAt w n) j y }) n
+        (record {
+          number = length-set (recordsAt w n) j y ∙ length-records w n;
+          room = omega (arith, roomy);
+          long = long;
+          first = before 0 (omega arith) ∙ sym ne;
+          second = before 1 (omega arith);
+          at = one-record;
+          behind = λ i l. behind i (omega arith);
+        })
+
+  pub saved-written : (j : ℕ) (y : Record) → j < n → length (y .nodes) ≡ 8 → saved w j y ≡ written w (record { mark = getD w 1 0; records = set (recordsAt w n) j y })
+  saved-written j y h e =
+      let c : j < capacity w = omega (arith, within) in
+      replaced j h (saved w j y) y (length-saved w j y c e) (saved-same w j y c e) (saved-before w j y c e) (saved-behind w j y c e)
+
+  -- one record more behind the others
+  appended : (x : Record) → n < capacity w → length (x .nodes) ≡ 8
+      → set (saved w n x) 0 (n + 1) ≡ written w (record { mark = getD w 1 0; records = recordsAt w n ++ (x ∷ []) })
+  appended x h e =
+      let s = saved w n x in
+      let ls : length s ≡ length w = length-saved w n x h e in
+      let lv : length (set s 0 (n + 1)) ≡ length s = length-set s 0 (n + 1) in
+      let fit : 2 + 16 * n + 16 ≤ length w = place-fits w n h in
+      written-by (set s 0 (n + 1)) w (record { mark = getD w 1 0; records = recordsAt w n ++ (x ∷ []) }) (n + 1)
+      (record {
+        number = simp length-append (omega (arith, length-records w n));
+        room = omega arith;
+        long = lv ∙ ls;
+        first = getD-set-same s 0 (n + 1) 0 (omega arith);
+        second = getD-set-other s 0 1 (n + 1) 0 (omega arith) ∙ saved-before w n x h e 1 (omega arith);
+        at = λ k l. header-records s 0 (n + 1) k (omega arith) ∙ go k (decLt k n) l;
+        behind = λ i l. getD-set-other s 0 i (n + 1) 0 (omega arith) ∙ saved-behind w n x h e i (omega arith);
+      })
+    where
+      go : (k : ℕ) → Dec (k < n) → k < n + 1 → recordAt (saved w n x) k ≡ recordIn (recordsAt w n ++ (x ∷ [])) k
+      go k (yes d) l =
+          saved-other w n x h e k (λ z. omega arith) ∙ sym (record-in w n k d)
+          ∙ sym (List·getD-append (recordsAt w n) (x ∷ []) noRecord k (omega (arith, length-records w n)))
+      go k (no d) l =
+          let z : k ≡ n = omega arith in
+          subst (λ (i : ℕ). recordAt (saved w n x) i ≡ recordIn (recordsAt w n ++ (x ∷ [])) i) (sym z)
+          (saved-same w n x h e ∙ sym (getD-at (recordsAt w n) x [] noRecord n (length-records w n)))
+
+-- ---- one record more
+cond-both : (w : List ℕ) (t : Bool) (a b : List ℕ) (c d : Chart) → (t ≡ true → a ≡ written w c) → (t ≡ false → b ≡ written w d) → cond t a b ≡ written w (cond t c d)
+cond-both w true a b c d p q = p refl
+cond-both w false a b c d p q = q refl
+
+module _ (w : List ℕ) (n : ℕ) (f : Fits w) (ne : n ≡ getD w 0 0) (e : n ≡ itemCount w) (x : Record) (ex : length (x .nodes) ≡ 8) where
+  found-again : (j : ℕ) → j < n → improvedAt w j x ≡ written w (placed (capacity w) x (chartIn w n) (At j))
+  unfolding improvedAt placed
+  found-again j h =
+      subst
+      (λ (y : Record). improvedAt w j x ≡ written w (cond (isHandled y || leb (y .count) (x .count)) (chartIn w n) (record { mark = getD w 1 0; records = set (recordsAt w n) j (improved y x) })))
+      (sym (record-in w n j h))
+      (cond-both w (isHandled (recordAt w j) || leb (recordAt w j .count) (x .count)) w (saved w j (improved (recordAt w j) x)) (chartIn w n) (record { mark = getD w 1 0; records = set (recordsAt w n) j (improved (recordAt w j) x) })
+      (λ t. kept w n f ne) (λ t. saved-written w n f ne j (improved (recordAt w j) x) h (eight-nodes w j)))
+
+  new-one : appendedTo w n x ≡ written w (placed (capacity w) x (chartIn w n) Nowhere)
+  unfolding appendedTo placed
+  new-one =
+      subst
+      (λ m. appendedTo w n x ≡ written w (cond (ltb m (capacity w)) (record { mark = getD w 1 0; records = recordsAt w n ++ (x ∷ []) }) (record { mark = 1; records = recordsAt w n })))
+      (sym (length-records w n))
+      (cond-both w (ltb n (capacity w)) (set (saved w n x) 0 (n + 1)) (set w 1 1) (record { mark = getD w 1 0; records = recordsAt w n ++ (x ∷ []) }) (record { mark = 1; records = recordsAt w n })
+      (λ t. appended w n f ne x (ltb-true n (capacity w) t) ex) (λ t. marked w n f ne))
+
+  placed-written : (d : Found) → Below n d → placedIn w x d ≡ written w (placed (capacity w) x (chartIn w n) d)
+  unfolding placedIn
+  placed-written Nowhere b = ap (λ m. appendedTo w m x) (sym e) ∙ new-one
+  placed-written (At j) (one h) = found-again j h
+
+  added-written : addedTo w x ≡ written w (added (capacity w) x (chartIn w n))
+  unfolding addedTo added
+  added-written =
+      ap (λ m. cond (eqb (getD w 1 0) 0) (placedIn w x (lastSame x (recordsAt w m) m)) w) (sym e)
+      ∙ subst
+      (λ m. cond (eqb (getD w 1 0) 0) (placedIn w x (lastSame x (recordsAt w n) n)) w ≡ written w (cond (eqb (getD w 1 0) 0) (placed (capacity w) x (chartIn w n) (lastSame x (recordsAt w n) m)) (chartIn w n)))
+      (sym (length-records w n))
+      (cond-both w (eqb (getD w 1 0) 0) (placedIn w x (lastSame x (recordsAt w n) n)) w (placed (capacity w) x (chartIn w n) (lastSame x (recordsAt w n) n)) (chartIn w n)
+      (λ t. placed-written (lastSame x (recordsAt w n) n) (last-below x (recordsAt w n) n)) (λ t. kept w n f ne))
+
+-- `add` makes of words what `added` makes of the chart that they stand for
+pub add-written : (w : List ℕ) (x : Record) → Fits w → length (x .nodes) ≡ 8 → addedTo w x ≡ written w (added (capacity w) x (chartOf w))
+unfolding chartOf
+add-written w x f ex = added-written w (itemCount w) f (count-is w f) refl x ex
+
+-- words stand for their own chart
+pub chart-written : (w : List ℕ) → Fits w → w ≡ written w (chartOf w)
+unfolding chartOf
+chart-written w f = kept w (itemCount w) f (count-is w f)
+
+-- ---- a record that becomes handled
+module _ (w : List ℕ) (j : ℕ) (h : j < capacity w) where
+  other-word : (i : ℕ) → i ≢ 2 + 16 * j + 5 → getD (set w (2 + 16 * j + 5) 1) i 0 ≡ getD w i 0
+  other-word i d = getD-set-other w (2 + 16 * j + 5) i 1 0 d
+
+  own-word : (k : ℕ) → k ≢ 5 → getD (set w (2 + 16 * j + 5) 1) (2 + 16 * j + k) 0 ≡ getD w (2 + 16 * j + k) 0
+  own-word k d = other-word (2 + 16 * j + k) (λ z. d (omega arith))
+
+  handled-record : recordAt (set w (2 + 16 * j + 5) 1) j ≡ handledNow (recordAt w j)
+  unfolding recordAt ofWords blockAt tabulate
+  handled-record = λ i. record {
+    kind = own-word 0 (λ z. omega arith) i;
+    of = own-word 1 (λ z. omega arith) i;
+    plan = own-word 2 (λ z. omega arith) i;
+    edges = own-word 3 (λ z. omega arith) i;
+    count = own-word 4 (λ z. omega arith) i;
+    handled = getD-set-same w (2 + 16 * j + 5) 1 0 (omega (arith, place-fits w j h)) i;
+    nodes =
+        own-word 6 (λ z. omega arith) i ∷ own-word 7 (λ z. omega arith) i ∷ own-word 8 (λ z. omega arith) i ∷ own-word 9 (λ z. omega arith) i
+        ∷ own-word 10 (λ z. omega arith) i ∷ own-word 11 (λ z. omega arith) i ∷ own-word 12 (λ z. omega arith) i ∷ own-word 13 (λ z. omega arith) i ∷ [];
+    first = own-word 14 (λ z. omega arith) i;
+    second = own-word 15 (λ z. omega arith) i;
+  }
+
+handle-in : (w : List ℕ) (n j : ℕ) → Fits w → n ≡ getD w 0 0 → j < n
+    → markedAt w j ≡ written w (record { mark = getD w 1 0; records = set (recordsAt w n) j (handledNow (recordIn (recordsAt w n) j)) })
+unfolding markedAt
+handle-in w n j f ne l =
+    let h : j < capacity w = omega (arith, f .number) in
+    let v : List ℕ = set w (2 + 16 * j + 5) 1 in
+    subst (λ (y : Record). markedAt w j ≡ written w (record { mark = getD w 1 0; records = set (recordsAt w n) j (handledNow y) })) (sym (record-in w n j l))
+    (ap (λ (t : Bool). cond t v w) (lt-ltb j (capacity w) h)
+    ∙ replaced w n f ne j l v (handledNow (recordAt w j)) (length-set w (2 + 16 * j + 5) 1) (handled-record w j h)
+    (λ i q. other-word w j h i (λ z. omega arith)) (λ i q. other-word w j h i (λ z. omega arith)))
+
+-- the step's first half: the record at j is handled
+pub handle-written : (w : List ℕ) (j : ℕ) → Fits w → j < itemCount w
+    → markedAt w j ≡ written w (record { mark = chartOf w .mark; records = set (chartOf w .records) j (handledNow (recordIn (chartOf w .records) j)) })
+unfolding chartOf
+handle-written w j f l = handle-in w (itemCount w) j f (count-is w f) l
+
+-- ---- a chart that is written is read again
+-- each record has eight places
+abbrev pub Eights : List Record → Type 0
+Eights rs = (k : ℕ) → k < length rs → length (recordIn rs k .nodes) ≡ 8
+
+length-all : (rs : List Record) → Eights rs → length (allWords rs) ≡ 16 * length rs
+unfolding allWords
+length-all [] e = refl
+length-all (x ∷ rs) e =
+    length-append (wordsOf x) (allWords rs) ∙ omega (arith, length-words x (e 0 (omega arith)), length-all rs (λ k l. e (suc k) (omega arith)))
+
+word-of-all : (rs : List Record) (t : List ℕ) (k i m : ℕ) → Eights rs → k < length rs → i < 16 → m ≡ 16 * k + i → getD (allWords rs ++ t) m 0 ≡ getD (wordsOf (recordIn rs k)) i 0
+unfolding allWords
+word-of-all [] t k i m e h l q = absurd (omega arith)
+word-of-all (x ∷ rs) t zero i m e h l q =
+    let z : m ≡ i = omega arith in
+    ap (λ (a : List ℕ). getD a m 0) (append-assoc (wordsOf x) (allWords rs) t)
+    ∙ List·getD-append (wordsOf x) (allWords rs ++ t) 0 m (omega (arith, length-words x (e 0 (omega arith)))) ∙ ap (λ a. getD (wordsOf x) a 0) z
+word-of-all (x ∷ rs) t (suc k) i m e h l q =
+    let z : m ≡ length (wordsOf x) + (16 * k + i) = omega (arith, length-words x (e 0 (omega arith))) in
+    ap (λ (a : List ℕ). getD a m 0) (append-assoc (wordsOf x) (allWords rs) t)
+    ∙ ap (λ a. getD (wordsOf x ++ (allWords rs ++ t)) a 0) z
+    ∙ getD-append-add (wordsOf x) (allWords rs ++ t) (16 * k + i) 0
+    ∙ word-of-all rs t k i (16 * k + i) (λ a b. e (suc a) (omega arith)) (omega arith) l refl
+
+-- the words hold the chart
+pub record Holds (w : List ℕ) (c : Chart) : Type 0 where
+  pub header : 2 ≤ length w
+  pub number : length (c .records) ≤ capacity w
+  pub places : Eights (c .records)
+
+-- behind the records w stays
+written-behind : (w : List ℕ) (c : Chart) → Eights (c .records) → (i : ℕ) → 2 + 16 * length (c .records) ≤ i → getD (written w c) i 0 ≡ getD w i 0
+unfolding written
+written-behind w c e i h =
+    let rs = c .records in
+    let a = 2 + 16 * length rs in
+    let z : i ≡ suc (suc (length (allWords rs) + (i - a))) = omega (arith, length-all rs e) in
+    let y : i ≡ a + (i - a) = omega arith in
+    ap (λ m. getD (written w c) m 0) z ∙ getD-append-add (allWords rs) (drop a w) (i - a) 0 ∙ getD-drop a w (i - a) 0 ∙ ap (λ m. getD w m 0) (sym y)
+
+module _ (w : List ℕ) (c : Chart) (o : Holds w c) where
+  pub length-written : length (written w c) ≡ length w
+  unfolding written
+  length-written =
+      let rs = c .records in
+      let r : 2 + 16 * length rs ≤ length w = records-fit w (length rs) (o .header) (o .number) in
+      omega (arith, length-append (allWords rs) (drop (2 + 16 * length rs) w), length-all rs (o .places), length-drop (2 + 16 * length rs) w)
+
+  pub capacity-written : capacity (written w c) ≡ capacity w
+  unfolding capacity
+  capacity-written = ap (λ n. (n - 2) / 16) length-written
+
+  written-first : getD (written w c) 0 0 ≡ length (c .records)
+  unfolding written
+  written-first = refl
+
+  written-second : getD (written w c) 1 0 ≡ c .mark
+  unfolding written
+  written-second = refl
+
+  written-word : (k : ℕ) → k < length (c .records) → (i : ℕ) → i < 16 → getD (wordsOf (recordIn (c .records) k)) i 0 ≡ fieldAt (written w c) k i
+  unfolding written fieldAt
+  written-word k h i l =
+      let z : 2 + 16 * k + i ≡ suc (suc (16 * k + i)) = omega arith in
+      sym (ap (λ m. getD (written w c) m 0) z ∙ word-of-all (c .records) (drop (2 + 16 * length (c .records)) w) k i (16 * k + i) (o .places) h l refl)
+
+  written-record : (k : ℕ) → k < length (c .records) → recordAt (written w c) k ≡ recordIn (c .records) k
+  unfolding recordAt
+  written-record k h =
+      let x = recordIn (c .records) k in
+      ap ofWords (sym (copied-all (wordsOf x) (written w c) k 16 (length-words x (o .places k h)) (omega arith) (written-word k h))) ∙ of-words x (o .places k h)
+
+  pub fits-written : Fits (written w c)
+  fits-written =
+      let a = o .header in
+      let b = o .number in
+      record { header = omega (arith, length-written); number = omega (arith, capacity-written, written-first) }
+
+  chart-by : (n : ℕ) → n ≡ length (c .records) → record { mark = getD (written w c) 1 0; records = recordsAt (written w c) n } ≡ c
+  chart-by n e =
+      let p : recordsAt (written w c) n ≡ c .records = same-records (written w c) (c .records) n (sym e) (λ k l. written-record k (omega arith)) in
+      λ i. record { mark = written-second i; records = p i }
+
+  -- the chart is read again
+  pub chart-of-written : chartOf (written w c) ≡ c
+  unfolding chartOf
+  chart-of-written = chart-by (itemCount (written w c)) (count-is (written w c) fits-written ∙ written-first)
+
+  -- where a chart with no fewer records is written over it, only that one is left
+  pub written-over : (d : Chart) → length (c .records) ≤ length (d .records) → written (written w c) d ≡ written w d
+  unfolding written
+  written-over d l = ap (λ (r : List ℕ). length (d .records) ∷ d .mark ∷ (allWords (d .records) ++ r)) (same-behind (written w c) w (2 + 16 * length (d .records)) length-written behind)
+    where
+      behind : (i : ℕ) → 2 + 16 * length (d .records) ≤ i → getD (written w c) i 0 ≡ getD w i 0
+      behind i h = written-behind w c (o .places) i (omega arith)
