@@ -122,3 +122,8 @@ all-ends cap (x ∷ xs) c e = go (added cap x c) (added-adds cap x c e) (λ d m.
     go d (marks n l) rest =
         rw (marked-all cap xs (record { mark = 1; records = c .records }) (λ z. omega arith))
         (full (λ z. omega arith) [] x (λ y m. absurd (in-nil m)) (here refl) done n l)
+
+pub all-append : (cap : ℕ) (xs ys : List Record) (c : Chart) → addedAll cap (xs ++ ys) c ≡ addedAll cap ys (addedAll cap xs c)
+unfolding addedAll
+all-append cap [] ys c = refl
+all-append cap (x ∷ xs) ys c = all-append cap xs ys (added cap x c)

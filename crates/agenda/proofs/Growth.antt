@@ -13,10 +13,10 @@ use borrow.Author.Tests.{eqb-true, eqb-false, not-false, eq-eqb}
 use Rattle.hrg.specs.Counts.{flag}
 use Rattle.agenda.specs.Records.{isHandled}
 use Rattle.agenda.specs.Consequences.{noRecord, recordIn}
-use Rattle.agenda.specs.Steps.{improved, handledCount}
+use Rattle.agenda.specs.Steps.{Chart, improved, handledCount, addedAll}
 use Rattle.agenda.specs.declared.Record.{Record}
 use Rattle.agenda.proofs.Records.{bare}
-use Rattle.agenda.proofs.Adding.{Adds, kept, better, new, AddsAll, done, next, apart}
+use Rattle.agenda.proofs.Adding.{Adds, kept, better, new, AddsAll, done, next, Ends, held, full, apart, all-ends, marked-all}
 
 -- ---- places after a change
 pub data SetAt (rs : List Record) (k : ℕ) (y : Record) (i : ℕ) : Type 0 where
@@ -133,6 +133,18 @@ adds-grew {x = x} {rs = rs} (new n l) =
 pub all-grew : {cap : ℕ} {xs rs ts : List Record} → AddsAll cap xs rs ts → Grew rs ts
 all-grew (done {rs = rs}) = grew-refl rs
 all-grew (next a s) = grew-trans (adds-grew a) (all-grew s)
+
+-- also where the chart becomes marked
+ends-grew : {cap : ℕ} {xs rs : List Record} {d : Chart} → Ends cap xs rs d → Grew rs (d .records)
+ends-grew (held m a) = all-grew a
+ends-grew (full m ys x sub i a n l) = all-grew a
+
+pub all-grown : (cap : ℕ) (xs : List Record) (c : Chart) → Grew (c .records) (addedAll cap xs c .records)
+all-grown cap xs c = go (eqb (c .mark) 0) refl
+  where
+    go : (b : Bool) → eqb (c .mark) 0 ≡ b → Grew (c .records) (addedAll cap xs c .records)
+    go true e = ends-grew (all-ends cap xs c (eqb-true (c .mark) 0 e))
+    go false e = subst (λ (d : Chart). Grew (c .records) (d .records)) (sym (marked-all cap xs c (eqb-false (c .mark) 0 e))) (grew-refl (c .records))
 
 -- ---- no more than the chart holds
 adds-held : {cap : ℕ} {x : Record} {rs ts : List Record} → Adds cap x rs ts → length rs ≤ cap → length ts ≤ cap

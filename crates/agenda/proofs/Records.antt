@@ -87,6 +87,11 @@ pub record-count : (i : Item) (n a b : ℕ) → recordOf i n a b .count ≡ n
 record-count (active r p m f) n a b = refl
 record-count (passive s m L) n a b = refl
 
+pub record-eight : (i : Item) (n a b : ℕ) → length (recordOf i n a b .nodes) ≡ 8
+unfolding padded
+record-eight (active r p m f) n a b = length-tabulate 8 (λ k. at f k)
+record-eight (passive s m L) n a b = length-tabulate 8 (λ k. at L k)
+
 pub record-fresh : (i : Item) (n a b : ℕ) → recordOf i n a b .handled ≡ 0
 record-fresh (active r p m f) n a b = refl
 record-fresh (passive s m L) n a b = refl

@@ -4,3 +4,4 @@ pub mod WordLaws
 -- what adding and handling make of the chart that words stand for
 pub mod Written
 pub mod Rewritten
+pub mod Grown

@@ -7,7 +7,7 @@ use lib.Dec.{eqb, ltb, leb}
 use mathlib.Core.Bool.{cond, _||_}
 use Rattle.hrg.specs.Counts.{tabulate}
 use Rattle.agenda.specs.Records.{isHandled}
-use Rattle.agenda.specs.Steps.{Chart, improved, lastSame}
+use Rattle.agenda.specs.Steps.{Chart, improved, lastSame, addedAll}
 use Rattle.agenda.specs.declared.Found.{Found}
 use Rattle.agenda.specs.declared.Found.the-variants.{At, Nowhere}
 use Rattle.agenda.specs.declared.Record.{Record}
@@ -115,3 +115,7 @@ addedTo w x = cond (eqb (getD w 1 0) 0) (placedIn w x (lastSame x (recordsAt w (
 unfoldable pub markedAt : List ℕ → ℕ → List ℕ
 unfolding capacity
 markedAt w j = cond (ltb j (capacity w)) (set w (2 + 16 * j + 5) 1) w
+
+-- w with the records xs, one after another
+unfoldable pub grownBy : List ℕ → List Record → List ℕ
+grownBy w xs = written w (addedAll (capacity w) xs (chartOf w))

@@ -1,0 +1,132 @@
+-- The loops over leaf items: what is left to add gives the whole.
+use Prim.Native.Nat.{ℕ, zero, suc, _+_, _-_, _≤_, _<_}
+use mathlib.Core.Path.{_≡_, refl, sym, ap, _∙_}
+use mathlib.Core.Bool.{Bool, true, false, cond}
+use mathlib.Core.List.{List, [], _∷_, _++_, map, map-append}
+use native.Mathlib.Omega.{arith}
+use lib.Dec.{eqb}
+use lib.ListN.{length, replicate, length-replicate}
+use borrow.Author.Tests.{eq-eqb, ne-eqb}
+use Rattle.hrg.specs.Counts.{tabulate}
+use Rattle.hrg.specs.Grammars.{Grammar, Rule, PlanNode, leaf, introduce, join, planOf, planNode, rightOf, ruleOf}
+use Rattle.hrg.specs.Trees.{unplaced, at, padded}
+use Rattle.hrg.specs.Items.{Item, active}
+use Rattle.hrg.specs.ClosureRun.{eachTo, leafAt, leaves}
+use Rattle.agenda.specs.declared.Record.{Record}
+use Rattle.agenda.specs.Records.{recordOf}
+use Rattle.agenda.specs.Consequences.{leafRecords}
+use Rattle.tables.specs.Layout.{ruleCount, rulePlan, planKind, planFirst, planSecond}
+use Rattle.tables.specs.Checking.{checkGrammar}
+use Rattle.tables.specs.Abstract.{planFrom, grammarOf}
+use Rattle.tables.proofs.WellFormedAccepted.{rules-length}
+use Rattle.joins.specs.Joins.{KnownNode}
+use Rattle.joins.proofs.Known.{plan-size, plan-node}
+use Rattle.joins.proofs.EdgeMaps.{is-padded, at-none}
+use Rattle.records.specs.Words.{Fits, addedTo, grownBy}
+use Rattle.records.proofs.Grown.{Whole, whole-items, whole-each, grown-none, grown-one, grown-fits, grown-more}
+use Rattle.steps.specs.Leaves.{leafRecord, ruleLeaves}
+
+-- ---- a loop from the last number on
+-- what is left to add to the words v gives the whole
+pub record Left (w : List ℕ) (n : ℕ) (f : ℕ → List Record) (v : List ℕ) (i : ℕ) : Type 0 where
+  pub fits : Fits v
+  pub whole : grownBy v (eachTo i f) ≡ grownBy w (eachTo n f)
+
+module _ (w : List ℕ) (n : ℕ) (f : ℕ → List Record) (e : (k : ℕ) → Whole (f k)) where
+  pub left-all : Fits w → (m : ℕ) → m ≡ n → Left w n f w m
+  left-all o m q = record { fits = o; whole = ap (λ k. grownBy w (eachTo k f)) q }
+
+  pub left-next : (v u : List ℕ) (i k : ℕ) → i ≡ suc k → Left w n f v i → u ≡ grownBy v (f k) → Left w n f u k
+  left-next v u i k q o p = record {
+    fits = rw p (grown-fits v (o .fits) (f k) (e k));
+    whole = ap (λ (t : List ℕ). grownBy t (eachTo k f)) p ∙ grown-more v (o .fits) (f k) (e k) (eachTo k f) (whole-each k f e) ∙ ap (λ j. grownBy v (eachTo j f)) (sym q) ∙ o .whole;
+  }
+
+  pub left-none : (v : List ℕ) (i : ℕ) → i ≡ 0 → Left w n f v i → v ≡ grownBy w (eachTo n f)
+  left-none v i q o = sym (grown-none v (o .fits)) ∙ ap (λ k. grownBy v (eachTo k f)) (sym q) ∙ o .whole
+
+-- ---- one plan node
+pub leaf-whole : (G : Grammar) (r p : ℕ) → Whole (leafRecord G r p)
+unfolding leafRecord
+leaf-whole G r p = whole-items (leafAt G r p (planNode (planOf G r) p)) 0 0 0
+
+at-unplaced : (n k : ℕ) → at (tabulate n (λ x. unplaced)) k ≡ unplaced
+unfolding tabulate
+at-unplaced zero k = refl
+at-unplaced (suc n) zero = refl
+at-unplaced (suc n) (suc k) = at-unplaced n k
+
+no-places : (n : ℕ) → replicate 8 unplaced ≡ padded (tabulate n (λ x. unplaced))
+no-places n = is-padded (replicate 8 unplaced) (tabulate n (λ x. unplaced)) (length-replicate 8 unplaced) (λ x h. at-none 8 x ∙ sym (at-unplaced n x))
+
+abbrev pub emptyRecord : ℕ → ℕ → Record
+emptyRecord r p = record { kind = 0; of = r; plan = p; edges = 0; count = 0; handled = 0; nodes = replicate 8 unplaced; first = 0; second = 0 }
+
+leaf-introduce : (G : Grammar) (r p c i : ℕ) → map (λ (i : Item). recordOf i 0 0 0) (leafAt G r p (introduce c i)) ≡ []
+unfolding leafAt
+leaf-introduce G r p c i = refl
+
+leaf-join : (G : Grammar) (r p a b : ℕ) → map (λ (i : Item). recordOf i 0 0 0) (leafAt G r p (join a b)) ≡ []
+unfolding leafAt
+leaf-join G r p a b = refl
+
+module _ (g : List ℕ) (r p kind : ℕ) (known : KnownNode g r p) (is : kind ≡ planKind g r p) where
+  node-is : planNode (planOf (grammarOf g) r) p ≡ planFrom kind (planFirst g r p) (planSecond g r p)
+  node-is = plan-node g r (known .grammar) (known .rule) p (known .node) ∙ ap (λ k. planFrom k (planFirst g r p) (planSecond g r p)) (sym is)
+
+  made : leafRecord (grammarOf g) r p ≡ map (λ (i : Item). recordOf i 0 0 0) (leafAt (grammarOf g) r p (planFrom kind (planFirst g r p) (planSecond g r p)))
+  unfolding leafRecord
+  made = ap (λ (x : PlanNode). map (λ (i : Item). recordOf i 0 0 0) (leafAt (grammarOf g) r p x)) node-is
+
+  leaf-one : kind ≡ 0 → emptyRecord r p ∷ [] ≡ leafRecord (grammarOf g) r p
+  unfolding leafAt
+  leaf-one z =
+      let n = rightOf (grammarOf g) r .nodes in
+      sym
+      (made
+      ∙ ap (λ (b : Bool). map (λ (i : Item). recordOf i 0 0 0) (leafAt (grammarOf g) r p (cond b leaf (cond (eqb kind 1) (introduce (planFirst g r p) (planSecond g r p)) (join (planFirst g r p) (planSecond g r p))))))
+      (eq-eqb kind 0 z) ∙ (λ i. record { kind = 0; of = r; plan = p; edges = 0; count = 0; handled = 0; nodes = sym (no-places n) i; first = 0; second = 0 } ∷ []))
+
+  leaf-none : (kind ≡ 0 → ⊥) → [] ≡ leafRecord (grammarOf g) r p
+  leaf-none z = sym (made ∙ rw (ne-eqb kind 0 z) (arm (eqb kind 1)))
+    where
+      arm : (b : Bool)
+          → map (λ (i : Item). recordOf i 0 0 0) (leafAt (grammarOf g) r p (cond b (introduce (planFirst g r p) (planSecond g r p)) (join (planFirst g r p) (planSecond g r p)))) ≡ []
+      arm true = leaf-introduce (grammarOf g) r p (planFirst g r p) (planSecond g r p)
+      arm false = leaf-join (grammarOf g) r p (planFirst g r p) (planSecond g r p)
+
+  -- what the function does
+  pub leaf-added : (w v : List ℕ) → Fits w → kind ≡ 0 → v ≡ addedTo w (emptyRecord r p) → v ≡ grownBy w (leafRecord (grammarOf g) r p)
+  leaf-added w v o z q = q ∙ grown-one w o (emptyRecord r p) (length-replicate 8 unplaced) ∙ ap (grownBy w) (leaf-one z)
+
+  pub leaf-skipped : (w : List ℕ) → Fits w → (kind ≡ 0 → ⊥) → w ≡ grownBy w (leafRecord (grammarOf g) r p)
+  leaf-skipped w o z = sym (grown-none w o) ∙ ap (grownBy w) (leaf-none z)
+
+-- ---- a rule's plan nodes, and all rules
+pub rule-plan : (g : List ℕ) (r n : ℕ) → checkGrammar g ≡ true → r < ruleCount g → n ≡ rulePlan g r → n ≡ length (planOf (grammarOf g) r)
+rule-plan g r n c h q = q ∙ sym (plan-size g r c h)
+
+pub leaves-rule : (G : Grammar) (r : ℕ) (w v : List ℕ) → v ≡ grownBy w (eachTo (length (planOf G r)) (λ p. leafRecord G r p)) → v ≡ grownBy w (ruleLeaves G r)
+unfolding ruleLeaves
+leaves-rule G r w v q = q
+
+pub rule-whole : (G : Grammar) (r : ℕ) → Whole (ruleLeaves G r)
+unfolding ruleLeaves
+rule-whole G r = whole-each (length (planOf G r)) (λ p. leafRecord G r p) (λ p. leaf-whole G r p)
+
+map-each : {A B : Type 0} (f : A → B) (n : ℕ) (F : ℕ → List A) → map f (eachTo n F) ≡ eachTo n (λ k. map f (F k))
+map-each f zero F = refl
+map-each f (suc n) F = map-append f (F n) (eachTo n F) ∙ ap (λ (l : List _). map f (F n) ++ l) (map-each f n F)
+
+each-same : {A : Type 0} (n : ℕ) (F K : ℕ → List A) → ((k : ℕ) → F k ≡ K k) → eachTo n F ≡ eachTo n K
+each-same zero F K e = refl
+each-same (suc n) F K e = λ i. e n i ++ each-same n F K e i
+
+pub leaves-all : (G : Grammar) → leafRecords G ≡ eachTo (length (G .rules)) (λ r. ruleLeaves G r)
+unfolding leafRecords leaves ruleLeaves leafRecord
+leaves-all G =
+    map-each (λ (i : Item). recordOf i 0 0 0) (length (G .rules)) (λ r. eachTo (length (planOf G r)) (λ p. leafAt G r p (planNode (planOf G r) p)))
+    ∙ each-same (length (G .rules)) _ _ (λ r. map-each (λ (i : Item). recordOf i 0 0 0) (length (planOf G r)) (λ p. leafAt G r p (planNode (planOf G r) p)))
+
+pub rule-number : (g : List ℕ) (n : ℕ) → n ≡ ruleCount g → n ≡ length (grammarOf g .rules)
+rule-number g n q = q ∙ sym (rules-length g)
