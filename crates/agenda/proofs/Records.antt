@@ -7,7 +7,7 @@ use Prim.Native.Nat.{ℕ, zero, suc, _≤_, _<_}
 use native.Mathlib.Omega.{arith}
 use lib.ListN.{length, getD, take, length-map}
 use lib.Dec.{T, eqb, eqb→eq}
-use borrow.Author.Tests.{eq-eqb}
+use borrow.Author.Tests.{eq-eqb, ne-eqb}
 use Rattle.hrg.specs.Counts.{tabulate}
 use Rattle.hrg.specs.Grammars.{Graph, Grammar, rankOf, rightOf, ruleOf}
 use Rattle.hrg.specs.Trees.{unplaced, at, padded}
@@ -64,6 +64,15 @@ padded-take (suc n) (x ∷ xs) f h e =
     let head = e 0 in
     let tail = padded-take n xs (λ k. f (suc k)) (omega arith) (λ k. e (suc k)) in
     cc
+
+-- a record by its kind
+pub item-active : (G : Grammar) (x : Record) → x .kind ≡ 0 → itemOf G x ≡ active (x .of) (x .plan) (x .edges) (take (rightOf G (x .of) .nodes) (x .nodes))
+unfolding itemOf
+item-active G x e = rw (eq-eqb (x .kind) 0 e) refl
+
+pub item-passive : (G : Grammar) (x : Record) → (x .kind ≡ 0 → ⊥) → itemOf G x ≡ passive (x .of) (x .edges) (take (rankOf G (x .of)) (x .nodes))
+unfolding itemOf
+item-passive G x h = rw (ne-eqb (x .kind) 0 h) refl
 
 pub item-of : (G : Grammar) (i : Item) (n a b : ℕ) → Fitting G i → itemOf G (recordOf i n a b) ≡ i
 unfolding itemOf padded

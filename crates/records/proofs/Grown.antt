@@ -9,7 +9,7 @@ use lib.ListN.{length, getD}
 use borrow.Author.Tests.{eqb-true, eqb-false}
 use Rattle.agenda.specs.declared.Record.{Record}
 use Rattle.hrg.specs.Items.{Item}
-use Rattle.hrg.specs.ClosureRun.{eachTo}
+use Rattle.hrg.specs.ClosureRun.{guard, eachTo}
 use Rattle.agenda.specs.Records.{recordOf, isHandled}
 use Rattle.agenda.specs.Consequences.{gather, recordIn}
 use Rattle.agenda.specs.Steps.{Chart, added, addedAll}
@@ -25,15 +25,25 @@ use Rattle.records.proofs.Rewritten.{Grown, grown-added}
 abbrev pub Whole : List Record → Type 0
 Whole xs = (x : Record) → In x xs → length (x .nodes) ≡ 8
 
+pub whole-none : Whole []
+whole-none x m = absurd (in-nil m)
+
+pub whole-guard : (b : Bool) (xs : List Record) → Whole xs → Whole (guard b xs)
+whole-guard true xs e x m = e x m
+whole-guard false xs e x m = absurd (in-nil m)
+
 pub whole-append : (xs ys : List Record) → Whole xs → Whole ys → Whole (xs ++ ys)
 whole-append [] ys e f y m = f y m
 whole-append (x ∷ xs) ys e f y (here q) = e y (here q)
 whole-append (x ∷ xs) ys e f y (there m) = whole-append xs ys (λ z n. e z (there n)) f y m
 
+pub whole-map : {A : Type 0} (f : A → Record) → ((a : A) → length (f a .nodes) ≡ 8) → (l : List A) → Whole (map f l)
+whole-map f e [] x m = absurd (in-nil m)
+whole-map f e (a ∷ l) x (here q) = rw q (e a)
+whole-map f e (a ∷ l) x (there m) = whole-map f e l x m
+
 pub whole-items : (is : List Item) (n a b : ℕ) → Whole (map (λ (i : Item). recordOf i n a b) is)
-whole-items [] n a b x m = absurd (in-nil m)
-whole-items (i ∷ is) n a b x (here q) = rw q (record-eight i n a b)
-whole-items (i ∷ is) n a b x (there m) = whole-items is n a b x m
+whole-items is n a b = whole-map (λ (i : Item). recordOf i n a b) (λ i. record-eight i n a b) is
 
 pub whole-each : (n : ℕ) (f : ℕ → List Record) → ((k : ℕ) → Whole (f k)) → Whole (eachTo n f)
 whole-each zero f e x m = absurd (in-nil m)
