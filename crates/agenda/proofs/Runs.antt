@@ -69,14 +69,14 @@ module _ (G : Grammar) (H : Graph) (cap : ℕ) where
   marked-kept (k ∷ ks) c m = ap (runsChart G H cap ks) (marked-run k c m) ∙ marked-kept ks c m
 
   -- one step more
-  abbrev again : Chart → Chart
+  abbrev pub again : Chart → Chart
   again d = cond (eqb (d .mark) 0) (stepChart G H cap d) d
 
-  run-none : (c : Chart) → runChart G H cap 0 c ≡ c
+  pub run-none : (c : Chart) → runChart G H cap 0 c ≡ c
   unfolding runChart
   run-none c = refl
 
-  run-more : (k : ℕ) (c : Chart) → runChart G H cap (suc k) c ≡ again (runChart G H cap k c)
+  pub run-more : (k : ℕ) (c : Chart) → runChart G H cap (suc k) c ≡ again (runChart G H cap k c)
   unfolding runChart
   run-more k c = refl
 
@@ -88,6 +88,11 @@ module _ (G : Grammar) (H : Graph) (cap : ℕ) where
   run-split j (suc k) c =
       let e : j + suc k ≡ suc (j + k) = omega arith in
       ap (λ (n : ℕ). runChart G H cap n c) e ∙ run-more (j + k) c ∙ ap again (run-split j k c) ∙ sym (run-more k (runChart G H cap j c))
+
+  -- where nothing waits, a run changes nothing
+  pub idle-run : (k : ℕ) (c : Chart) → leastWaiting (c .records) (length (c .records)) ≡ Nowhere → runChart G H cap k c ≡ c
+  idle-run zero c e = run-none c
+  idle-run (suc k) c e = run-more k c ∙ ap again (idle-run k c e) ∙ cond-by (λ (d : Chart). d ≡ c) (eqb (c .mark) 0) (λ t. idle-step c e) (λ t. refl)
 
   -- ---- what a step does to records, of any chart
   data Moved (c : Chart) : Chart → Type 0 where

@@ -1,3 +1,5 @@
 -- The root of the laws.
 pub mod LeafLoops
+pub mod RootLaws
 pub mod StepLaws
+pub mod RunLaws

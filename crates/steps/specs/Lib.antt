@@ -1,3 +1,4 @@
 -- The root of the definitions.
 pub mod Leaves
 pub mod Partners
+pub mod Runs

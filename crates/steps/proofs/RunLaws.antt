@@ -1,0 +1,155 @@
+-- The run on words: each turn is a step of the model, and where none is left the rest changes nothing.
+use Prim.Native.Nat.{ℕ, zero, suc, _+_, _-_, _≤_, _<_}
+use mathlib.Core.Path.{_≡_, refl, sym, ap, _∙_, subst}
+use mathlib.Core.Bool.{Bool, true, false, cond}
+use mathlib.Core.List.{List, [], _∷_}
+use native.Mathlib.Omega.{arith}
+use lib.Dec.{eqb}
+use lib.ListN.{length, getD, set, drop}
+use borrow.Author.Tests.{eq-eqb, ne-eqb, eqb-true, eqb-false}
+use Rattle.hrg.specs.Grammars.{Graph, Grammar}
+use Rattle.hrg.specs.ClosureRun.{leaves}
+use Rattle.agenda.specs.declared.Record.{Record}
+use Rattle.agenda.specs.declared.Found.{Found}
+use Rattle.agenda.specs.declared.Found.the-variants.{At, Nowhere}
+use Rattle.agenda.specs.Consequences.{consequences, leafRecords}
+use Rattle.agenda.specs.Steps.{Chart, addedAll, leastWaiting, handledAt, stepWith, stepChart, runChart, startChart}
+use Rattle.agenda.proofs.Adding.{cond-by}
+use Rattle.agenda.proofs.Runs.{again, run-none, run-more, run-split, marked-run, idle-run}
+use Rattle.records.specs.Words.{Fits, capacity, itemCount, recordsAt, chartOf, allWords, written, grownBy}
+use Rattle.records.proofs.WordLaws.{length-records, Below, none, one, least-below}
+use Rattle.records.proofs.Written.{Holds, chart-written, chart-of-written, capacity-written, fits-written, written-over}
+use Rattle.records.proofs.Rewritten.{Grown, handledIn, grown-handled}
+use Rattle.records.proofs.Grown.{Whole, whole-items, holds-own, grown-all}
+use Rattle.steps.specs.Runs.{nextIn}
+use Rattle.steps.proofs.StepLaws.{consequences-whole}
+
+-- ---- the record that a step takes
+module _ (w : List ℕ) (m : ℕ) (is : m ≡ getD w 1 0) where
+  pub next-marked : (m ≡ 0 → ⊥) → Nowhere ≡ nextIn (chartOf w)
+  unfolding nextIn chartOf
+  next-marked h = rw (ne-eqb (getD w 1 0) 0 (λ q. h (is ∙ q))) refl
+
+  counted : length (recordsAt w (itemCount w)) ≡ itemCount w
+  counted = length-records w (itemCount w)
+
+  pub next-least : (n : ℕ) (f : Found) → m ≡ 0 → n ≡ itemCount w → f ≡ leastWaiting (recordsAt w n) n → f ≡ nextIn (chartOf w)
+  unfolding nextIn chartOf
+  next-least n f z q p =
+      rw (eq-eqb (getD w 1 0) 0 (sym is ∙ z))
+      (p ∙ ap (λ k. leastWaiting (recordsAt w k) k) q ∙ ap (leastWaiting (recordsAt w (itemCount w))) (sym counted))
+
+below-at : {n j : ℕ} → Below n (At j) → j < n
+below-at (one h) = h
+
+next-below : (c : Chart) → Below (length (c .records)) (nextIn c)
+unfolding nextIn
+next-below c = cond-by (Below (length (c .records))) (eqb (c .mark) 0) (λ t. least-below (c .records) (length (c .records))) (λ t. none)
+
+pub next-known : (w : List ℕ) (j : ℕ) → At j ≡ nextIn (chartOf w) → j < itemCount w
+unfolding chartOf
+next-known w j q = let l = below-at (subst (Below (length (chartOf w .records))) (sym q) (next-below (chartOf w))) in omega (arith, length-records w (itemCount w))
+
+-- ---- start
+abbrev emptyChart : Chart
+emptyChart = record { mark = 0; records = [] }
+
+header-words : (w : List ℕ) → 2 ≤ length w → set (set w 0 0) 1 0 ≡ written w emptyChart
+unfolding written allWords
+header-words [] h = absurd (omega arith)
+header-words (a ∷ []) h = absurd (omega arith)
+header-words (a ∷ b ∷ w) h = refl
+
+empty-holds : (w : List ℕ) → 2 ≤ length w → Holds w emptyChart
+empty-holds w h = record { header = h; number = omega arith; places = λ k l. absurd (omega arith) }
+
+leaves-whole : (G : Grammar) → Whole (leafRecords G)
+unfolding leafRecords
+leaves-whole G = whole-items (leaves G) 0 0 0
+
+module _ (w : List ℕ) (h : 2 ≤ length w) where
+  pub start-fits : (v : List ℕ) → v ≡ set (set w 0 0) 1 0 → Fits v
+  start-fits v q = subst Fits (sym (q ∙ header-words w h)) (fits-written w emptyChart (empty-holds w h))
+
+  start-by : (G : Grammar) (v : List ℕ) → v ≡ written w emptyChart → grownBy v (leafRecords G) ≡ written w (startChart G (capacity w))
+  unfolding grownBy startChart
+  start-by G v q =
+      let o = empty-holds w h in
+      ap (λ (u : List ℕ). written u (addedAll (capacity u) (leafRecords G) (chartOf u))) q
+      ∙ ap (λ n. written (written w emptyChart) (addedAll n (leafRecords G) (chartOf (written w emptyChart)))) (capacity-written w emptyChart o)
+      ∙ ap (λ (c : Chart). written (written w emptyChart) (addedAll (capacity w) (leafRecords G) c)) (chart-of-written w emptyChart o)
+      ∙ written-over w emptyChart o (addedAll (capacity w) (leafRecords G) emptyChart) (omega arith)
+
+  pub started : (G : Grammar) (v u : List ℕ) → v ≡ set (set w 0 0) 1 0 → u ≡ grownBy v (leafRecords G) → u ≡ written w (startChart G (capacity w))
+  started G v u q p = p ∙ start-by G v (q ∙ header-words w h)
+
+-- ---- steps
+module _ (G : Grammar) (H : Graph) where
+  next-again : (cap j : ℕ) (d : Chart) → At j ≡ nextIn d → again G H cap d ≡ handledAt G H cap j d
+  unfolding nextIn stepChart
+  next-again cap j d q = go (eqb (d .mark) 0) q
+    where
+      go : (b : Bool) → At j ≡ cond b (leastWaiting (d .records) (length (d .records))) Nowhere → cond b (stepWith G H cap d (leastWaiting (d .records) (length (d .records)))) d ≡ handledAt G H cap j d
+      go true e = ap (stepWith G H cap d) (sym e)
+      go false e = absurd (let z : _≡_ {A = ℕ} 0 1 = cc in omega arith)
+
+  next-none : (cap k : ℕ) (d : Chart) → Nowhere ≡ nextIn d → runChart G H cap k d ≡ d
+  unfolding nextIn
+  next-none cap k d q = go (eqb (d .mark) 0) refl q
+    where
+      go : (b : Bool) → eqb (d .mark) 0 ≡ b → Nowhere ≡ cond b (leastWaiting (d .records) (length (d .records))) Nowhere → runChart G H cap k d ≡ d
+      go true m e = idle-run G H cap k d (sym e)
+      go false m e = marked-run G H cap k d (eqb-false (d .mark) 0 m)
+
+  handled-grown : (w : List ℕ) (d : Chart) (j : ℕ) → Holds w d → Grown w d (handledAt G H (capacity w) j d)
+  unfolding handledAt
+  handled-grown w d j o =
+      let one = grown-handled w d o j in
+      let rest = grown-all w (consequences G H (handledIn j d .records) j) (handledIn j d) (one .holds) (consequences-whole G H (handledIn j d .records) j) in
+      record { holds = rest .holds; longer = omega (arith, one .longer, rest .longer) }
+
+  -- v are the words w after k steps
+  pub record Ran (w : List ℕ) (k : ℕ) (v : List ℕ) : Type 0 where
+    pub is : v ≡ written w (runChart G H (capacity w) k (chartOf w))
+    pub holds : Holds w (runChart G H (capacity w) k (chartOf w))
+
+  module _ (w : List ℕ) where
+    pub ran-none : Fits w → Ran w 0 w
+    ran-none o =
+        let e = run-none G H (capacity w) (chartOf w) in
+        record { is = chart-written w o ∙ ap (written w) (sym e); holds = subst (Holds w) (sym e) (holds-own w o) }
+
+    module _ (k : ℕ) (v : List ℕ) (r : Ran w k v) where
+      abbrev d : Chart
+      d = runChart G H (capacity w) k (chartOf w)
+
+      pub ran-fits : Fits v
+      ran-fits = subst Fits (sym (r .is)) (fits-written w d (r .holds))
+
+      chart-is : chartOf v ≡ d
+      chart-is = ap chartOf (r .is) ∙ chart-of-written w d (r .holds)
+
+      capacity-is : capacity v ≡ capacity w
+      capacity-is = ap capacity (r .is) ∙ capacity-written w d (r .holds)
+
+      pub ran-step : (m j : ℕ) (u : List ℕ) → m ≡ suc k → At j ≡ nextIn (chartOf v) → u ≡ written v (handledAt G H (capacity v) j (chartOf v)) → Ran w m u
+      ran-step m j u q a p =
+          let e : runChart G H (capacity w) m (chartOf w) ≡ handledAt G H (capacity w) j d =
+            ap (λ n. runChart G H (capacity w) n (chartOf w)) q ∙ run-more G H (capacity w) k (chartOf w) ∙ next-again (capacity w) j d (a ∙ ap nextIn chart-is) in
+          let g = handled-grown w d j (r .holds) in
+          record {
+            is =
+                p ∙ ap (λ n. written v (handledAt G H n j (chartOf v))) capacity-is ∙ ap (λ (c : Chart). written v (handledAt G H (capacity w) j c)) chart-is
+                ∙ ap (λ (t : List ℕ). written t (handledAt G H (capacity w) j d)) (r .is) ∙ written-over w d (r .holds) (handledAt G H (capacity w) j d) (g .longer)
+                ∙ ap (written w) (sym e);
+            holds = subst (Holds w) (sym e) (g .holds);
+          }
+
+      pub ran-idle : (n : ℕ) → k ≤ n → Nowhere ≡ nextIn (chartOf v) → v ≡ written w (runChart G H (capacity w) n (chartOf w))
+      ran-idle n l a =
+          let q : n ≡ k + (n - k) = omega arith in
+          r .is
+          ∙ ap (written w) (sym (ap (λ i. runChart G H (capacity w) i (chartOf w)) q ∙ run-split G H (capacity w) k (n - k) (chartOf w) ∙ next-none (capacity w) (n - k) d (a ∙ ap nextIn chart-is)))
+
+      pub ran-all : (n : ℕ) → k ≡ n → v ≡ written w (runChart G H (capacity w) n (chartOf w))
+      ran-all n q = r .is ∙ ap (λ i. written w (runChart G H (capacity w) i (chartOf w))) q
