@@ -16,7 +16,7 @@ use Rattle.agenda.specs.declared.Record.{Record}
 use Rattle.records.specs.Words.{capacity, recordAt, chartOf, Fits}
 use Rattle.chart.specs.Checking.{holds, inGraph, knownSecond, knownPartners, knownActive, knownPassive, knownRecord, knownChart}
 
-both : (a b : Bool) → a && b ≡ true → (a ≡ true) × (b ≡ true)
+pub both : (a b : Bool) → a && b ≡ true → (a ≡ true) × (b ≡ true)
 both true b e = (refl, e)
 both false b e = let z : _≡_ {A = ℕ} 0 1 = cc in absurd (omega arith)
 
