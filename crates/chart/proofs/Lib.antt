@@ -1,0 +1,8 @@
+-- The root of the laws.
+-- each test on words is the definition's
+pub mod WordTests
+-- what question 8 says to its callers, and what it does not ask
+pub mod KnownCharts
+-- the program's own charts pass it
+pub mod KnownItems
+pub mod Own

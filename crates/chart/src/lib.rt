@@ -1,0 +1,2 @@
+// The chart: question 8, start and run.
+pub mod checking;
