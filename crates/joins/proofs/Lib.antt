@@ -5,3 +5,5 @@ pub mod Touching
 pub mod EdgeMaps
 pub mod MapLaws
 pub mod Combining
+pub mod Parents
+pub mod NodeLists

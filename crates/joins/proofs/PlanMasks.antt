@@ -57,13 +57,13 @@ module _ (g : List ℕ) (r q : ℕ) (known : KnownNode g r q) where
   ok : PlanOk (ruleEdges g r) pl
   ok = plan-ok g r (known .grammar) (known .rule)
 
-  node-is : (kind : ℕ) → kind ≡ planKind g r q → planNode pl q ≡ planFrom kind (planFirst g r q) (planSecond g r q)
+  pub node-is : (kind : ℕ) → kind ≡ planKind g r q → planNode pl q ≡ planFrom kind (planFirst g r q) (planSecond g r q)
   node-is kind e = plan-node g r (known .grammar) (known .rule) q (known .node) ∙ ap (λ k. planFrom k (planFirst g r q) (planSecond g r q)) (sym e)
 
-  introduced-is : (kind first second : ℕ) → kind ≡ planKind g r q → first ≡ planFirst g r q → second ≡ planSecond g r q → kind ≡ 1 → planNode pl q ≡ introduce first second
+  pub introduced-is : (kind first second : ℕ) → kind ≡ planKind g r q → first ≡ planFirst g r q → second ≡ planSecond g r q → kind ≡ 1 → planNode pl q ≡ introduce first second
   introduced-is kind first second a b c e = node-is kind a ∙ rw (e, b, c)
 
-  joined-is : (kind first second : ℕ) → kind ≡ planKind g r q → first ≡ planFirst g r q → second ≡ planSecond g r q → (kind ≡ 0 → ⊥) → (kind ≡ 1 → ⊥)
+  pub joined-is : (kind first second : ℕ) → kind ≡ planKind g r q → first ≡ planFirst g r q → second ≡ planSecond g r q → (kind ≡ 0 → ⊥) → (kind ≡ 1 → ⊥)
       → planNode pl q ≡ join first second
   joined-is kind first second a b c x y = node-is kind a ∙ rw (ne-eqb kind 0 x, ne-eqb kind 1 y, b, c)
 

@@ -13,6 +13,7 @@ ghost use Rattle.joins.specs.Joins.{KnownNode, KnownEdge, Accepted, Edge
 use tables::layout;
 
 mod maps;
+pub mod rules;
 
 // The nodes on edges of a set, and on the other edges.
 struct Sides {
