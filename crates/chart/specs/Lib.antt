@@ -1,2 +1,4 @@
 -- The root of the definitions.
 pub mod Checking
+pub mod Calls
+pub mod Facts

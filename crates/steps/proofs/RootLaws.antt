@@ -89,11 +89,11 @@ module _ (g : List ℕ) (x : Record) (j : ℕ) (w : List ℕ) (o : Fits w) where
         let F = images f (rightOf (grammarOf g) (x .of) .externals) in
         let nodes : l ≡ padded F = ql ∙ ap (λ k. padded (images (take k (x .nodes)) (rightOf (grammarOf g) (x .of) .externals))) (sym (right-nodes g (x .of) checked known)) in
         let is : passiveRecord s c l ≡ recordOf (passive (lhsOf (grammarOf g) (x .of)) (x .edges) F) (plus (x .count) 1) j 0 =
-          (λ i. passiveRecord ((qs ∙ sym lhs-is) i) (qc i) (nodes i)) in
+        (λ i. passiveRecord ((qs ∙ sym lhs-is) i) (qc i) (nodes i)) in
         let whole : made ≡ passiveRecord s c l ∷ [] =
-          as-active e
-          ∙ root-one (grammarOf g) (x .of) (x .plan) (x .edges) (x .count) j f (eq-eqb (suc (x .plan)) (length (planOf (grammarOf g) (x .of))) (h ∙ size ∙ sym (plan-size g (x .of) checked known)))
-          ∙ ap (λ (y : Record). y ∷ []) (sym is) in
+        as-active e
+        ∙ root-one (grammarOf g) (x .of) (x .plan) (x .edges) (x .count) j f (eq-eqb (suc (x .plan)) (length (planOf (grammarOf g) (x .of))) (h ∙ size ∙ sym (plan-size g (x .of) checked known)))
+        ∙ ap (λ (y : Record). y ∷ []) (sym is) in
         p
         ∙ grown-one w o (passiveRecord s c l) (ap (λ (y : Record). length (y .nodes)) is ∙ record-eight (passive (lhsOf (grammarOf g) (x .of)) (x .edges) F) (plus (x .count) 1) j 0)
         ∙ ap (grownBy w) (sym whole)

@@ -135,7 +135,7 @@ module _ (G : Grammar) (H : Graph) where
       pub ran-step : (m j : ℕ) (u : List ℕ) → m ≡ suc k → At j ≡ nextIn (chartOf v) → u ≡ written v (handledAt G H (capacity v) j (chartOf v)) → Ran w m u
       ran-step m j u q a p =
           let e : runChart G H (capacity w) m (chartOf w) ≡ handledAt G H (capacity w) j d =
-            ap (λ n. runChart G H (capacity w) n (chartOf w)) q ∙ run-more G H (capacity w) k (chartOf w) ∙ next-again (capacity w) j d (a ∙ ap nextIn chart-is) in
+          ap (λ n. runChart G H (capacity w) n (chartOf w)) q ∙ run-more G H (capacity w) k (chartOf w) ∙ next-again (capacity w) j d (a ∙ ap nextIn chart-is) in
           let g = handled-grown w d j (r .holds) in
           record {
             is =

@@ -173,10 +173,10 @@ module _ (G : Grammar) (H : Graph) where
           let ez : Whole zs = whole-gather n (λ k. withRecord G H x j (recordAt v k) k) (λ k. record-whole x j (recordAt v k) k) in
           let both : v₃ ≡ grownBy v (xs ++ ys) = added-then v v₂ v₃ xs ys marked-fits ex ey p₂ p₃ in
           let same : gather n (λ k. withRecord G H x j (recordAt v₃ k) k) ≡ zs =
-            gather-same n (λ k. withRecord G H x j (recordAt v₃ k) k) (λ k. withRecord G H x j (recordAt v k) k)
-            (λ k h. partner-same v (xs ++ ys) v₃ x j k marked-fits (whole-append xs ys ex ey) both (omega arith)) in
+          gather-same n (λ k. withRecord G H x j (recordAt v₃ k) k) (λ k. withRecord G H x j (recordAt v k) k)
+          (λ k h. partner-same v (xs ++ ys) v₃ x j k marked-fits (whole-append xs ys ex ey) both (omega arith)) in
           let read : (xs ++ ys) ++ zs ≡ consequences G H (c .records) j =
-            ap (λ (y : Record). (atRoot G (itemOf G y) (y .count) j ++ gather (length (H .edges)) (λ e. withTerminal G H (itemOf G y) (y .count) j e)) ++ gather n (λ k. withRecord G H y j (recordAt v k) k)) qx
-            ∙ ap (λ (m : ℕ). (atRoot G (itemOf G (recordAt v j)) (recordAt v j .count) j ++ gather (length (H .edges)) (λ e. withTerminal G H (itemOf G (recordAt v j)) (recordAt v j .count) j e)) ++ gather m (λ k. withRecord G H (recordAt v j) j (recordAt v k) k)) (qn ∙ counted)
-            ∙ read-consequences v (c .records) j (record-on w c (held .holds) v v-is) (omega (arith, counted, length-set (chartOf w .records) j (handledNow (recordIn (chartOf w .records) j)), known)) in
+          ap (λ (y : Record). (atRoot G (itemOf G y) (y .count) j ++ gather (length (H .edges)) (λ e. withTerminal G H (itemOf G y) (y .count) j e)) ++ gather n (λ k. withRecord G H y j (recordAt v k) k)) qx
+          ∙ ap (λ (m : ℕ). (atRoot G (itemOf G (recordAt v j)) (recordAt v j .count) j ++ gather (length (H .edges)) (λ e. withTerminal G H (itemOf G (recordAt v j)) (recordAt v j .count) j e)) ++ gather m (λ k. withRecord G H (recordAt v j) j (recordAt v k) k)) (qn ∙ counted)
+          ∙ read-consequences v (c .records) j (record-on w c (held .holds) v v-is) (omega (arith, counted, length-set (chartOf w .records) j (handledNow (recordIn (chartOf w .records) j)), known)) in
           added-then v v₃ v₄ (xs ++ ys) zs marked-fits (whole-append xs ys ex ey) ez both (p₄ ∙ ap (grownBy v₃) same) ∙ ap (grownBy v) read ∙ all-grown

@@ -1,0 +1,28 @@
+-- The run part of demand 3, over what start and run leave: what holds of every start that passes question 8 and every list of runs after it.
+use mathlib.Core.Path.{_≡_}
+use mathlib.Core.Bool.{Bool, true, false}
+use mathlib.Core.List.{List}
+use Prim.Native.Nat.{ℕ, _≤_, _<_}
+use lib.ListN.{length}
+use Rattle.hrg.specs.Grammars.{Graph, Grammar}
+use Rattle.hrg.specs.Items.{Item, closure}
+use Rattle.hrg.specs.Agenda.{Closure}
+use Rattle.agenda.specs.Steps.{Chart, handledCount}
+use Rattle.agenda.specs.RunFacts.{ChartCorrect}
+use Rattle.chart.specs.Calls.{numberOf, stepsOf}
+use Rattle.chart.specs.declared.Outcome.{Outcome}
+
+-- The answer a and the chart c that the last of several runs gave, which were given k steps in all from a start on, on a chart that holds cap items.
+-- The order among equal counts and the layout are the program's choice: this holds of each.
+pub record RunRight (G : Grammar) (H : Graph) (cap k : ℕ) (a : Outcome) (c : Chart) : Type 0 where
+  -- never 8
+  pub fit : numberOf a ≡ 8 → ⊥
+  -- 9 only if the closure has more items than the chart holds; the steps done are at most those given
+  pub small : numberOf a ≡ 9 → (is : List Item) → Closure (closure G H) is → cap < length is
+  pub most : handledCount (c .records) ≤ k
+  -- else every handled item is true with its fewest count, in order, and the steps reported are those done: as many as were given or as the closure has
+  pub right : (numberOf a ≡ 9 → ⊥) → ChartCorrect G H k (c .records)
+  pub steps : (numberOf a ≡ 9 → ⊥) → stepsOf a ≡ handledCount (c .records)
+  -- done only with all of the closure, and not 10 once as many steps are given as the chart holds items
+  pub done : numberOf a ≡ 0 → (is : List Item) → Closure (closure G H) is → stepsOf a ≡ length is
+  pub never : cap ≤ k → numberOf a ≡ 10 → ⊥
