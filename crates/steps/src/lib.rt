@@ -10,6 +10,7 @@ ghost use Rattle.records.specs.Words.{capacity, chartOf, written};
 ghost use Rattle.steps.specs.Runs.{nextIn};
 use agenda::Found;
 
+mod consequences;
 pub mod leaves;
 
 // The chart made anew: only the leaf items are present.
