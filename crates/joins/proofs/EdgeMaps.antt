@@ -102,7 +102,7 @@ module _ (g : List ℕ) (r i : ℕ) (known : KnownEdge g r i) where
   abbrev rank : ℕ
   rank = rankAt g (edgeLabel g r i)
 
-  edge-ok : EdgeOk (grammarOf g) (ruleNodes g r) (edgeAt (ruleOf (grammarOf g) r .production .right .edges) i)
+  pub edge-ok : EdgeOk (grammarOf g) (ruleNodes g r) (edgeAt (ruleOf (grammarOf g) r .production .right .edges) i)
   edge-ok =
       rw (right-nodes g r (known .grammar) (known .rule)) at
       (rule-ok g r (known .grammar) (known .rule) .right .edge i (omega (arith, right-edges g r (known .grammar) (known .rule), known .edge)))

@@ -7,3 +7,5 @@ pub mod MapLaws
 pub mod Combining
 pub mod Parents
 pub mod NodeLists
+pub mod RuleItems
+pub mod RuleAnswers

@@ -1,22 +1,25 @@
 -- A plan node is a child at most once: what the search for its parent shows.
 use mathlib.Core.Path.{_≡_, refl, sym, ap, _∙_}
-use mathlib.Core.Bool.{Bool, true, false, _||_}
+use mathlib.Core.Bool.{Bool, true, false, _||_, false≢true}
+use mathlib.Core.Logic.{_⊎_, inl, inr}
 use mathlib.Core.List.{List, [], _∷_}
 use Prim.Native.Nat.{ℕ, zero, suc, _+_, _≤_, _<_}
 use native.Mathlib.Omega.{arith}
 use native.Mathlib.Decide.{decLt}
-use lib.ListN.{length}
+use lib.ListN.{length, List·getD-eq-default}
 use lib.Dec.{eqb, ltb}
 use borrow.Author.Tests.{ltb-true, ltb-false}
 use Rattle.hrg.specs.Counts.{occurs}
-use Rattle.hrg.specs.Grammars.{PlanNode, leaf, introduce, join, planOf, planNode}
+use Rattle.hrg.specs.Grammars.{Rule, noRule, PlanNode, leaf, introduce, join, ruleOf, planOf, planNode}
 use Rattle.hrg.specs.WellFormed.{children, allChildren, PlanOk}
-use Rattle.hrg.proofs.Sums.{occurs-append}
+use Rattle.hrg.proofs.Sums.{occurs-append, none-left}
 use Rattle.tables.specs.Layout.{ruleCount, ruleEdges, rulePlan, planKind, planFirst, planSecond}
 use Rattle.tables.specs.Checking.{checkGrammar}
 use Rattle.tables.specs.Abstract.{grammarOf}
+use Rattle.tables.proofs.WellFormedAccepted.{rules-length}
 use Rattle.joins.specs.Joins.{KnownNode}
-use Rattle.joins.specs.Rules.{ParentOf}
+use Rattle.joins.specs.declared.rules.Place.{Place}
+use Rattle.joins.specs.Rules.{ParentOf, Childless, Above}
 use Rattle.joins.proofs.Known.{plan-ok, plan-size}
 use Rattle.joins.proofs.PlanMasks.{some-one, some-append, node-is, introduced-is, joined-is}
 
@@ -67,15 +70,15 @@ module _ (g : List ℕ) (r p : ℕ) (checked : checkGrammar g ≡ true) (rule : 
   ok : PlanOk (ruleEdges g r) pl
   ok = plan-ok g r checked rule
 
-  above : (q : ℕ) → q < rulePlan g r → 0 < occurs p (children (planNode pl q)) → p < q
-  above q l h = ok .lower q p (omega (arith, plan-size g r checked rule)) h
+  pub child-lower : (q : ℕ) → q < rulePlan g r → 0 < occurs p (children (planNode pl q)) → p < q
+  child-lower q l h = ok .lower q p (omega (arith, plan-size g r checked rule)) h
 
   once : (q q′ : ℕ) → q < q′ → q′ < rulePlan g r → 0 < occurs p (children (planNode pl q)) → 0 < occurs p (children (planNode pl q′)) → ⊥
   once q q′ l n h k =
-      omega (arith, two-parents pl p q q′ l h k, above q (omega arith) h, ok .child-once p (omega (arith, above q (omega arith) h, plan-size g r checked rule)))
+      omega (arith, two-parents pl p q q′ l h k, child-lower q (omega arith) h, ok .child-once p (omega (arith, child-lower q (omega arith) h, plan-size g r checked rule)))
 
   pub parent-first : NotBefore g r p (p + 1)
-  parent-first = record { each = λ q l n h. omega (arith, above q n h) }
+  parent-first = record { each = λ q l n h. omega (arith, child-lower q n h) }
 
   pub parent-found : (q : ℕ) → q < rulePlan g r → ltb 0 (occurs p (children (planNode pl q))) ≡ true → ParentOf g r p q
   parent-found q n t = record { only = λ q′ l k. go q′ l k (decLt q q′) (decLt q′ q) }
@@ -99,3 +102,59 @@ module _ (g : List ℕ) (r p : ℕ) (checked : checkGrammar g ≡ true) (rule : 
 
   pub parent-none : (q n : ℕ) → rulePlan g r ≤ q → NotBefore g r p q → ParentOf g r p n
   parent-none q n l before = record { only = λ q′ k h. absurd (before .each q′ (omega arith) k h) }
+
+-- ---- for any rule and plan node
+abbrev nowhere : Place
+nowhere = record { found = false; node = 0 }
+
+pub above-none : (g : List ℕ) (r p : ℕ) → Childless g r p → Above g r p nowhere
+above-none g r p none = record { known = λ e. absurd (false≢true e); parent = λ e. absurd (false≢true e); nowhere = λ e. none }
+
+pub above-unknown : (g : List ℕ) (r p : ℕ) → ruleCount g ≤ r → Above g r p nowhere
+above-unknown g r p h =
+    above-none g r p (record {
+      none = λ q l. absurd (omega (arith, ap (λ (R : Rule). length (R .plan)) (List·getD-eq-default (grammarOf g .rules) noRule {n = r} (omega (arith, rules-length g)))));
+    })
+
+pub above-found : (g : List ℕ) (r p q : ℕ) → KnownNode g r q → ParentOf g r p q → Above g r p (record { found = true; node = q })
+above-found g r p q known parent = record { known = λ e. known; parent = λ e. parent; nowhere = λ e. absurd (false≢true (sym e)) }
+
+module _ (g : List ℕ) (r p : ℕ) (checked : checkGrammar g ≡ true) (rule : r < ruleCount g) where
+  pub above-past : rulePlan g r ≤ p → Above g r p nowhere
+  above-past h =
+      above-none g r p (record { none = λ q l. none-left _ (λ o. omega (arith, child-lower g r p checked rule q (omega (arith, plan-size g r checked rule)) o, plan-size g r checked rule)) })
+
+  pub above-last : (q : ℕ) → ParentOf g r p q → rulePlan g r ≤ q → Above g r p nowhere
+  above-last q parent h =
+      above-none g r p (record { none = λ q′ l. none-left _ (λ o. omega (arith, parent .only q′ (omega (arith, plan-size g r checked rule)) o, plan-size g r checked rule)) })
+
+-- the first numbers that pass a test, or none
+some-below : (t : ℕ → Bool) (n : ℕ) → ((q : ℕ) × (q < n) × (t q ≡ true)) ⊎ ((q : ℕ) → q < n → t q ≡ false)
+some-below t zero = inr (λ q l. absurd (omega arith))
+some-below t (suc n) = go (t n) refl (some-below t n)
+  where
+    go : (b : Bool) → t n ≡ b → ((q : ℕ) × (q < n) × (t q ≡ true)) ⊎ ((q : ℕ) → q < n → t q ≡ false) → ((q : ℕ) × (q < suc n) × (t q ≡ true)) ⊎ ((q : ℕ) → q < suc n → t q ≡ false)
+    go true e rest = inl (n, omega arith, e)
+    go false e (inl (q, l, h)) = inl (q, omega arith, h)
+    go false e (inr h) = inr (λ q l. last q l (decLt q n))
+      where
+        last : (q : ℕ) → q < suc n → Dec (q < n) → t q ≡ false
+        last q l (yes d) = h q d
+        last q l (no d) = let s : q ≡ n = omega arith in ap t s ∙ e
+
+-- there is always such a place
+pub place-exists : (g : List ℕ) (r p : ℕ) → checkGrammar g ≡ true → (x : Place) × Above g r p x
+place-exists g r p checked = go (decLt r (ruleCount g))
+  where
+    child : ℕ → Bool
+    child q = ltb 0 (occurs p (children (planNode (planOf (grammarOf g) r) q)))
+
+    go : Dec (r < ruleCount g) → (x : Place) × Above g r p x
+    go (no d) = (nowhere, above-unknown g r p (omega arith))
+    go (yes d) = at (some-below child (rulePlan g r))
+      where
+        at : ((q : ℕ) × (q < rulePlan g r) × (child q ≡ true)) ⊎ ((q : ℕ) → q < rulePlan g r → child q ≡ false) → (x : Place) × Above g r p x
+        at (inl (q, l, t)) =
+            (record { found = true; node = q }, above-found g r p q (record { grammar = checked; rule = d; node = l }) (parent-found g r p checked d q l t))
+        at (inr h) =
+            (nowhere, above-none g r p (record { none = λ q l. none-left _ (λ o. omega (arith, ltb-false 0 (occurs p (children (planNode (planOf (grammarOf g) r) q))) (h q (omega (arith, plan-size g r checked d))))) }))
