@@ -17,12 +17,13 @@ use Rattle.agenda.specs.Consequences.{gather, recordIn, atRoot, terminalAt, wit
 use Rattle.agenda.specs.Steps.{Chart, addedAll, handledNow, handledAt}
 use Rattle.agenda.proofs.Records.{record-eight}
 use Rattle.agenda.proofs.Consequences.{in-consequence}
-use Rattle.records.specs.Words.{Fits, capacity, itemCount, recordAt, recordsAt, chartOf, written, markedAt, grownBy}
+use Rattle.records.specs.Words.{Fits, capacity, itemCount, recordAt, recordsAt, chartOf, written, markedAt, grownBy, mayPair}
 use Rattle.records.proofs.WordLaws.{length-records, record-in}
 use Rattle.records.proofs.Written.{handle-written, chart-of-written, fits-written, written-over}
 use Rattle.records.proofs.Rewritten.{Grown, handledIn, grown-handled, count-on, capacity-on, record-on}
 use Rattle.records.proofs.Grown.{Whole, whole-none, whole-guard, whole-append, whole-map, whole-items, whole-gather, holds-own, grown-all, grown-none, grown-fits, grown-more, grown-flag, grown-record}
 use Rattle.steps.specs.Partners.{withRecord}
+use Rattle.steps.proofs.PartnerLaws.{partner-both}
 
 -- ---- a loop from 0 on
 -- the words v are w with what f gives for the numbers below i
@@ -54,6 +55,9 @@ module _ (w : List ℕ) (o : Fits w) (f : ℕ → List Record) (e : (k : ℕ) �
 -- nothing to add
 pub nothing-added : (w : List ℕ) (xs : List Record) → Fits w → xs ≡ [] → w ≡ grownBy w xs
 nothing-added w xs o q = sym (grown-none w o) ∙ ap (grownBy w) (sym q)
+
+pub added-fits : (w v : List ℕ) (xs : List Record) → Fits w → Whole xs → v ≡ grownBy w xs → Fits v
+added-fits w v xs o e p = subst Fits (sym p) (grown-fits w o xs e)
 
 -- first these, then those
 pub added-then : (w v u : List ℕ) (xs ys : List Record) → Fits w → Whole xs → Whole ys → v ≡ grownBy w xs → u ≡ grownBy v ys → u ≡ grownBy w (xs ++ ys)
@@ -96,6 +100,23 @@ module _ (G : Grammar) (H : Graph) where
   partner-same w xs v x j k o e p l =
       ap (λ (u : List ℕ). withRecord G H x j (recordAt u k) k) p
       ∙ record-same x j (recordAt (grownBy w xs) k) (recordAt w k) k (grown-flag w o xs e k l) (grown-record w o xs e k l)
+
+  pub partner-added : (w v u : List ℕ) (x y : Record) (j k : ℕ) (b : Bool) → Fits w → y ≡ recordAt w k → b ≡ mayPair x (recordAt w k) → b ≡ true
+      → v ≡ grownBy w (pair G H x j y k) → u ≡ grownBy v (pair G H y k x j) → u ≡ grownBy w (withRecord G H x j (recordAt w k) k)
+  partner-added w v u x y j k b o q t h p₁ p₂ =
+      added-then w v u (pair G H x j y k) (pair G H y k x j) o (pair-whole x j y k) (pair-whole y k x j) p₁ p₂
+      ∙ ap (λ (z : Record). grownBy w (pair G H x j z k ++ pair G H z k x j)) q
+      ∙ ap (grownBy w) (sym (partner-both G H x (recordAt w k) j k b t h))
+
+  -- the loop over partners
+  module _ (w : List ℕ) (o : Fits w) (x : Record) (j : ℕ) where
+    abbrev pub partners : ℕ → List Record
+    partners k = withRecord G H x j (recordAt w k) k
+
+    pub partners-next : (v u : List ℕ) (k m : ℕ) → m ≡ suc k → k < itemCount w → Gathered w partners v k → u ≡ grownBy v (withRecord G H x j (recordAt v k) k) → Gathered w partners u m
+    partners-next v u k m q l g p =
+        let e : (i : ℕ) → Whole (partners i) = λ i. record-whole x j (recordAt w i) i in
+        gathered-next w o partners e v u k m q g (p ∙ ap (grownBy v) (partner-same w (gather k partners) v x j k o (whole-gather k partners e) (g .is) l))
 
   -- ---- the step
   gather-same : (n : ℕ) (f g : ℕ → List Record) → ((k : ℕ) → k < n → f k ≡ g k) → gather n f ≡ gather n g

@@ -1,13 +1,19 @@
 // What a handled record makes: by the root rule, with graph edges, and with handled records.
 ghost use mathlib.Core.Path.{_≡_};
 ghost use mathlib.Core.Bool.{true};
+ghost use Prim.Native.Nat.{_≤_};
+ghost use lib.ListN.{length};
 ghost use Rattle.agenda.specs.Records.{itemOf, plus};
-ghost use Rattle.agenda.specs.Consequences.{atRoot};
+ghost use Rattle.agenda.specs.Consequences.{gather, atRoot, withTerminal, pair};
 ghost use Rattle.tables.specs.Checking.{checkGrammar};
-ghost use Rattle.tables.specs.Abstract.{grammarOf};
-ghost use Rattle.records.specs.Words.{Fits, grownBy};
+ghost use Rattle.tables.specs.Abstract.{grammarOf, graphOf};
+ghost use Rattle.joins.specs.Joins.{Accepted};
+ghost use Rattle.joins.specs.Rules.{madeRecords};
+ghost use Rattle.records.specs.Words.{Fits, itemCount, recordAt, grownBy};
+ghost use Rattle.steps.specs.Partners.{withRecord};
 use agenda::Record;
 use joins::rules;
+use joins::rules::Made;
 use tables::layout;
 
 // A sum that stays in a word.
@@ -52,4 +58,75 @@ pub(crate) fn add_root(g: &[u64], chart: &mut [u64], x: Record, j: u64)
         second: 0,
     };
     records::add(chart, y);
+}
+
+// The active item of rule r that was made, if one was.
+fn add_made(chart: &mut [u64], made: Made, r: u64, count: u64, first: u64, second: u64)
+    requires { ⌜ Fits (now chart) ⌝ }
+    ensures { λ x. ⌜ now (chart .exit) ≡ grownBy (now (chart .entry)) (madeRecords r made count first second) ⌝ }
+{
+    if !made.found {
+        return;
+    }
+    let nodes = made.nodes;
+    let x = Record {
+        kind: 0,
+        of: r,
+        plan: made.plan,
+        edges: made.edges,
+        count,
+        handled: 0,
+        nodes,
+        first,
+        second,
+    };
+    records::add(chart, x);
+}
+
+// What x makes with each graph edge.
+pub(crate) fn add_terminals(g: &[u64], h: &[u64], chart: &mut [u64], x: Record, j: u64)
+    requires { ⌜ Accepted (now g) (now h) × Fits (now chart) ⌝ }
+    ensures { λ r. ⌜ now (chart .exit) ≡ grownBy (now (chart .entry)) (gather (length (graphOf (now (g .entry)) (now (h .entry)) .edges)) (λ e. withTerminal (grammarOf (now (g .entry))) (graphOf (now (g .entry)) (now (h .entry))) (itemOf (grammarOf (now (g .entry))) x) (x .count) j e)) ⌝ }
+{
+    let n = layout::graph_edges(h);
+    let mut e: u64 = 0;
+    while e < n {
+        let made = rules::terminal(g, h, x, e);
+        add_made(chart, made, x.of, x.count, j, e);
+        e += 1;
+    }
+}
+
+// What x at place j makes with y at place k, x first.
+fn add_pair(g: &[u64], h: &[u64], chart: &mut [u64], x: Record, j: u64, y: Record, k: u64)
+    requires { ⌜ Accepted (now g) (now h) × Fits (now chart) ⌝ }
+    ensures { λ r. ⌜ now (chart .exit) ≡ grownBy (now (chart .entry)) (pair (grammarOf (now (g .entry))) (graphOf (now (g .entry)) (now (h .entry))) x j y k) ⌝ }
+{
+    let made = rules::pair(g, h, x, y);
+    add_made(chart, made, x.of, plus(x.count, y.count), j, k);
+}
+
+// What x at place j makes with the record at place k, in both orders, if that one is handled.
+fn add_partner(g: &[u64], h: &[u64], chart: &mut [u64], x: Record, j: u64, k: u64)
+    requires { ⌜ Accepted (now g) (now h) × Fits (now chart) ⌝ }
+    ensures { λ r. ⌜ now (chart .exit) ≡ grownBy (now (chart .entry)) (withRecord (grammarOf (now (g .entry))) (graphOf (now (g .entry)) (now (h .entry))) x j (recordAt (now (chart .entry)) k) k) ⌝ }
+{
+    if !records::may_pair(chart, k, x) {
+        return;
+    }
+    let y = records::load(chart, k);
+    add_pair(g, h, chart, x, j, y, k);
+    add_pair(g, h, chart, y, k, x, j);
+}
+
+// What x at place j makes with each of the first n records.
+pub(crate) fn add_partners(g: &[u64], h: &[u64], chart: &mut [u64], x: Record, j: u64, n: u64)
+    requires { ⌜ Accepted (now g) (now h) × Fits (now chart) × (n ≤ itemCount (now chart)) ⌝ }
+    ensures { λ r. ⌜ now (chart .exit) ≡ grownBy (now (chart .entry)) (gather n (λ k. withRecord (grammarOf (now (g .entry))) (graphOf (now (g .entry)) (now (h .entry))) x j (recordAt (now (chart .entry)) k) k)) ⌝ }
+{
+    let mut k: u64 = 0;
+    while k < n {
+        add_partner(g, h, chart, x, j, k);
+        k += 1;
+    }
 }

@@ -1,12 +1,13 @@
 // What a start and the steps of a run make of a lent chart's words, over accepted tables.
 ghost use mathlib.Core.Path.{_≡_};
 ghost use mathlib.Core.Bool.{true};
-ghost use Prim.Native.Nat.{_≤_};
+ghost use Prim.Native.Nat.{_≤_, _<_};
 ghost use lib.ListN.{length};
-ghost use Rattle.agenda.specs.Steps.{startChart};
+ghost use Rattle.agenda.specs.Steps.{startChart, handledAt, runChart};
 ghost use Rattle.tables.specs.Checking.{checkGrammar};
-ghost use Rattle.tables.specs.Abstract.{grammarOf};
-ghost use Rattle.records.specs.Words.{capacity, chartOf, written};
+ghost use Rattle.tables.specs.Abstract.{grammarOf, graphOf};
+ghost use Rattle.joins.specs.Joins.{Accepted};
+ghost use Rattle.records.specs.Words.{Fits, capacity, itemCount, chartOf, written};
 ghost use Rattle.steps.specs.Runs.{nextIn};
 use agenda::Found;
 
@@ -31,4 +32,32 @@ pub fn next(chart: &[u64]) -> Found
         return Found::Nowhere;
     }
     records::least(chart, records::item_count(chart))
+}
+
+// One step: the record at place j is handled, and what it makes with graph edges and handled records is added.
+fn step(g: &[u64], h: &[u64], chart: &mut [u64], j: u64)
+    requires { ⌜ Accepted (now g) (now h) × Fits (now chart) × (j < itemCount (now chart)) ⌝ }
+    ensures { λ r. ⌜ now (chart .exit) ≡ written (now (chart .entry)) (handledAt (grammarOf (now (g .entry))) (graphOf (now (g .entry)) (now (h .entry))) (capacity (now (chart .entry))) j (chartOf (now (chart .entry)))) ⌝ }
+{
+    records::mark_handled(chart, j);
+    let n = records::item_count(chart);
+    let x = records::load(chart, j);
+    consequences::add_root(g, chart, x, j);
+    consequences::add_terminals(g, h, chart, x, j);
+    consequences::add_partners(g, h, chart, x, j, n);
+}
+
+// So many steps, or as many as are left.
+pub fn advance(g: &[u64], h: &[u64], chart: &mut [u64], steps: u64)
+    requires { ⌜ Accepted (now g) (now h) × Fits (now chart) ⌝ }
+    ensures { λ r. ⌜ now (chart .exit) ≡ written (now (chart .entry)) (runChart (grammarOf (now (g .entry))) (graphOf (now (g .entry)) (now (h .entry))) (capacity (now (chart .entry))) steps (chartOf (now (chart .entry)))) ⌝ }
+{
+    let mut i: u64 = 0;
+    while i < steps {
+        match next(chart) {
+            Found::Nowhere => return,
+            Found::At(j) => step(g, h, chart, j),
+        }
+        i += 1;
+    }
 }
