@@ -46,9 +46,9 @@ next-below : (c : Chart) → Below (length (c .records)) (nextIn c)
 unfolding nextIn
 next-below c = cond-by (Below (length (c .records))) (eqb (c .mark) 0) (λ t. least-below (c .records) (length (c .records))) (λ t. none)
 
-pub next-known : (w : List ℕ) (j : ℕ) → At j ≡ nextIn (chartOf w) → j < itemCount w
+pub next-known : (w : List ℕ) (j : ℕ) (f : Found) → f ≡ At j → f ≡ nextIn (chartOf w) → j < itemCount w
 unfolding chartOf
-next-known w j q = let l = below-at (subst (Below (length (chartOf w .records))) (sym q) (next-below (chartOf w))) in omega (arith, length-records w (itemCount w))
+next-known w j f t q = let l = below-at (subst (Below (length (chartOf w .records))) (sym q ∙ t) (next-below (chartOf w))) in omega (arith, length-records w (itemCount w))
 
 -- ---- start
 abbrev emptyChart : Chart
@@ -132,10 +132,10 @@ module _ (G : Grammar) (H : Graph) where
       capacity-is : capacity v ≡ capacity w
       capacity-is = ap capacity (r .is) ∙ capacity-written w d (r .holds)
 
-      pub ran-step : (m j : ℕ) (u : List ℕ) → m ≡ suc k → At j ≡ nextIn (chartOf v) → u ≡ written v (handledAt G H (capacity v) j (chartOf v)) → Ran w m u
-      ran-step m j u q a p =
+      pub ran-step : (m j : ℕ) (f : Found) (u : List ℕ) → m ≡ suc k → f ≡ At j → f ≡ nextIn (chartOf v) → u ≡ written v (handledAt G H (capacity v) j (chartOf v)) → Ran w m u
+      ran-step m j f u q t a p =
           let e : runChart G H (capacity w) m (chartOf w) ≡ handledAt G H (capacity w) j d =
-          ap (λ n. runChart G H (capacity w) n (chartOf w)) q ∙ run-more G H (capacity w) k (chartOf w) ∙ next-again (capacity w) j d (a ∙ ap nextIn chart-is) in
+          ap (λ n. runChart G H (capacity w) n (chartOf w)) q ∙ run-more G H (capacity w) k (chartOf w) ∙ next-again (capacity w) j d (sym t ∙ a ∙ ap nextIn chart-is) in
           let g = handled-grown w d j (r .holds) in
           record {
             is =
@@ -145,11 +145,11 @@ module _ (G : Grammar) (H : Graph) where
             holds = subst (Holds w) (sym e) (g .holds);
           }
 
-      pub ran-idle : (n : ℕ) → k ≤ n → Nowhere ≡ nextIn (chartOf v) → v ≡ written w (runChart G H (capacity w) n (chartOf w))
-      ran-idle n l a =
+      pub ran-idle : (n : ℕ) (f : Found) → k ≤ n → f ≡ Nowhere → f ≡ nextIn (chartOf v) → v ≡ written w (runChart G H (capacity w) n (chartOf w))
+      ran-idle n f l t a =
           let q : n ≡ k + (n - k) = omega arith in
           r .is
-          ∙ ap (written w) (sym (ap (λ i. runChart G H (capacity w) i (chartOf w)) q ∙ run-split G H (capacity w) k (n - k) (chartOf w) ∙ next-none (capacity w) (n - k) d (a ∙ ap nextIn chart-is)))
+          ∙ ap (written w) (sym (ap (λ i. runChart G H (capacity w) i (chartOf w)) q ∙ run-split G H (capacity w) k (n - k) (chartOf w) ∙ next-none (capacity w) (n - k) d (sym t ∙ a ∙ ap nextIn chart-is)))
 
       pub ran-all : (n : ℕ) → k ≡ n → v ≡ written w (runChart G H (capacity w) n (chartOf w))
       ran-all n q = r .is ∙ ap (λ i. written w (runChart G H (capacity w) i (chartOf w))) q

@@ -21,7 +21,7 @@ use Rattle.records.specs.Words.{Fits, capacity, itemCount, recordAt, recordsAt,
 use Rattle.records.proofs.WordLaws.{length-records, record-in}
 use Rattle.records.proofs.Written.{handle-written, chart-of-written, fits-written, written-over}
 use Rattle.records.proofs.Rewritten.{Grown, handledIn, grown-handled, count-on, capacity-on, record-on}
-use Rattle.records.proofs.Grown.{Whole, whole-none, whole-guard, whole-append, whole-map, whole-items, whole-gather, holds-own, grown-all, grown-none, grown-fits, grown-more, grown-flag, grown-record}
+use Rattle.records.proofs.Grown.{Whole, whole-none, whole-guard, whole-append, whole-map, whole-items, whole-gather, holds-own, grown-all, grown-none, grown-fits, grown-more, grown-longer, grown-flag, grown-record}
 use Rattle.steps.specs.Partners.{withRecord}
 use Rattle.steps.proofs.PartnerLaws.{partner-both}
 
@@ -58,6 +58,9 @@ nothing-added w xs o q = sym (grown-none w o) ∙ ap (grownBy w) (sym q)
 
 pub added-fits : (w v : List ℕ) (xs : List Record) → Fits w → Whole xs → v ≡ grownBy w xs → Fits v
 added-fits w v xs o e p = subst Fits (sym p) (grown-fits w o xs e)
+
+pub added-longer : (w v : List ℕ) (xs : List Record) → Fits w → Whole xs → v ≡ grownBy w xs → itemCount w ≤ itemCount v
+added-longer w v xs o e p = subst (λ (u : List ℕ). itemCount w ≤ itemCount u) (sym p) (grown-longer w o xs e)
 
 -- first these, then those
 pub added-then : (w v u : List ℕ) (xs ys : List Record) → Fits w → Whole xs → Whole ys → v ≡ grownBy w xs → u ≡ grownBy v ys → u ≡ grownBy w (xs ++ ys)
@@ -179,6 +182,21 @@ module _ (G : Grammar) (H : Graph) where
           ∙ ap (λ (d : Chart). written v (addedAll (capacity w) cs d)) (ap chartOf v-is ∙ chart-of-written w c (held .holds))
           ∙ ap (λ (u : List ℕ). written u (addedAll (capacity w) cs c)) v-is
           ∙ written-over w c (held .holds) (addedAll (capacity w) cs c) (grown-all w cs c (held .holds) (consequences-whole (c .records) j) .longer)
+
+      -- after the root rule and the graph edges there is room for the partners
+      module _ (x : Record) (v₂ : List ℕ) (p₂ : v₂ ≡ grownBy v (atRoot G (itemOf G x) (x .count) j)) where
+        pub root-fits : Fits v₂
+        root-fits = added-fits v v₂ (atRoot G (itemOf G x) (x .count) j) marked-fits (root-whole (itemOf G x) (x .count) j) p₂
+
+        edges-whole : Whole (gather (length (H .edges)) (λ e. withTerminal G H (itemOf G x) (x .count) j e))
+        edges-whole = whole-gather (length (H .edges)) (λ e. withTerminal G H (itemOf G x) (x .count) j e) (λ e. terminal-whole (itemOf G x) (x .count) j e)
+
+        pub edges-fits : (n : ℕ) (v₃ : List ℕ) → n ≡ itemCount v → v₃ ≡ grownBy v₂ (gather (length (H .edges)) (λ e. withTerminal G H (itemOf G x) (x .count) j e))
+            → Fits v₃ × (n ≤ itemCount v₃)
+        edges-fits n v₃ q p₃ = (
+          added-fits v₂ v₃ _ root-fits edges-whole p₃,
+          omega (arith, added-longer v v₂ (atRoot G (itemOf G x) (x .count) j) marked-fits (root-whole (itemOf G x) (x .count) j) p₂, added-longer v₂ v₃ _ root-fits edges-whole p₃),
+        )
 
       pub step-is : (n : ℕ) (x : Record) (v₂ v₃ v₄ : List ℕ) → n ≡ itemCount v → x ≡ recordAt v j
           → v₂ ≡ grownBy v (atRoot G (itemOf G x) (x .count) j)
