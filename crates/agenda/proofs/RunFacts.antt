@@ -8,19 +8,20 @@ use native.Mathlib.Decide.{decLe}
 use native.Mathlib.Omega.{arith}
 use lib.ListN.{length, set, length-set, length-map}
 use Rattle.hrg.specs.Counts.{flag}
-use Rattle.hrg.specs.Grammars.{Graph, Grammar}
-use Rattle.hrg.specs.Items.{Item, UnaryRule, BinaryRule, closure}
-use Rattle.hrg.specs.WellFormed.{GrammarOk, GraphOk}
+use Rattle.hrg.specs.Grammars.{Graph, PlanNode, leaf, introduce, join, Grammar, planOf, planNode}
+use Rattle.hrg.specs.Items.{Item, LeafRule, leaf-rule, UnaryRule, BinaryRule, closure}
+use Rattle.hrg.specs.WellFormed.{PlanOk, GrammarOk, GraphOk}
 use Rattle.hrg.specs.Agenda.{given, from, from₂, Derivation, Entry, Distinct, itemsOf, Made, axiom-made, unary-made, binary-made, Closure}
 use Rattle.hrg.specs.AgendaFacts.{Correct}
 use Rattle.hrg.specs.CountBound.{edgesOfItem, conclusion, passivesOf}
 use Rattle.hrg.proofs.CountBound.{start-every, run-every, counted-kept, within-le, run-uses-once, bounded}
+use Rattle.hrg.proofs.Plans.{introduce-lower, join-lower}
 use Rattle.hrg.proofs.AgendaInvariant.{of-items, in-items}
 use Rattle.hrg.proofs.ClosureSize.{closure-unique}
 use Rattle.hrg.proofs.ClosureAgenda.{closureSize, closure-finite, closure-size, run-correct, run-finishes}
 use Rattle.hrg.proofs.ReplacementTruth.{handled-by-replacement}
 use Rattle.agenda.specs.Records.{itemOf, isHandled}
-use Rattle.agenda.specs.Consequences.{recordIn}
+use Rattle.agenda.specs.Consequences.{recordIn, noRecord}
 use Rattle.agenda.specs.Steps.{Chart, leastWaiting, handledNow, startChart, runsChart, handledCount, sumOf}
 use Rattle.agenda.specs.RunFacts.{Present, Handled, OneRule, by-leaf, by-one, by-two, ChartCorrect}
 use Rattle.agenda.specs.declared.Record.{Record}
@@ -37,6 +38,26 @@ unhandled-less : (rs : List Record) (j : ℕ) → j < length rs → isHandled (r
 unhandled-less rs j l w =
     let ss = set rs j (handledNow (recordIn rs j)) in
     omega (arith, count-set rs j (handledNow (recordIn rs j)) l, ap flag w, count-le ss, length-set rs j (handledNow (recordIn rs j)))
+
+-- one that is handled is counted
+handled-some : (rs : List Record) (j : ℕ) → j < length rs → isHandled (recordIn rs j) ≡ true → 0 < handledCount rs
+handled-some rs j l h = omega (arith, count-set rs j noRecord l, ap flag h)
+
+-- nothing lies below plan node 0
+first-leaf : (edges : ℕ) (pl : List PlanNode) → PlanOk edges pl → planNode pl 0 ≡ leaf
+first-leaf edges pl ok = go (planNode pl 0) refl
+  where
+    go : (n : PlanNode) → planNode pl 0 ≡ n → planNode pl 0 ≡ leaf
+    go leaf e = e
+    go (introduce c i) e = absurd (omega (arith, introduce-lower edges pl ok 0 c i e))
+    go (join a b) e = absurd (omega (arith, join-lower edges pl ok 0 a b e .0))
+
+-- every well-formed grammar has a leaf item
+some-leaf : (G : Grammar) → GrammarOk G → (i : Item) × LeafRule G i
+some-leaf G ok =
+    let r : 0 < length (G .rules) = omega (arith, ok .rule-count .lower) in
+    let plan = ok .rule 0 r .plan in
+    (_, leaf-rule 0 0 r (omega (arith, plan .size .lower)) (first-leaf _ (planOf G 0) plan))
 
 -- The partners of the record at k spell a derivation of its item, which uses no passive item twice; its count is their number.
 pub record Spelt (G : Grammar) (H : Graph) (rs : List Record) (k : ℕ) : Type 0 where
@@ -205,3 +226,19 @@ module _ (G : Grammar) (H : Graph) (ok : GrammarOk G) (hok : GraphOk G H) where
     -- a handled record's count, the passive items of what it spells, is at most the steps done
     pub count-most : c .mark ≡ 0 → (k : ℕ) → k < length (c .records) → isHandled (recordIn (c .records) k) ≡ true → recordIn (c .records) k .count ≤ handledCount (c .records)
     count-most m k l h = reached-count (runs-reached m) k l h
+
+  -- on a fresh chart something waits: a leaf item
+  module _ (cap : ℕ) (most : cap ≤ 4096) (m : startChart G cap .mark ≡ 0) where
+    abbrev fresh : List Record
+    fresh = startChart G cap .records
+
+    leaf-present : (i : Item) × Present G fresh i
+    unfolding runsChart sumOf
+    leaf-present = let o = some-leaf G ok in (o .0, runs-correct cap most [] (startChart G cap) refl m .present (o .0) .1 (by-leaf (o .1)))
+
+    pub start-waits : (j : ℕ) × (leastWaiting fresh (length fresh) ≡ At j)
+    start-waits = go (leastWaiting fresh (length fresh)) (chosen fresh (length fresh))
+      where
+        go : (f : Found) → Chosen fresh (length fresh) f → (j : ℕ) × (f ≡ At j)
+        go (At j) (waits l w h) = (j, refl)
+        go Nowhere (nothing h) = let p = leaf-present .1 in absurd (omega (arith, handled-some fresh (p .at) (p .known) (h (p .at) (p .known)), start-none G H cap))

@@ -48,6 +48,11 @@ handled-marked : (G : Grammar) (H : Graph) (cap j : ℕ) (c : Chart) → c .mark
 unfolding handledAt
 handled-marked G H cap j c e = ap (λ (d : Chart). d .records) (marked-all cap (consequences G H (handledIn (c .records) j) j) (record { mark = c .mark; records = handledIn (c .records) j }) e)
 
+pub sum-last : (ks : List ℕ) (k : ℕ) → sumOf (ks ++ (k ∷ [])) ≡ sumOf ks + k
+unfolding sumOf
+sum-last [] k = omega arith
+sum-last (j ∷ ks) k = omega (arith, sum-last ks k)
+
 -- ---- runs in parts, on any chart
 module _ (G : Grammar) (H : Graph) (cap : ℕ) where
   -- where nothing waits, a step changes nothing
@@ -88,6 +93,12 @@ module _ (G : Grammar) (H : Graph) (cap : ℕ) where
   run-split j (suc k) c =
       let e : j + suc k ≡ suc (j + k) = omega arith in
       ap (λ (n : ℕ). runChart G H cap n c) e ∙ run-more (j + k) c ∙ ap again (run-split j k c) ∙ sym (run-more k (runChart G H cap j c))
+
+  -- a list of runs and one run more
+  pub runs-last : (ks : List ℕ) (k : ℕ) (c : Chart) → runsChart G H cap (ks ++ (k ∷ [])) c ≡ runChart G H cap k (runsChart G H cap ks c)
+  unfolding runsChart
+  runs-last [] k c = refl
+  runs-last (j ∷ ks) k c = runs-last ks k (runChart G H cap j c)
 
   -- where nothing waits, a run changes nothing
   pub idle-run : (k : ℕ) (c : Chart) → leastWaiting (c .records) (length (c .records)) ≡ Nowhere → runChart G H cap k c ≡ c

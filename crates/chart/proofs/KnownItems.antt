@@ -38,7 +38,7 @@ T-test false t = absurd t
 never : {b : Bool} → b ≡ true → b ≡ false → ⊥
 never x y = let z : _≡_ {A = ℕ} 0 1 = cc in omega arith
 
-every-of : (n : ℕ) (t : ℕ → Bool) → every n t ≡ true → (i : ℕ) → i < n → t i ≡ true
+pub every-of : (n : ℕ) (t : ℕ → Bool) → every n t ≡ true → (i : ℕ) → i < n → t i ≡ true
 every-of n t e i l = go (t i) refl
   where
     go : (b : Bool) → t i ≡ b → t i ≡ true

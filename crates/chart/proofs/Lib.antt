@@ -6,3 +6,9 @@ pub mod KnownCharts
 -- the program's own charts pass it
 pub mod KnownItems
 pub mod Own
+pub mod KnownWords
+-- what start and run answer and leave
+pub mod Answers
+pub mod Calls
+-- from a start on: demand 3 for runs
+pub mod Demand

@@ -183,7 +183,8 @@ module _ (G : Grammar) (H : Graph) (ok : GrammarOk G) (good : GraphOk G H) where
             let b : j < length rs = omega (arith, length-set (c .records) j (handledNow (recordIn (c .records) j))) in
             added-known (consequences G H rs j) (record { mark = c .mark; records = rs }) (consequence-fresh rs now j b) (consequence-known rs now j b) now
 
-    run-known : (k : ℕ) (c : Chart) → AllKnown (c .records) → AllKnown (runChart G H cap k c .records)
+    -- a run keeps them known, whatever else the chart has
+    pub run-known : (k : ℕ) (c : Chart) → AllKnown (c .records) → AllKnown (runChart G H cap k c .records)
     unfolding runChart
     run-known zero c all = all
     run-known (suc k) c all =
@@ -196,7 +197,7 @@ module _ (G : Grammar) (H : Graph) (ok : GrammarOk G) (good : GraphOk G H) where
     runs-known [] c all = all
     runs-known (k ∷ ks) c all = runs-known ks (runChart G H cap k c) (run-known k c all)
 
-    start-known : AllKnown (startChart G cap .records)
+    pub start-known : AllKnown (startChart G cap .records)
     unfolding startChart
     start-known =
         added-known (leafRecords G) (record { mark = 0; records = [] }) fresh (λ m x h i. leaf-known m x i) (λ k l. absurd (omega arith))

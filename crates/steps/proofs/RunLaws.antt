@@ -80,6 +80,10 @@ module _ (w : List ℕ) (h : 2 ≤ length w) where
       ∙ ap (λ (c : Chart). written (written w emptyChart) (addedAll (capacity w) (leafRecords G) c)) (chart-of-written w emptyChart o)
       ∙ written-over w emptyChart o (addedAll (capacity w) (leafRecords G) emptyChart) (omega arith)
 
+  pub start-holds : (G : Grammar) → Holds w (startChart G (capacity w))
+  unfolding startChart
+  start-holds G = grown-all w (leafRecords G) emptyChart (empty-holds w h) (leaves-whole G) .holds
+
   pub started : (G : Grammar) (v u : List ℕ) → v ≡ set (set w 0 0) 1 0 → u ≡ grownBy v (leafRecords G) → u ≡ written w (startChart G (capacity w))
   started G v u q p = p ∙ start-by G v (q ∙ header-words w h)
 
@@ -107,6 +111,24 @@ module _ (G : Grammar) (H : Graph) where
       let one = grown-handled w d o j in
       let rest = grown-all w (consequences G H (handledIn j d .records) j) (handledIn j d) (one .holds) (consequences-whole G H (handledIn j d .records) j) in
       record { holds = rest .holds; longer = omega (arith, one .longer, rest .longer) }
+
+  -- a run that keeps to the words' capacity stays within the words, and loses no record
+  step-grown : (w : List ℕ) (d : Chart) → Holds w d → (f : Found) → Grown w d (stepWith G H (capacity w) d f)
+  step-grown w d o Nowhere = record { holds = o; longer = omega arith }
+  step-grown w d o (At j) = handled-grown w d j o
+
+  again-grown : (w : List ℕ) (d : Chart) → Holds w d → Grown w d (again G H (capacity w) d)
+  unfolding stepChart
+  again-grown w d o =
+      cond-by (Grown w d) (eqb (d .mark) 0) {x = stepChart G H (capacity w) d} {y = d} (λ t. step-grown w d o (leastWaiting (d .records) (length (d .records))))
+      (λ t. record { holds = o; longer = omega arith })
+
+  pub run-grown : (w : List ℕ) (c : Chart) → Holds w c → (k : ℕ) → Grown w c (runChart G H (capacity w) k c)
+  run-grown w c o zero = subst (Grown w c) (sym (run-none G H (capacity w) c)) (record { holds = o; longer = omega arith })
+  run-grown w c o (suc k) =
+      let one = run-grown w c o k in
+      let rest = again-grown w (runChart G H (capacity w) k c) (one .holds) in
+      subst (Grown w c) (sym (run-more G H (capacity w) k c)) (record { holds = rest .holds; longer = omega (arith, one .longer, rest .longer) })
 
   -- v are the words w after k steps
   pub record Ran (w : List ℕ) (k : ℕ) (v : List ℕ) : Type 0 where
