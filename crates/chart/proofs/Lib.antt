@@ -12,3 +12,5 @@ pub mod Answers
 pub mod Calls
 -- from a start on: demand 3 for runs
 pub mod Demand
+-- the functions, way by way
+pub mod CallSteps

@@ -2,14 +2,16 @@
 use mathlib.Core.Path.{_≡_}
 use mathlib.Core.Bool.{Bool, true, false}
 use mathlib.Core.List.{List}
-use Prim.Native.Nat.{ℕ, _≤_, _<_}
+use Prim.Native.Nat.{ℕ, _+_, _≤_, _<_}
 use lib.ListN.{length}
 use Rattle.hrg.specs.Grammars.{Graph, Grammar}
 use Rattle.hrg.specs.Items.{Item, closure}
 use Rattle.hrg.specs.Agenda.{Closure}
-use Rattle.agenda.specs.Steps.{Chart, handledCount}
+use Rattle.agenda.specs.Steps.{Chart, handledCount, sumOf}
 use Rattle.agenda.specs.RunFacts.{ChartCorrect}
-use Rattle.chart.specs.Calls.{numberOf, stepsOf}
+use Rattle.tables.specs.Abstract.{grammarOf, graphOf}
+use Rattle.records.specs.Words.{capacity, chartOf}
+use Rattle.chart.specs.Calls.{numberOf, stepsOf, fit, startOf, runsOf}
 use Rattle.chart.specs.declared.Outcome.{Outcome}
 
 -- The answer a and the chart c that the last of several runs gave, which were given k steps in all from a start on, on a chart that holds cap items.
@@ -26,3 +28,7 @@ pub record RunRight (G : Grammar) (H : Graph) (cap k : ℕ) (a : Outcome) (c : C
   -- done only with all of the closure, and not 10 once as many steps are given as the chart holds items
   pub done : numberOf a ≡ 0 → (is : List Item) → Closure (closure G H) is → stepsOf a ≡ length is
   pub never : cap ≤ k → numberOf a ≡ 10 → ⊥
+
+-- A run of k steps on the words w that answered a and left v: what holds of the program's own choices where w are the words that a start and the runs ks left.
+pub record RunChoices (g h w : List ℕ) (k : ℕ) (a : Outcome) (v : List ℕ) : Type 0 where
+  pub right : (former ks : List ℕ) → fit g h former ≡ true → w ≡ runsOf g h (startOf g h former .words) ks → RunRight (grammarOf g) (graphOf g h) (capacity former) (sumOf ks + k) a (chartOf v)

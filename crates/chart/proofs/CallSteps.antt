@@ -1,0 +1,148 @@
+-- Start and run, call by call: a law for each way through the functions.
+use Prim.Native.Nat.{ℕ, _+_, _≤_}
+use mathlib.Core.Path.{_≡_, refl, sym, ap, _∙_, subst}
+use mathlib.Core.Bool.{Bool, true, false, _&&_, cond}
+use mathlib.Core.List.{List}
+use lib.Dec.{eqb}
+use lib.ListN.{length, getD}
+use borrow.Author.Tests.{eq-eqb, ne-eqb}
+use Rattle.agenda.specs.declared.Found.{Found}
+use Rattle.agenda.specs.declared.Found.the-variants.{At, Nowhere}
+use Rattle.agenda.specs.Steps.{Chart, leastWaiting, handledCount, runChart, startChart, sumOf}
+use Rattle.tables.specs.Checking.{checkGrammar, checkGraph}
+use Rattle.tables.specs.Abstract.{grammarOf, graphOf}
+use Rattle.joins.specs.Joins.{Accepted}
+use Rattle.records.specs.Words.{Fits, capacity, itemCount, recordsAt, chartOf, written}
+use Rattle.records.proofs.WordLaws.{length-records}
+use Rattle.chart.specs.Checking.{holds, knownChart}
+use Rattle.chart.specs.Calls.{Called, fit, fitChart, whenWaiting, answerOf, startAnswer, startOf, runOf, runsOf, refused}
+use Rattle.chart.specs.Facts.{RunRight, RunChoices}
+use Rattle.chart.specs.declared.Outcome.{Outcome}
+use Rattle.chart.specs.declared.Outcome.the-variants.{Unfit, TooSmall, Unfinished, Done}
+use Rattle.chart.proofs.KnownCharts.{both, holds-header, known-fits}
+use Rattle.chart.proofs.KnownWords.{and-both}
+use Rattle.chart.proofs.Calls.{start-is, start-not, run-is, run-not, run-chart}
+use Rattle.chart.proofs.Demand.{runs-right}
+
+-- ---- question 8
+module _ (g h w : List ℕ) (a : Bool) (size : a ≡ holds w) where
+  pub fit-size : a ≡ false → false ≡ fit g h w
+  unfolding fit
+  fit-size n = ap (λ (b : Bool). b && (checkGrammar g && checkGraph g h)) (sym n ∙ size)
+
+  module _ (b : Bool) (grammar : b ≡ checkGrammar g) (y : a ≡ true) where
+    pub fit-grammar : b ≡ false → false ≡ fit g h w
+    unfolding fit
+    fit-grammar n =
+        ap (λ (c : Bool). c && checkGraph g h) (sym n ∙ grammar)
+        ∙ ap (λ (c : Bool). c && (checkGrammar g && checkGraph g h)) (sym y ∙ size)
+
+    pub fit-graph : (c : Bool) → b ≡ true → c ≡ checkGraph g h → c ≡ fit g h w
+    unfolding fit
+    fit-graph c z q =
+        q
+        ∙ ap (λ (d : Bool). d && checkGraph g h) (sym z ∙ grammar)
+        ∙ ap (λ (d : Bool). d && (checkGrammar g && checkGraph g h)) (sym y ∙ size)
+
+module _ (g h w : List ℕ) (b : Bool) (is : b ≡ fit g h w) (y : b ≡ true) where
+  parts : (holds w ≡ true) × (checkGrammar g ≡ true) × (checkGraph g h ≡ true)
+  unfolding fit
+  parts = let (s, r) = both (holds w) (checkGrammar g && checkGraph g h) (sym is ∙ y) in let (t, u) = both (checkGrammar g) (checkGraph g h) r in (s, t, u)
+
+  pub fit-accepted : Accepted g h
+  fit-accepted = record { grammar = parts .1; graph = parts .2 }
+
+  pub fit-header : 2 ≤ length w
+  fit-header = holds-header w (parts .0)
+
+  pub fit-known : (k : Bool) → k ≡ knownChart (grammarOf g) (graphOf g h) w → k ≡ true → Fits w
+  fit-known k q z = known-fits (grammarOf g) (graphOf g h) w (parts .0) (sym q ∙ z)
+
+-- ---- start
+module _ (g h w : List ℕ) (b : Bool) (is : b ≡ fit g h w) where
+  pub start-refuses : b ≡ false → (Unfit ≡ startOf g h w .answer) × (w ≡ startOf g h w .words)
+  start-refuses n =
+      let q = start-not g h w (sym is ∙ n) in
+      (sym (ap (λ (c : Called). c .answer) q), sym (ap (λ (c : Called). c .words) q))
+
+  module _ (y : b ≡ true) (v : List ℕ) (made : v ≡ written w (startChart (grammarOf g) (capacity w))) (m : ℕ) (mark : m ≡ getD v 1 0) where
+    marked : startChart (grammarOf g) (capacity w) .mark ≡ m
+    unfolding written
+    marked = sym (mark ∙ ap (λ (u : List ℕ). getD u 1 0) made)
+
+    start-by : (a : Outcome) → a ≡ startAnswer (startChart (grammarOf g) (capacity w)) → (a ≡ startOf g h w .answer) × (v ≡ startOf g h w .words)
+    start-by a e =
+        let q = start-is g h w (sym is ∙ y) in
+        (e ∙ sym (ap (λ (c : Called). c .answer) q), made ∙ sym (ap (λ (c : Called). c .words) q))
+
+    pub start-small : (m ≡ 0 → ⊥) → (TooSmall ≡ startOf g h w .answer) × (v ≡ startOf g h w .words)
+    unfolding startAnswer
+    start-small n = start-by TooSmall (ap (λ (t : Bool). cond t (Done 0) TooSmall) (sym (ne-eqb _ 0 (λ z. n (sym marked ∙ z)))))
+
+    pub start-done : m ≡ 0 → (Done 0 ≡ startOf g h w .answer) × (v ≡ startOf g h w .words)
+    unfolding startAnswer
+    start-done z = start-by (Done 0) (ap (λ (t : Bool). cond t (Done 0) TooSmall) (sym (eq-eqb _ 0 (marked ∙ z))))
+
+-- ---- questions 9 and 10
+module _ (w : List ℕ) (m : ℕ) (mark : m ≡ getD w 1 0) where
+  pub outcome-small : (m ≡ 0 → ⊥) → TooSmall ≡ answerOf (chartOf w)
+  unfolding answerOf chartOf
+  outcome-small n = rw (ne-eqb (getD w 1 0) 0 (λ z. n (mark ∙ z))) refl
+
+  pub outcome-by : (n d : ℕ) (f : Found) (a : Outcome) → m ≡ 0 → n ≡ itemCount w → d ≡ handledCount (recordsAt w n) → f ≡ leastWaiting (recordsAt w n) n → a ≡ whenWaiting d f → a ≡ answerOf (chartOf w)
+  unfolding answerOf chartOf
+  outcome-by n d f a z qn qd qf e =
+      let rs = recordsAt w (itemCount w) in
+      let steps : d ≡ handledCount rs = qd ∙ ap (λ k. handledCount (recordsAt w k)) qn in
+      let next : f ≡ leastWaiting rs (length rs) = qf ∙ ap (λ k. leastWaiting (recordsAt w k) k) qn ∙ ap (leastWaiting rs) (sym (length-records w (itemCount w))) in
+      rw (eq-eqb (getD w 1 0) 0 (sym mark ∙ z)) (e ∙ ap (λ k. whenWaiting k f) steps ∙ ap (whenWaiting (handledCount rs)) next)
+
+-- ---- run
+not-by : (g h w : List ℕ) → fit g h w ≡ false → fitChart g h w ≡ false
+unfolding fitChart
+not-by g h w e = ap (λ (b : Bool). b && knownChart (grammarOf g) (graphOf g h) w) e
+
+unknown-by : (g h w : List ℕ) → knownChart (grammarOf g) (graphOf g h) w ≡ false → fit g h w ≡ true → fitChart g h w ≡ false
+unfolding fitChart
+unknown-by g h w n e = ap (λ (b : Bool). b && knownChart (grammarOf g) (graphOf g h) w) e ∙ n
+
+fits-by : (g h w : List ℕ) → fit g h w ≡ true → knownChart (grammarOf g) (graphOf g h) w ≡ true → fitChart g h w ≡ true
+unfolding fitChart
+fits-by g h w e f = and-both (fit g h w) (knownChart (grammarOf g) (graphOf g h) w) e f
+
+module _ (g h w : List ℕ) (k : ℕ) where
+  abbrev Ran : Outcome → List ℕ → Type 0
+  Ran a v = (a ≡ runOf g h w k .answer) × (v ≡ runOf g h w k .words) × RunChoices g h w k a v
+
+  -- what holds of the choices follows from the answer and the words
+  choices : (a : Outcome) (v : List ℕ) → a ≡ runOf g h w k .answer → v ≡ runOf g h w k .words → RunChoices g h w k a v
+  choices a v p q = record { right = λ former ks e is. from former ks e is }
+    where
+      from : (former ks : List ℕ) → fit g h former ≡ true → w ≡ runsOf g h (startOf g h former .words) ks → RunRight (grammarOf g) (graphOf g h) (capacity former) (sumOf ks + k) a (chartOf v)
+      from former ks e is =
+          let u = runsOf g h (startOf g h former .words) ks in
+          let p′ : runOf g h u k .answer ≡ a = sym (p ∙ ap (λ (t : List ℕ). runOf g h t k .answer) is) in
+          let q′ : runOf g h u k .words ≡ v = sym (q ∙ ap (λ (t : List ℕ). runOf g h t k .words) is) in
+          subst (λ (b : Outcome). RunRight (grammarOf g) (graphOf g h) (capacity former) (sumOf ks + k) b (chartOf v)) p′
+          (subst (λ (t : List ℕ). RunRight (grammarOf g) (graphOf g h) (capacity former) (sumOf ks + k) (runOf g h u k .answer) (chartOf t)) q′ (runs-right g h former e ks k))
+
+  whole : (a : Outcome) (v : List ℕ) → a ≡ runOf g h w k .answer → v ≡ runOf g h w k .words → Ran a v
+  whole a v p q = (p, q, choices a v p q)
+
+  unfit : fitChart g h w ≡ false → Ran Unfit w
+  unfit n = let q = run-not g h w k n in whole Unfit w (sym (ap (λ (c : Called). c .answer) q)) (sym (ap (λ (c : Called). c .words) q))
+
+  module _ (b : Bool) (is : b ≡ fit g h w) where
+    pub run-refuses : b ≡ false → Ran Unfit w
+    run-refuses n = unfit (not-by g h w (sym is ∙ n))
+
+    module _ (y : b ≡ true) (c : Bool) (known : c ≡ knownChart (grammarOf g) (graphOf g h) w) where
+      pub run-unknown : c ≡ false → Ran Unfit w
+      run-unknown n = unfit (unknown-by g h w (sym known ∙ n) (sym is ∙ y))
+
+      pub run-ran : (a : Outcome) (v : List ℕ) → c ≡ true → v ≡ written w (runChart (grammarOf g) (graphOf g h) (capacity w) k (chartOf w)) → a ≡ answerOf (chartOf v) → Ran a v
+      run-ran a v z made e =
+          let fits : fitChart g h w ≡ true = fits-by g h w (sym is ∙ y) (sym known ∙ z) in
+          let q = run-is g h w k fits in
+          let words : v ≡ runOf g h w k .words = made ∙ sym (ap (λ (d : Called). d .words) q) in
+          whole a v (e ∙ ap (λ (u : List ℕ). answerOf (chartOf u)) words ∙ ap answerOf (run-chart g h w fits k) ∙ sym (ap (λ (d : Called). d .answer) q)) words
