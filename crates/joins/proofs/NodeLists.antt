@@ -1,13 +1,13 @@
 -- Lists of graph nodes in eight places: the images of a rule's external nodes, and the nodes of a graph edge.
-use mathlib.Core.Path.{_≡_, refl, sym, ap, ap₂, _∙_}
+use mathlib.Core.Path.{_≡_, refl, sym, ap, _∙_}
 use mathlib.Core.Bool.{true}
-use mathlib.Core.List.{List, [], _∷_, map}
+use mathlib.Core.List.{List, _∷_, map}
 use Prim.Native.Nat.{ℕ, zero, suc, _+_, _≤_, _<_}
 use native.Mathlib.Omega.{arith}
-use lib.ListN.{length, getD, set, take, replicate}
+use lib.ListN.{length, getD, set, take}
 use lib.Seq.{getD-take}
-use Rattle.hrg.specs.Counts.{occurs, tabulate}
-use Rattle.hrg.specs.Grammars.{Edge, Rule, noEdge, ruleOf, rightOf, edgeAt}
+use Rattle.hrg.specs.Counts.{tabulate}
+use Rattle.hrg.specs.Grammars.{Edge, Rule, noEdge, rightOf, edgeAt}
 use Rattle.hrg.specs.Trees.{unplaced, at, padded, images}
 use Rattle.hrg.proofs.Sums.{occurs-at, length-tabulate, at-tabulate}
 use Rattle.tables.specs.Layout.{rankAt, ruleCount, ruleNodes, ruleSymbol, ruleExternal, graphEdges, graphLabel, graphNode}
@@ -16,7 +16,7 @@ use Rattle.tables.specs.Abstract.{ruleFrom, grammarOf, graphOf}
 use Rattle.tables.proofs.WellFormedLists.{getD-build}
 use Rattle.tables.proofs.WellFormedAccepted.{rule-is}
 use Rattle.joins.proofs.Known.{rule-ok, right-nodes, nodes-few}
-use Rattle.joins.proofs.MapLaws.{getD-any, Placed, placed-none, placed-next, placed-all}
+use Rattle.joins.proofs.MapLaws.{getD-any, Placed, placed-next, placed-all}
 
 map-tabulate : (n : ℕ) (t f : ℕ → ℕ) → map t (tabulate n f) ≡ tabulate n (λ k. t (f k))
 unfolding tabulate

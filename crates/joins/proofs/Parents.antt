@@ -10,7 +10,7 @@ use lib.ListN.{length, List·getD-eq-default}
 use lib.Dec.{eqb, ltb}
 use borrow.Author.Tests.{ltb-true, ltb-false}
 use Rattle.hrg.specs.Counts.{occurs}
-use Rattle.hrg.specs.Grammars.{Rule, noRule, PlanNode, leaf, introduce, join, ruleOf, planOf, planNode}
+use Rattle.hrg.specs.Grammars.{Rule, noRule, PlanNode, leaf, introduce, join, planOf, planNode}
 use Rattle.hrg.specs.WellFormed.{children, allChildren, PlanOk}
 use Rattle.hrg.proofs.Sums.{occurs-append, none-left}
 use Rattle.tables.specs.Layout.{ruleCount, ruleEdges, rulePlan, planKind, planFirst, planSecond}
@@ -128,7 +128,7 @@ module _ (g : List ℕ) (r p : ℕ) (checked : checkGrammar g ≡ true) (rule : 
   above-last q parent h =
       above-none g r p (record { none = λ q′ l. none-left _ (λ o. omega (arith, parent .only q′ (omega (arith, plan-size g r checked rule)) o, plan-size g r checked rule)) })
 
--- the first numbers that pass a test, or none
+-- a number below n that passes a test, or none does
 some-below : (t : ℕ → Bool) (n : ℕ) → ((q : ℕ) × (q < n) × (t q ≡ true)) ⊎ ((q : ℕ) → q < n → t q ≡ false)
 some-below t zero = inr (λ q l. absurd (omega arith))
 some-below t (suc n) = go (t n) refl (some-below t n)

@@ -1,16 +1,16 @@
 -- The answers of the rules over accepted tables, and what callers read off them.
 use mathlib.Core.Path.{_≡_, refl, sym, ap, ap₂, _∙_, subst}
 use mathlib.Core.Bool.{Bool, true, false, _&&_, not, true≢false}
-use mathlib.Core.List.{List, [], _∷_, map}
-use Prim.Native.Nat.{ℕ, zero, suc, _+_, _≤_, _<_}
+use mathlib.Core.List.{List, [], map}
+use Prim.Native.Nat.{ℕ, zero, suc, _≤_, _<_}
 use native.Mathlib.Omega.{arith}
 use lib.ListN.{length, take}
 use lib.Dec.{eqb}
 use borrow.Author.Tests.{eq-eqb, ne-eqb, eqb-true, not-true}
-use Rattle.masks.specs.Masks.{_∪_, disjoint, single, Added}
+use Rattle.masks.specs.Masks.{disjoint, single, Added}
 use Rattle.masks.specs.Laws.{bit-empty, union-of}
-use Rattle.hrg.specs.Counts.{hit, occurs}
-use Rattle.hrg.specs.Grammars.{terminal, Edge, Graph, PlanNode, leaf, introduce, join, Rule, Grammar, rankOf, ruleOf, rightOf, planOf, planNode, edgeAt}
+use Rattle.hrg.specs.Counts.{occurs}
+use Rattle.hrg.specs.Grammars.{Edge, Graph, PlanNode, leaf, introduce, join, Rule, Grammar, rankOf, ruleOf, rightOf, planOf, planNode, edgeAt}
 use Rattle.hrg.specs.Trees.{padded}
 use Rattle.hrg.specs.Items.{Item, active, passive, attach}
 use Rattle.hrg.specs.WellFormed.{children, EdgeOk}
@@ -21,21 +21,20 @@ use Rattle.hrg.proofs.Degrees.{and-true}
 use Rattle.agenda.specs.Records.{recordOf, itemOf}
 use Rattle.agenda.specs.declared.Record.{Record}
 use Rattle.tables.specs.Layout.{rankAt, ruleNodes, ruleEdges, edgeLabel, planKind, planFirst, planSecond, graphEdges, graphLabel}
-use Rattle.tables.specs.Checking.{checkGrammar}
 use Rattle.tables.specs.Abstract.{grammarOf, graphOf}
 use Rattle.tables.proofs.WellFormedLent.{checked-grammar-ok}
 use Rattle.tables.proofs.WellFormedAccepted.{rule-is, edge-is}
 use Rattle.joins.specs.declared.Joined.{Joined}
 use Rattle.joins.specs.declared.rules.Made.{Made}
 use Rattle.joins.specs.declared.rules.Place.{Place}
-use Rattle.joins.specs.Joins.{Accepted, KnownNode, KnownEdge, edgeNodes, joinedOf}
+use Rattle.joins.specs.Joins.{Accepted, KnownEdge, edgeNodes, joinedOf}
 use Rattle.joins.specs.Rules.{noItem, madeOf, madeAt, madeRecords, terminalItems, binaryAt, Above, ActiveAt}
 use Rattle.joins.proofs.Known.{right-nodes, nodes-few, plan-ok, plan-size, graph-size, graph-ok, graph-edges-few}
 use Rattle.joins.proofs.PlanMasks.{node-is, introduced-is, joined-is}
 use Rattle.joins.proofs.EdgeMaps.{edge-ok, edge-rank, take-padded, length-attach}
 use Rattle.joins.proofs.NodeLists.{label-is}
 use Rattle.joins.proofs.Parents.{place-exists}
-use Rattle.joins.proofs.RuleItems.{guard-none, AtMostOne, none, binary-nowhere, binary-place, terminal-nowhere, terminal-place, place-none, at-place-one, terminal-place-one, one-records, nothing-made, made-combined, item-active, item-passive, edgesOf, item-edges, binary-apart, pair-apart, pair-rules, pair-passive, edge-pair}
+use Rattle.joins.proofs.RuleItems.{guard-none, AtMostOne, none, binary-nowhere, binary-place, terminal-nowhere, terminal-place, place-none, at-place-one, terminal-place-one, one-records, nothing-made, made-combined, item-active, item-passive, item-edges, binary-apart, pair-apart, pair-rules, pair-passive, edge-pair}
 
 -- ---- the one plan node above
 module _ (g : List ℕ) (H : Graph) (r p m : ℕ) (f : List ℕ) (x : Place) (above : Above g r p x) where
@@ -78,6 +77,7 @@ same-rule kind a b t k = go (eqb a b) refl
     go true e = eqb-true a b e
     go false e = absurd (true≢false (sym (ap₂ (λ p q. p && not q) (eq-eqb kind 0 k) e) ∙ t))
 
+-- a plan node that is neither a leaf nor introduces an edge
 pub two-or-more : (kind word : ℕ) → kind ≡ word → (kind ≡ 0 → ⊥) → (kind ≡ 1 → ⊥) → 2 ≤ word
 two-or-more zero word e a b = absurd (a refl)
 two-or-more (suc zero) word e a b = absurd (b refl)

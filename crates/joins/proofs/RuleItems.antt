@@ -2,15 +2,15 @@
 use mathlib.Core.Path.{_≡_, refl, sym, ap, ap₂, _∙_, subst}
 use mathlib.Core.Bool.{Bool, true, false, _&&_, cond}
 use mathlib.Core.List.{List, [], _∷_, _++_, map, append-nil}
-use Prim.Native.Nat.{ℕ, zero, suc, _+_, _≤_, _<_}
+use Prim.Native.Nat.{ℕ, zero, suc, _<_}
 use native.Mathlib.Omega.{arith}
 use native.Mathlib.Decide.{decLt}
 use lib.ListN.{length, take}
 use lib.Dec.{eqb}
-use borrow.Author.Tests.{eq-eqb, ne-eqb, eqb-true}
+use borrow.Author.Tests.{ne-eqb, eqb-true}
 use Rattle.masks.specs.Masks.{disjoint, single}
 use Rattle.hrg.specs.Counts.{hit, occurs}
-use Rattle.hrg.specs.Grammars.{Kind, terminal, Edge, Graph, PlanNode, leaf, introduce, join, Rule, Grammar, kindOf, rankOf, ruleOf, rightOf, planOf, planNode, edgeAt}
+use Rattle.hrg.specs.Grammars.{Kind, terminal, Graph, PlanNode, leaf, introduce, join, Rule, Grammar, kindOf, rankOf, ruleOf, rightOf, planOf, planNode, edgeAt}
 use Rattle.hrg.specs.Items.{Item, active, passive, attach}
 use Rattle.hrg.specs.WellFormed.{children}
 use Rattle.hrg.specs.ClosureRun.{guard, eachTo, combine, isTerminal, withEdge, nonterminalAt, joinAt, binaryOf}
@@ -19,7 +19,6 @@ use Rattle.agenda.specs.Records.{recordOf, itemOf}
 use Rattle.agenda.specs.Consequences.{terminalAt, withTerminal}
 use Rattle.agenda.specs.declared.Record.{Record}
 use Rattle.joins.specs.declared.Joined.{Joined}
-use Rattle.joins.specs.declared.rules.Made.{Made}
 use Rattle.joins.specs.Joins.{joinedOf}
 use Rattle.joins.specs.Rules.{noItem, madeOf, madeAt, madeRecords, terminalItems, binaryAt}
 use Rattle.joins.proofs.EdgeMaps.{length-padded}

@@ -1,6 +1,6 @@
 -- What one rule of the closure makes of one or two records of a chart, over accepted tables: at most one new active item.
 use mathlib.Core.Path.{_≡_}
-use mathlib.Core.Bool.{Bool, true, false, cond}
+use mathlib.Core.Bool.{true, false, cond}
 use mathlib.Core.List.{List, [], _∷_}
 use Prim.Native.Nat.{ℕ, _<_}
 use lib.ListN.{length, replicate}
