@@ -27,7 +27,8 @@ use Rattle.records.proofs.Written.{Holds}
 use Rattle.chart.specs.Checking.{knownRecord, knownChart}
 use Rattle.chart.specs.Existing.{ExistingPartners, no-partner, edge-partner, item-partner, join-partners, ExistingRecord, an-active, a-passive}
 use Rattle.chart.proofs.ExistingTest.{known-existing, existing-known}
-use Rattle.chart.proofs.KnownCharts.{AllKnown, written-known, count-free}
+use Rattle.chart.proofs.AnyNumber.{count-free}
+use Rattle.chart.proofs.KnownCharts.{AllKnown, written-known}
 use Rattle.chart.proofs.KnownItems.{item-parts, KnownItem, leaf-item, unary-item, binary-item, record-item}
 
 -- ---- more items
