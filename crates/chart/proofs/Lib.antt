@@ -1,7 +1,10 @@
 -- The root of the laws.
 -- each test on words is the definition's
 pub mod WordTests
--- what question 8 says to its callers, and what it does not ask
+-- the tests decide what question 8 asks, and there are words that it does not ask
+pub mod ExistingTest
+pub mod AnyNumber
+-- for its callers
 pub mod KnownCharts
 -- the program's own charts pass it
 pub mod KnownItems

@@ -2,7 +2,7 @@
 use mathlib.Core.Path.{_≡_, refl, sym, ap, ap₂, _∙_}
 use mathlib.Core.Bool.{Bool, true, false, _&&_, not, cond}
 use mathlib.Core.List.{List, [], _∷_}
-use Prim.Native.Nat.{ℕ, zero, suc, _+_, _≤_, _<_, min}
+use Prim.Native.Nat.{ℕ, _+_, _≤_, _<_, min}
 use native.Mathlib.Omega.{arith}
 use native.Mathlib.Decide.{decLt}
 use lib.ListN.{length, getD}
@@ -19,7 +19,7 @@ use Rattle.hrg.specs.WellFormedTest.{every}
 use Rattle.hrg.proofs.Sums.{occurs-append}
 use Rattle.hrg.proofs.Plans.{below-introduce, below-known}
 use Rattle.tables.specs.Layout.{symbolCount, ruleCount, kindWord, ruleEdges, rulePlan, edgeLabel, planKind, planFirst, planSecond, graphNodes, graphEdges}
-use Rattle.tables.specs.Abstract.{kindFrom, planFrom, ruleFrom, grammarOf, graphOf}
+use Rattle.tables.specs.Abstract.{planFrom, grammarOf, graphOf}
 use Rattle.tables.proofs.Planning.{every-false}
 use Rattle.tables.proofs.WellFormedAccepted.{symbols-length, rules-length, kind-is, rule-is, edge-is}
 use Rattle.joins.specs.Joins.{KnownNode, KnownEdge, Accepted}

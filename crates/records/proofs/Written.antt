@@ -121,7 +121,7 @@ module _ (w : List ℕ) (j : ℕ) (x : Record) (h : j < capacity w) (e : length 
       go i l (no d) = saved-behind (2 + 16 * k + i) (omega arith)
 
 -- a word of the header leaves the records
-header-records : (w : List ℕ) (i a k : ℕ) → i < 2 → recordAt (set w i a) k ≡ recordAt w k
+pub header-records : (w : List ℕ) (i a k : ℕ) → i < 2 → recordAt (set w i a) k ≡ recordAt w k
 header-records w i a k h = record-by (set w i a) w k (λ m l. getD-set-other w i (2 + 16 * k + m) a 0 (omega arith))
 
 -- ---- words and the chart that they stand for
@@ -188,7 +188,7 @@ written-by v w c n s =
     ∙ ap (λ m. m ∷ c .mark ∷ (allWords (c .records) ++ drop (2 + 16 * m) w)) (sym (s .number))
 
 -- ---- a chart within its capacity
-count-is : (w : List ℕ) → Fits w → itemCount w ≡ getD w 0 0
+pub count-is : (w : List ℕ) → Fits w → itemCount w ≡ getD w 0 0
 unfolding itemCount
 count-is w f = let l = f .number in omega arith
 
