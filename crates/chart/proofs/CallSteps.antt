@@ -14,14 +14,14 @@ use Rattle.tables.specs.Abstract.{grammarOf, graphOf}
 use Rattle.joins.specs.Joins.{Accepted}
 use Rattle.records.specs.Words.{Fits, capacity, itemCount, recordsAt, chartOf, written}
 use Rattle.records.proofs.WordLaws.{length-records}
-use Rattle.chart.specs.Checking.{holds, knownChart}
+use Rattle.validity.specs.Checking.{holds, knownChart}
 use Rattle.chart.specs.Calls.{Called, fit, fitChart, whenWaiting, answerOf, startAnswer, startOf, runOf, runsOf, refused}
 use Rattle.chart.specs.Facts.{RunRight, RunChoices}
 use Rattle.chart.specs.declared.Outcome.{Outcome}
 use Rattle.chart.specs.declared.Outcome.the-variants.{Unfit, TooSmall, Unfinished, Done}
-use Rattle.chart.proofs.KnownCharts.{both, holds-header, known-fits}
-use Rattle.chart.proofs.KnownWords.{and-both}
-use Rattle.chart.proofs.Calls.{start-is, start-not, run-is, run-not, run-chart}
+use Rattle.hrg.proofs.Degrees.{and-true as both}
+use Rattle.validity.proofs.KnownCharts.{holds-header, known-fits}
+use Rattle.chart.proofs.Calls.{and-both, start-is, start-not, run-is, run-not, run-chart}
 use Rattle.chart.proofs.Demand.{runs-right}
 
 -- ---- question 8
@@ -56,7 +56,7 @@ module _ (g h w : List ℕ) (b : Bool) (is : b ≡ fit g h w) (y : b ≡ true) w
   fit-header = holds-header w (parts .0)
 
   pub fit-known : (k : Bool) → k ≡ knownChart (grammarOf g) (graphOf g h) w → k ≡ true → Fits w
-  fit-known k q z = known-fits (grammarOf g) (graphOf g h) w (parts .0) (sym q ∙ z)
+  fit-known k q z = known-fits (grammarOf g) (graphOf g h) w fit-header (sym q ∙ z)
 
 -- ---- start
 module _ (g h w : List ℕ) (b : Bool) (is : b ≡ fit g h w) where

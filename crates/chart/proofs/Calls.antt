@@ -7,6 +7,7 @@ use Prim.Native.Nat.{ℕ, _+_, _≤_, _<_}
 use lib.ListN.{length, getD}
 use lib.Dec.{leb}
 use Rattle.hrg.specs.WellFormed.{GrammarOk, GraphOk}
+use Rattle.hrg.proofs.Degrees.{and-true as both}
 use Rattle.agenda.specs.Records.{isHandled}
 use Rattle.agenda.specs.Consequences.{recordIn}
 use Rattle.agenda.specs.Steps.{Chart, runChart, runsChart, startChart}
@@ -20,14 +21,16 @@ use Rattle.records.proofs.Written.{Holds, chart-written, chart-of-written, capa
 use Rattle.records.proofs.Rewritten.{Grown}
 use Rattle.records.proofs.Grown.{holds-own}
 use Rattle.steps.proofs.RunLaws.{run-grown, start-holds}
-use Rattle.chart.specs.Checking.{holds, knownChart}
+use Rattle.validity.specs.Checking.{holds, knownChart}
 use Rattle.chart.specs.Calls.{numberOf, Called, fit, fitChart, answerOf, startAnswer, refused, startOf, runOf}
 use Rattle.chart.specs.declared.Outcome.{Outcome}
 use Rattle.chart.specs.declared.Outcome.the-variants.{TooSmall}
-use Rattle.chart.proofs.KnownCharts.{both, holds-header, holds-most, known-fits}
-use Rattle.chart.proofs.Own.{run-known}
-use Rattle.chart.proofs.KnownWords.{and-both, records-known, words-known}
+use Rattle.validity.proofs.KnownCharts.{holds-header, holds-most, known-fits, known-records, written-known}
+use Rattle.validity.proofs.Own.{run-known}
 use Rattle.chart.proofs.Answers.{answer-marked, answer-fit, start-answer-fit}
+
+pub and-both : (a b : Bool) → a ≡ true → b ≡ true → a && b ≡ true
+and-both a b e f = rw (e, f)
 
 -- an answer and the words that c makes of w
 abbrev called : Outcome → List ℕ → Chart → Called
@@ -67,7 +70,7 @@ module _ (g h w : List ℕ) (e : fitChart g h w ≡ true) where
   chart-known = both (fit g h w) (knownChart (grammarOf g) (graphOf g h) w) e .1
 
   fitting : Fits w
-  fitting = known-fits (grammarOf g) (graphOf g h) w (fit-parts g h w chart-fit .0) chart-known
+  fitting = known-fits (grammarOf g) (graphOf g h) w (holds-header w (fit-parts g h w chart-fit .0)) chart-known
 
   grown : (k : ℕ) → Grown w (chartOf w) (afterRun g h w k)
   grown k = run-grown (grammarOf g) (graphOf g h) w (chartOf w) (holds-own w fitting) k
@@ -162,10 +165,10 @@ module _ (g h w : List ℕ) (e : fitChart g h w ≡ true) (k : ℕ) where
   run-fit =
       let f = chart-fit g h w e in
       let o = grown g h w e k .holds in
-      let own = records-known (grammarOf g) (graphOf g h) w (chartOf w) (holds-own w (fitting g h w e)) w (chart-written w (fitting g h w e)) (chart-known g h w e) in
+      let own = known-records (grammarOf g) (graphOf g h) w (fitting g h w e) (chart-known g h w e) in
       let all = run-known (grammarOf g) (graphOf g h) (fit-grammar g h w f) (fit-graph g h w f) (capacity w) k (chartOf w) own in
       and-both (fit g h (runOf g h w k .words)) (knownChart (grammarOf g) (graphOf g h) (runOf g h w k .words)) (fit-same g h (runOf g h w k .words) w run-capacity ∙ f)
-      (words-known (grammarOf g) (graphOf g h) w (afterRun g h w k) o (runOf g h w k .words) run-words all)
+      (ap (knownChart (grammarOf g) (graphOf g h)) run-words ∙ written-known (grammarOf g) (graphOf g h) w (afterRun g h w k) o all)
 
 -- handled records stay at their places, whatever the answer
 module _ (g h w : List ℕ) (k : ℕ) where

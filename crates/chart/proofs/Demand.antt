@@ -15,14 +15,14 @@ use Rattle.tables.specs.Abstract.{grammarOf, graphOf}
 use Rattle.records.specs.Words.{capacity, chartOf, written}
 use Rattle.records.proofs.Written.{chart-of-written, capacity-written}
 use Rattle.chart.specs.Calls.{numberOf, Called, fit, fitChart, whenWaiting, answerOf, startAnswer, startOf, runOf, runsOf}
-use Rattle.chart.specs.Checking.{knownChart}
+use Rattle.validity.specs.Checking.{knownChart}
 use Rattle.chart.specs.Facts.{RunRight}
 use Rattle.chart.specs.declared.Outcome.{Outcome}
 use Rattle.chart.specs.declared.Outcome.the-variants.{TooSmall, Unfinished, Done}
-use Rattle.chart.proofs.Own.{start-known}
-use Rattle.chart.proofs.KnownWords.{and-both, words-known}
+use Rattle.validity.proofs.Own.{start-known}
+use Rattle.validity.proofs.KnownCharts.{written-known}
 use Rattle.chart.proofs.Answers.{answer-waiting, answer-fit, answer-nine, answer-other, answer-steps, answer-done, answer-ten, start-answer-nine, start-answer-done}
-use Rattle.chart.proofs.Calls.{afterStart, afterRun, fit-grammar, fit-graph, fit-most, start-held, start-is, run-is, run-chart, run-capacity, run-fit, run-zero, fit-same}
+use Rattle.chart.proofs.Calls.{and-both, afterStart, afterRun, fit-grammar, fit-graph, fit-most, start-held, start-is, run-is, run-chart, run-capacity, run-fit, run-zero, fit-same}
 
 -- ---- what a start leaves
 module _ (g h w : List ℕ) (e : fit g h w ≡ true) where
@@ -44,7 +44,7 @@ module _ (g h w : List ℕ) (e : fit g h w ≡ true) where
   start-fit =
       let v = startOf g h w .words in
       and-both (fit g h v) (knownChart (grammarOf g) (graphOf g h) v) (fit-same g h v w start-capacity ∙ e)
-      (words-known (grammarOf g) (graphOf g h) w (afterStart g w) (start-held g h w e) v start-words (start-known (grammarOf g) (graphOf g h) (fit-grammar g h w e) (fit-graph g h w e) (capacity w)))
+      (ap (knownChart (grammarOf g) (graphOf g h)) start-words ∙ written-known (grammarOf g) (graphOf g h) w (afterStart g w) (start-held g h w e) (start-known (grammarOf g) (graphOf g h) (fit-grammar g h w e) (fit-graph g h w e) (capacity w)))
 
 -- ---- a list of runs is one on the chart
 module _ (g h : List ℕ) where

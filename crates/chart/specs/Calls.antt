@@ -10,7 +10,7 @@ use Rattle.agenda.specs.Steps.{Chart, leastWaiting, runChart, startChart, handl
 use Rattle.tables.specs.Checking.{checkGrammar, checkGraph}
 use Rattle.tables.specs.Abstract.{grammarOf, graphOf}
 use Rattle.records.specs.Words.{capacity, chartOf, written}
-use Rattle.chart.specs.Checking.{holds, knownChart}
+use Rattle.validity.specs.Checking.{holds, knownChart}
 use Rattle.chart.specs.declared.Outcome.{Outcome}
 use Rattle.chart.specs.declared.Outcome.the-variants.{Unfit, TooSmall, Unfinished, Done}
 

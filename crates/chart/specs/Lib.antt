@@ -1,7 +1,3 @@
--- The root of the definitions.
--- question 8 for a lent chart: as tests, and as what they ask
-pub mod Checking
-pub mod Existing
--- start and run, and what holds of them
+-- The root of the definitions: start and run, and what holds of them.
 pub mod Calls
 pub mod Facts

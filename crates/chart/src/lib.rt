@@ -5,8 +5,6 @@ ghost use Rattle.chart.specs.Calls.{fit, answerOf, startOf, runOf};
 ghost use Rattle.chart.specs.Facts.{RunChoices};
 use agenda::Found;
 
-mod checking;
-
 // What start and run answer: the tables or the chart are refused (8), the chart does not hold the closure (9), items wait after the steps done since start (10),
 // or all are handled after so many steps.
 pub enum Outcome {
@@ -20,7 +18,7 @@ pub enum Outcome {
 fn is_fit(grammar: &[u64], graph: &[u64], chart: &[u64]) -> bool
     ensures { λ r. ⌜ r ≡ fit (now (grammar .entry)) (now (graph .entry)) (now (chart .entry)) ⌝ }
 {
-    if !checking::holds(chart) {
+    if !validity::holds(chart) {
         return false;
     }
     if !tables::checking::check_grammar(grammar) {
@@ -65,7 +63,7 @@ pub fn run(grammar: &[u64], graph: &[u64], chart: &mut [u64], steps: u64) -> Out
     if !is_fit(grammar, graph, chart) {
         return Outcome::Unfit;
     }
-    if !checking::known(grammar, graph, chart) {
+    if !validity::known(grammar, graph, chart) {
         return Outcome::Unfit;
     }
     steps::advance(grammar, graph, chart, steps);

@@ -1,0 +1,11 @@
+-- The root of the laws.
+-- each test on words is the definition's
+pub mod WordTests
+-- the tests decide what question 8 asks, and there are words that it does not ask
+pub mod ExistingTest
+pub mod AnyNumber
+-- for its callers
+pub mod KnownCharts
+-- the program's own charts pass it
+pub mod KnownItems
+pub mod Own
