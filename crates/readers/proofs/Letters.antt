@@ -10,10 +10,10 @@ use types.Run.{OneOf, miss}
 use denote.Enum.Declared.{tagOf}
 use Rattle.lines.specs.Shape.{shapeOf, letterOf, kindLetter}
 use Rattle.lines.specs.ShapeLaws.{shape-shaped}
-use Rattle.tables.proofs.Due.{the-type}
-use Rattle.tables.specs.Layout.{letterDue}
-use Rattle.tables.specs.declared.Due.{Due}
-use Rattle.tables.specs.declared.Due.the-variants.{Grammar, Symbol, Rule, RuleEdge, PlanLine, Graph, GraphEdge, Nothing}
+use Rattle.questions.proofs.Due.{the-type}
+use Rattle.questions.specs.Layout.{letterDue}
+use Rattle.questions.specs.declared.Due.{Due}
+use Rattle.questions.specs.declared.Due.the-variants.{Grammar, Symbol, Rule, RuleEdge, PlanLine, Graph, GraphEdge, Nothing}
 
 -- ---- no line of the kind is due
 pub not-grammar : (due : Due) → OneOf (1 ∷ 2 ∷ 3 ∷ 4 ∷ 5 ∷ 6 ∷ 7 ∷ []) (tagOf the-type due) → false ≡ eqb 71 (kindLetter (letterDue due))

@@ -12,12 +12,12 @@ use Rattle.lines.specs.LineLaws.{counting-lines-at, counting-in, lines-end, aft
 use Rattle.lines.specs.TestLaws.{both}
 use Rattle.lines.specs.Shape.{shapeOf, letterOf, kindLetter}
 use Rattle.lines.specs.Fields.{fieldsOf}
-use Rattle.tables.specs.Layout.{placeOf, letterDue, inTable, stored}
-use Rattle.tables.specs.Questions.{ask, judge}
-use Rattle.tables.specs.Reading.{Verdict, refused, accepted, whenDone, goOn, next, judgeLine, readLines}
+use Rattle.questions.specs.Layout.{placeOf, letterDue, inTable, stored}
+use Rattle.questions.specs.Questions.{ask, judge}
+use Rattle.questions.specs.Reading.{Verdict, refused, accepted, whenDone, goOn, next, judgeLine, readLines}
 use Rattle.tables.specs.Storing.{storeAt, Room}
-use Rattle.tables.specs.declared.Due.{Due}
-use Rattle.tables.specs.declared.Due.the-variants.{Grammar, Symbol, Rule, RuleEdge, PlanLine, Graph, GraphEdge, Nothing}
+use Rattle.questions.specs.declared.Due.{Due}
+use Rattle.questions.specs.declared.Due.the-variants.{Grammar, Symbol, Rule, RuleEdge, PlanLine, Graph, GraphEdge, Nothing}
 use Rattle.tables.proofs.CheckRun.{room-in, room-place, room-next}
 use Rattle.readers.specs.Readers.{lineWith, missing, verdictOf}
 

@@ -8,14 +8,14 @@ ghost use lib.Dec.{eqb};
 ghost use Rattle.lines.specs.Fields.{fieldsOf};
 ghost use Rattle.lines.specs.Shape.{shapeOf, kindLetter};
 ghost use Rattle.lines.specs.Lines.{countingLines};
-ghost use Rattle.tables.specs.Layout.{placeOf, letterDue, inTable, fieldsIn, stored};
-ghost use Rattle.tables.specs.Reading.{next, judgeLine, readLines, delivered, readGrammar};
-ghost use Rattle.tables.specs.Checking.{readGraph};
+ghost use Rattle.questions.specs.Layout.{placeOf, letterDue, inTable, fieldsIn, stored};
+ghost use Rattle.questions.specs.Reading.{next, judgeLine, readLines, delivered, readGrammar};
+ghost use Rattle.questions.specs.Checking.{readGraph};
 ghost use Rattle.tables.specs.Storing.{Room};
 ghost use Rattle.readers.specs.Readers.{Gives, verdictOf, lineWith, missing};
-use tables::Answer;
-use tables::Due;
-use tables::Fields;
+use questions::Answer;
+use questions::Due;
+use questions::Fields;
 
 // ---- question 2: a kind of line for each letter, and whether one of that kind is due
 fn grammar_due(due: Due) -> bool
@@ -114,7 +114,7 @@ fn judge_line(g: &[u64], t: &[u64], due: Due, line: &[u8], ended: bool) -> u64
     if !letter_due(lines::letter_byte(line), due) {
         return 2;
     }
-    tables::questions::judge(g, t, due, fields_of(line))
+    tables::judging::judge(g, t, due, fields_of(line))
 }
 
 // Stores the fields of a line that has passed, and answers what is due after it.

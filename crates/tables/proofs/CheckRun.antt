@@ -13,14 +13,14 @@ use borrow.Author.Tests.{lt-ltb, le-leb, eq-eqb, ne-eqb, ltb-true}
 use Rattle.hrg.specs.Counts.{tabulate}
 use Rattle.hrg.specs.ClosureRun.{sameList}
 use Rattle.hrg.proofs.Sums.{length-tabulate}
-use Rattle.tables.specs.declared.Due.{Due}
-use Rattle.tables.specs.declared.Due.the-variants.{Grammar, Symbol, Rule, RuleEdge, PlanLine, Graph, GraphEdge, Nothing}
-use Rattle.tables.specs.Layout.{placeOf, inTable, word, stored, symbolCount, ruleCount, ruleEdges, rulePlan, graphEdges}
+use Rattle.questions.specs.declared.Due.{Due}
+use Rattle.questions.specs.declared.Due.the-variants.{Grammar, Symbol, Rule, RuleEdge, PlanLine, Graph, GraphEdge, Nothing}
+use Rattle.questions.specs.Layout.{placeOf, inTable, word, stored, symbolCount, ruleCount, ruleEdges, rulePlan, graphEdges}
 use Rattle.tables.specs.Storing.{storeAt, Room}
-use Rattle.tables.specs.Questions.{judge}
-use Rattle.tables.specs.Reading.{Verdict, accepted, whenDone, goOn, next}
+use Rattle.questions.specs.Questions.{judge}
+use Rattle.questions.specs.Reading.{Verdict, accepted, whenDone, goOn, next}
 use Rattle.tables.specs.Concluding.{passes, nothingDue, Concluded}
-use Rattle.tables.specs.Checking.{fieldsDue, storedFields, checkLines}
+use Rattle.questions.specs.Checking.{fieldsDue, storedFields, checkLines}
 use Rattle.tables.proofs.Covering.{tabulate-at}
 
 -- ---- the fields of a stored line

@@ -16,9 +16,9 @@ use Rattle.hrg.specs.Counts.{hit, occurs, tabulate}
 use Rattle.hrg.specs.WellFormedTest.{Decides, every}
 use Rattle.hrg.proofs.Sums.{hit-ne, length-tabulate}
 use Rattle.hrg.proofs.WellFormedTest.{_and_, decides-le, decides-eq, decides-map, decides-every}
-use Rattle.tables.specs.Layout.{word, rankAt, edgeLabel, graphLabel}
+use Rattle.questions.specs.Layout.{word, rankAt, edgeLabel, graphLabel}
 use Rattle.tables.specs.Marks.{marked, marks}
-use Rattle.tables.specs.Questions.{covered, nodesOnEdges, nodesOnGraph}
+use Rattle.questions.specs.Questions.{covered, nodesOnEdges, nodesOnGraph}
 use Rattle.tables.proofs.Listing.{true-is}
 
 -- ---- loops that mark the numbers of a list
