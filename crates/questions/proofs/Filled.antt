@@ -21,9 +21,9 @@ use Rattle.questions.specs.Layout.{placeOf, word, stored, grammarWords, 
 use Rattle.questions.specs.Questions.{judge}
 use Rattle.questions.specs.Reading.{next, Verdict, refused, accepted, whenDone, goOn, readLines, grammarVerdict, graphVerdict, delivered, Outcome, readGrammar}
 use Rattle.questions.specs.Checking.{fieldsDue, storedFields, checkLines, filledBy, checkGrammar, checkGraph, FilledGrammar, FilledGraph}
-use Rattle.questions.specs.Walk.{Walk, done, line}
+use Rattle.questions.specs.Walk.{Room, Walk, done, line}
 use Rattle.questions.proofs.StoredLaws.{getD-tabulate, length-stored, word-stored-same}
-use Rattle.questions.proofs.WellFormedWalk.{IsLine, Room, room-place, room-next, next-forward, judged-line, walk-onward}
+use Rattle.questions.proofs.WellFormedWalk.{IsLine, room-place, room-next, next-forward, judged-line, walk-onward}
 use Rattle.questions.proofs.WellFormedReading.{read-walk, check-walk}
 use Rattle.questions.proofs.Refusals.{grammar-refused-first, grammar-passed-first}
 use Rattle.questions.proofs.TableTextLines.{letterAt, letter-capital, written-read, delivered-long}
@@ -128,7 +128,7 @@ walk-check (suc k) t sg done m sc fuel same = refl
 walk-check {g} {u} (suc k) t sg (line {c} {due} {fs} h w) m sc fuel same =
     let l = judged-line g c due fs h in
     let p = placeOf due in
-    let fits = room-place (length c) due l m in
+    let fits = room-place (length c) due m in
     let c′ = stored c p fs in
     let size = length-stored c p fs fits in
     let m′ = room-next (length c′) c′ due (rw size m) in

@@ -12,6 +12,7 @@ pub mod WellFormedGrammar
 pub mod WellFormedAccepted
 pub mod WellFormedGraph
 pub mod WellFormedLent
+pub mod Caps
 -- and the converse: the text of a grammar or a graph
 pub mod SmallFields
 pub mod TableTextLines

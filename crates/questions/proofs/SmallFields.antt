@@ -1,18 +1,17 @@
 -- The numbers of a table that a reader filled have a field: at most 9,999.
-use mathlib.Core.Path.{_≡_, refl, sym, ap, _∙_, subst}
-use mathlib.Core.Bool.{Bool, true, false, _&&_}
+use mathlib.Core.Path.{_≡_, refl}
 use mathlib.Core.Logic.{_⊎_, inl, inr}
 use mathlib.Core.List.{List, [], _∷_, _++_}
 use Prim.Native.Nat.{ℕ, zero, suc, _+_, _*_, _≤_, _<_, min}
 use native.Mathlib.Omega.{arith}
 use lib.ListN.{length, getD, take, drop, replicate}
-use Rattle.hrg.specs.Counts.{hit, occurs, tabulate}
+use Rattle.hrg.specs.Counts.{occurs, tabulate}
 use Rattle.hrg.proofs.Sums.{hit-self}
-use Rattle.questions.specs.Layout.{word, block, stored, symbolCount, startSymbol, rankAt, ruleNodes, ruleEdges, graphNodes}
+use Rattle.questions.specs.Layout.{word, block, stored, symbolCount, startSymbol, rankAt, ruleNodes, graphNodes}
 use Rattle.questions.specs.Questions.{field, childrenOf, introducedBy, judge}
-use Rattle.questions.specs.Walk.{Walk, done, line}
+use Rattle.questions.specs.Walk.{Room, Walk, done, line}
 use Rattle.questions.proofs.WellFormedQuestions.{InOrder, passes-grammar, passes-symbol, passes-rule, passes-edge, SoFar, passes-plan, passes-graph, passes-graph-edge}
-use Rattle.questions.proofs.WellFormedWalk.{Room, room-next}
+use Rattle.questions.proofs.WellFormedWalk.{room-next}
 use Rattle.questions.specs.declared.Due.{Due}
 use Rattle.questions.specs.declared.Due.the-variants.{Grammar, Symbol, Rule, RuleEdge, PlanLine, Graph, GraphEdge, Nothing}
 

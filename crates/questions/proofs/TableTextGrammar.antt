@@ -19,10 +19,11 @@ use Rattle.questions.specs.Questions.{field}
 use Rattle.questions.specs.Reading.{next, accepted, grammarVerdict, readGrammar}
 use Rattle.questions.specs.Abstract.{build, kindFrom, planFrom, ruleFrom, grammarOf}
 use Rattle.questions.specs.TableText.{kindNumber, planFields, grammarFields, series, ruleLines, rulesLines, grammarLines, grammarText}
+use Rattle.questions.specs.Walk.{Room}
 use Rattle.questions.specs.declared.Answer.the-variants.{Done}
 use Rattle.questions.specs.declared.Due.{Due}
 use Rattle.questions.specs.declared.Due.the-variants.{Grammar, Symbol, Rule, RuleEdge, PlanLine, Graph, GraphEdge, Nothing}
-use Rattle.questions.proofs.WellFormedWalk.{IsLine, Room, reach, room-place, Before, cond-by}
+use Rattle.questions.proofs.WellFormedWalk.{IsLine, reach, room-place, Before, cond-by}
 use Rattle.questions.proofs.WellFormedLists.{build-list, tabulate-list}
 use Rattle.questions.proofs.WellFormedPlans.{NodeOk, ok-node}
 use Rattle.questions.proofs.WellFormedTables.{number-le, HasLine, GrammarIn, symbol-count, rule-count, start-symbol, kind-word, rank-at, rule-symbol, rule-nodes, rule-edges, rule-plan, rule-external, edge-label, edge-nodes, plan-word}
@@ -361,7 +362,7 @@ module _ (G : Grammars.Grammar) (ok : GrammarOk G) where
   held-longer : (rest : List ℕ) → GrammarIn G (table ++ rest)
   held-longer rest = record {
     lines = λ d h j l.
-        word-front table rest (placeOf d) j (omega (arith, room-place grammarWords d (line-is G d h) (line-room G ok d h), table-size)) l ∙ holds d h j l;
+        word-front table rest (placeOf d) j (omega (arith, room-place grammarWords d (line-room G ok d h), table-size)) l ∙ holds d h j l;
     ranks = λ s h. ok .symbol s h .upper;
   }
 

@@ -16,10 +16,11 @@ use Rattle.questions.specs.Reading.{next, accepted, grammarVerdict, grap
 use Rattle.questions.specs.Checking.{checkGrammar, readGraph}
 use Rattle.questions.specs.Abstract.{build, grammarOf, graphOf}
 use Rattle.questions.specs.TableText.{graphFields, series, graphLines, graphText}
+use Rattle.questions.specs.Walk.{Room}
 use Rattle.questions.specs.declared.Answer.the-variants.{Done}
 use Rattle.questions.specs.declared.Due.{Due}
 use Rattle.questions.specs.declared.Due.the-variants.{Grammar, Symbol, Rule, RuleEdge, PlanLine, Graph, GraphEdge, Nothing}
-use Rattle.questions.proofs.WellFormedWalk.{IsLine, Room, reach, room-place, Before, cond-by}
+use Rattle.questions.proofs.WellFormedWalk.{IsLine, reach, room-place, Before, cond-by}
 use Rattle.questions.proofs.WellFormedLists.{build-list, tabulate-list}
 use Rattle.questions.proofs.WellFormedAccepted.{accepted-grammar}
 use Rattle.questions.proofs.StoredLaws.{word-front}
@@ -200,7 +201,7 @@ module _ (g : List ℕ) (ok : GrammarOk (grammarOf g)) (H : Grammars.Graph) (goo
 
   held-longer : (rest : List ℕ) → GraphIn H (table ++ rest)
   held-longer rest d h j l =
-      word-front table rest (placeOf d) j (omega (arith, room-place graphWords d (line-is H d h) (line-room H few d h), table-size)) l ∙ held d h j l
+      word-front table rest (placeOf d) j (omega (arith, room-place graphWords d (line-room H few d h), table-size)) l ∙ held d h j l
 
   text-accepted : graphVerdict g (graphText H) ≡ accepted table
   unfolding graphVerdict graphText table cleared

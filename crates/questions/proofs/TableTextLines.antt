@@ -20,12 +20,13 @@ use Rattle.questions.specs.Layout.{placeOf, letterDue, word, stored}
 use Rattle.questions.specs.Questions.{field, judge}
 use Rattle.questions.specs.Reading.{next, judgeLine, Verdict, accepted, readLines, delivered}
 use Rattle.questions.specs.TableText.{series, linesText}
+use Rattle.questions.specs.Walk.{Room}
 use Rattle.questions.specs.declared.Answer.the-variants.{Done}
 use Rattle.questions.specs.declared.Due.{Due}
 use Rattle.questions.specs.declared.Due.the-variants.{Grammar, Symbol, Rule, RuleEdge, PlanLine, Graph, GraphEdge, Nothing}
 use Rattle.questions.proofs.SmallFields.{Small}
 use Rattle.questions.proofs.StoredLaws.{length-stored, word-stored-same, word-stored-other}
-use Rattle.questions.proofs.WellFormedWalk.{IsLine, Room, reach, room-place, reach-line, Agree, Before, next-agree, judge-agree, Onward}
+use Rattle.questions.proofs.WellFormedWalk.{IsLine, reach, room-place, reach-line, Agree, Before, next-agree, judge-agree, Onward}
 
 -- ---- one written line
 abbrev pub letterAt : Due → ℕ
@@ -150,7 +151,7 @@ module _ (fields : Due → List ℕ) (has : Due → Type 0) (after : Due → Due
   chain-onward end c e = record { same-length = refl; same-words = λ q j h l. refl }
   chain-onward (link {d} {ds} h rest) c e =
       let p = placeOf d in
-      let fits : 9 * p + 9 ≤ length c = rw e (room-place size d (isLine d h) (room d h)) in
+      let fits : 9 * p + 9 ≤ length c = rw e (room-place size d (room d h)) in
       let kept = length-stored c p (fields d) fits in
       let later = chain-onward rest (stored c p (fields d)) (kept ∙ e) in
       let behind = forward d h in
@@ -167,12 +168,12 @@ module _ (fields : Due → List ℕ) (has : Due → Type 0) (after : Due → Due
   unfolding filled
   chain-holds (link {d} {ds} h rest) c e x here j l =
       let p = placeOf d in
-      let fits : 9 * p + 9 ≤ length c = rw e (room-place size d (isLine d h) (room d h)) in
+      let fits : 9 * p + 9 ≤ length c = rw e (room-place size d (room d h)) in
       let later = chain-onward rest (stored c p (fields d)) (length-stored c p (fields d) fits ∙ e) in
       sym (later .same-words p j (forward d h) l) ∙ word-stored-same c p (fields d) fits j l
   chain-holds (link {d} {ds} h rest) c e x (there m) j l =
       let p = placeOf d in
-      let fits : 9 * p + 9 ≤ length c = rw e (room-place size d (isLine d h) (room d h)) in
+      let fits : 9 * p + 9 ≤ length c = rw e (room-place size d (room d h)) in
       chain-holds rest (stored c p (fields d)) (length-stored c p (fields d) fits ∙ e) x m j l
 
   -- and the text of the lines is read so
@@ -185,7 +186,7 @@ module _ (fields : Due → List ℕ) (has : Due → Type 0) (after : Due → Due
     chain-read (link {d} {ds} h rest) c e f =
         let p = placeOf d in
         let fs = fields d in
-        let fits : 9 * p + 9 ≤ length c = rw e (room-place size d (isLine d h) (room d h)) in
+        let fits : 9 * p + 9 ≤ length c = rw e (room-place size d (room d h)) in
         let c′ = stored c p fs in
         let e′ : length c′ ≡ size = length-stored c p fs fits ∙ e in
         let later : Onward c′ t (after d) = subst (λ (u : List ℕ). Onward c′ u (after d)) f (chain-onward rest c′ e′) in

@@ -14,12 +14,12 @@ use Rattle.questions.specs.Layout.{placeOf, stored, grammarWords, graphW
 use Rattle.questions.specs.Reading.{next, Verdict, refused, accepted}
 use Rattle.questions.specs.Checking.{checkLines, filledBy, checkGrammar, checkGraph}
 use Rattle.questions.specs.Abstract.{grammarOf, graphOf}
-use Rattle.questions.specs.Walk.{Walk, done, line}
+use Rattle.questions.specs.Walk.{Room, Walk, done, line}
 use Rattle.questions.specs.declared.Due.{Due}
 use Rattle.questions.specs.declared.Due.the-variants.{Grammar, Graph}
 use Rattle.questions.proofs.StoredLaws.{length-stored, word-front, stored-longer}
-use Rattle.questions.proofs.WellFormedWalk.{and-snd, Room, room-place, room-next, judged-line, Before, judge-agree, next-agree, before-next, walk-lines}
-use Rattle.questions.proofs.WellFormedReading.{check-walk, grammar-stands, graph-stands}
+use Rattle.questions.proofs.WellFormedWalk.{and-snd, room-place, room-next, judged-line, Before, judge-agree, next-agree, before-next, walk-lines}
+use Rattle.questions.proofs.WellFormedReading.{check-walk, GrammarStands, grammar-stands, GraphStands, graph-stands}
 use Rattle.questions.proofs.WellFormedAccepted.{standing-ok}
 use Rattle.questions.proofs.WellFormedGraph.{standing-graph-ok}
 
@@ -29,7 +29,7 @@ walk-longer rest done m b = done
 walk-longer {g} {t} rest (line {c} {due} {fs} {fss} h w) m b =
     let k = judged-line g c due fs h in
     let p = placeOf due in
-    let fits = room-place (length c) due k m in
+    let fits = room-place (length c) due m in
     let c′ = stored c p fs in
     let size = length-stored c p fs fits in
     let m′ = room-next (length c′) c′ due (rw size m) in
@@ -54,20 +54,26 @@ zeros n = length-replicate {A = ℕ} n 0
 longer : (n : ℕ) (rest : List ℕ) → n ≤ length (replicate {A = ℕ} n 0 ++ rest)
 longer n rest = omega (arith, zeros n, length-append (replicate {A = ℕ} n 0) rest)
 
-pub checked-grammar-ok : (t : List ℕ) → checkGrammar t ≡ true → GrammarOk (grammarOf t)
+-- its lines stand in it
+pub checked-grammar-stands : (t : List ℕ) → checkGrammar t ≡ true → GrammarStands t
 unfolding checkGrammar
-checked-grammar-ok t h =
+checked-grammar-stands t h =
     let (c, v, e) = passed-check grammarWords t (checkLines 1666 [] t (replicate grammarWords 0) Grammar) h in
     let (fss, w) = check-walk 1666 [] t (replicate grammarWords 0) c Grammar v in
     let w′ = walk-longer (drop grammarWords t) w (omega (arith, zeros grammarWords)) tt in
-    subst (λ (u : List ℕ). GrammarOk (grammarOf u)) e
-    (standing-ok (c ++ drop grammarWords t) (grammar-stands (c ++ drop grammarWords t) (walk-lines w′ (longer grammarWords (drop grammarWords t)) tt)))
+    subst GrammarStands e (grammar-stands (c ++ drop grammarWords t) (walk-lines w′ (longer grammarWords (drop grammarWords t)) tt))
 
-pub checked-graph-ok : (g t : List ℕ) → checkGrammar g ≡ true → checkGraph g t ≡ true → GraphOk (grammarOf g) (graphOf g t)
+pub checked-graph-stands : (g t : List ℕ) → checkGraph g t ≡ true → GraphStands g t
 unfolding checkGraph
-checked-graph-ok g t k h =
+checked-graph-stands g t h =
     let (c, v, e) = passed-check graphWords t (checkLines 66 g t (replicate graphWords 0) Graph) h in
     let (fss, w) = check-walk 66 g t (replicate graphWords 0) c Graph v in
     let w′ = walk-longer (drop graphWords t) w (omega (arith, zeros graphWords)) tt in
-    subst (λ (u : List ℕ). GraphOk (grammarOf g) (graphOf g u)) e
-    (standing-graph-ok g (c ++ drop graphWords t) (graph-stands g (c ++ drop graphWords t) (walk-lines w′ (longer graphWords (drop graphWords t)) tt)) (checked-grammar-ok g k))
+    subst (GraphStands g) e (graph-stands g (c ++ drop graphWords t) (walk-lines w′ (longer graphWords (drop graphWords t)) tt))
+
+-- so that it is a well-formed grammar or graph
+pub checked-grammar-ok : (t : List ℕ) → checkGrammar t ≡ true → GrammarOk (grammarOf t)
+checked-grammar-ok t h = standing-ok t (checked-grammar-stands t h)
+
+pub checked-graph-ok : (g t : List ℕ) → checkGrammar g ≡ true → checkGraph g t ≡ true → GraphOk (grammarOf g) (graphOf g t)
+checked-graph-ok g t k h = standing-graph-ok g t (checked-graph-stands g t h) (checked-grammar-ok g k)

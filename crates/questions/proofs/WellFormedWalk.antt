@@ -7,13 +7,13 @@ use native.Mathlib.Omega.{arith}
 use native.Mathlib.Decide.{decLt}
 use lib.ListN.{length}
 use lib.Dec.{eqb, ltb, leb}
-use borrow.Author.Tests.{ltb-true}
+use borrow.Author.Tests.{lt-ltb, ltb-true}
 use Rattle.hrg.specs.Counts.{tabulate}
 use Rattle.hrg.proofs.Sums.{tabulate-ext}
-use Rattle.questions.specs.Layout.{placeOf, word, stored, grammarWords, graphWords, symbolCount, ruleCount, rankAt, ruleEdges, rulePlan, edgeLabel, edgeNode, graphEdges, graphLabel, graphNode}
+use Rattle.questions.specs.Layout.{placeOf, inTable, word, stored, symbolCount, ruleCount, rankAt, ruleEdges, rulePlan, edgeLabel, edgeNode, graphEdges, graphLabel, graphNode}
 use Rattle.questions.specs.Questions.{ask, field, judgeSymbol, judgeRule, nodesOnEdges, judgeRuleEdge, childrenBefore, introducedBefore, judgePlan, nodesOnGraph, judgeGraphEdge, judge}
 use Rattle.questions.specs.Reading.{next}
-use Rattle.questions.specs.Walk.{Walk, done, line, Lines, none, more}
+use Rattle.questions.specs.Walk.{Room, Walk, done, line, Lines, none, more}
 use Rattle.questions.specs.declared.Due.{Due}
 use Rattle.questions.specs.declared.Due.the-variants.{Grammar, Symbol, Rule, RuleEdge, PlanLine, Graph, GraphEdge, Nothing}
 use Rattle.questions.proofs.WellFormedQuestions.{passes-grammar, passes-edge}
@@ -54,17 +54,6 @@ IsLine Graph = Unit {0}
 IsLine (GraphEdge e) = Unit {0}
 IsLine Nothing = ⊥
 
--- what is due has a place in a table of n words
-abbrev pub Room : ℕ → Due → Type 0
-Room n Grammar = grammarWords ≤ n
-Room n (Symbol s) = (s < 64) × (grammarWords ≤ n)
-Room n (Rule r) = (r < 64) × (grammarWords ≤ n)
-Room n (RuleEdge r i) = (r < 64) × (i < 8) × (grammarWords ≤ n)
-Room n (PlanLine r q) = (r < 64) × (q < 16) × (grammarWords ≤ n)
-Room n Graph = graphWords ≤ n
-Room n (GraphEdge e) = (e < 64) × (graphWords ≤ n)
-Room n Nothing = Unit {0}
-
 -- the lines before the one that is due stand at places below this; all do where nothing is due
 abbrev pub reach : Due → ℕ
 reach Grammar = placeOf Grammar
@@ -76,16 +65,28 @@ reach Graph = placeOf Graph
 reach (GraphEdge e) = placeOf (GraphEdge e)
 reach Nothing = 1665
 
-pub room-place : (n : ℕ) (d : Due) → IsLine d → Room n d → 9 * placeOf d + 9 ≤ n
+-- ---- room
+pub room-in : (n : ℕ) (d : Due) → Room n d → inTable d ≡ true
+unfolding inTable
+room-in n Grammar h = refl
+room-in n (Symbol s) h = lt-ltb s 64 (h .0)
+room-in n (Rule r) h = lt-ltb r 64 (h .0)
+room-in n (RuleEdge r i) h = rw (lt-ltb r 64 (h .0), lt-ltb i 8 (h .1))
+room-in n (PlanLine r q) h = rw (lt-ltb r 64 (h .0), lt-ltb q 16 (h .1))
+room-in n Graph h = refl
+room-in n (GraphEdge e) h = lt-ltb e 64 (h .0)
+room-in n Nothing h = refl
+
+pub room-place : (n : ℕ) (d : Due) → Room n d → 9 * placeOf d + 9 ≤ n
 unfolding placeOf
-room-place n Grammar l h = omega arith
-room-place n (Symbol s) l h = omega arith
-room-place n (Rule r) l h = omega arith
-room-place n (RuleEdge r i) l h = omega arith
-room-place n (PlanLine r q) l h = omega arith
-room-place n Graph l h = omega arith
-room-place n (GraphEdge e) l h = omega arith
-room-place n Nothing l h = absurd l
+room-place n Grammar h = omega arith
+room-place n (Symbol s) h = omega arith
+room-place n (Rule r) h = omega arith
+room-place n (RuleEdge r i) h = omega arith
+room-place n (PlanLine r q) h = omega arith
+room-place n Graph h = omega arith
+room-place n (GraphEdge e) h = omega arith
+room-place n Nothing h = omega arith
 
 pub reach-line : (d : Due) → IsLine d → reach d ≡ placeOf d
 reach-line Grammar l = refl
@@ -113,11 +114,11 @@ room-next n t (RuleEdge r i) h =
 room-next n t (PlanLine r q) h =
     cond-by (Room n) (ltb (q + 1) (min 16 (rulePlan t r))) (PlanLine r (q + 1)) (cond (ltb (r + 1) (min 64 (ruleCount t))) (Rule (r + 1)) Nothing)
     (λ e. (h .0, omega (arith, ltb-true (q + 1) (min 16 (rulePlan t r)) e), h .2))
-    (λ e. cond-by (Room n) (ltb (r + 1) (min 64 (ruleCount t))) (Rule (r + 1)) Nothing (λ f. (omega (arith, ltb-true (r + 1) (min 64 (ruleCount t)) f), h .2)) (λ f. tt))
+    (λ e. cond-by (Room n) (ltb (r + 1) (min 64 (ruleCount t))) (Rule (r + 1)) Nothing (λ f. (omega (arith, ltb-true (r + 1) (min 64 (ruleCount t)) f), h .2)) (λ f. omega arith))
 room-next n t Graph h = (omega arith, h)
 room-next n t (GraphEdge e) h =
-    cond-by (Room n) (ltb (e + 1) (min 64 (graphEdges t))) (GraphEdge (e + 1)) Nothing (λ f. (omega (arith, ltb-true (e + 1) (min 64 (graphEdges t)) f), h .1)) (λ f. tt)
-room-next n t Nothing h = tt
+    cond-by (Room n) (ltb (e + 1) (min 64 (graphEdges t))) (GraphEdge (e + 1)) Nothing (λ f. (omega (arith, ltb-true (e + 1) (min 64 (graphEdges t)) f), h .1)) (λ f. omega arith)
+room-next n t Nothing h = h
 
 -- the next line stands behind
 pub next-forward : (n : ℕ) (t : List ℕ) (d : Due) → IsLine d → Room n d → placeOf d < reach (next t d)
@@ -332,7 +333,7 @@ walk-onward done m = record { same-length = refl; same-words = λ q j h l. refl 
 walk-onward {g} {t} (line {c} {due} {fs} h w) m =
     let k = judged-line g c due fs h in
     let p = placeOf due in
-    let fits = room-place (length c) due k m in
+    let fits = room-place (length c) due m in
     let c′ = stored c p fs in
     let size = length-stored c p fs fits in
     let rest = walk-onward w (room-next (length c′) c′ due (rw size m)) in
@@ -350,7 +351,7 @@ walk-lines done m b = none
 walk-lines {g} {t} (line {c} {due} {fs} h w) m b =
     let k = judged-line g c due fs h in
     let p = placeOf due in
-    let fits = room-place (length c) due k m in
+    let fits = room-place (length c) due m in
     let c′ = stored c p fs in
     let m′ = room-next (length c′) c′ due (rw (length-stored c p fs fits) m) in
     let forward = next-forward (length c) c′ due k m in

@@ -10,7 +10,7 @@ use Rattle.lines.specs.Lines.{countingLines}
 use Rattle.questions.specs.Layout.{grammarWords, graphWords}
 use Rattle.questions.specs.Reading.{Verdict, readLines, grammarVerdict, graphVerdict, delivered, readGrammar}
 use Rattle.questions.specs.Checking.{checkGrammar, readGraph}
-use Rattle.tables.specs.Storing.{Room}
+use Rattle.questions.specs.Walk.{Room}
 use Rattle.questions.specs.declared.Due.the-variants.{Grammar, Graph}
 use Rattle.questions.specs.declared.Answer.{Answer}
 use Rattle.questions.specs.declared.Answer.the-variants.{Done, Refused}

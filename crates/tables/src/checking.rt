@@ -7,7 +7,7 @@ ghost use lib.ListN.{length, take};
 ghost use Rattle.hrg.specs.Counts.{tabulate};
 ghost use Rattle.hrg.specs.ClosureRun.{sameList};
 ghost use Rattle.questions.specs.Layout.{inTable, fieldsIn, word};
-ghost use Rattle.tables.specs.Storing.{Room};
+ghost use Rattle.questions.specs.Walk.{Room};
 ghost use Rattle.tables.specs.Concluding.{nothingDue, Concluded};
 ghost use Rattle.questions.specs.Checking.{fieldsDue, storedFields, checkLines, checkGrammar, checkGraph};
 use crate::judging;
