@@ -2,7 +2,7 @@
 // short and touched tables.
 ghost use Rattle.io.specs.Counts.{Counts};
 use libc::STDOUT_FILENO;
-use tables::Answer;
+use questions::Answer;
 
 // ---- lent tables
 

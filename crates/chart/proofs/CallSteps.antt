@@ -9,8 +9,8 @@ use borrow.Author.Tests.{eq-eqb, ne-eqb}
 use Rattle.agenda.specs.declared.Found.{Found}
 use Rattle.agenda.specs.declared.Found.the-variants.{At, Nowhere}
 use Rattle.agenda.specs.Steps.{Chart, leastWaiting, handledCount, runChart, startChart, sumOf}
-use Rattle.tables.specs.Checking.{checkGrammar, checkGraph}
-use Rattle.tables.specs.Abstract.{grammarOf, graphOf}
+use Rattle.questions.specs.Checking.{checkGrammar, checkGraph}
+use Rattle.questions.specs.Abstract.{grammarOf, graphOf}
 use Rattle.joins.specs.Joins.{Accepted}
 use Rattle.records.specs.Words.{Fits, capacity, itemCount, recordsAt, chartOf, written}
 use Rattle.records.proofs.WordLaws.{length-records}

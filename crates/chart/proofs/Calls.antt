@@ -13,9 +13,9 @@ use Rattle.agenda.specs.Consequences.{recordIn}
 use Rattle.agenda.specs.Steps.{Chart, runChart, runsChart, startChart}
 use Rattle.agenda.proofs.Spelling.{Stays}
 use Rattle.agenda.proofs.Runs.{run-none, marked-run, run-split as chart-split, handled-kept}
-use Rattle.tables.specs.Checking.{checkGrammar, checkGraph}
-use Rattle.tables.specs.Abstract.{grammarOf, graphOf}
-use Rattle.tables.proofs.WellFormedLent.{checked-grammar-ok, checked-graph-ok}
+use Rattle.questions.specs.Checking.{checkGrammar, checkGraph}
+use Rattle.questions.specs.Abstract.{grammarOf, graphOf}
+use Rattle.questions.proofs.WellFormedLent.{checked-grammar-ok, checked-graph-ok}
 use Rattle.records.specs.Words.{Fits, capacity, chartOf, written}
 use Rattle.records.proofs.Written.{Holds, chart-written, chart-of-written, capacity-written, written-over}
 use Rattle.records.proofs.Rewritten.{Grown}

@@ -11,7 +11,7 @@ use Rattle.agenda.specs.declared.Found.{Found}
 use Rattle.agenda.specs.Steps.{Chart, runChart, runsChart, startChart, handledCount, sumOf}
 use Rattle.agenda.proofs.Runs.{runs-last, sum-last, start-none}
 use Rattle.agenda.proofs.RunFacts.{runs-correct, marked-small, full-run, done-size, steps-most, start-waits}
-use Rattle.tables.specs.Abstract.{grammarOf, graphOf}
+use Rattle.questions.specs.Abstract.{grammarOf, graphOf}
 use Rattle.records.specs.Words.{capacity, chartOf, written}
 use Rattle.records.proofs.Written.{chart-of-written, capacity-written}
 use Rattle.chart.specs.Calls.{numberOf, Called, fit, fitChart, whenWaiting, answerOf, startAnswer, startOf, runOf, runsOf}

@@ -7,8 +7,8 @@ use lib.Dec.{eqb}
 use Rattle.agenda.specs.declared.Found.{Found}
 use Rattle.agenda.specs.declared.Found.the-variants.{At, Nowhere}
 use Rattle.agenda.specs.Steps.{Chart, leastWaiting, runChart, startChart, handledCount}
-use Rattle.tables.specs.Checking.{checkGrammar, checkGraph}
-use Rattle.tables.specs.Abstract.{grammarOf, graphOf}
+use Rattle.questions.specs.Checking.{checkGrammar, checkGraph}
+use Rattle.questions.specs.Abstract.{grammarOf, graphOf}
 use Rattle.records.specs.Words.{capacity, chartOf, written}
 use Rattle.validity.specs.Checking.{holds, knownChart}
 use Rattle.chart.specs.declared.Outcome.{Outcome}

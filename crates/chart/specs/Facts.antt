@@ -9,7 +9,7 @@ use Rattle.hrg.specs.Items.{Item, closure}
 use Rattle.hrg.specs.Agenda.{Closure}
 use Rattle.agenda.specs.Steps.{Chart, handledCount, sumOf}
 use Rattle.agenda.specs.RunFacts.{ChartCorrect}
-use Rattle.tables.specs.Abstract.{grammarOf, graphOf}
+use Rattle.questions.specs.Abstract.{grammarOf, graphOf}
 use Rattle.records.specs.Words.{capacity, chartOf}
 use Rattle.chart.specs.Calls.{numberOf, stepsOf, fit, startOf, runsOf}
 use Rattle.chart.specs.declared.Outcome.{Outcome}

@@ -20,8 +20,8 @@ use Rattle.hrg.specs.WellFormedTest.{every}
 use Rattle.hrg.specs.ClosureRun.{guard, agree, oneToOne, covering, combine}
 use Rattle.hrg.proofs.Sums.{hit-ne, length-tabulate, tabulate-ext}
 use Rattle.hrg.proofs.Degrees.{test-T, T-test, and-true}
-use Rattle.tables.specs.Layout.{ruleNodes, graphNodes}
-use Rattle.tables.specs.Abstract.{grammarOf, graphOf}
+use Rattle.questions.specs.Layout.{ruleNodes, graphNodes}
+use Rattle.questions.specs.Abstract.{grammarOf, graphOf}
 use Rattle.joins.specs.declared.Joined.{Joined}
 use Rattle.joins.specs.declared.Merged.{Merged}
 use Rattle.joins.specs.Joins.{Accepted, KnownNode, NodesIn, OpenAt, OpenIn, someBoth, Merges, nothing, joinedOf}

@@ -15,10 +15,10 @@ use Rattle.hrg.specs.Trees.{unplaced, at, padded}
 use Rattle.hrg.specs.Items.{either, nodeFor, attach}
 use Rattle.hrg.specs.WellFormed.{EdgeOk}
 use Rattle.hrg.proofs.Sums.{hit-self, occurs-at, length-tabulate, at-tabulate, none-left}
-use Rattle.tables.specs.Layout.{rankAt, ruleNodes, edgeLabel, edgeNode}
-use Rattle.tables.specs.Abstract.{grammarOf}
-use Rattle.tables.proofs.StoredLaws.{getD-tabulate}
-use Rattle.tables.proofs.WellFormedAccepted.{rule-is, edge-is}
+use Rattle.questions.specs.Layout.{rankAt, ruleNodes, edgeLabel, edgeNode}
+use Rattle.questions.specs.Abstract.{grammarOf}
+use Rattle.questions.proofs.StoredLaws.{getD-tabulate}
+use Rattle.questions.proofs.WellFormedAccepted.{rule-is, edge-is}
 use Rattle.joins.specs.Joins.{KnownEdge, edgeNodes}
 use Rattle.joins.proofs.Known.{rule-ok, right-nodes, right-edges, nodes-few}
 

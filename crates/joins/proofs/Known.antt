@@ -7,12 +7,12 @@ use native.Mathlib.Omega.{arith}
 use lib.ListN.{length}
 use Rattle.hrg.specs.Grammars.{Rule, ruleOf, planOf, planNode}
 use Rattle.hrg.specs.WellFormed.{PlanOk, RuleOk, GraphOk}
-use Rattle.tables.specs.Layout.{ruleCount, ruleNodes, ruleEdges, rulePlan, planKind, planFirst, planSecond, graphNodes, graphEdges}
-use Rattle.tables.specs.Checking.{checkGrammar}
-use Rattle.tables.specs.Abstract.{planFrom, ruleFrom, grammarOf, graphOf}
-use Rattle.tables.proofs.WellFormedLent.{checked-grammar-ok, checked-graph-ok}
-use Rattle.tables.proofs.WellFormedLists.{length-build}
-use Rattle.tables.proofs.WellFormedAccepted.{rules-length, rule-is, edges-length, plan-length, plan-is}
+use Rattle.questions.specs.Layout.{ruleCount, ruleNodes, ruleEdges, rulePlan, planKind, planFirst, planSecond, graphNodes, graphEdges}
+use Rattle.questions.specs.Checking.{checkGrammar}
+use Rattle.questions.specs.Abstract.{planFrom, ruleFrom, grammarOf, graphOf}
+use Rattle.questions.proofs.WellFormedLent.{checked-grammar-ok, checked-graph-ok}
+use Rattle.questions.proofs.WellFormedLists.{length-build}
+use Rattle.questions.proofs.WellFormedAccepted.{rules-length, rule-is, edges-length, plan-length, plan-is}
 use Rattle.joins.specs.Joins.{Accepted}
 
 -- ---- a rule of an accepted grammar table

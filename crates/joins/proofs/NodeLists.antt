@@ -10,11 +10,11 @@ use Rattle.hrg.specs.Counts.{tabulate}
 use Rattle.hrg.specs.Grammars.{Edge, Rule, noEdge, rightOf, edgeAt}
 use Rattle.hrg.specs.Trees.{unplaced, at, padded, images}
 use Rattle.hrg.proofs.Sums.{occurs-at, length-tabulate, at-tabulate}
-use Rattle.tables.specs.Layout.{rankAt, ruleCount, ruleNodes, ruleSymbol, ruleExternal, graphEdges, graphLabel, graphNode}
-use Rattle.tables.specs.Checking.{checkGrammar}
-use Rattle.tables.specs.Abstract.{ruleFrom, grammarOf, graphOf}
-use Rattle.tables.proofs.WellFormedLists.{getD-build}
-use Rattle.tables.proofs.WellFormedAccepted.{rule-is}
+use Rattle.questions.specs.Layout.{rankAt, ruleCount, ruleNodes, ruleSymbol, ruleExternal, graphEdges, graphLabel, graphNode}
+use Rattle.questions.specs.Checking.{checkGrammar}
+use Rattle.questions.specs.Abstract.{ruleFrom, grammarOf, graphOf}
+use Rattle.questions.proofs.WellFormedLists.{getD-build}
+use Rattle.questions.proofs.WellFormedAccepted.{rule-is}
 use Rattle.joins.proofs.Known.{rule-ok, right-nodes, nodes-few}
 use Rattle.joins.proofs.MapLaws.{getD-any, Placed, placed-next, placed-all}
 

@@ -13,10 +13,10 @@ use Rattle.hrg.specs.Counts.{occurs}
 use Rattle.hrg.specs.Grammars.{Rule, noRule, PlanNode, leaf, introduce, join, planOf, planNode}
 use Rattle.hrg.specs.WellFormed.{children, allChildren, PlanOk}
 use Rattle.hrg.proofs.Sums.{occurs-append, none-left}
-use Rattle.tables.specs.Layout.{ruleCount, ruleEdges, rulePlan, planKind, planFirst, planSecond}
-use Rattle.tables.specs.Checking.{checkGrammar}
-use Rattle.tables.specs.Abstract.{grammarOf}
-use Rattle.tables.proofs.WellFormedAccepted.{rules-length}
+use Rattle.questions.specs.Layout.{ruleCount, ruleEdges, rulePlan, planKind, planFirst, planSecond}
+use Rattle.questions.specs.Checking.{checkGrammar}
+use Rattle.questions.specs.Abstract.{grammarOf}
+use Rattle.questions.proofs.WellFormedAccepted.{rules-length}
 use Rattle.joins.specs.Joins.{KnownNode}
 use Rattle.joins.specs.declared.rules.Place.{Place}
 use Rattle.joins.specs.Rules.{ParentOf, Childless, Above}

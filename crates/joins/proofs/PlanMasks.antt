@@ -17,8 +17,8 @@ use Rattle.hrg.specs.Items.{below}
 use Rattle.hrg.specs.WellFormed.{PlanOk}
 use Rattle.hrg.proofs.Sums.{hit-self, occurs-append}
 use Rattle.hrg.proofs.Plans.{introduce-lower, join-lower, below-leaf, below-introduce, below-join, below-known}
-use Rattle.tables.specs.Layout.{ruleEdges, planKind, planFirst, planSecond}
-use Rattle.tables.specs.Abstract.{planFrom, grammarOf}
+use Rattle.questions.specs.Layout.{ruleEdges, planKind, planFirst, planSecond}
+use Rattle.questions.specs.Abstract.{planFrom, grammarOf}
 use Rattle.joins.specs.Joins.{KnownNode, EdgesBelow, MasksBelow}
 use Rattle.joins.proofs.Known.{plan-ok, plan-few, edges-few, plan-node}
 

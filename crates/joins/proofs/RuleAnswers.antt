@@ -20,10 +20,10 @@ use Rattle.hrg.proofs.Plans.{introduce-known}
 use Rattle.hrg.proofs.Degrees.{and-true}
 use Rattle.agenda.specs.Records.{recordOf, itemOf}
 use Rattle.agenda.specs.declared.Record.{Record}
-use Rattle.tables.specs.Layout.{rankAt, ruleNodes, ruleEdges, edgeLabel, planKind, planFirst, planSecond, graphEdges, graphLabel}
-use Rattle.tables.specs.Abstract.{grammarOf, graphOf}
-use Rattle.tables.proofs.WellFormedLent.{checked-grammar-ok}
-use Rattle.tables.proofs.WellFormedAccepted.{rule-is, edge-is}
+use Rattle.questions.specs.Layout.{rankAt, ruleNodes, ruleEdges, edgeLabel, planKind, planFirst, planSecond, graphEdges, graphLabel}
+use Rattle.questions.specs.Abstract.{grammarOf, graphOf}
+use Rattle.questions.proofs.WellFormedLent.{checked-grammar-ok}
+use Rattle.questions.proofs.WellFormedAccepted.{rule-is, edge-is}
 use Rattle.joins.specs.declared.Joined.{Joined}
 use Rattle.joins.specs.declared.rules.Made.{Made}
 use Rattle.joins.specs.declared.rules.Place.{Place}

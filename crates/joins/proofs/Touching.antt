@@ -14,10 +14,10 @@ use Rattle.hrg.specs.Counts.{hit, occurs, tabulate}
 use Rattle.hrg.specs.Grammars.{Edge, noEdge, Graph, Rule, touches, ruleOf, edgeAt}
 use Rattle.hrg.specs.Items.{below, isBoundary, isOpen, isOpenAt}
 use Rattle.hrg.proofs.Sums.{sum-last, occurs-tabulate}
-use Rattle.tables.specs.Layout.{word, rankAt, ruleSymbol, ruleEdges, ruleExternal, startSymbol, graphEdges, graphExternal, graphLabel, graphNode}
-use Rattle.tables.specs.Abstract.{ruleFrom, grammarOf, graphOf}
-use Rattle.tables.proofs.WellFormedAccepted.{rule-is, edge-is}
-use Rattle.tables.proofs.WellFormedLists.{getD-build}
+use Rattle.questions.specs.Layout.{word, rankAt, ruleSymbol, ruleEdges, ruleExternal, startSymbol, graphEdges, graphExternal, graphLabel, graphNode}
+use Rattle.questions.specs.Abstract.{ruleFrom, grammarOf, graphOf}
+use Rattle.questions.proofs.WellFormedAccepted.{rule-is, edge-is}
+use Rattle.questions.proofs.WellFormedLists.{getD-build}
 use Rattle.joins.specs.declared.Sides.{Sides}
 use Rattle.joins.specs.Joins.{KnownNode, EdgesBelow, NodesIn, lineNodes, someBoth, sideWith, SidesOf, Boundary, OpenAt, OpenIn}
 use Rattle.joins.proofs.Known.{right-edges, graph-size}

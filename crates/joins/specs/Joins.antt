@@ -11,9 +11,9 @@ use Rattle.hrg.specs.Grammars.{ruleOf, rightOf, planOf, edgeAt}
 use Rattle.hrg.specs.Trees.{unplaced, padded}
 use Rattle.hrg.specs.Items.{Item, active, passive, below, isOpen, isOpenAt, joined}
 use Rattle.hrg.specs.ClosureRun.{agree, oneToOne}
-use Rattle.tables.specs.Layout.{word, rankAt, ruleCount, ruleEdges, rulePlan}
-use Rattle.tables.specs.Checking.{checkGrammar, checkGraph}
-use Rattle.tables.specs.Abstract.{grammarOf, graphOf}
+use Rattle.questions.specs.Layout.{word, rankAt, ruleCount, ruleEdges, rulePlan}
+use Rattle.questions.specs.Checking.{checkGrammar, checkGraph}
+use Rattle.questions.specs.Abstract.{grammarOf, graphOf}
 use Rattle.joins.specs.declared.Sides.{Sides}
 use Rattle.joins.specs.declared.Merged.{Merged}
 use Rattle.joins.specs.declared.Joined.{Joined}

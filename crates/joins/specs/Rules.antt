@@ -13,8 +13,8 @@ use Rattle.hrg.specs.WellFormed.{children}
 use Rattle.hrg.specs.ClosureRun.{guard, eachTo, nonterminalAt, joinAt}
 use Rattle.agenda.specs.Consequences.{terminalAt}
 use Rattle.agenda.specs.declared.Record.{Record}
-use Rattle.tables.specs.Layout.{rulePlan}
-use Rattle.tables.specs.Abstract.{grammarOf}
+use Rattle.questions.specs.Layout.{rulePlan}
+use Rattle.questions.specs.Abstract.{grammarOf}
 use Rattle.joins.specs.Joins.{Accepted, KnownNode}
 use Rattle.joins.specs.declared.Joined.{Joined}
 use Rattle.joins.specs.declared.rules.Made.{Made}

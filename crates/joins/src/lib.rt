@@ -7,8 +7,8 @@ ghost use Rattle.hrg.specs.Counts.{tabulate};
 ghost use Rattle.hrg.specs.Grammars.{ruleOf};
 ghost use Rattle.hrg.specs.Items.{attach, restrict};
 ghost use Rattle.hrg.specs.ClosureRun.{covering, combine};
-ghost use Rattle.tables.specs.Layout.{word, rankAt, startSymbol, ruleSymbol, ruleNodes, ruleExternal, edgeLabel, graphNodes, graphExternal};
-ghost use Rattle.tables.specs.Abstract.{grammarOf, graphOf};
+ghost use Rattle.questions.specs.Layout.{word, rankAt, startSymbol, ruleSymbol, ruleNodes, ruleExternal, edgeLabel, graphNodes, graphExternal};
+ghost use Rattle.questions.specs.Abstract.{grammarOf, graphOf};
 ghost use Rattle.joins.specs.Joins.{KnownNode, KnownEdge, Accepted, EdgesBelow, MasksBelow, NodesIn, sideWith, SidesOf, Boundary, OpenAt, OpenIn, edgeNodes, Merges, joinedOf};
 use tables::layout;
 

@@ -7,13 +7,13 @@ use native.Mathlib.Omega.{arith}
 use lib.ListN.{length, drop, replicate, length-replicate}
 use borrow.Author.Tests.{le-leb, lt-leb}
 use Rattle.lines.specs.Lines.{countingLines}
-use Rattle.tables.specs.Layout.{grammarWords, graphWords}
-use Rattle.tables.specs.Reading.{Verdict, readLines, grammarVerdict, graphVerdict, delivered, readGrammar}
-use Rattle.tables.specs.Checking.{checkGrammar, readGraph}
-use Rattle.tables.specs.Storing.{Room}
-use Rattle.tables.specs.declared.Due.the-variants.{Grammar, Graph}
-use Rattle.tables.specs.declared.Answer.{Answer}
-use Rattle.tables.specs.declared.Answer.the-variants.{Done, Refused}
+use Rattle.questions.specs.Layout.{grammarWords, graphWords}
+use Rattle.questions.specs.Reading.{Verdict, readLines, grammarVerdict, graphVerdict, delivered, readGrammar}
+use Rattle.questions.specs.Checking.{checkGrammar, readGraph}
+use Rattle.questions.specs.Walk.{Room}
+use Rattle.questions.specs.declared.Due.the-variants.{Grammar, Graph}
+use Rattle.questions.specs.declared.Answer.{Answer}
+use Rattle.questions.specs.declared.Answer.the-variants.{Done, Refused}
 use Rattle.readers.specs.Readers.{Gives, verdictOf}
 
 pub gives-refusal : (size k : ℕ) (t former : List ℕ) → (k ≡ 0 → ⊥) → Gives (delivered size (verdictOf k t) former) (Refused k) former

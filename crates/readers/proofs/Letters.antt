@@ -1,19 +1,22 @@
 -- Question 2: what the arms of the matches that find nothing leave.
-use mathlib.Core.Path.{_≡_, refl, sym, _∙_}
+use mathlib.Core.Path.{_≡_, refl, sym, ap, _∙_, subst}
 use mathlib.Core.Bool.{Bool, true, false}
 use mathlib.Core.List.{List, [], _∷_}
-use Prim.Native.Nat.{ℕ, _<_, _≤_}
+use Prim.Native.Nat.{ℕ, _<_}
 use native.Mathlib.Omega.{arith}
 use lib.Dec.{eqb}
 use borrow.Author.Tests.{ne-eqb}
 use types.Run.{OneOf, miss}
 use denote.Enum.Declared.{tagOf}
-use Rattle.lines.specs.Shape.{shapeOf, letterOf, kindLetter}
-use Rattle.lines.specs.ShapeLaws.{shape-shaped}
-use Rattle.tables.proofs.Due.{the-type}
-use Rattle.tables.specs.Layout.{letterDue}
-use Rattle.tables.specs.declared.Due.{Due}
-use Rattle.tables.specs.declared.Due.the-variants.{Grammar, Symbol, Rule, RuleEdge, PlanLine, Graph, GraphEdge, Nothing}
+use Rattle.lines.specs.Shape.{shapeOf, letterOf, letterKind, kindLetter}
+use Rattle.lines.specs.ShapeLaws.{shape-shaped, letter-kind, kind-letter}
+use Rattle.lines.specs.declared.Letter.{Letter}
+use Rattle.lines.specs.declared.Letter.the-variants.{G, S, R, E, P, H, Other}
+use Rattle.lines.proofs.Letter.{the-type as letter-type}
+use Rattle.questions.proofs.Due.{the-type}
+use Rattle.questions.specs.Layout.{letterDue}
+use Rattle.questions.specs.declared.Due.{Due}
+use Rattle.questions.specs.declared.Due.the-variants.{Grammar, Symbol, Rule, RuleEdge, PlanLine, Graph, GraphEdge, Nothing}
 
 -- ---- no line of the kind is due
 pub not-grammar : (due : Due) → OneOf (1 ∷ 2 ∷ 3 ∷ 4 ∷ 5 ∷ 6 ∷ 7 ∷ []) (tagOf the-type due) → false ≡ eqb 71 (kindLetter (letterDue due))
@@ -82,21 +85,33 @@ not-graph Graph h = absurd (miss (0 ∷ 1 ∷ 2 ∷ 3 ∷ 4 ∷ 6 ∷ 7 ∷ []) 
 not-graph (GraphEdge e) h = refl
 not-graph Nothing h = refl
 
--- ---- no line of the letter is ever due
-pub not-due : (b : ℕ) (due : Due) → 0 < b → (b ≡ 71 → ⊥) → (b ≡ 83 → ⊥) → (b ≡ 82 → ⊥) → (b ≡ 69 → ⊥) → (b ≡ 80 → ⊥) → (b ≡ 72 → ⊥)
-    → false ≡ eqb b (kindLetter (letterDue due))
-unfolding kindLetter letterDue
-not-due b Grammar some g s r e p h = sym (ne-eqb b _ g)
-not-due b (Symbol _) some g s r e p h = sym (ne-eqb b _ s)
-not-due b (Rule _) some g s r e p h = sym (ne-eqb b _ r)
-not-due b (RuleEdge _ _) some g s r e p h = sym (ne-eqb b _ e)
-not-due b (PlanLine _ _) some g s r e p h = sym (ne-eqb b _ p)
-not-due b Graph some g s r e p h = sym (ne-eqb b _ h)
-not-due b (GraphEdge _) some g s r e p h = sym (ne-eqb b _ e)
-not-due b Nothing some g s r e p h = sym (ne-eqb b 0 (λ z. omega arith))
+-- ---- the letter of a known kind, and any other
+pub known-letter : (b : ℕ) (kind x : Letter) (due : Due) (r : Bool) → kind ≡ letterKind b → kind ≡ x → tagOf letter-type x < 8 → r ≡ eqb (kindLetter x) (kindLetter (letterDue due))
+    → r ≡ eqb b (kindLetter (letterDue due))
+known-letter b kind x due r e is known h = h ∙ ap (λ (l : ℕ). eqb l (kindLetter (letterDue due))) (sym (kind-letter b x (sym e ∙ is) not-other))
+  where
+    not-other : x ≡ Other → ⊥
+    not-other o =
+        let last : tagOf letter-type x ≡ 8 = ap (tagOf letter-type) o in
+        omega arith
+
+module _ (b : ℕ) (kind : Letter) (e : kind ≡ letterKind b) (h : OneOf (6 ∷ 7 ∷ 8 ∷ []) (tagOf letter-type kind)) where
+  not-letter : (x : Letter) → (OneOf (6 ∷ 7 ∷ 8 ∷ []) (tagOf letter-type x) → ⊥) → b ≡ kindLetter x → ⊥
+  not-letter x n is = n (subst (λ (k : Letter). OneOf (6 ∷ 7 ∷ 8 ∷ []) (tagOf letter-type k)) (e ∙ ap letterKind is ∙ letter-kind x) h)
+
+  pub not-due : (due : Due) → 0 < b → false ≡ eqb b (kindLetter (letterDue due))
+  unfolding kindLetter letterDue
+  not-due Grammar some = sym (ne-eqb b _ (not-letter G (miss (6 ∷ 7 ∷ 8 ∷ []) 0 tt)))
+  not-due (Symbol _) some = sym (ne-eqb b _ (not-letter S (miss (6 ∷ 7 ∷ 8 ∷ []) 1 tt)))
+  not-due (Rule _) some = sym (ne-eqb b _ (not-letter R (miss (6 ∷ 7 ∷ 8 ∷ []) 2 tt)))
+  not-due (RuleEdge _ _) some = sym (ne-eqb b _ (not-letter E (miss (6 ∷ 7 ∷ 8 ∷ []) 3 tt)))
+  not-due (PlanLine _ _) some = sym (ne-eqb b _ (not-letter P (miss (6 ∷ 7 ∷ 8 ∷ []) 4 tt)))
+  not-due Graph some = sym (ne-eqb b _ (not-letter H (miss (6 ∷ 7 ∷ 8 ∷ []) 5 tt)))
+  not-due (GraphEdge _) some = sym (ne-eqb b _ (not-letter E (miss (6 ∷ 7 ∷ 8 ∷ []) 3 tt)))
+  not-due Nothing some = sym (ne-eqb b 0 (λ z. omega arith))
 
 -- the letter of a line of the shape is a byte that is not 0
-pub letter-some : (line : List ℕ) (x : ℕ) → shapeOf line ≡ true → x ≡ letterOf line → 0 < x
-letter-some line x h is =
+pub letter-some : (line : List ℕ) → shapeOf line ≡ true → 0 < letterOf line
+letter-some line h =
     let many = shape-shaped line h .capital .0 in
     omega arith

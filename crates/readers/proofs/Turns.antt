@@ -1,7 +1,7 @@
 -- Laws of the reading loop: what each way through a turn does to the reading of the lines that are left.
 use mathlib.Core.Path.{_≡_, refl, sym, ap, _∙_}
 use mathlib.Core.Bool.{Bool, true, false, _&&_, cond}
-use mathlib.Core.List.{List, [], _∷_, _++_}
+use mathlib.Core.List.{List, [], _∷_}
 use Prim.Native.Nat.{ℕ, zero, suc, _+_, _*_, _≤_, _<_}
 use native.Mathlib.Omega.{arith}
 use lib.ListN.{length, drop}
@@ -12,13 +12,14 @@ use Rattle.lines.specs.LineLaws.{counting-lines-at, counting-in, lines-end, aft
 use Rattle.lines.specs.TestLaws.{both}
 use Rattle.lines.specs.Shape.{shapeOf, letterOf, kindLetter}
 use Rattle.lines.specs.Fields.{fieldsOf}
-use Rattle.tables.specs.Layout.{placeOf, letterDue, inTable, stored}
-use Rattle.tables.specs.Questions.{ask, judge}
-use Rattle.tables.specs.Reading.{Verdict, refused, accepted, whenDone, goOn, next, judgeLine, readLines}
-use Rattle.tables.specs.Storing.{storeAt, Room}
-use Rattle.tables.specs.declared.Due.{Due}
-use Rattle.tables.specs.declared.Due.the-variants.{Grammar, Symbol, Rule, RuleEdge, PlanLine, Graph, GraphEdge, Nothing}
-use Rattle.tables.proofs.CheckRun.{room-in, room-place, room-next}
+use Rattle.questions.specs.Layout.{placeOf, letterDue, inTable, stored}
+use Rattle.questions.specs.Questions.{ask, judge}
+use Rattle.questions.specs.Reading.{Verdict, refused, accepted, whenDone, goOn, next, judgeLine, readLines}
+use Rattle.questions.specs.Walk.{Room}
+use Rattle.tables.specs.Storing.{storeAt}
+use Rattle.questions.specs.declared.Due.{Due}
+use Rattle.questions.specs.declared.Due.the-variants.{Grammar, Symbol, Rule, RuleEdge, PlanLine, Graph, GraphEdge, Nothing}
+use Rattle.questions.proofs.WellFormedWalk.{room-in, room-place, room-next}
 use Rattle.readers.specs.Readers.{lineWith, missing, verdictOf}
 
 -- ---- places
@@ -40,15 +41,15 @@ module _ (g t : List ℕ) (due : Due) (line : List ℕ) (ended : Bool) where
     unfolding judgeLine
     judged-shape n = rw (h, ← e, n)
 
-    module _ (y : b ≡ true) (x : ℕ) (is : x ≡ letterOf line) (due-here : Bool) (fits : due-here ≡ eqb x (kindLetter (letterDue due))) where
+    module _ (y : b ≡ true) (due-here : Bool) (fits : due-here ≡ eqb (letterOf line) (kindLetter (letterDue due))) where
       pub judged-letter : due-here ≡ false → 2 ≡ judgeLine g t due (lineWith line ended)
       unfolding judgeLine
-      judged-letter n = rw (h, ← e, y, ← is, ← fits, n)
+      judged-letter n = rw (h, ← e, y, ← fits, n)
 
       pub judged-rest : due-here ≡ true → (k : ℕ) (fs : List ℕ) → fs ≡ fieldsOf line → inTable due ≡ true → k ≡ cond (inTable due) (judge g t due fs) 2
           → k ≡ judgeLine g t due (lineWith line ended)
       unfolding judgeLine
-      judged-rest s k fs f i j = rw (h, ← e, y, ← is, ← fits, s, ← f) (j ∙ rw i)
+      judged-rest s k fs f i j = rw (h, ← e, y, ← fits, s, ← f) (j ∙ rw i)
 
 -- a line that passes is of the shape
 pub passed-shape : (g t : List ℕ) (due : Due) (l : Line) → judgeLine g t due l ≡ 0 → shapeOf (l .bytes) ≡ true

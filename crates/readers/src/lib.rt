@@ -6,16 +6,17 @@ ghost use Prim.Native.Nat.{_≤_, _<_};
 ghost use lib.ListN.{length, drop};
 ghost use lib.Dec.{eqb};
 ghost use Rattle.lines.specs.Fields.{fieldsOf};
-ghost use Rattle.lines.specs.Shape.{shapeOf, kindLetter};
+ghost use Rattle.lines.specs.Shape.{letterOf, shapeOf, kindLetter};
 ghost use Rattle.lines.specs.Lines.{countingLines};
-ghost use Rattle.tables.specs.Layout.{placeOf, letterDue, inTable, fieldsIn, stored};
-ghost use Rattle.tables.specs.Reading.{next, judgeLine, readLines, delivered, readGrammar};
-ghost use Rattle.tables.specs.Checking.{readGraph};
-ghost use Rattle.tables.specs.Storing.{Room};
+ghost use Rattle.questions.specs.Layout.{placeOf, letterDue, inTable, fieldsIn, stored};
+ghost use Rattle.questions.specs.Reading.{next, judgeLine, readLines, delivered, readGrammar};
+ghost use Rattle.questions.specs.Checking.{readGraph};
+ghost use Rattle.questions.specs.Walk.{Room};
 ghost use Rattle.readers.specs.Readers.{Gives, verdictOf, lineWith, missing};
-use tables::Answer;
-use tables::Due;
-use tables::Fields;
+use lines::Letter;
+use questions::Answer;
+use questions::Due;
+use questions::Fields;
 
 // ---- question 2: a kind of line for each letter, and whether one of that kind is due
 fn grammar_due(due: Due) -> bool
@@ -67,17 +68,18 @@ fn graph_due(due: Due) -> bool
 }
 
 // Whether a line of this letter is due; one of any other letter never is.
-fn letter_due(letter: u8, due: Due) -> bool
-    requires { ⌜ 0 < letter ⌝ }
-    ensures { λ r. ⌜ r ≡ eqb letter (kindLetter (letterDue due)) ⌝ }
+fn letter_due(line: &[u8], due: Due) -> bool
+    requires { ⌜ 0 < letterOf (now line) ⌝ }
+    ensures { λ r. ⌜ r ≡ eqb (letterOf (now (line .entry))) (kindLetter (letterDue due)) ⌝ }
 {
-    match letter {
-        b'G' => grammar_due(due),
-        b'S' => symbol_due(due),
-        b'R' => rule_due(due),
-        b'E' => edge_due(due),
-        b'P' => plan_due(due),
-        b'H' => graph_due(due),
+    let kind = lines::letter_kind(line);
+    match kind {
+        Letter::G => grammar_due(due),
+        Letter::S => symbol_due(due),
+        Letter::R => rule_due(due),
+        Letter::E => edge_due(due),
+        Letter::P => plan_due(due),
+        Letter::H => graph_due(due),
         _ => false,
     }
 }
@@ -111,10 +113,10 @@ fn judge_line(g: &[u64], t: &[u64], due: Due, line: &[u8], ended: bool) -> u64
     if !lines::shape(line) {
         return 1;
     }
-    if !letter_due(lines::letter_byte(line), due) {
+    if !letter_due(line, due) {
         return 2;
     }
-    tables::questions::judge(g, t, due, fields_of(line))
+    tables::judging::judge(g, t, due, fields_of(line))
 }
 
 // Stores the fields of a line that has passed, and answers what is due after it.

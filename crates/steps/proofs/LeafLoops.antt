@@ -15,10 +15,10 @@ use Rattle.hrg.specs.ClosureRun.{eachTo, leafAt, leaves}
 use Rattle.agenda.specs.declared.Record.{Record}
 use Rattle.agenda.specs.Records.{recordOf}
 use Rattle.agenda.specs.Consequences.{leafRecords}
-use Rattle.tables.specs.Layout.{ruleCount, rulePlan, planKind, planFirst, planSecond}
-use Rattle.tables.specs.Checking.{checkGrammar}
-use Rattle.tables.specs.Abstract.{planFrom, grammarOf}
-use Rattle.tables.proofs.WellFormedAccepted.{rules-length}
+use Rattle.questions.specs.Layout.{ruleCount, rulePlan, planKind, planFirst, planSecond}
+use Rattle.questions.specs.Checking.{checkGrammar}
+use Rattle.questions.specs.Abstract.{planFrom, grammarOf}
+use Rattle.questions.proofs.WellFormedAccepted.{rules-length}
 use Rattle.joins.specs.Joins.{KnownNode}
 use Rattle.joins.proofs.Known.{plan-size, plan-node}
 use Rattle.joins.proofs.EdgeMaps.{is-padded, at-none}

@@ -15,7 +15,7 @@ use Rattle.hrg.specs.ClosureRun.{guard, binaryOf}
 use Rattle.agenda.specs.declared.Record.{Record}
 use Rattle.agenda.specs.Records.{recordOf, itemOf, isHandled, plus}
 use Rattle.agenda.specs.Consequences.{withTerminal, pair}
-use Rattle.tables.specs.Abstract.{grammarOf, graphOf}
+use Rattle.questions.specs.Abstract.{grammarOf, graphOf}
 use Rattle.joins.specs.Joins.{Accepted}
 use Rattle.joins.specs.Rules.{madeOf, madeRecords, terminalItems}
 use Rattle.joins.specs.declared.rules.Made.{Made}

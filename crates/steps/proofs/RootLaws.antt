@@ -16,10 +16,10 @@ use Rattle.agenda.specs.declared.Record.{Record}
 use Rattle.agenda.specs.Records.{recordOf, itemOf, plus}
 use Rattle.agenda.specs.Consequences.{atRoot}
 use Rattle.agenda.proofs.Records.{item-active, item-passive, record-eight}
-use Rattle.tables.specs.Layout.{ruleCount, ruleSymbol, ruleNodes, rulePlan}
-use Rattle.tables.specs.Checking.{checkGrammar}
-use Rattle.tables.specs.Abstract.{ruleFrom, grammarOf}
-use Rattle.tables.proofs.WellFormedAccepted.{rules-length, rule-is}
+use Rattle.questions.specs.Layout.{ruleCount, ruleSymbol, ruleNodes, rulePlan}
+use Rattle.questions.specs.Checking.{checkGrammar}
+use Rattle.questions.specs.Abstract.{ruleFrom, grammarOf}
+use Rattle.questions.proofs.WellFormedAccepted.{rules-length, rule-is}
 use Rattle.joins.proofs.Known.{plan-size, right-nodes}
 use Rattle.records.specs.Words.{Fits, addedTo, grownBy}
 use Rattle.records.proofs.Grown.{grown-none, grown-one}

@@ -2,7 +2,7 @@
 use Prim.Native.Nat.{ℕ}
 use mathlib.Core.Path.{_≡_, refl}
 use mathlib.Core.Bool.{Bool, true, false, not}
-use Rattle.tables.specs.Questions.{ask}
+use Rattle.questions.specs.Questions.{ask}
 
 abbrev pub askNot : ℕ → Bool → ℕ → ℕ
 askNot k true rest = k

@@ -7,10 +7,10 @@ use mathlib.Core.List.{List, []}
 use lib.ListN.{length, take, replicate}
 use borrow.Author.Tests.{lt-leb, le-leb, not-true, not-false}
 use Rattle.hrg.specs.ClosureRun.{sameList}
-use Rattle.tables.specs.declared.Due.the-variants.{Grammar, Graph}
-use Rattle.tables.specs.Reading.{Verdict, refused, accepted}
+use Rattle.questions.specs.declared.Due.the-variants.{Grammar, Graph}
+use Rattle.questions.specs.Reading.{Verdict, refused, accepted}
 use Rattle.tables.specs.Concluding.{passes, Concluded}
-use Rattle.tables.specs.Checking.{checkLines, filledBy, checkGrammar, checkGraph}
+use Rattle.questions.specs.Checking.{checkLines, filledBy, checkGrammar, checkGraph}
 
 grammar-is : (t : List ℕ) → filledBy 14985 t (checkLines 1666 [] t (replicate 14985 0) Grammar) ≡ checkGrammar t
 unfolding checkGrammar

@@ -1,5 +1,5 @@
 -- Question 8's loop: what is left to check gives the verdict of the whole.
-use Prim.Native.Nat.{ℕ, zero, suc, _+_, _-_, _*_, _≤_, _<_, min}
+use Prim.Native.Nat.{ℕ, zero, suc, _+_, _-_, _*_, _≤_, _<_}
 use native.Mathlib.Omega.{arith}
 use native.Mathlib.Numerals.{add-one}
 use native.Mathlib.Decide.{decLt}
@@ -8,20 +8,21 @@ use mathlib.Core.Bool.{Bool, true, false, not, _&&_, cond}
 use mathlib.Core.List.{List, []}
 use lib.ListN.{length, getD, take, drop, set, length-take, drop-of-length-le}
 use lib.Seq.{getD-take, getD-set-same, getD-set-other, ext-getD, drop-cons}
-use lib.Dec.{ltb}
-use borrow.Author.Tests.{lt-ltb, le-leb, eq-eqb, ne-eqb, ltb-true}
+use borrow.Author.Tests.{le-leb, eq-eqb, ne-eqb}
 use Rattle.hrg.specs.Counts.{tabulate}
 use Rattle.hrg.specs.ClosureRun.{sameList}
 use Rattle.hrg.proofs.Sums.{length-tabulate}
-use Rattle.tables.specs.declared.Due.{Due}
-use Rattle.tables.specs.declared.Due.the-variants.{Grammar, Symbol, Rule, RuleEdge, PlanLine, Graph, GraphEdge, Nothing}
-use Rattle.tables.specs.Layout.{placeOf, inTable, word, stored, symbolCount, ruleCount, ruleEdges, rulePlan, graphEdges}
-use Rattle.tables.specs.Storing.{storeAt, Room}
-use Rattle.tables.specs.Questions.{judge}
-use Rattle.tables.specs.Reading.{Verdict, accepted, whenDone, goOn, next}
+use Rattle.questions.specs.declared.Due.{Due}
+use Rattle.questions.specs.declared.Due.the-variants.{Grammar, Symbol, Rule, RuleEdge, PlanLine, Graph, GraphEdge, Nothing}
+use Rattle.questions.specs.Layout.{placeOf, inTable, word, stored}
+use Rattle.questions.specs.Walk.{Room}
+use Rattle.questions.proofs.WellFormedWalk.{room-in, room-place, room-next}
+use Rattle.tables.specs.Storing.{storeAt}
+use Rattle.questions.specs.Questions.{judge}
+use Rattle.questions.specs.Reading.{Verdict, accepted, whenDone, goOn, next}
 use Rattle.tables.specs.Concluding.{passes, nothingDue, Concluded}
-use Rattle.tables.specs.Checking.{fieldsDue, storedFields, checkLines}
-use Rattle.tables.proofs.Covering.{tabulate-at}
+use Rattle.questions.specs.Checking.{fieldsDue, storedFields, checkLines}
+use Rattle.questions.proofs.StoredLaws.{getD-tabulate}
 
 -- ---- the fields of a stored line
 -- the first j values are words
@@ -43,7 +44,7 @@ copied-all f vs n j h l p =
     ext-getD 0 (take n vs) (tabulate n f) (length-take n vs ∙ omega (arith, length-tabulate n f))
     λ k d.
     let w : k < n = omega (arith, length-take n vs) in
-    getD-take n vs k 0 w ∙ p k (omega arith) ∙ sym (tabulate-at n f k w)
+    getD-take n vs k 0 w ∙ p k (omega arith) ∙ sym (getD-tabulate n f k 0 w)
 
 pub stored-out : (g c t : List ℕ) (due : Due) (b : Bool) (fs : List ℕ) → b ≡ inTable due → b ≡ false → fs ≡ tabulate 0 (λ j. word t 0 j)
     → fs ≡ cond (inTable due) (storedFields g c t due) []
@@ -56,52 +57,6 @@ unfolding storedFields
 stored-in g c t due b p n fs e h ep en w =
     let place : p ≡ placeOf due = ep ∙ ap (λ a. cond a (placeOf due) 0) (sym e ∙ h) in
     w ∙ rw (en, place, ← e, h)
-
--- ---- room
-pub room-in : (size : ℕ) (d : Due) → Room size d → inTable d ≡ true
-unfolding inTable
-room-in size Grammar h = refl
-room-in size (Symbol s) h = lt-ltb s 64 (h .0)
-room-in size (Rule r) h = lt-ltb r 64 (h .0)
-room-in size (RuleEdge r i) h = rw (lt-ltb r 64 (h .0), lt-ltb i 8 (h .1))
-room-in size (PlanLine r q) h = rw (lt-ltb r 64 (h .0), lt-ltb q 16 (h .1))
-room-in size Graph h = refl
-room-in size (GraphEdge e) h = lt-ltb e 64 (h .0)
-room-in size Nothing h = refl
-
-pub room-place : (size : ℕ) (d : Due) → Room size d → 9 * placeOf d + 9 ≤ size
-unfolding placeOf
-room-place size Grammar h = omega arith
-room-place size (Symbol s) h = omega arith
-room-place size (Rule r) h = omega arith
-room-place size (RuleEdge r i) h = omega arith
-room-place size (PlanLine r q) h = omega arith
-room-place size Graph h = omega arith
-room-place size (GraphEdge e) h = omega arith
-room-place size Nothing h = omega arith
-
-cond-by : {A : Type 0} (P : A → Type 0) (a b : ℕ) (x y : A) → (a < b → P x) → P y → P (cond (ltb a b) x y)
-cond-by P a b x y f q = go (ltb a b) refl
-  where
-    go : (t : Bool) → ltb a b ≡ t → P (cond t x y)
-    go true e = f (ltb-true a b e)
-    go false e = q
-
-pub room-next : (size : ℕ) (t : List ℕ) (d : Due) → Room size d → Room size (next t d)
-unfolding next
-room-next size t Grammar h = omega arith
-room-next size t (Symbol s) h =
-    cond-by (Room size) (s + 1) (min 64 (symbolCount t)) (Symbol (s + 1)) (Rule 0) (λ l. omega arith) (omega arith)
-room-next size t (Rule r) h = omega arith
-room-next size t (RuleEdge r i) h =
-    cond-by (Room size) (i + 1) (min 8 (ruleEdges t r)) (RuleEdge r (i + 1)) (PlanLine r 0) (λ l. omega arith) (omega arith)
-room-next size t (PlanLine r q) h =
-    cond-by (Room size) (q + 1) (min 16 (rulePlan t r)) (PlanLine r (q + 1)) (cond (ltb (r + 1) (min 64 (ruleCount t))) (Rule (r + 1)) Nothing) (λ l. omega arith)
-    (cond-by (Room size) (r + 1) (min 64 (ruleCount t)) (Rule (r + 1)) Nothing (λ l. omega arith) (omega arith))
-room-next size t Graph h = omega arith
-room-next size t (GraphEdge e) h =
-    cond-by (Room size) (e + 1) (min 64 (graphEdges t)) (GraphEdge (e + 1)) Nothing (λ l. omega arith) (omega arith)
-room-next size t Nothing h = h
 
 -- ---- a turn
 when-nothing : (d : Due) (v w : Verdict) → nothingDue d ≡ true → whenDone d v w ≡ v

@@ -16,9 +16,10 @@ use Rattle.hrg.specs.Counts.{hit, occurs, tabulate}
 use Rattle.hrg.specs.WellFormedTest.{Decides, every}
 use Rattle.hrg.proofs.Sums.{hit-ne, length-tabulate}
 use Rattle.hrg.proofs.WellFormedTest.{_and_, decides-le, decides-eq, decides-map, decides-every}
-use Rattle.tables.specs.Layout.{word, rankAt, edgeLabel, graphLabel}
+use Rattle.questions.specs.Layout.{word, rankAt, edgeLabel, graphLabel}
+use Rattle.questions.proofs.StoredLaws.{getD-tabulate}
 use Rattle.tables.specs.Marks.{marked, marks}
-use Rattle.tables.specs.Questions.{covered, nodesOnEdges, nodesOnGraph}
+use Rattle.questions.specs.Questions.{covered, nodesOnEdges, nodesOnGraph}
 use Rattle.tables.proofs.Listing.{true-is}
 
 -- ---- loops that mark the numbers of a list
@@ -48,15 +49,9 @@ marks-append m [] ys = refl
 marks-append m (x ∷ xs) ys = marks-append (marked m x) xs ys
 
 -- a list made of a function, in the same terms
-pub tabulate-at : (n : ℕ) (f : ℕ → ℕ) (k : ℕ) → k < n → getD (tabulate n f) k 0 ≡ f k
-unfolding tabulate
-tabulate-at zero f k h = absurd (omega arith)
-tabulate-at (suc n) f zero h = refl
-tabulate-at (suc n) f (suc k) h = tabulate-at n (λ i. f (suc i)) k (omega arith)
-
 pub line-next : (n : ℕ) (f : ℕ → ℕ) (k x m r v : ℕ) → k < n → x ≡ f k → Added m x r → marks m (drop k (tabulate n f)) ≡ v → marks r (drop (k + 1) (tabulate n f)) ≡ v
 line-next n f k x m r v h e a p =
-    marks-next (tabulate n f) n k x m r v (sym (length-tabulate n f)) h (e ∙ sym (tabulate-at n f k h)) a p
+    marks-next (tabulate n f) n k x m r v (sym (length-tabulate n f)) h (e ∙ sym (getD-tabulate n f k 0 h)) a p
 
 pub line-done : (n : ℕ) (f : ℕ → ℕ) (k m v : ℕ) → n ≤ k → marks m (drop k (tabulate n f)) ≡ v → m ≡ v
 line-done n f k m v h p = marks-done (tabulate n f) n k m v (sym (length-tabulate n f)) h p

@@ -1,5 +1,4 @@
--- The root of the laws and theorems.
--- words and questions, as the functions' proofs cite them
+-- The root of the laws: words and questions, as the functions' proofs cite them.
 pub mod Words
 pub mod Asking
 pub mod Listing
@@ -7,23 +6,3 @@ pub mod Covering
 pub mod Planning
 pub mod CheckRun
 pub mod CheckEnds
-pub mod StoredLaws
-pub mod Refusals
--- an accepted table is a well-formed grammar or graph
-pub mod WellFormedQuestions
-pub mod WellFormedWalk
-pub mod WellFormedReading
-pub mod WellFormedLists
-pub mod WellFormedPlans
-pub mod WellFormedTables
-pub mod WellFormedGrammar
-pub mod WellFormedAccepted
-pub mod WellFormedGraph
-pub mod WellFormedLent
--- and the converse: the text of a grammar or a graph
-pub mod SmallFields
-pub mod TableTextLines
-pub mod TableTextGrammar
-pub mod TableTextGraph
--- question 8 for tables
-pub mod Filled

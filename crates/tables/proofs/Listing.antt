@@ -15,7 +15,7 @@ use Rattle.hrg.specs.Counts.{hit, occurs}
 use Rattle.hrg.specs.WellFormedTest.{Decides}
 use Rattle.hrg.proofs.Sums.{occurs-append, hit-self, hit-ne}
 use Rattle.hrg.proofs.WellFormedTest.{_and_, decides-le, decides-each}
-use Rattle.tables.specs.Questions.{listed}
+use Rattle.questions.specs.Questions.{listed}
 
 -- ---- tests
 pub true-is : (b : Bool) → T b → true ≡ b

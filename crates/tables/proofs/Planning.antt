@@ -11,8 +11,8 @@ use borrow.Author.Tests.{ne-eqb, lt-ltb, le-ltb}
 use Rattle.hrg.specs.Counts.{hit, occurs}
 use Rattle.hrg.specs.WellFormedTest.{each, every}
 use Rattle.hrg.proofs.Sums.{occurs-append, hit-self, hit-ne}
-use Rattle.tables.specs.Layout.{planKind, planFirst, planSecond, ruleEdges}
-use Rattle.tables.specs.Questions.{childrenOf, introducedBy, childrenBefore, introducedBefore, planSoFar, planWhole}
+use Rattle.questions.specs.Layout.{planKind, planFirst, planSecond, ruleEdges}
+use Rattle.questions.specs.Questions.{childrenOf, introducedBy, childrenBefore, introducedBefore, planSoFar, planWhole}
 
 pub hit-yes : (a b : ℕ) → a ≡ b → 1 ≡ hit a b
 hit-yes a b e = rw e (sym (hit-self b))

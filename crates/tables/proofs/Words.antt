@@ -11,9 +11,9 @@ use lib.Dec.{ltb}
 use borrow.Author.Tests.{ltb-true, lt-leb, le-leb}
 use Rattle.hrg.specs.Counts.{tabulate}
 use Rattle.hrg.proofs.Sums.{length-tabulate}
-use Rattle.tables.specs.declared.Due.{Due}
-use Rattle.tables.specs.declared.Due.the-variants.{Grammar, Symbol, Rule, RuleEdge, PlanLine, Graph, GraphEdge, Nothing}
-use Rattle.tables.specs.Layout.{placeOf, inTable, word, block, stored}
+use Rattle.questions.specs.declared.Due.{Due}
+use Rattle.questions.specs.declared.Due.the-variants.{Grammar, Symbol, Rule, RuleEdge, PlanLine, Graph, GraphEdge, Nothing}
+use Rattle.questions.specs.Layout.{placeOf, inTable, word, block, stored}
 use Rattle.tables.specs.Storing.{pasted, storeAt}
 
 -- ---- words

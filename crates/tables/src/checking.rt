@@ -6,14 +6,14 @@ ghost use Prim.Native.Nat.{_≤_};
 ghost use lib.ListN.{length, take};
 ghost use Rattle.hrg.specs.Counts.{tabulate};
 ghost use Rattle.hrg.specs.ClosureRun.{sameList};
-ghost use Rattle.tables.specs.Layout.{inTable, fieldsIn, word};
-ghost use Rattle.tables.specs.Storing.{Room};
+ghost use Rattle.questions.specs.Layout.{inTable, fieldsIn, word};
+ghost use Rattle.questions.specs.Walk.{Room};
 ghost use Rattle.tables.specs.Concluding.{nothingDue, Concluded};
-ghost use Rattle.tables.specs.Checking.{fieldsDue, storedFields, checkLines, checkGrammar, checkGraph};
-use crate::Due;
-use crate::Fields;
+ghost use Rattle.questions.specs.Checking.{fieldsDue, storedFields, checkLines, checkGrammar, checkGraph};
+use crate::judging;
 use crate::layout;
-use crate::questions;
+use questions::Due;
+use questions::Fields;
 
 // How many fields the line at a place of t has, by the ranks in c, or in the grammar g for a graph's lines.
 fn fields_due(g: &[u64], c: &[u64], t: &[u64], due: Due) -> u64
@@ -83,7 +83,7 @@ fn check_lines(g: &[u64], t: &[u64], c: &mut [u64], first: Due, lines: u64) -> b
             return true;
         }
         let f = stored_fields(g, c, t, due);
-        if questions::judge(g, c, due, f) != 0 {
+        if judging::judge(g, c, due, f) != 0 {
             return false;
         }
         layout::store(c, due, f);

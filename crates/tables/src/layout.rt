@@ -3,12 +3,12 @@ ghost use mathlib.Core.Path.{_≡_};
 ghost use mathlib.Core.Bool.{cond};
 ghost use Prim.Native.Nat.{_+_, _*_, _≤_, min};
 ghost use lib.ListN.{getD, length};
-ghost use Rattle.tables.specs.declared.Due.the-variants.{Symbol, RuleEdge, PlanLine, GraphEdge, Nothing};
-ghost use Rattle.tables.specs.Layout.{placeOf, inTable, fieldsIn, word, block, symbolCount, ruleCount, startSymbol, kindWord, rankAt, ruleSymbol, ruleNodes, ruleEdges, rulePlan, ruleExternal, edgeLabel, edgeNode, planKind, planFirst, planSecond, graphNodes, graphEdges, graphExternal, graphLabel, graphNode};
-ghost use Rattle.tables.specs.Reading.{next};
+ghost use Rattle.questions.specs.declared.Due.the-variants.{Symbol, RuleEdge, PlanLine, GraphEdge, Nothing};
+ghost use Rattle.questions.specs.Layout.{placeOf, inTable, fieldsIn, word, block, symbolCount, ruleCount, startSymbol, kindWord, rankAt, ruleSymbol, ruleNodes, ruleEdges, rulePlan, ruleExternal, edgeLabel, edgeNode, planKind, planFirst, planSecond, graphNodes, graphEdges, graphExternal, graphLabel, graphNode};
+ghost use Rattle.questions.specs.Reading.{next};
 ghost use Rattle.tables.specs.Storing.{pasted, storeAt};
-use crate::Due;
-use crate::Fields;
+use questions::Due;
+use questions::Fields;
 
 // Word j of the line at place p.
 pub fn word(t: &[u64], p: u64, j: u64) -> u64

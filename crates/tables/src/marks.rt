@@ -7,11 +7,11 @@ ghost use lib.Dec.{leb, eqb};
 ghost use Rattle.masks.specs.Masks.{_∪_, full};
 ghost use lib.ListN.{drop};
 ghost use Rattle.hrg.specs.Counts.{tabulate};
-ghost use Rattle.tables.specs.Layout.{fieldsIn, word, ruleNodes, graphNodes};
-ghost use Rattle.tables.specs.Questions.{listed, covered, nodesOnEdges, nodesOnGraph};
+ghost use Rattle.questions.specs.Layout.{fieldsIn, word, ruleNodes, graphNodes};
+ghost use Rattle.questions.specs.Questions.{listed, covered, nodesOnEdges, nodesOnGraph};
 ghost use Rattle.tables.specs.Marks.{marks};
-use crate::Fields;
 use crate::layout;
+use questions::Fields;
 
 // Whether the fields from `from` on are in range and distinct.
 pub(crate) fn listed(f: Fields, from: u64, nodes: u64) -> bool

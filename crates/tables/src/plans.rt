@@ -5,8 +5,8 @@ ghost use Prim.Native.Nat.{_+_, _≤_, min};
 ghost use lib.Dec.{ltb};
 ghost use Rattle.hrg.specs.Counts.{occurs, hit};
 ghost use Rattle.hrg.specs.WellFormedTest.{every};
-ghost use Rattle.tables.specs.Layout.{ruleEdges};
-ghost use Rattle.tables.specs.Questions.{childrenOf, introducedBy, childrenBefore, introducedBefore, planSoFar, planWhole};
+ghost use Rattle.questions.specs.Layout.{ruleEdges};
+ghost use Rattle.questions.specs.Questions.{childrenOf, introducedBy, childrenBefore, introducedBefore, planSoFar, planWhole};
 use crate::layout;
 
 // 1 where the two numbers are the same.

@@ -3,7 +3,7 @@ use native.Mathlib.Omega.{arith}
 use Prim.Native.Nat.{_≤_}
 use lib.ListN.{take}
 use borrow.Author.Needs.{needs}
-use Rattle.tables.specs.Layout.{rankAt, edgeLabel}
+use Rattle.questions.specs.Layout.{rankAt, edgeLabel}
 use Rattle.joins.specs.Joins.{edgeNodes}
 use Rattle.joins.proofs.EdgeMaps.{MapFrom, edge-node-few, attach-none, attach-next, attach-done}
 use Rattle.joins.proofs.attach.Statement.{statement}

@@ -1,6 +1,6 @@
 -- The rank that was read is the start symbol's.
 use borrow.Author.Needs.{needs}
-use Rattle.tables.specs.Layout.{graphExternal}
+use Rattle.questions.specs.Layout.{graphExternal}
 use Rattle.joins.proofs.Touching.{listed-rank}
 use Rattle.joins.proofs.graph_externals.Statement.{statement}
 use Rattle.joins.proofs.graph_externals.Tie as tie

@@ -3,7 +3,7 @@ use native.Mathlib.Omega.{arith}
 use Prim.Native.Nat.{_+_, _-_, _≤_}
 use borrow.Author.Needs.{needs}
 use Rattle.hrg.specs.Counts.{tabulate}
-use Rattle.tables.specs.Layout.{word}
+use Rattle.questions.specs.Layout.{word}
 use Rattle.joins.specs.Joins.{NodesIn}
 use Rattle.joins.proofs.Touching.{listed-none, listed-next, listed-done}
 use Rattle.joins.proofs.listed.Statement.{statement}

@@ -1,6 +1,6 @@
 -- The rank that was read is the rule symbol's.
 use borrow.Author.Needs.{needs}
-use Rattle.tables.specs.Layout.{ruleExternal}
+use Rattle.questions.specs.Layout.{ruleExternal}
 use Rattle.joins.proofs.Touching.{listed-rank}
 use Rattle.joins.proofs.rule_externals.Statement.{statement}
 use Rattle.joins.proofs.rule_externals.Tie as tie

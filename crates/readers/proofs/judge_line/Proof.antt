@@ -16,23 +16,20 @@ shape-requires c κs = search needs
 returns-2 : tie.Need-returns-2
 returns-2 c = judged-shape _ _ _ _ _ (not-false _ (c .before .before .if1 .left)) _ (c .before .shape .ensures) (not-true _ (c .if2 .taken))
 
-letter-byte-requires : tie.Need-letter-byte-requires
-letter-byte-requires c κs = search needs
-
 letter-due-requires : tie.Need-letter-due-requires
-letter-due-requires c κs = letter-some _ _ (sym (c .before .before .shape .ensures) ∙ not-false _ (c .before .if2 .left)) (c .letter-byte .ensures)
+letter-due-requires c κs = letter-some _ (sym (c .before .shape .ensures) ∙ not-false _ (c .if2 .left))
 
 returns-3 : tie.Need-returns-3
-returns-3 c = judged-letter _ _ _ _ _ (not-false _ (c .before .before .before .before .before .if1 .left)) _ (c .before .before .before .before .shape .ensures) (not-false _ (c .before .before .before .if2 .left)) _ (c .before .before .letter-byte .ensures) _ (c .before .letter-due .ensures) (not-true _ (c .if3 .taken))
+returns-3 c = judged-letter _ _ _ _ _ (not-false _ (c .before .before .before .before .if1 .left)) _ (c .before .before .before .shape .ensures) (not-false _ (c .before .before .if2 .left)) _ (c .before .letter-due .ensures) (not-true _ (c .if3 .taken))
 
 fields-of-requires : tie.Need-fields-of-requires
-fields-of-requires c κs = sym (c .before .before .before .before .shape .ensures) ∙ not-false _ (c .before .before .before .if2 .left)
+fields-of-requires c κs = sym (c .before .before .before .shape .ensures) ∙ not-false _ (c .before .before .if2 .left)
 
 judge-requires : tie.Need-judge-requires
 judge-requires c κs = search needs
 
 returns-4 : tie.Need-returns-4
-returns-4 c = judged-rest _ _ _ _ _ (not-false _ (c .before .before .before .before .before .before .before .if1 .left)) _ (c .before .before .before .before .before .before .shape .ensures) (not-false _ (c .before .before .before .before .before .if2 .left)) _ (c .before .before .before .before .letter-byte .ensures) _ (c .before .before .before .letter-due .ensures) (not-false _ (c .before .before .if3 .left)) _ _ (c .before .fields-of .ensures) (c .before .before .before .before .before .before .before .before .before .before .before .pre) (c .judge .ensures)
+returns-4 c = judged-rest _ _ _ _ _ (not-false _ (c .before .before .before .before .before .before .if1 .left)) _ (c .before .before .before .before .before .shape .ensures) (not-false _ (c .before .before .before .before .if2 .left)) _ (c .before .before .before .letter-due .ensures) (not-false _ (c .before .before .if3 .left)) _ _ (c .before .fields-of .ensures) (c .before .before .before .before .before .before .before .before .before .before .pre) (c .judge .ensures)
 
 pub judge-line-spec : {M : Type 1} → statement M
 judge-line-spec =
@@ -41,7 +38,6 @@ judge-line-spec =
     returns
     shape-requires
     returns-2
-    letter-byte-requires
     letter-due-requires
     returns-3
     fields-of-requires

@@ -4,9 +4,9 @@ use borrow.Author.Needs.{needs}
 use mathlib.Core.List.{[], _∷_}
 use types.Run.{OneOf, miss}
 use denote.Enum.Declared.{tagOf}
-use Rattle.tables.proofs.Due.{the-type}
-use Rattle.tables.specs.declared.Due.{Due}
-use Rattle.tables.specs.declared.Due.the-variants.{Grammar, Symbol, Rule, RuleEdge, PlanLine, Graph, GraphEdge, Nothing}
+use Rattle.questions.proofs.Due.{the-type}
+use Rattle.questions.specs.declared.Due.{Due}
+use Rattle.questions.specs.declared.Due.the-variants.{Grammar, Symbol, Rule, RuleEdge, PlanLine, Graph, GraphEdge, Nothing}
 use Rattle.readers.specs.Readers.{missing}
 use Rattle.readers.proofs.missing_line.Statement.{statement}
 use Rattle.readers.proofs.missing_line.Tie as tie

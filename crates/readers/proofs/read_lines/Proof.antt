@@ -4,7 +4,7 @@ use Prim.Native.Nat.{_-_}
 use mathlib.Core.Path.{refl, sym, _∙_}
 use lib.ListN.{length}
 use borrow.Author.Needs.{needs}
-use Rattle.tables.proofs.CheckRun.{room-in}
+use Rattle.questions.proofs.WellFormedWalk.{room-in}
 use Rattle.readers.proofs.Turns.{passed-shape, reads-done, Reading, turn-no, turn-on, turn-less}
 use Rattle.readers.proofs.read_lines.Statement.{statement}
 use Rattle.readers.proofs.read_lines.Tie as tie

@@ -1,7 +1,7 @@
 -- A line that has passed has its place in the table.
 use mathlib.Core.Path.{_∙_}
 use borrow.Author.Needs.{needs}
-use Rattle.tables.proofs.CheckRun.{room-in}
+use Rattle.questions.proofs.WellFormedWalk.{room-in}
 use Rattle.readers.proofs.Turns.{stored-there}
 use Rattle.readers.proofs.store_line.Statement.{statement}
 use Rattle.readers.proofs.store_line.Tie as tie

@@ -3,7 +3,7 @@ use Prim.Native.Nat.{_-_}
 use mathlib.Core.Path.{refl, _∙_}
 use lib.ListN.{set, length-set}
 use borrow.Author.Needs.{needs}
-use Rattle.tables.specs.Abstract.{grammarOf}
+use Rattle.questions.specs.Abstract.{grammarOf}
 use Rattle.steps.proofs.RunLaws.{start-fits, started}
 use Rattle.steps.proofs.restart.Statement.{statement}
 use Rattle.steps.proofs.restart.Tie as tie

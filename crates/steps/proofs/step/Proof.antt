@@ -1,7 +1,7 @@
 -- The record is handled, and its consequences are added in their order.
 use Prim.Native.Nat.{_-_}
 use borrow.Author.Needs.{needs}
-use Rattle.tables.specs.Abstract.{grammarOf, graphOf}
+use Rattle.questions.specs.Abstract.{grammarOf, graphOf}
 use Rattle.steps.proofs.StepLaws.{marked-fits, root-fits, edges-fits, step-is}
 use Rattle.steps.proofs.step.Statement.{statement}
 use Rattle.steps.proofs.step.Tie as tie

@@ -3,7 +3,7 @@ use native.Mathlib.Omega.{arith}
 use Prim.Native.Nat.{_-_, _≤_}
 use mathlib.Core.Path.{_≡_, ap, _∙_}
 use borrow.Author.Needs.{needs}
-use Rattle.tables.specs.Layout.{rankAt, graphLabel, graphNode}
+use Rattle.questions.specs.Layout.{rankAt, graphLabel, graphNode}
 use Rattle.joins.proofs.MapLaws.{Placed, placed-none, placed-next}
 use Rattle.joins.proofs.NodeLists.{edge-all}
 use Rattle.joins.proofs.rules.edge_nodes.Statement.{statement}

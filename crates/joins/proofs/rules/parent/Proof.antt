@@ -3,7 +3,7 @@ use native.Mathlib.Omega.{arith}
 use Prim.Native.Nat.{_-_, _≤_}
 use mathlib.Core.Path.{sym, _∙_}
 use borrow.Author.Needs.{needs}
-use Rattle.tables.specs.Layout.{rulePlan}
+use Rattle.questions.specs.Layout.{rulePlan}
 use Rattle.joins.proofs.Known.{plan-few}
 use Rattle.joins.proofs.Parents.{NotBefore, parent-first, parent-next, parent-found, parent-none}
 use Rattle.joins.proofs.rules.parent.Statement.{statement}

@@ -5,7 +5,7 @@ use mathlib.Core.Path.{_≡_, ap, _∙_}
 use lib.ListN.{take}
 use borrow.Author.Needs.{needs}
 use Rattle.hrg.specs.Trees.{at}
-use Rattle.tables.specs.Layout.{rankAt, ruleNodes, ruleSymbol, ruleExternal}
+use Rattle.questions.specs.Layout.{rankAt, ruleNodes, ruleSymbol, ruleExternal}
 use Rattle.joins.proofs.MapLaws.{Placed, placed-none}
 use Rattle.joins.proofs.NodeLists.{external-few, image-next, image-all}
 use Rattle.joins.proofs.rules.root_nodes.Statement.{statement}

@@ -3,7 +3,7 @@ use Prim.Native.Nat.{_-_}
 use borrow.Author.Needs.{needs}
 use borrow.Author.Tests.{not-true, not-false}
 use Rattle.records.specs.Words.{recordAt}
-use Rattle.tables.specs.Abstract.{grammarOf, graphOf}
+use Rattle.questions.specs.Abstract.{grammarOf, graphOf}
 use Rattle.steps.proofs.PartnerLaws.{partner-none}
 use Rattle.steps.proofs.StepLaws.{pair-whole, added-fits, partner-added}
 use Rattle.steps.proofs.consequences.add_partner.Statement.{statement}

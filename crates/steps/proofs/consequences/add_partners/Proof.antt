@@ -4,7 +4,7 @@ use Prim.Native.Nat.{_-_, _≤_}
 use mathlib.Core.Path.{_≡_, refl, _∙_}
 use lib.ListN.{length}
 use borrow.Author.Needs.{needs}
-use Rattle.tables.specs.Abstract.{grammarOf, graphOf}
+use Rattle.questions.specs.Abstract.{grammarOf, graphOf}
 use Rattle.records.specs.Words.{recordAt}
 use Rattle.steps.specs.Partners.{withRecord}
 use Rattle.steps.proofs.StepLaws.{Gathered, record-whole, gathered-none, gathered-fits, gathered-all, partners-next}

@@ -6,8 +6,8 @@ use lib.ListN.{length}
 use borrow.Author.Needs.{needs}
 use Rattle.agenda.specs.Records.{itemOf}
 use Rattle.agenda.specs.Consequences.{withTerminal}
-use Rattle.tables.specs.Layout.{graphEdges}
-use Rattle.tables.specs.Abstract.{grammarOf, graphOf}
+use Rattle.questions.specs.Layout.{graphEdges}
+use Rattle.questions.specs.Abstract.{grammarOf, graphOf}
 use Rattle.joins.proofs.Known.{graph-size}
 use Rattle.steps.proofs.PartnerLaws.{terminal-added}
 use Rattle.steps.proofs.StepLaws.{Gathered, terminal-whole, gathered-none, gathered-fits, gathered-next, gathered-all}

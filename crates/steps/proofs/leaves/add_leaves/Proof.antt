@@ -4,8 +4,8 @@ use Prim.Native.Nat.{_-_, _≤_}
 use mathlib.Core.Path.{_≡_, refl, sym, ap, _∙_}
 use lib.ListN.{length}
 use borrow.Author.Needs.{needs}
-use Rattle.tables.specs.Layout.{ruleCount}
-use Rattle.tables.specs.Abstract.{grammarOf}
+use Rattle.questions.specs.Layout.{ruleCount}
+use Rattle.questions.specs.Abstract.{grammarOf}
 use Rattle.records.specs.Words.{grownBy}
 use Rattle.steps.specs.Leaves.{ruleLeaves}
 use Rattle.steps.proofs.LeafLoops.{Left, left-all, left-next, left-none, rule-whole, rule-number, leaves-all}

@@ -5,8 +5,8 @@ use mathlib.Core.Path.{_≡_, refl, _∙_}
 use lib.ListN.{length}
 use borrow.Author.Needs.{needs}
 use Rattle.hrg.specs.Grammars.{planOf}
-use Rattle.tables.specs.Layout.{rulePlan}
-use Rattle.tables.specs.Abstract.{grammarOf}
+use Rattle.questions.specs.Layout.{rulePlan}
+use Rattle.questions.specs.Abstract.{grammarOf}
 use Rattle.steps.specs.Leaves.{leafRecord}
 use Rattle.steps.proofs.LeafLoops.{Left, left-all, left-next, left-none, leaf-whole, rule-plan, leaves-rule}
 use Rattle.steps.proofs.leaves.add_rule.Statement.{statement}

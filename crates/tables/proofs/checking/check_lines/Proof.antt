@@ -3,8 +3,8 @@ use native.Mathlib.Omega.{arith}
 use mathlib.Core.Path.{_≡_, refl, sym}
 use lib.ListN.{length}
 use borrow.Author.Needs.{needs}
-use Rattle.tables.specs.Storing.{Room}
-use Rattle.tables.specs.Checking.{checkLines}
+use Rattle.questions.specs.Walk.{Room}
+use Rattle.questions.specs.Checking.{checkLines}
 use Rattle.tables.proofs.CheckRun.{none-left, turn-end, turn-no, turn-go, turn-room, conclude-yes, conclude-no}
 use Rattle.tables.proofs.checking.check_lines.Statement.{statement}
 use Rattle.tables.proofs.checking.check_lines.Tie as tie

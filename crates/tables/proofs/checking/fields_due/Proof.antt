@@ -3,8 +3,8 @@ use Prim.Native.Nat.{_+_}
 use native.Mathlib.Omega.{arith}
 use mathlib.Core.Path.{sym, ap, _∙_}
 use borrow.Author.Needs.{needs}
-use Rattle.tables.specs.Layout.{placeOf, rankAt}
-use Rattle.tables.specs.Checking.{fieldsDue}
+use Rattle.questions.specs.Layout.{placeOf, rankAt}
+use Rattle.questions.specs.Checking.{fieldsDue}
 use Rattle.tables.proofs.checking.fields_due.Statement.{statement}
 use Rattle.tables.proofs.checking.fields_due.Tie as tie
 

@@ -1,7 +1,7 @@
 -- The code's test is that of the order of lines.
 use borrow.Author.Tests.{lt-ltb, le-ltb}
 use borrow.Author.Needs.{needs}
-use Rattle.tables.specs.Reading.{next}
+use Rattle.questions.specs.Reading.{next}
 use Rattle.tables.proofs.layout.after_rule_edge.Statement.{statement}
 use Rattle.tables.proofs.layout.after_rule_edge.Tie as tie
 

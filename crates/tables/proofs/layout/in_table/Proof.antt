@@ -1,7 +1,7 @@
 -- Each arm is its clause of the definition.
 use mathlib.Core.Path.{sym, ap}
 use borrow.Author.Needs.{needs}
-use Rattle.tables.specs.Layout.{inTable}
+use Rattle.questions.specs.Layout.{inTable}
 use Rattle.tables.proofs.layout.in_table.Statement.{statement}
 use Rattle.tables.proofs.layout.in_table.Tie as tie
 

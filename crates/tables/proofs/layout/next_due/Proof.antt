@@ -3,8 +3,8 @@ use native.Mathlib.Omega.{arith}
 use mathlib.Core.Path.{_∙_}
 use borrow.Author.Tests.{not-true, not-false}
 use borrow.Author.Needs.{needs}
-use Rattle.tables.specs.Reading.{next}
-use Rattle.tables.specs.declared.Due.the-variants.{Nothing}
+use Rattle.questions.specs.Reading.{next}
+use Rattle.questions.specs.declared.Due.the-variants.{Nothing}
 use Rattle.tables.proofs.Words.{known, chosen, passed}
 use Rattle.tables.proofs.layout.next_due.Statement.{statement}
 use Rattle.tables.proofs.layout.next_due.Tie as tie

@@ -2,7 +2,7 @@
 use native.Mathlib.Omega.{arith}
 use borrow.Author.Tests.{not-true, not-false}
 use borrow.Author.Needs.{needs}
-use Rattle.tables.specs.Layout.{placeOf}
+use Rattle.questions.specs.Layout.{placeOf}
 use Rattle.tables.proofs.Words.{known, chosen, passed}
 use Rattle.tables.proofs.layout.place_of.Statement.{statement}
 use Rattle.tables.proofs.layout.place_of.Tie as tie

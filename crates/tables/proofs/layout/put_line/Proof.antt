@@ -5,7 +5,7 @@ use mathlib.Core.Path.{_≡_, refl}
 use lib.ListN.{length, length-set}
 use borrow.Author.Needs.{needs}
 use Rattle.tables.specs.Storing.{pasted}
-use Rattle.tables.specs.Layout.{block, fieldsIn}
+use Rattle.questions.specs.Layout.{block, fieldsIn}
 use Rattle.tables.proofs.Words.{paste-start, put-next, put-done}
 use Rattle.tables.proofs.layout.put_line.Statement.{statement}
 use Rattle.tables.proofs.layout.put_line.Tie as tie

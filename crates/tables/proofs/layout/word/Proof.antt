@@ -2,7 +2,7 @@
 use native.Mathlib.Omega.{arith}
 use mathlib.Core.Path.{refl}
 use borrow.Author.Needs.{needs}
-use Rattle.tables.specs.Layout.{word}
+use Rattle.questions.specs.Layout.{word}
 use Rattle.tables.proofs.Words.{word-past}
 use Rattle.tables.proofs.layout.word.Statement.{statement}
 use Rattle.tables.proofs.layout.word.Tie as tie

@@ -1,7 +1,7 @@
 -- The loop over listed nodes: the mask seen has each node passed, once (proofs/Listing).
 use Prim.Native.Nat.{_-_}
 use borrow.Author.Needs.{needs}
-use Rattle.tables.specs.Layout.{fieldsIn}
+use Rattle.questions.specs.Layout.{fieldsIn}
 use Rattle.tables.proofs.Listing.{Looked, look-none, look-all, look-out, look-twice, look-more}
 use Rattle.tables.proofs.marks.listed.Statement.{statement}
 use Rattle.tables.proofs.marks.listed.Tie as tie

@@ -4,7 +4,7 @@ use native.Mathlib.Omega.{arith}
 use mathlib.Core.Path.{_≡_}
 use borrow.Author.Needs.{needs}
 use Rattle.tables.specs.Marks.{marks}
-use Rattle.tables.specs.Questions.{nodesOnEdges}
+use Rattle.questions.specs.Questions.{nodesOnEdges}
 use Rattle.tables.proofs.Covering.{edges-none, edges-next, edges-done}
 use Rattle.tables.proofs.marks.mark_edges.Statement.{statement}
 use Rattle.tables.proofs.marks.mark_edges.Tie as tie

@@ -3,7 +3,7 @@ use Prim.Native.Nat.{_-_}
 use mathlib.Core.Path.{_≡_, refl}
 use lib.ListN.{drop}
 use borrow.Author.Needs.{needs}
-use Rattle.tables.specs.Layout.{fieldsIn}
+use Rattle.questions.specs.Layout.{fieldsIn}
 use Rattle.tables.specs.Marks.{marks}
 use Rattle.tables.proofs.Covering.{marks-next, marks-done}
 use Rattle.tables.proofs.marks.mark_fields.Statement.{statement}

@@ -4,7 +4,7 @@ use native.Mathlib.Omega.{arith}
 use mathlib.Core.Path.{_≡_}
 use borrow.Author.Needs.{needs}
 use Rattle.tables.specs.Marks.{marks}
-use Rattle.tables.specs.Questions.{nodesOnGraph}
+use Rattle.questions.specs.Questions.{nodesOnGraph}
 use Rattle.tables.proofs.Covering.{graph-none, graph-next, graph-done}
 use Rattle.tables.proofs.marks.mark_graph.Statement.{statement}
 use Rattle.tables.proofs.marks.mark_graph.Tie as tie

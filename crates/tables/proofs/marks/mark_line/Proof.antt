@@ -4,7 +4,7 @@ use mathlib.Core.Path.{_≡_, refl}
 use lib.ListN.{drop}
 use borrow.Author.Needs.{needs}
 use Rattle.hrg.specs.Counts.{tabulate}
-use Rattle.tables.specs.Layout.{word}
+use Rattle.questions.specs.Layout.{word}
 use Rattle.tables.specs.Marks.{marks}
 use Rattle.tables.proofs.Covering.{line-next, line-done}
 use Rattle.tables.proofs.marks.mark_line.Statement.{statement}

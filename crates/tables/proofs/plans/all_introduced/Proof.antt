@@ -5,7 +5,7 @@ use mathlib.Core.List.{_++_}
 use lib.Dec.{ltb}
 use borrow.Author.Needs.{needs}
 use Rattle.hrg.specs.Counts.{occurs}
-use Rattle.tables.specs.Questions.{introducedBefore, introducedBy}
+use Rattle.questions.specs.Questions.{introducedBefore, introducedBy}
 use Rattle.tables.proofs.Planning.{Passing, pass-none, pass-more, pass-all, pass-not}
 use Rattle.tables.proofs.plans.all_introduced.Statement.{statement}
 use Rattle.tables.proofs.plans.all_introduced.Tie as tie

@@ -4,7 +4,7 @@ use native.Mathlib.Omega.{arith}
 use mathlib.Core.Path.{_≡_}
 use borrow.Author.Needs.{needs}
 use Rattle.hrg.specs.Counts.{occurs}
-use Rattle.tables.specs.Questions.{childrenBefore}
+use Rattle.questions.specs.Questions.{childrenBefore}
 use Rattle.tables.proofs.Planning.{children-start, children-next, children-done}
 use Rattle.tables.proofs.plans.child_before.Statement.{statement}
 use Rattle.tables.proofs.plans.child_before.Tie as tie

@@ -4,7 +4,7 @@ use native.Mathlib.Omega.{arith}
 use mathlib.Core.Path.{_≡_}
 use borrow.Author.Needs.{needs}
 use Rattle.hrg.specs.Counts.{occurs}
-use Rattle.tables.specs.Questions.{introducedBefore}
+use Rattle.questions.specs.Questions.{introducedBefore}
 use Rattle.tables.proofs.Planning.{introduced-start, introduced-next, introduced-done}
 use Rattle.tables.proofs.plans.introduced_before.Statement.{statement}
 use Rattle.tables.proofs.plans.introduced_before.Tie as tie

@@ -1,0 +1,75 @@
+-- The answer at question 3 of a `P` line, and by its kind at the others (proofs/Asking).
+use Prim.Native.Nat.{_<_}
+use native.Mathlib.Omega.{arith}
+use borrow.Author.Tests.{le-leb, lt-leb}
+use borrow.Author.Needs.{needs}
+use Rattle.questions.specs.Questions.{judgePlan}
+use Rattle.tables.proofs.Planning.{leaf-ok}
+use Rattle.tables.proofs.judging.judge_plan.Statement.{statement}
+use Rattle.tables.proofs.judging.judge_plan.Tie as tie
+
+field-count-requires : tie.Need-field-count-requires
+field-count-requires c κs = search needs
+
+field-requires : tie.Need-field-requires
+field-requires c κs = search needs
+
+field-requires-2 : tie.Need-field-requires-2
+field-requires-2 c κs = search needs
+
+field-requires-3 : tie.Need-field-requires-3
+field-requires-3 c κs = search needs
+
+returns : tie.Need-returns
+unfolding judgePlan
+returns c = simp (← c .before .before .before .before .field-count .ensures .0, ← c .before .before .before .field .ensures, ← c .before .before .field2 .ensures, ← c .before .field3 .ensures, lt-leb _ _ (c .if1 .taken))
+
+judge-known-plan-requires : tie.Need-judge-known-plan-requires
+judge-known-plan-requires c κs = search needs
+
+introduce-so-far-requires : tie.Need-introduce-so-far-requires
+introduce-so-far-requires c κs = search needs
+
+judge-known-plan-requires-2 : tie.Need-judge-known-plan-requires-2
+judge-known-plan-requires-2 c κs = search needs
+
+join-so-far-requires : tie.Need-join-so-far-requires
+join-so-far-requires c κs = search needs
+
+judge-known-plan-requires-3 : tie.Need-judge-known-plan-requires-3
+judge-known-plan-requires-3 c κs = search needs
+
+returns-2 : tie.Need-returns-2
+unfolding judgePlan
+returns-2 c = simp (← c .before .before .before .before .before .before .field-count .ensures .0, ← c .before .before .before .before .before .field .ensures, ← c .before .before .before .before .field2 .ensures, ← c .before .before .before .field3 .ensures, le-leb _ _ (c .before .before .if1 .left), c .before .match .keys1, ← leaf-ok (c .before .before .before .before .before .before .before .before .args .g .now) (c .before .before .before .before .before .before .before .before .args .r) (c .before .before .before .before .before .before .before .before .args .q) (c .before .before .before .before .field2 .result) (c .before .before .before .field3 .result)) (c .judge-known-plan .ensures)
+
+returns-3 : tie.Need-returns-3
+unfolding judgePlan
+returns-3 c = simp (← c .before .before .before .before .before .before .before .field-count .ensures .0, ← c .before .before .before .before .before .before .field .ensures, ← c .before .before .before .before .before .field2 .ensures, ← c .before .before .before .before .field3 .ensures, le-leb _ _ (c .before .before .before .if1 .left), c .before .before .match .keys2, ← c .before .introduce-so-far .ensures) (c .judge-known-plan2 .ensures)
+
+returns-4 : tie.Need-returns-4
+unfolding judgePlan
+returns-4 c = simp (← c .before .before .before .before .before .before .before .field-count .ensures .0, ← c .before .before .before .before .before .before .field .ensures, ← c .before .before .before .before .before .field2 .ensures, ← c .before .before .before .before .field3 .ensures, le-leb _ _ (c .before .before .before .if1 .left), c .before .before .match .keys3, ← c .before .join-so-far .ensures) (c .judge-known-plan3 .ensures)
+
+returns-5 : tie.Need-returns-5
+unfolding judgePlan
+returns-5 c = let other : 2 < c .before .before .before .before .field .result = omega (arith, c .match .rest .0 .0 .1, c .match .rest .0 .1, c .match .rest .1) in simp (← c .before .before .before .before .before .field-count .ensures .0, ← c .before .before .before .before .field .ensures, ← c .before .before .before .field2 .ensures, ← c .before .before .field3 .ensures, le-leb _ _ (c .before .if1 .left), lt-leb _ _ other)
+
+pub judge-plan-spec : {M : Type 1} → statement M
+judge-plan-spec =
+    tie.close
+    (tie.spec
+    field-count-requires
+    field-requires
+    field-requires-2
+    field-requires-3
+    returns
+    judge-known-plan-requires
+    introduce-so-far-requires
+    judge-known-plan-requires-2
+    join-so-far-requires
+    judge-known-plan-requires-3
+    returns-2
+    returns-3
+    returns-4
+    returns-5)
