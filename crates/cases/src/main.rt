@@ -1,8 +1,10 @@
 // Reads the files that its arguments name, grammars (g..) and graphs (h..), and prints each one's refusal, or 0 and a checksum of its table; then tries
-// short and touched tables.
+// short and touched tables; then runs charts.
 ghost use Rattle.io.specs.Counts.{Counts};
 use libc::STDOUT_FILENO;
 use questions::Answer;
+
+mod charts;
 
 // ---- lent tables
 
@@ -282,6 +284,7 @@ fn main() {
     let files = run_files(&mut g, &mut s);
     let short = short_grammars(&mut g, &mut s);
     let graphs = graph_tables(&g, &mut s);
+    charts::print_all(&mut g);
     if files & short & graphs {
         io::write_all(STDOUT_FILENO, b"kept\n");
     } else {

@@ -5,7 +5,3 @@ pub mod Touching
 pub mod EdgeMaps
 pub mod MapLaws
 pub mod Combining
-pub mod Parents
-pub mod NodeLists
-pub mod RuleItems
-pub mod RuleAnswers

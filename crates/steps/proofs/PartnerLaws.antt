@@ -17,10 +17,10 @@ use Rattle.agenda.specs.Records.{recordOf, itemOf, isHandled, plus}
 use Rattle.agenda.specs.Consequences.{withTerminal, pair}
 use Rattle.questions.specs.Abstract.{grammarOf, graphOf}
 use Rattle.joins.specs.Joins.{Accepted}
-use Rattle.joins.specs.Rules.{madeOf, madeRecords, terminalItems}
-use Rattle.joins.specs.declared.rules.Made.{Made}
-use Rattle.joins.proofs.RuleItems.{with-terminal, pair-apart, pair-rules, pair-passive}
-use Rattle.joins.proofs.RuleAnswers.{pair-records, terminal-records}
+use Rattle.rules.specs.Rules.{madeOf, madeRecords, terminalItems}
+use Rattle.rules.specs.declared.Made.{Made}
+use Rattle.rules.proofs.RuleItems.{with-terminal, pair-apart, pair-rules, pair-passive}
+use Rattle.rules.proofs.RuleAnswers.{pair-records, terminal-records}
 use Rattle.records.specs.Words.{Fits, addedTo, grownBy, kindsFit, mayPair}
 use Rattle.records.proofs.Grown.{grown-none, grown-one}
 use Rattle.steps.specs.Partners.{withRecord}

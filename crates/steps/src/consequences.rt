@@ -8,12 +8,11 @@ ghost use Rattle.agenda.specs.Consequences.{gather, atRoot, withTerminal, pair}
 ghost use Rattle.questions.specs.Checking.{checkGrammar};
 ghost use Rattle.questions.specs.Abstract.{grammarOf, graphOf};
 ghost use Rattle.joins.specs.Joins.{Accepted};
-ghost use Rattle.joins.specs.Rules.{madeRecords};
+ghost use Rattle.rules.specs.Rules.{madeRecords};
 ghost use Rattle.records.specs.Words.{Fits, itemCount, recordAt, grownBy};
 ghost use Rattle.steps.specs.Partners.{withRecord};
 use agenda::Record;
-use joins::rules;
-use joins::rules::Made;
+use rules::Made;
 use tables::layout;
 
 // A sum that stays in a word.

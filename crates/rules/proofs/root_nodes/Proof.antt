@@ -1,0 +1,74 @@
+-- The places passed have the images of the external nodes, the others none.
+use native.Mathlib.Omega.{arith}
+use Prim.Native.Nat.{_-_, _≤_}
+use mathlib.Core.Path.{_≡_, ap, _∙_}
+use lib.ListN.{take}
+use borrow.Author.Needs.{needs}
+use Rattle.hrg.specs.Trees.{at}
+use Rattle.questions.specs.Layout.{rankAt, ruleNodes, ruleSymbol, ruleExternal}
+use Rattle.joins.proofs.MapLaws.{Placed, placed-none}
+use Rattle.rules.proofs.NodeLists.{external-few, image-next, image-all}
+use Rattle.rules.proofs.root_nodes.Statement.{statement}
+use Rattle.rules.proofs.root_nodes.Tie as tie
+
+abbrev Inv-loop : tie.InvT-loop
+Inv-loop g r f rank l₀ k₀ l k = (rank ≡ rankAt g (ruleSymbol g r)) × (k ≤ rankAt g (ruleSymbol g r)) × Placed (λ k. at (take (ruleNodes g r) f) (ruleExternal g r k)) k l
+
+abbrev μ-loop : tie.MeasureT-loop
+μ-loop g r f rank l₀ k₀ l k = rank - k
+
+rule-symbol-requires : tie.Need-rule-symbol-requires Inv-loop μ-loop
+rule-symbol-requires c κs = search needs
+
+rank-at-requires : tie.Need-rank-at-requires Inv-loop μ-loop
+rank-at-requires c κs = search needs
+
+loop-holds : tie.Need-loop-holds Inv-loop μ-loop
+loop-holds c = (c .rank-at .ensures .0 ∙ ap (rankAt (c .before .before .before .args .g .now)) (c .before .rule-symbol .ensures), omega arith, placed-none _)
+
+rule-external-requires : tie.Need-rule-external-requires Inv-loop μ-loop
+rule-external-requires c κs = search needs
+
+mul-l : tie.Need-mul-l Inv-loop μ-loop
+mul-l c = omega (arith, external-few _ _ (c .before .before .before .before .before .before .pre .0) (c .before .before .before .before .before .before .pre .1) _ _ (omega (arith, c .before .before .loop .inv .0, c .before .loop-test .taken)) (c .rule-external .ensures))
+
+array-read-l : tie.Need-array-read-l Inv-loop μ-loop
+array-read-l c = omega (arith, external-few _ _ (c .before .before .before .before .before .before .pre .0) (c .before .before .before .before .before .before .pre .1) _ _ (omega (arith, c .before .before .loop .inv .0, c .before .loop-test .taken)) (c .rule-external .ensures))
+
+mul-l-2 : tie.Need-mul-l-2 Inv-loop μ-loop
+mul-l-2 c = omega (arith, c .before .before .before .rank-at .ensures .1)
+
+array-write-l : tie.Need-array-write-l Inv-loop μ-loop
+array-write-l c = omega (arith, c .before .before .before .rank-at .ensures .1)
+
+add-k : tie.Need-add-k Inv-loop μ-loop
+add-k c = search needs
+
+loop-less : tie.Need-loop-less Inv-loop μ-loop
+loop-less c = omega arith
+
+loop-again : tie.Need-loop-again Inv-loop μ-loop
+loop-again c =
+    (c .before .before .loop .inv .0, omega (arith, c .before .before .loop .inv .0, c .before .loop-test .taken), image-next _ _ (c .before .before .before .before .before .before .pre .0) (c .before .before .before .before .before .before .pre .1) _ (search needs) _ _ _ (omega (arith, c .before .before .loop .inv .0, c .before .loop-test .taken)) (omega arith) (c .rule-external .ensures) (c .before .before .loop .inv .2))
+
+returns : tie.Need-returns Inv-loop μ-loop
+returns c = image-all _ _ (c .before .before .before .before .before .pre .0) (c .before .before .before .before .before .pre .1) _ (search needs) _ _ (c .before .loop .inv .1) (omega (arith, c .before .loop .inv .0, c .loop-test .left)) (c .before .loop .inv .2)
+
+pub root-nodes-spec : {M : Type 1} → statement M
+root-nodes-spec =
+    tie.close
+    (tie.spec
+    Inv-loop
+    μ-loop
+    rule-symbol-requires
+    rank-at-requires
+    loop-holds
+    rule-external-requires
+    mul-l
+    array-read-l
+    mul-l-2
+    array-write-l
+    add-k
+    loop-less
+    loop-again
+    returns)
