@@ -50,7 +50,7 @@ fn is_child(g: &[u64], r: u64, q: u64, p: u64) -> bool
 }
 
 // The plan node that p is a child of; the number of plan nodes where there is none. In a chain it is the next one.
-pub fn parent(g: &[u64], r: u64, p: u64) -> u64
+fn parent(g: &[u64], r: u64, p: u64) -> u64
     requires { ⌜ KnownNode (now g) r p ⌝ }
     ensures { λ q. ⌜ ParentOf (now (g .entry)) r p q ⌝ }
 {
@@ -109,7 +109,7 @@ pub fn root_nodes(g: &[u64], r: u64, f: [u64; 8]) -> [u64; 8]
 }
 
 // The nodes of graph edge e.
-pub fn edge_nodes(g: &[u64], h: &[u64], e: u64) -> [u64; 8]
+fn edge_nodes(g: &[u64], h: &[u64], e: u64) -> [u64; 8]
     requires { ⌜ Accepted (now g) (now h) × (e < graphEdges (now h)) ⌝ }
     ensures { λ x. ⌜ x ≡ padded (edgeAt (graphOf (now (g .entry)) (now (h .entry)) .edges) e .attachment) ⌝ }
 {

@@ -50,7 +50,7 @@ fn add_rule(g: &[u64], chart: &mut [u64], r: u64)
 }
 
 // The leaf items of all rules, from the last rule on.
-pub fn add_leaves(g: &[u64], chart: &mut [u64])
+pub(crate) fn add_leaves(g: &[u64], chart: &mut [u64])
     requires { ⌜ (checkGrammar (now g) ≡ true) × Fits (now chart) ⌝ }
     ensures { λ x. ⌜ now (chart .exit) ≡ grownBy (now (chart .entry)) (leafRecords (grammarOf (now (g .entry)))) ⌝ }
 {

@@ -12,7 +12,7 @@ ghost use Rattle.steps.specs.Runs.{nextIn};
 use agenda::Found;
 
 mod consequences;
-pub mod leaves;
+mod leaves;
 
 // The chart made anew: only the leaf items are present.
 pub fn restart(g: &[u64], chart: &mut [u64])
