@@ -1,4 +1,9 @@
 // The chart: question 8, start and run.
+ghost use mathlib.Core.Path.{_≡_};
+ghost use Rattle.records.specs.Words.{chartOf};
+ghost use Rattle.chart.specs.Calls.{fit, answerOf};
+use agenda::Found;
+
 // What start and run answer: the tables or the chart are refused (8), the chart does not hold the closure (9), items wait after the steps done since start (10),
 // or all are handled after so many steps.
 pub enum Outcome {
@@ -6,4 +11,32 @@ pub enum Outcome {
     TooSmall,
     Unfinished(u64),
     Done(u64),
+}
+
+// Question 8 before a start: does the chart hold 1 to 4,096 items, and could texts have filled the tables?
+fn is_fit(grammar: &[u64], graph: &[u64], chart: &[u64]) -> bool
+    ensures { λ r. ⌜ r ≡ fit (now (grammar .entry)) (now (graph .entry)) (now (chart .entry)) ⌝ }
+{
+    if !validity::holds(chart) {
+        return false;
+    }
+    if !tables::checking::check_grammar(grammar) {
+        return false;
+    }
+    tables::checking::check_graph(grammar, graph)
+}
+
+// Questions 9 and 10, by what stands in the chart.
+fn outcome_of(chart: &[u64]) -> Outcome
+    ensures { λ r. ⌜ r ≡ answerOf (chartOf (now (chart .entry))) ⌝ }
+{
+    if records::mark_of(chart) != 0 {
+        return Outcome::TooSmall;
+    }
+    let n = records::item_count(chart);
+    let done = records::handled_steps(chart, n);
+    match records::least(chart, n) {
+        Found::Nowhere => Outcome::Done(done),
+        Found::At(_) => Outcome::Unfinished(done),
+    }
 }
