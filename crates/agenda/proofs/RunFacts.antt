@@ -135,17 +135,21 @@ module _ (G : Grammar) (H : Graph) (ok : GrammarOk G) (hok : GraphOk G H) where
           );
         }
 
-    -- once as many steps are given as there are places, none waits
-    reached-full : cap ≤ n → (j : ℕ) → j < length rs → isHandled (recordIn rs j) ≡ false → ⊥
-    reached-full c j l w = go (decLe (closureSize G H ok hok) n)
+    -- while one waits, the closure has more items than steps were given
+    reached-more : (j : ℕ) → j < length rs → isHandled (recordIn rs j) ≡ false → n < closureSize G H ok hok
+    reached-more j l w = go (decLe (closureSize G H ok hok) n)
       where
-        go : Dec (closureSize G H ok hok ≤ n) → ⊥
+        go : Dec (closureSize G H ok hok ≤ n) → n < closureSize G H ok hok
         go (yes h) =
             let o = r .shows .waiting .entry j l w in
-            in-nil (subst (λ (ws : List (Entry Item)). In (o .0) ws) (run-finishes G H ok hok (r .starts) (r .run) h) (o .1))
-        go (no g) =
-            let z = closure-finite G H ok hok in
-            omega (arith, reached-correct .steps (z .0) (z .1), closure-size G H ok hok (z .0) (z .1), unhandled-less rs j l w, r .held)
+            absurd (in-nil (subst (λ (ws : List (Entry Item)). In (o .0) ws) (run-finishes G H ok hok (r .starts) (r .run) h) (o .1)))
+        go (no g) = omega arith
+
+    -- once as many steps are given as there are places, none waits
+    reached-full : cap ≤ n → (j : ℕ) → j < length rs → isHandled (recordIn rs j) ≡ false → ⊥
+    reached-full c j l w =
+        let z = closure-finite G H ok hok in
+        omega (arith, reached-more j l w, reached-correct .steps (z .0) (z .1), closure-size G H ok hok (z .0) (z .1), unhandled-less rs j l w, r .held)
 
     -- ---- what partners spell
     entry-spelt : (k : ℕ) (e : Entry Item) → In e (hs ++ r .state .waiting) → EntryOf G H rs (recordIn rs k) e → Spelt G H rs k
@@ -197,6 +201,14 @@ module _ (G : Grammar) (H : Graph) (ok : GrammarOk G) (hok : GraphOk G H) where
         go : (f : Found) → Chosen (c .records) (length (c .records)) f → f ≡ Nowhere
         go Nowhere (nothing h) = refl
         go (At j) (waits i w h) = absurd (reached-full (runs-reached m) l j i w)
+
+    -- while something waits, the closure has more items than steps were given
+    pub waiting-more : c .mark ≡ 0 → leastWaiting (c .records) (length (c .records)) ≢ Nowhere → (is : List Item) → Closure (closure G H) is → sumOf ks < length is
+    waiting-more m x is d = go (leastWaiting (c .records) (length (c .records))) (chosen (c .records) (length (c .records))) x
+      where
+        go : (f : Found) → Chosen (c .records) (length (c .records)) f → f ≢ Nowhere → sumOf ks < length is
+        go Nowhere (nothing h) q = absurd (q refl)
+        go (At j) (waits l w h) q = omega (arith, reached-more (runs-reached m) j l w, closure-size G H ok hok is d)
 
     -- where nothing waits, the steps done are the closure's size
     pub done-size : c .mark ≡ 0 → leastWaiting (c .records) (length (c .records)) ≡ Nowhere → (is : List Item) → Closure (closure G H) is → handledCount (c .records) ≡ length is

@@ -81,23 +81,29 @@ unfolding fit holds
 fit-same g h v w e = ap (λ n. (leb 1 n && leb n 4096) && (checkGrammar g && checkGraph g h)) e
 
 -- ---- the two ways of a call
+cond-yes : {A : Type 0} (b : Bool) (x y : A) → b ≡ true → cond b x y ≡ x
+cond-yes b x y e = rw e
+
+cond-no : {A : Type 0} (b : Bool) (x y : A) → b ≡ false → cond b x y ≡ y
+cond-no b x y e = rw e
+
 module _ (g h w : List ℕ) where
   pub start-is : fit g h w ≡ true → startOf g h w ≡ called (startAnswer (afterStart g w)) w (afterStart g w)
   unfolding startOf
-  start-is e = ap (λ (b : Bool). cond b (called (startAnswer (afterStart g w)) w (afterStart g w)) (refused w)) e
+  start-is e = cond-yes (fit g h w) _ _ e
 
   pub start-not : fit g h w ≡ false → startOf g h w ≡ refused w
   unfolding startOf
-  start-not e = ap (λ (b : Bool). cond b (called (startAnswer (afterStart g w)) w (afterStart g w)) (refused w)) e
+  start-not e = cond-no (fit g h w) _ _ e
 
   module _ (k : ℕ) where
     pub run-is : fitChart g h w ≡ true → runOf g h w k ≡ called (answerOf (afterRun g h w k)) w (afterRun g h w k)
     unfolding runOf
-    run-is e = ap (λ (b : Bool). cond b (called (answerOf (afterRun g h w k)) w (afterRun g h w k)) (refused w)) e
+    run-is e = cond-yes (fitChart g h w) _ _ e
 
     pub run-not : fitChart g h w ≡ false → runOf g h w k ≡ refused w
     unfolding runOf
-    run-not e = ap (λ (b : Bool). cond b (called (answerOf (afterRun g h w k)) w (afterRun g h w k)) (refused w)) e
+    run-not e = cond-no (fitChart g h w) _ _ e
 
 -- ---- 8
 -- an answer of 8 comes with the words as they were

@@ -10,7 +10,7 @@ use Rattle.hrg.specs.WellFormed.{GrammarOk, GraphOk}
 use Rattle.agenda.specs.declared.Found.{Found}
 use Rattle.agenda.specs.Steps.{Chart, runChart, runsChart, startChart, handledCount, sumOf}
 use Rattle.agenda.proofs.Runs.{runs-last, sum-last, start-none}
-use Rattle.agenda.proofs.RunFacts.{runs-correct, marked-small, full-run, done-size, steps-most, start-waits}
+use Rattle.agenda.proofs.RunFacts.{runs-correct, marked-small, full-run, waiting-more, done-size, steps-most, start-waits}
 use Rattle.questions.specs.Abstract.{grammarOf, graphOf}
 use Rattle.records.specs.Words.{capacity, chartOf, written}
 use Rattle.records.proofs.Written.{chart-of-written, capacity-written}
@@ -113,6 +113,7 @@ module _ (g h w : List ℕ) (e : fit g h w ≡ true) where
           right = λ n. runs-correct (grammarOf g) (graphOf g h) ok good (capacity w) most ks c is (answer-other c n);
           steps = λ n. answer-steps c (answer-other c n);
           done = λ n all d. let (m, f) = answer-done c n in answer-steps c m ∙ done-size (grammarOf g) (graphOf g h) ok good (capacity w) most ks c is m f all d;
+          more = λ n. let (m, f) = answer-ten c n in waiting-more (grammarOf g) (graphOf g h) ok good (capacity w) most ks c is m f;
           never = λ l n. let (m, f) = answer-ten c n in f (full-run (grammarOf g) (graphOf g h) ok good (capacity w) most ks c is l m);
         }
 

@@ -25,8 +25,9 @@ pub record RunRight (G : Grammar) (H : Graph) (cap k : ℕ) (a : Outcome) (c : C
   -- else every handled item is true with its fewest count, in order, and the steps reported are those done: as many as were given or as the closure has
   pub right : (numberOf a ≡ 9 → ⊥) → ChartCorrect G H k (c .records)
   pub steps : (numberOf a ≡ 9 → ⊥) → stepsOf a ≡ handledCount (c .records)
-  -- done only with all of the closure, and not 10 once as many steps are given as the chart holds items
+  -- done only with all of the closure, 10 only while it has more items than the steps given, and never once these are as many as the chart holds items
   pub done : numberOf a ≡ 0 → (is : List Item) → Closure (closure G H) is → stepsOf a ≡ length is
+  pub more : numberOf a ≡ 10 → (is : List Item) → Closure (closure G H) is → k < length is
   pub never : cap ≤ k → numberOf a ≡ 10 → ⊥
 
 -- A run of k steps on the words w that answered a and left v: what holds of the program's own choices where w are the words that a start and the runs ks left.

@@ -1,7 +1,8 @@
-// The chart: question 8, start and run.
+// The chart: start and run on lent memory.
 ghost use mathlib.Core.Path.{_≡_};
 ghost use Rattle.records.specs.Words.{chartOf};
-ghost use Rattle.chart.specs.Calls.{fit, answerOf};
+ghost use Rattle.chart.specs.Calls.{fit, answerOf, startOf, runOf};
+ghost use Rattle.chart.specs.Facts.{RunChoices};
 use agenda::Found;
 
 // What start and run answer: the tables or the chart are refused (8), the chart does not hold the closure (9), items wait after the steps done since start (10),
@@ -26,6 +27,20 @@ fn is_fit(grammar: &[u64], graph: &[u64], chart: &[u64]) -> bool
     tables::checking::check_graph(grammar, graph)
 }
 
+// Makes the leaf items present, and nothing else. Of the chart it looks only at the size.
+pub fn start(grammar: &[u64], graph: &[u64], chart: &mut [u64]) -> Outcome
+    ensures { λ r. ⌜ (r ≡ startOf (now (grammar .entry)) (now (graph .entry)) (now (chart .entry)) .answer) × (now (chart .exit) ≡ startOf (now (grammar .entry)) (now (graph .entry)) (now (chart .entry)) .words) ⌝ }
+{
+    if !is_fit(grammar, graph, chart) {
+        return Outcome::Unfit;
+    }
+    steps::restart(grammar, chart);
+    if records::mark_of(chart) != 0 {
+        return Outcome::TooSmall;
+    }
+    Outcome::Done(0)
+}
+
 // Questions 9 and 10, by what stands in the chart.
 fn outcome_of(chart: &[u64]) -> Outcome
     ensures { λ r. ⌜ r ≡ answerOf (chartOf (now (chart .entry))) ⌝ }
@@ -39,4 +54,18 @@ fn outcome_of(chart: &[u64]) -> Outcome
         Found::Nowhere => Outcome::Done(done),
         Found::At(_) => Outcome::Unfinished(done),
     }
+}
+
+// Does the steps given, or as many as are left.
+pub fn run(grammar: &[u64], graph: &[u64], chart: &mut [u64], steps: u64) -> Outcome
+    ensures { λ r. ⌜ (r ≡ runOf (now (grammar .entry)) (now (graph .entry)) (now (chart .entry)) steps .answer) × (now (chart .exit) ≡ runOf (now (grammar .entry)) (now (graph .entry)) (now (chart .entry)) steps .words) × RunChoices (now (grammar .entry)) (now (graph .entry)) (now (chart .entry)) steps r (now (chart .exit)) ⌝ }
+{
+    if !is_fit(grammar, graph, chart) {
+        return Outcome::Unfit;
+    }
+    if !validity::known(grammar, graph, chart) {
+        return Outcome::Unfit;
+    }
+    steps::advance(grammar, graph, chart, steps);
+    outcome_of(chart)
 }

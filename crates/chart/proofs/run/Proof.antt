@@ -1,0 +1,63 @@
+-- A law for each answer.
+use Prim.Native.Nat.{_-_}
+use mathlib.Core.Path.{refl}
+use borrow.Author.Needs.{needs}
+use borrow.Author.Tests.{not-true, not-false}
+use Rattle.chart.proofs.CallSteps.{fit-accepted, fit-known, run-refuses, run-unknown, run-ran}
+use Rattle.chart.proofs.run.Statement.{statement}
+use Rattle.chart.proofs.run.Tie as tie
+
+is-fit-requires : tie.Need-is-fit-requires
+is-fit-requires c κs = search needs
+
+same-length : tie.Need-same-length
+same-length c = refl
+
+returns : tie.Need-returns
+returns c =
+    let s = @args in
+    run-refuses (s .grammar .now) (s .graph .now) (s .chart .now) (s .steps) _ (@is-fit .ensures) (not-true _ (@if1 .taken))
+
+known-requires : tie.Need-known-requires
+known-requires c κs =
+    let s = @args in
+    fit-accepted (s .grammar .now) (s .graph .now) (s .chart .now) _ (@is-fit .ensures) (not-false _ (@if1 .left))
+
+same-length-2 : tie.Need-same-length-2
+same-length-2 c = refl
+
+returns-2 : tie.Need-returns-2
+returns-2 c =
+    let s = @args in
+    run-unknown (s .grammar .now) (s .graph .now) (s .chart .now) (s .steps) _ (@is-fit .ensures) (not-false _ (@if1 .left)) _ (@known .ensures) (not-true _ (@if2 .taken))
+
+advance-requires : tie.Need-advance-requires
+advance-requires c κs =
+    let s = @args in
+    (fit-accepted (s .grammar .now) (s .graph .now) (s .chart .now) _ (@is-fit .ensures) (not-false _ (@if1 .left)), fit-known (s .grammar .now) (s .graph .now) (s .chart .now) _ (@is-fit .ensures) (not-false _ (@if1 .left)) _ (@known .ensures) (not-false _ (@if2 .left)))
+
+outcome-of-requires : tie.Need-outcome-of-requires
+outcome-of-requires c κs = search needs
+
+same-length-3 : tie.Need-same-length-3
+same-length-3 c = @advance .kept .1 .1 .0
+
+returns-3 : tie.Need-returns-3
+returns-3 c =
+    let s = @args in
+    run-ran (s .grammar .now) (s .graph .now) (s .chart .now) (s .steps) _ (@is-fit .ensures) (not-false _ (@if1 .left)) _ (@known .ensures) _ _ (not-false _ (@if2 .left)) (@advance .ensures) (@outcome-of .ensures)
+
+pub run-spec : {M : Type 1} → statement M
+run-spec =
+    tie.close
+    (tie.spec
+    is-fit-requires
+    same-length
+    returns
+    known-requires
+    same-length-2
+    returns-2
+    advance-requires
+    outcome-of-requires
+    same-length-3
+    returns-3)
