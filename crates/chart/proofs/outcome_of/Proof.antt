@@ -2,7 +2,8 @@
 use Prim.Native.Nat.{_-_}
 use mathlib.Core.Path.{_≡_, sym, ap}
 use borrow.Author.Needs.{needs}
-use Rattle.agenda.specs.declared.Found.the-variants.{At, Nowhere}
+use Rattle.agenda.specs.declared.Found.{Found}
+use Rattle.agenda.specs.declared.Found.the-variants.{Nowhere}
 use Rattle.chart.specs.Calls.{whenWaiting}
 use Rattle.chart.proofs.CallSteps.{outcome-small, outcome-by}
 use Rattle.chart.proofs.outcome_of.Statement.{statement}
@@ -39,7 +40,7 @@ returns-2 c =
 returns-3 : tie.Need-returns-3
 returns-3 c =
     let s = c .before .before .before .before .before .before .before .before .args in
-    outcome-by (s .chart .now) _ (c .before .before .before .before .before .before .mark-of .ensures) (c .before .before .before .before .item-count .result) (c .before .before .before .handled-steps .result) (c .before .before .least .result) _ (c .before .before .before .before .before .if1 .left) (c .before .before .before .before .item-count .ensures) (c .before .before .before .handled-steps .ensures) (c .before .before .least .ensures) (ap (whenWaiting (c .before .before .before .handled-steps .result)) (let p : At _ ≡ c .before .before .least .result = cc in p))
+    outcome-by (s .chart .now) _ (c .before .before .before .before .before .before .mark-of .ensures) (c .before .before .before .before .item-count .result) (c .before .before .before .handled-steps .result) (c .before .before .least .result) _ (c .before .before .before .before .before .if1 .left) (c .before .before .before .before .item-count .ensures) (c .before .before .before .handled-steps .ensures) (c .before .before .least .ensures) (sym (ap (λ (f : Found). whenWaiting (c .before .before .before .handled-steps .result) f) (c .enum-told2 .given .1)))
 
 pub outcome-of-spec : {M : Type 1} → statement M
 outcome-of-spec =

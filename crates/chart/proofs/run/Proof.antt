@@ -15,37 +15,37 @@ same-length c = refl
 
 returns : tie.Need-returns
 returns c =
-    let s = @args in
-    run-refuses (s .grammar .now) (s .graph .now) (s .chart .now) (s .steps) _ (@is-fit .ensures) (not-true _ (@if1 .taken))
+    let s = c .before .before .before .before .before .before .args in
+    run-refuses (s .grammar .now) (s .graph .now) (s .chart .now) (s .steps) _ (c .before .is-fit .ensures) (not-true _ (c .if1 .taken))
 
 known-requires : tie.Need-known-requires
 known-requires c κs =
-    let s = @args in
-    fit-accepted (s .grammar .now) (s .graph .now) (s .chart .now) _ (@is-fit .ensures) (not-false _ (@if1 .left))
+    let s = c .before .before .before .before .before .before .before .args in
+    fit-accepted (s .grammar .now) (s .graph .now) (s .chart .now) _ (c .before .before .is-fit .ensures) (not-false _ (c .before .if1 .left))
 
 same-length-2 : tie.Need-same-length-2
 same-length-2 c = refl
 
 returns-2 : tie.Need-returns-2
 returns-2 c =
-    let s = @args in
-    run-unknown (s .grammar .now) (s .graph .now) (s .chart .now) (s .steps) _ (@is-fit .ensures) (not-false _ (@if1 .left)) _ (@known .ensures) (not-true _ (@if2 .taken))
+    let s = c .before .before .before .before .before .before .before .before .before .args in
+    run-unknown (s .grammar .now) (s .graph .now) (s .chart .now) (s .steps) _ (c .before .before .before .before .is-fit .ensures) (not-false _ (c .before .before .before .if1 .left)) _ (c .before .known .ensures) (not-true _ (c .if2 .taken))
 
 advance-requires : tie.Need-advance-requires
 advance-requires c κs =
-    let s = @args in
-    (fit-accepted (s .grammar .now) (s .graph .now) (s .chart .now) _ (@is-fit .ensures) (not-false _ (@if1 .left)), fit-known (s .grammar .now) (s .graph .now) (s .chart .now) _ (@is-fit .ensures) (not-false _ (@if1 .left)) _ (@known .ensures) (not-false _ (@if2 .left)))
+    let s = c .before .before .before .before .before .before .before .before .before .before .args in
+    (fit-accepted (s .grammar .now) (s .graph .now) (s .chart .now) _ (c .before .before .before .before .before .is-fit .ensures) (not-false _ (c .before .before .before .before .if1 .left)), fit-known (s .grammar .now) (s .graph .now) (s .chart .now) _ (c .before .before .before .before .before .is-fit .ensures) (not-false _ (c .before .before .before .before .if1 .left)) _ (c .before .before .known .ensures) (not-false _ (c .before .if2 .left)))
 
 outcome-of-requires : tie.Need-outcome-of-requires
 outcome-of-requires c κs = search needs
 
 same-length-3 : tie.Need-same-length-3
-same-length-3 c = @advance .kept .1 .1 .0
+same-length-3 c = c .before .before .before .before .advance .kept .1 .1 .0
 
 returns-3 : tie.Need-returns-3
 returns-3 c =
-    let s = @args in
-    run-ran (s .grammar .now) (s .graph .now) (s .chart .now) (s .steps) _ (@is-fit .ensures) (not-false _ (@if1 .left)) _ (@known .ensures) _ _ (not-false _ (@if2 .left)) (@advance .ensures) (@outcome-of .ensures)
+    let s = c .before .before .before .before .before .before .before .before .before .before .before .before .before .before .before .args in
+    run-ran (s .grammar .now) (s .graph .now) (s .chart .now) (s .steps) _ (c .before .before .before .before .before .before .before .before .before .before .is-fit .ensures) (not-false _ (c .before .before .before .before .before .before .before .before .before .if1 .left)) _ (c .before .before .before .before .before .before .before .known .ensures) _ _ (not-false _ (c .before .before .before .before .before .before .if2 .left)) (c .before .before .before .before .advance .ensures) (c .outcome-of .ensures)
 
 pub run-spec : {M : Type 1} → statement M
 run-spec =

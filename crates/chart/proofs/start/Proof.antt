@@ -15,32 +15,32 @@ same-length c = refl
 
 returns : tie.Need-returns
 returns c =
-    let s = @args in
-    start-refuses (s .grammar .now) (s .graph .now) (s .chart .now) _ (@is-fit .ensures) (not-true _ (@if1 .taken))
+    let s = c .before .before .before .before .before .before .args in
+    start-refuses (s .grammar .now) (s .graph .now) (s .chart .now) _ (c .before .is-fit .ensures) (not-true _ (c .if1 .taken))
 
 restart-requires : tie.Need-restart-requires
 restart-requires c κs =
-    let s = @args in
-    (fit-accepted (s .grammar .now) (s .graph .now) (s .chart .now) _ (@is-fit .ensures) (not-false _ (@if1 .left)) .grammar, fit-header (s .grammar .now) (s .graph .now) (s .chart .now) _ (@is-fit .ensures) (not-false _ (@if1 .left)))
+    let s = c .before .before .before .before .before .before .before .args in
+    (fit-accepted (s .grammar .now) (s .graph .now) (s .chart .now) _ (c .before .before .is-fit .ensures) (not-false _ (c .before .if1 .left)) .grammar, fit-header (s .grammar .now) (s .graph .now) (s .chart .now) _ (c .before .before .is-fit .ensures) (not-false _ (c .before .if1 .left)))
 
 mark-of-requires : tie.Need-mark-of-requires
 mark-of-requires c κs = search needs
 
 same-length-2 : tie.Need-same-length-2
-same-length-2 c = @restart .kept .1 .0
+same-length-2 c = c .before .before .before .before .before .restart .kept .1 .0
 
 returns-2 : tie.Need-returns-2
 returns-2 c =
-    let s = @args in
-    start-small (s .grammar .now) (s .graph .now) (s .chart .now) _ (@is-fit .ensures) (not-false _ (@if1 .left)) _ (@restart .ensures) _ (@mark-of .ensures) (@if2 .taken)
+    let s = c .before .before .before .before .before .before .before .before .before .before .before .before .before .args in
+    start-small (s .grammar .now) (s .graph .now) (s .chart .now) _ (c .before .before .before .before .before .before .before .before .is-fit .ensures) (not-false _ (c .before .before .before .before .before .before .before .if1 .left)) _ (c .before .before .before .before .before .restart .ensures) _ (c .before .mark-of .ensures) (c .if2 .taken)
 
 same-length-3 : tie.Need-same-length-3
-same-length-3 c = @restart .kept .1 .0
+same-length-3 c = c .before .before .before .before .before .restart .kept .1 .0
 
 returns-3 : tie.Need-returns-3
 returns-3 c =
-    let s = @args in
-    start-done (s .grammar .now) (s .graph .now) (s .chart .now) _ (@is-fit .ensures) (not-false _ (@if1 .left)) _ (@restart .ensures) _ (@mark-of .ensures) (@if2 .left)
+    let s = c .before .before .before .before .before .before .before .before .before .before .before .before .before .args in
+    start-done (s .grammar .now) (s .graph .now) (s .chart .now) _ (c .before .before .before .before .before .before .before .before .is-fit .ensures) (not-false _ (c .before .before .before .before .before .before .before .if1 .left)) _ (c .before .before .before .before .before .restart .ensures) _ (c .before .mark-of .ensures) (c .if2 .left)
 
 pub start-spec : {M : Type 1} → statement M
 start-spec =
