@@ -117,14 +117,18 @@ fn no_steps(g: &[u64], h: &[u64]) {
 
 // ---- question 8: touched charts
 
+fn put(t: &mut [u64], at: usize, value: u64) {
+    if at < t.len() {
+        t[at] = value;
+    }
+}
+
 // K2's finished chart with another word at a place: no steps.
 fn touched_case(g: &[u64], h: &[u64], done: &[u64], at: usize, value: u64) {
     let mut items = [0u64; 162];
     let mut before = [0u64; 162];
     crate::copy(done, &mut items);
-    if at < items.len() {
-        items[at] = value;
-    }
+    put(&mut items, at, value);
     crate::copy(&items, &mut before);
     io::write_all(STDOUT_FILENO, b"touched-chart");
     print_number(at as u64);
@@ -133,21 +137,30 @@ fn touched_case(g: &[u64], h: &[u64], done: &[u64], at: usize, value: u64) {
     print_kept(&before, &items);
 }
 
-// In item 0, a leaf's: kind, rule, plan node, edges, count, handled word and a node; the number of items and the mark; the first partner of item 2.
+// In item 0, a leaf's: kind, rule, plan node, edges and a node.
+fn touched_items(g: &[u64], h: &[u64], done: &[u64]) {
+    touched_case(g, h, done, 2, 2);
+    touched_case(g, h, done, 3, 2);
+    touched_case(g, h, done, 4, 3);
+    touched_case(g, h, done, 5, 4);
+    touched_case(g, h, done, 8, 3);
+}
+
+// The first partner of item 2, the number of items; then what is not asked: count and handled word of item 0, and the mark.
+fn touched_words(g: &[u64], h: &[u64], done: &[u64]) {
+    touched_case(g, h, done, 48, 10);
+    touched_case(g, h, done, 0, 11);
+    touched_case(g, h, done, 6, 99);
+    touched_case(g, h, done, 7, 0);
+    touched_case(g, h, done, 1, 5);
+}
+
 fn touched_charts(g: &[u64], h: &[u64]) {
     let mut done = [0u64; 162];
     chart::start(g, h, &mut done);
     chart::run(g, h, &mut done, all_steps());
-    touched_case(g, h, &done, 2, 2);
-    touched_case(g, h, &done, 3, 2);
-    touched_case(g, h, &done, 4, 3);
-    touched_case(g, h, &done, 5, 4);
-    touched_case(g, h, &done, 6, 99);
-    touched_case(g, h, &done, 7, 0);
-    touched_case(g, h, &done, 8, 3);
-    touched_case(g, h, &done, 0, 11);
-    touched_case(g, h, &done, 1, 5);
-    touched_case(g, h, &done, 48, 10);
+    touched_items(g, h, &done);
+    touched_words(g, h, &done);
 }
 
 // A chart that holds no item, and one that holds one.
@@ -160,14 +173,22 @@ fn sizes(g: &[u64], h: &[u64]) {
 
 // ---- all
 
-fn with_grammar_a(g: &mut [u64], items: &mut [u64]) {
-    load_grammar(b"g-a.txt", g);
+fn small_graphs(g: &[u64], items: &mut [u64]) {
     graph_case(b"k1", b"h-k1.txt", g, items);
     graph_case(b"k2", b"h-k2.txt", g, items);
     graph_case(b"k3", b"h-k3.txt", g, items);
+}
+
+fn more_graphs(g: &[u64], items: &mut [u64]) {
     graph_case(b"k4", b"h-k4.txt", g, items);
     graph_case(b"k6", b"h-k6.txt", g, items);
     graph_case(b"path", b"h-path.txt", g, items);
+}
+
+fn with_grammar_a(g: &mut [u64], items: &mut [u64]) {
+    load_grammar(b"g-a.txt", g);
+    small_graphs(g, items);
+    more_graphs(g, items);
 }
 
 fn with_k2(g: &[u64], items: &mut [u64]) {
