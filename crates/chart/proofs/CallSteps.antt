@@ -3,6 +3,7 @@ use Prim.Native.Nat.{ℕ, _+_, _≤_}
 use mathlib.Core.Path.{_≡_, refl, sym, ap, _∙_, subst}
 use mathlib.Core.Bool.{Bool, true, false, _&&_, cond}
 use mathlib.Core.List.{List}
+use native.Mathlib.Omega.{arith}
 use lib.Dec.{eqb}
 use lib.ListN.{length, getD}
 use borrow.Author.Tests.{eq-eqb, ne-eqb}
@@ -16,13 +17,13 @@ use Rattle.records.specs.Words.{Fits, capacity, itemCount, recordsAt, chartOf, 
 use Rattle.records.proofs.WordLaws.{length-records}
 use Rattle.validity.specs.Checking.{holds, knownChart}
 use Rattle.chart.specs.Calls.{Called, fit, fitChart, whenWaiting, answerOf, startAnswer, startOf, runOf, runsOf, refused}
-use Rattle.chart.specs.Facts.{RunRight, RunChoices}
+use Rattle.chart.specs.Facts.{RunRight, StartChoices, RunChoices}
 use Rattle.chart.specs.declared.Outcome.{Outcome}
 use Rattle.chart.specs.declared.Outcome.the-variants.{Unfit, TooSmall, Unfinished, Done}
 use Rattle.hrg.proofs.Degrees.{and-true as both}
 use Rattle.validity.proofs.KnownCharts.{holds-header, known-fits}
 use Rattle.chart.proofs.Calls.{and-both, start-is, start-not, run-is, run-not, run-chart}
-use Rattle.chart.proofs.Demand.{runs-right}
+use Rattle.chart.proofs.Demand.{runs-right, start-right}
 
 -- ---- question 8
 module _ (g h w : List ℕ) (a : Bool) (size : a ≡ holds w) where
@@ -60,28 +61,35 @@ module _ (g h w : List ℕ) (b : Bool) (is : b ≡ fit g h w) (y : b ≡ true) w
 
 -- ---- start
 module _ (g h w : List ℕ) (b : Bool) (is : b ≡ fit g h w) where
-  pub start-refuses : b ≡ false → (Unfit ≡ startOf g h w .answer) × (w ≡ startOf g h w .words)
+  abbrev Started : Outcome → List ℕ → Type 0
+  Started a v = (a ≡ startOf g h w .answer) × (v ≡ startOf g h w .words) × StartChoices g h w a
+
+  pub start-refuses : b ≡ false → Started Unfit w
   start-refuses n =
       let q = start-not g h w (sym is ∙ n) in
-      (sym (ap (λ (c : Called). c .answer) q), sym (ap (λ (c : Called). c .words) q))
+      (sym (ap (λ (c : Called). c .answer) q), sym (ap (λ (c : Called). c .words) q), record { small = λ e. absurd (omega arith) })
 
   module _ (y : b ≡ true) (v : List ℕ) (made : v ≡ written w (startChart (grammarOf g) (capacity w))) (m : ℕ) (mark : m ≡ getD v 1 0) where
     marked : startChart (grammarOf g) (capacity w) .mark ≡ m
     unfolding written
     marked = sym (mark ∙ ap (λ (u : List ℕ). getD u 1 0) made)
 
-    start-by : (a : Outcome) → a ≡ startAnswer (startChart (grammarOf g) (capacity w)) → (a ≡ startOf g h w .answer) × (v ≡ startOf g h w .words)
-    start-by a e =
+    start-by : (a : Outcome) → a ≡ startAnswer (startChart (grammarOf g) (capacity w)) → (a ≡ startOf g h w .answer → StartChoices g h w a) → Started a v
+    start-by a e right =
         let q = start-is g h w (sym is ∙ y) in
-        (e ∙ sym (ap (λ (c : Called). c .answer) q), made ∙ sym (ap (λ (c : Called). c .words) q))
+        let p : a ≡ startOf g h w .answer = e ∙ sym (ap (λ (c : Called). c .answer) q) in
+        (p, made ∙ sym (ap (λ (c : Called). c .words) q), right p)
 
-    pub start-small : (m ≡ 0 → ⊥) → (TooSmall ≡ startOf g h w .answer) × (v ≡ startOf g h w .words)
+    pub start-small : (m ≡ 0 → ⊥) → Started TooSmall v
     unfolding startAnswer
-    start-small n = start-by TooSmall (ap (λ (t : Bool). cond t (Done 0) TooSmall) (sym (ne-eqb _ 0 (λ z. n (sym marked ∙ z)))))
+    start-small n =
+        start-by TooSmall (ap (λ (t : Bool). cond t (Done 0) TooSmall) (sym (ne-eqb _ 0 (λ z. n (sym marked ∙ z)))))
+        (λ p. record { small = λ e. start-right g h w (sym is ∙ y) (sym p) })
 
-    pub start-done : m ≡ 0 → (Done 0 ≡ startOf g h w .answer) × (v ≡ startOf g h w .words)
+    pub start-done : m ≡ 0 → Started (Done 0) v
     unfolding startAnswer
-    start-done z = start-by (Done 0) (ap (λ (t : Bool). cond t (Done 0) TooSmall) (sym (eq-eqb _ 0 (marked ∙ z))))
+    start-done z =
+        start-by (Done 0) (ap (λ (t : Bool). cond t (Done 0) TooSmall) (sym (eq-eqb _ 0 (marked ∙ z)))) (λ p. record { small = λ e. absurd (omega arith) })
 
 -- ---- questions 9 and 10
 module _ (w : List ℕ) (m : ℕ) (mark : m ≡ getD w 1 0) where

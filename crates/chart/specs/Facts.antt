@@ -33,3 +33,7 @@ pub record RunRight (G : Grammar) (H : Graph) (cap k : ℕ) (a : Outcome) (c : C
 -- A run of k steps on the words w that answered a and left v: what holds of the program's own choices where w are the words that a start and the runs ks left.
 pub record RunChoices (g h w : List ℕ) (k : ℕ) (a : Outcome) (v : List ℕ) : Type 0 where
   pub right : (former ks : List ℕ) → fit g h former ≡ true → w ≡ runsOf g h (startOf g h former .words) ks → RunRight (grammarOf g) (graphOf g h) (capacity former) (sumOf ks + k) a (chartOf v)
+
+-- A start on the words w that answered a: 9 only if the closure has more items than the chart holds.
+pub record StartChoices (g h w : List ℕ) (a : Outcome) : Type 0 where
+  pub small : numberOf a ≡ 9 → (is : List Item) → Closure (closure (grammarOf g) (graphOf g h)) is → capacity w < length is

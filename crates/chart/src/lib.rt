@@ -2,7 +2,7 @@
 ghost use mathlib.Core.Path.{_≡_};
 ghost use Rattle.records.specs.Words.{chartOf};
 ghost use Rattle.chart.specs.Calls.{fit, answerOf, startOf, runOf};
-ghost use Rattle.chart.specs.Facts.{RunChoices};
+ghost use Rattle.chart.specs.Facts.{StartChoices, RunChoices};
 use agenda::Found;
 
 // What start and run answer: the tables or the chart are refused (8), the chart does not hold the closure (9), items wait after the steps done since start (10),
@@ -29,7 +29,7 @@ fn is_fit(grammar: &[u64], graph: &[u64], chart: &[u64]) -> bool
 
 // Makes the leaf items present, and nothing else. Of the chart it looks only at the size.
 pub fn start(grammar: &[u64], graph: &[u64], chart: &mut [u64]) -> Outcome
-    ensures { λ r. ⌜ (r ≡ startOf (now (grammar .entry)) (now (graph .entry)) (now (chart .entry)) .answer) × (now (chart .exit) ≡ startOf (now (grammar .entry)) (now (graph .entry)) (now (chart .entry)) .words) ⌝ }
+    ensures { λ r. ⌜ (r ≡ startOf (now (grammar .entry)) (now (graph .entry)) (now (chart .entry)) .answer) × (now (chart .exit) ≡ startOf (now (grammar .entry)) (now (graph .entry)) (now (chart .entry)) .words) × StartChoices (now (grammar .entry)) (now (graph .entry)) (now (chart .entry)) r ⌝ }
 {
     if !is_fit(grammar, graph, chart) {
         return Outcome::Unfit;
