@@ -5,7 +5,9 @@ use mathlib.Core.List.{List, [], _∷_, _++_}
 use Prim.Native.Nat.{ℕ, zero, suc, _+_, _*_, _≤_, _<_}
 use native.Mathlib.Nat.{add-mul, one-mul, zero-mul, mul-le-mul-right, not-suc-le-zero, le-of-suc-le-suc, lt-of-not-le}
 use native.Mathlib.Omega.{arith}
-use lib.ListN.{length}
+use native.Mathlib.Numerals.{add-one}
+use lib.ListN.{length, getD, take, drop}
+use lib.Seq.{split-at, take-suc}
 use lib.Dec.{T, eqb, eqb→eq, eqb-refl, eqb·suc-suc, eqb·suc-zero}
 use Rattle.hrg.specs.Counts.{flag, hit, occurs, tabulate, upTo, consIf, select}
 use Rattle.hrg.specs.Grammars.{Graph}
@@ -117,6 +119,16 @@ pub occurs-append : (v : ℕ) (xs ys : List ℕ) → occurs v (xs ++ ys) ≡ occ
 unfolding occurs
 occurs-append v [] ys = omega arith
 occurs-append v (x ∷ xs) ys = omega (arith, occurs-append v xs ys)
+
+-- around a place of a list
+pub occurs-around : (y : ℕ) (l : List ℕ) (i : ℕ) → i < length l → occurs y l ≡ occurs y (take i l) + (hit y (getD l i 0) + occurs y (drop (suc i) l))
+unfolding occurs
+occurs-around y l i h = ap (occurs y) (split-at l i 0 h) ∙ occurs-append y (take i l) (getD l i 0 ∷ drop (suc i) l)
+
+pub occurs-next : (y : ℕ) (l : List ℕ) (i : ℕ) → i < length l → occurs y (take (i + 1) l) ≡ occurs y (take i l) + hit y (getD l i 0)
+unfolding occurs
+occurs-next y l i h =
+    ap (λ n. occurs y (take n l)) (add-one i) ∙ ap (occurs y) (take-suc l i 0 h) ∙ occurs-append y (take i l) (getD l i 0 ∷ []) ∙ omega arith
 
 pub occurs-sum : (v n : ℕ) (l : List ℕ) → length l ≡ n → occurs v l ≡ sumTo n (λ x. hit v (at l x))
 unfolding occurs sumTo

@@ -15,6 +15,17 @@ use Rattle.hrg.specs.WellFormedTest.{Decides, sameKind, betweenTest, eve
 use Rattle.hrg.specs.Cases.{Case, cases}
 use Rattle.hrg.proofs.Sums.{hit-self, hit-eq}
 
+-- ---- one test that fails
+pub every-false : (n : ℕ) (t : ℕ → Bool) (i : ℕ) → i < n → t i ≡ false → false ≡ every n t
+unfolding every
+every-false zero t i h e = absurd (omega arith)
+every-false (suc n) t zero h e = rw e
+every-false (suc n) t (suc i) h e = go (t 0) (every n (λ j. t (suc j))) (every-false n (λ j. t (suc j)) i (omega arith) e)
+  where
+    go : (a b : Bool) → false ≡ b → false ≡ (a && b)
+    go true b p = p
+    go false b p = refl
+
 -- ---- tests of compound propositions
 pub decides-map : {b : Bool} {P Q : Type 0} → Decides b P → (P → Q) → (Q → P) → Decides b Q
 decides-map d f g = record { sound = λ t. f (d .sound t); complete = λ q. d .complete (g q) }

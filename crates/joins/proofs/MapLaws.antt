@@ -15,10 +15,9 @@ use Rattle.hrg.specs.Trees.{unplaced, at, padded}
 use Rattle.hrg.specs.Items.{orElse, joined, keepIf}
 use Rattle.hrg.specs.WellFormedTest.{every}
 use Rattle.hrg.specs.ClosureRun.{agree, oneToOne}
-use Rattle.hrg.proofs.Sums.{hit-self, hit-ne, length-tabulate, at-tabulate}
+use Rattle.hrg.proofs.Sums.{hit-self, hit-ne, length-tabulate, at-tabulate, occurs-around, occurs-next}
 use Rattle.hrg.proofs.Degrees.{and-true}
-use Rattle.tables.proofs.Planning.{every-false}
-use Rattle.tables.proofs.Listing.{occurs-around, occurs-next}
+use Rattle.hrg.proofs.WellFormedTest.{every-false}
 use Rattle.joins.specs.Joins.{NodesIn}
 use Rattle.joins.proofs.PlanMasks.{member-none, some-sum, some-hit}
 use Rattle.joins.proofs.EdgeMaps.{at-past, is-padded, at-none}

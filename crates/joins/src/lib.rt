@@ -10,7 +10,6 @@ ghost use Rattle.hrg.specs.ClosureRun.{covering, combine};
 ghost use Rattle.questions.specs.Layout.{word, rankAt, startSymbol, ruleSymbol, ruleNodes, ruleExternal, edgeLabel, graphNodes, graphExternal};
 ghost use Rattle.questions.specs.Abstract.{grammarOf, graphOf};
 ghost use Rattle.joins.specs.Joins.{KnownNode, KnownEdge, Accepted, EdgesBelow, MasksBelow, NodesIn, sideWith, SidesOf, Boundary, OpenAt, OpenIn, edgeNodes, Merges, joinedOf};
-use tables::layout;
 
 mod maps;
 

@@ -5,31 +5,13 @@ ghost use Prim.Native.Nat.{_+_, _-_, _*_, _%_, _≤_, _<_};
 ghost use lib.ListN.{length, take, drop, getD};
 ghost use lib.Seq.{sets};
 ghost use lib.Dec.{leb};
-ghost use Rattle.lines.specs.Tests.{allBelow, sameBytes};
-ghost use Rattle.lines.specs.Lines.{lineOf, lineStart, lineEnd, isEnded, afterLine, countingStart, countingOf, PartOf};
-ghost use Rattle.lines.specs.Fields.{column as columnOf, digitOf, fieldText, valueOf, cellOf, fieldCount, fieldOf, numberIn, numberOf};
-ghost use Rattle.lines.specs.Shape.{letterOf, letterKind, isCapital, shapeOf};
-ghost use Rattle.lines.specs.Writing.{fieldsText, lineText, writable as writableOf, fieldFits, lineFits, Put};
-
-// What stands in a field of a line.
-pub enum Cell {
-    Number(u64),
-    Bad,
-    Missing,
-}
-
-// The letters that lines of the three files start with.
-pub enum Letter {
-    G,
-    S,
-    R,
-    E,
-    P,
-    H,
-    D,
-    A,
-    Other,
-}
+ghost use Rattle.format.specs.Tests.{allBelow, sameBytes};
+ghost use Rattle.format.specs.Lines.{lineOf, lineStart, lineEnd, isEnded, afterLine, countingStart, countingOf, PartOf};
+ghost use Rattle.format.specs.Fields.{column as columnOf, digitOf, fieldText, valueOf, cellOf, fieldCount, fieldOf, numberIn, numberOf};
+ghost use Rattle.format.specs.Shape.{letterOf, letterKind, isCapital, shapeOf};
+ghost use Rattle.format.specs.Writing.{fieldsText, lineText, writable as writableOf, fieldFits, lineFits, Put};
+use format::Cell;
+use format::Letter;
 
 // ---- lines of a text
 

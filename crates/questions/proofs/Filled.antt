@@ -15,8 +15,8 @@ use Rattle.hrg.specs.WellFormedTest.{Decides}
 use Rattle.hrg.proofs.WellFormedTest.{_and_, decides-le}
 use Rattle.hrg.proofs.Sums.{length-tabulate}
 use Rattle.hrg.proofs.Degrees.{test-T, T-test}
-use Rattle.lines.specs.Lines.{linesOf}
-use Rattle.lines.specs.Writing.{Writable, lineText}
+use Rattle.format.specs.Lines.{linesOf}
+use Rattle.format.specs.Writing.{Writable, lineText}
 use Rattle.questions.specs.Layout.{placeOf, word, stored, grammarWords, graphWords, symbolCount, ruleCount, ruleEdges, rulePlan, graphEdges, rankAt}
 use Rattle.questions.specs.Questions.{judge}
 use Rattle.questions.specs.Reading.{next, Verdict, refused, accepted, whenDone, goOn, readLines, grammarVerdict, graphVerdict, delivered, Outcome, readGrammar}

@@ -13,7 +13,7 @@ use Rattle.hrg.specs.Grammars
 use Rattle.hrg.specs.Grammars.{Kind, terminal, nonterminal, PlanNode, leaf, introduce, join, noSymbol, noEdge, noRule, kindOf, rankOf, ruleOf, lhsOf, rightOf, planOf, planNode, edgeAt}
 use Rattle.hrg.specs.WellFormed.{children, introduced, GrammarOk}
 use Rattle.hrg.proofs.Sums.{hit-self}
-use Rattle.lines.specs.Writing.{Writable}
+use Rattle.format.specs.Writing.{Writable}
 use Rattle.questions.specs.Layout.{placeOf, word, grammarWords, symbolCount, ruleCount, kindWord, rankAt, ruleSymbol, ruleEdges, rulePlan, ruleExternal, edgeLabel, edgeNode, planKind, planFirst, planSecond}
 use Rattle.questions.specs.Questions.{field}
 use Rattle.questions.specs.Reading.{next, accepted, grammarVerdict, readGrammar}

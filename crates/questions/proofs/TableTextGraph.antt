@@ -10,7 +10,7 @@ use Rattle.hrg.specs.Counts.{tabulate}
 use Rattle.hrg.specs.Grammars
 use Rattle.hrg.specs.Grammars.{noEdge, rankOf, edgeAt}
 use Rattle.hrg.specs.WellFormed.{GrammarOk, GraphOk}
-use Rattle.lines.specs.Writing.{Writable}
+use Rattle.format.specs.Writing.{Writable}
 use Rattle.questions.specs.Layout.{placeOf, graphWords, startSymbol, rankAt, graphEdges, graphExternal, graphLabel, graphNode}
 use Rattle.questions.specs.Reading.{next, accepted, grammarVerdict, graphVerdict}
 use Rattle.questions.specs.Checking.{checkGrammar, readGraph}

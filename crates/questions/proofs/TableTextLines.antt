@@ -11,11 +11,11 @@ use borrow.Author.Tests.{le-leb, eq-eqb, lt-ltb, le-ltb}
 use Rattle.hrg.specs.Counts.{occurs}
 use Rattle.hrg.specs.WellFormed.{Listed}
 use Rattle.hrg.proofs.Sums.{hit-self}
-use Rattle.lines.specs.Lines.{Line, linesOf}
-use Rattle.lines.specs.Shape.{kindLetter}
-use Rattle.lines.specs.Fields.{fieldsOf}
-use Rattle.lines.specs.Writing.{lineBody, lineText, Writable}
-use Rattle.lines.specs.RoundTrip.{written-letter, written-fields, written-shape, written-line}
+use Rattle.format.specs.Lines.{Line, linesOf}
+use Rattle.format.specs.Shape.{kindLetter}
+use Rattle.format.specs.Fields.{fieldsOf}
+use Rattle.format.specs.Writing.{lineBody, lineText, Writable}
+use Rattle.format.specs.RoundTrip.{written-letter, written-fields, written-shape, written-line}
 use Rattle.questions.specs.Layout.{placeOf, letterDue, word, stored}
 use Rattle.questions.specs.Questions.{field, judge}
 use Rattle.questions.specs.Reading.{next, judgeLine, Verdict, accepted, readLines, delivered}

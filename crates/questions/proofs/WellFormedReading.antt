@@ -9,9 +9,9 @@ use native.Mathlib.Decide.{decLt}
 use lib.ListN.{replicate, length-replicate}
 use lib.Dec.{eqb, ltb}
 use borrow.Author.Tests.{lt-ltb, le-ltb}
-use Rattle.lines.specs.Lines.{Line, linesOf}
-use Rattle.lines.specs.Shape.{shapeOf, letterOf, kindLetter}
-use Rattle.lines.specs.Fields.{fieldsOf}
+use Rattle.format.specs.Lines.{Line, linesOf}
+use Rattle.format.specs.Shape.{shapeOf, letterOf, kindLetter}
+use Rattle.format.specs.Fields.{fieldsOf}
 use Rattle.questions.specs.Layout.{placeOf, letterDue, stored, grammarWords, graphWords, symbolCount, ruleCount, ruleEdges, rulePlan, graphEdges}
 use Rattle.questions.specs.Questions.{ask, field, judge}
 use Rattle.questions.specs.Reading.{next, judgeLine, Verdict, refused, accepted, whenDone, goOn, readLines, grammarVerdict, graphVerdict}

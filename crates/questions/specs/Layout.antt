@@ -5,8 +5,8 @@ use Prim.Native.Nat.{ℕ, zero, suc, _+_, _*_, min}
 use lib.ListN.{length, getD, take, drop, replicate}
 use lib.Dec.{ltb}
 use Rattle.hrg.specs.Counts.{tabulate}
-use Rattle.lines.specs.declared.Letter.{Letter}
-use Rattle.lines.specs.declared.Letter.the-variants.{G, S, R, E, P, H, D, A, Other}
+use Rattle.format.specs.declared.Letter.{Letter}
+use Rattle.format.specs.declared.Letter.the-variants.{G, S, R, E, P, H, D, A, Other}
 use Rattle.questions.specs.declared.Fields.{Fields}
 use Rattle.questions.specs.declared.Due.{Due}
 use Rattle.questions.specs.declared.Due.the-variants.{Grammar, Symbol, Rule, RuleEdge, PlanLine, Graph, GraphEdge, Nothing}

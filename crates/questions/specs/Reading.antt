@@ -4,9 +4,9 @@ use mathlib.Core.List.{List, [], _∷_, _++_}
 use Prim.Native.Nat.{ℕ, zero, suc, _+_, min}
 use lib.ListN.{length, drop, replicate}
 use lib.Dec.{eqb, ltb, leb}
-use Rattle.lines.specs.Lines.{Line, linesOf}
-use Rattle.lines.specs.Shape.{shapeOf, letterOf, kindLetter}
-use Rattle.lines.specs.Fields.{fieldsOf}
+use Rattle.format.specs.Lines.{Line, linesOf}
+use Rattle.format.specs.Shape.{shapeOf, letterOf, kindLetter}
+use Rattle.format.specs.Fields.{fieldsOf}
 use Rattle.questions.specs.Layout.{placeOf, letterDue, stored, grammarWords, graphWords, symbolCount, ruleCount, ruleEdges, rulePlan, graphEdges}
 use Rattle.questions.specs.Questions.{ask, judge}
 use Rattle.questions.specs.declared.Due.{Due}

@@ -4,8 +4,8 @@ use Prim.Native.Nat.{ℕ, zero, suc, _+_}
 use lib.ListN.{length}
 use Rattle.hrg.specs.Grammars
 use Rattle.hrg.specs.Grammars.{Kind, terminal, nonterminal, PlanNode, leaf, introduce, join, Edge, kindOf, rankOf, lhsOf, rightOf, planOf, planNode, edgeAt}
-use Rattle.lines.specs.Shape.{kindLetter}
-use Rattle.lines.specs.Writing.{lineText}
+use Rattle.format.specs.Shape.{kindLetter}
+use Rattle.format.specs.Writing.{lineText}
 use Rattle.questions.specs.Layout.{letterDue}
 use Rattle.questions.specs.declared.Due.{Due}
 use Rattle.questions.specs.declared.Due.the-variants.{Grammar, Symbol, Rule, RuleEdge, PlanLine, Graph, GraphEdge, Nothing}

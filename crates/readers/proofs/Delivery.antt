@@ -6,7 +6,7 @@ use Prim.Native.Nat.{ℕ, zero, suc, _≤_, _<_}
 use native.Mathlib.Omega.{arith}
 use lib.ListN.{length, drop, replicate, length-replicate}
 use borrow.Author.Tests.{le-leb, lt-leb}
-use Rattle.lines.specs.Lines.{countingLines}
+use Rattle.format.specs.Lines.{countingLines}
 use Rattle.questions.specs.Layout.{grammarWords, graphWords}
 use Rattle.questions.specs.Reading.{Verdict, readLines, grammarVerdict, graphVerdict, delivered, readGrammar}
 use Rattle.questions.specs.Checking.{checkGrammar, readGraph}

@@ -6,8 +6,8 @@ use native.Mathlib.Omega.{arith}
 use native.Mathlib.Numerals.{add-one}
 use lib.ListN.{length, getD, take, drop, set}
 use lib.Seq.{take-suc, take-suc-set, take-all, take-length, drop-cons, length-take-le, set-at, append-snoc}
-use Rattle.lines.specs.Fields.{fieldCount, fieldsOf, numberOf}
-use Rattle.lines.specs.FieldLaws.{fields-length, fields-in}
+use Rattle.format.specs.Fields.{fieldCount, fieldsOf, numberOf}
+use Rattle.format.specs.FieldLaws.{fields-length, fields-in}
 
 -- ---- the first k fields of a line in an array
 pub fields-more : (line values : List ℕ) (k x : ℕ) → k < fieldCount line → k < length values → x ≡ numberOf line k → take k values ≡ take k (fieldsOf line)

@@ -8,10 +8,10 @@ use lib.Dec.{eqb}
 use borrow.Author.Tests.{ne-eqb}
 use types.Run.{OneOf, miss}
 use denote.Enum.Declared.{tagOf}
-use Rattle.lines.specs.Shape.{shapeOf, letterOf, letterKind, kindLetter}
-use Rattle.lines.specs.ShapeLaws.{shape-shaped, letter-kind, kind-letter}
-use Rattle.lines.specs.declared.Letter.{Letter}
-use Rattle.lines.specs.declared.Letter.the-variants.{G, S, R, E, P, H, Other}
+use Rattle.format.specs.Shape.{shapeOf, letterOf, letterKind, kindLetter}
+use Rattle.format.specs.ShapeLaws.{shape-shaped, letter-kind, kind-letter}
+use Rattle.format.specs.declared.Letter.{Letter}
+use Rattle.format.specs.declared.Letter.the-variants.{G, S, R, E, P, H, Other}
 use Rattle.lines.proofs.Letter.{the-type as letter-type}
 use Rattle.questions.proofs.Due.{the-type}
 use Rattle.questions.specs.Layout.{letterDue}

@@ -7,16 +7,16 @@ use native.Mathlib.Omega.{arith}
 use lib.ListN.{length, drop}
 use lib.Dec.{eqb}
 use borrow.Author.Tests.{le-leb}
-use Rattle.lines.specs.Lines.{Line, countingLines, countingOf, countingStart, isEnded, afterLine}
-use Rattle.lines.specs.LineLaws.{counting-lines-at, counting-in, lines-end, after-le, after-forward}
-use Rattle.lines.specs.TestLaws.{both}
-use Rattle.lines.specs.Shape.{shapeOf, letterOf, kindLetter}
-use Rattle.lines.specs.Fields.{fieldsOf}
+use Rattle.format.specs.Lines.{Line, countingLines, countingOf, countingStart, isEnded, afterLine}
+use Rattle.format.specs.LineLaws.{counting-lines-at, counting-in, lines-end, after-le, after-forward}
+use Rattle.format.specs.TestLaws.{both}
+use Rattle.format.specs.Shape.{shapeOf, letterOf, kindLetter}
+use Rattle.format.specs.Fields.{fieldsOf}
 use Rattle.questions.specs.Layout.{placeOf, letterDue, inTable, stored}
 use Rattle.questions.specs.Questions.{ask, judge}
 use Rattle.questions.specs.Reading.{Verdict, refused, accepted, whenDone, goOn, next, judgeLine, readLines}
 use Rattle.questions.specs.Walk.{Room}
-use Rattle.tables.specs.Storing.{storeAt}
+use Rattle.layout.specs.Storing.{storeAt}
 use Rattle.questions.specs.declared.Due.{Due}
 use Rattle.questions.specs.declared.Due.the-variants.{Grammar, Symbol, Rule, RuleEdge, PlanLine, Graph, GraphEdge, Nothing}
 use Rattle.questions.proofs.WellFormedWalk.{room-in, room-place, room-next}

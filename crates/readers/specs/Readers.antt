@@ -3,7 +3,7 @@ use mathlib.Core.Path.{_≡_}
 use mathlib.Core.Bool.{Bool}
 use mathlib.Core.List.{List}
 use Prim.Native.Nat.{ℕ}
-use Rattle.lines.specs.Lines.{Line}
+use Rattle.format.specs.Lines.{Line}
 use Rattle.questions.specs.Reading.{Verdict, accepted, goOn, Outcome}
 use Rattle.questions.specs.declared.Answer.{Answer}
 use Rattle.questions.specs.declared.Due.{Due}

@@ -5,15 +5,15 @@ ghost use mathlib.Core.List.{_++_};
 ghost use Prim.Native.Nat.{_≤_, _<_};
 ghost use lib.ListN.{length, drop};
 ghost use lib.Dec.{eqb};
-ghost use Rattle.lines.specs.Fields.{fieldsOf};
-ghost use Rattle.lines.specs.Shape.{letterOf, shapeOf, kindLetter};
-ghost use Rattle.lines.specs.Lines.{countingLines};
+ghost use Rattle.format.specs.Fields.{fieldsOf};
+ghost use Rattle.format.specs.Shape.{letterOf, shapeOf, kindLetter};
+ghost use Rattle.format.specs.Lines.{countingLines};
 ghost use Rattle.questions.specs.Layout.{placeOf, letterDue, inTable, fieldsIn, stored};
 ghost use Rattle.questions.specs.Reading.{next, judgeLine, readLines, delivered, readGrammar};
 ghost use Rattle.questions.specs.Checking.{readGraph};
 ghost use Rattle.questions.specs.Walk.{Room};
 ghost use Rattle.readers.specs.Readers.{Gives, verdictOf, lineWith, missing};
-use lines::Letter;
+use format::Letter;
 use questions::Answer;
 use questions::Due;
 use questions::Fields;
@@ -124,8 +124,8 @@ fn store_line(t: &mut [u64], due: Due, line: &[u8]) -> Due
     requires { ⌜ Room (length (now t)) due × (shapeOf (now line) ≡ true) ⌝ }
     ensures { λ r. ⌜ (now (t .exit) ≡ stored (now (t .entry)) (placeOf due) (fieldsOf (now (line .entry)))) × (r ≡ next (now (t .exit)) due) ⌝ }
 {
-    tables::layout::store(t, due, fields_of(line));
-    tables::layout::next_due(t, due)
+    layout::store(t, due, fields_of(line));
+    layout::next_due(t, due)
 }
 
 // 0 where no line is missing.

@@ -17,7 +17,6 @@ ghost use Rattle.joins.specs.Joins.{KnownNode, Accepted};
 ghost use Rattle.rules.specs.Rules.{madeOf, madeAt, terminalItems, binaryAt, ParentOf, Above, ActiveAt};
 use agenda::Record;
 use joins::Joined;
-use tables::layout;
 
 // The active item that a rule makes: nothing where found is false.
 pub struct Made {

@@ -13,7 +13,6 @@ ghost use Rattle.records.specs.Words.{Fits, itemCount, recordAt, grownBy};
 ghost use Rattle.steps.specs.Partners.{withRecord};
 use agenda::Record;
 use rules::Made;
-use tables::layout;
 
 // A sum that stays in a word.
 fn plus(a: u64, b: u64) -> u64

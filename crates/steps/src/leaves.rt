@@ -11,7 +11,6 @@ ghost use Rattle.joins.specs.Joins.{KnownNode};
 ghost use Rattle.records.specs.Words.{Fits, grownBy};
 ghost use Rattle.steps.specs.Leaves.{leafRecord, ruleLeaves};
 use agenda::Record;
-use tables::layout;
 
 // The item of plan node p of rule r, if that is a leaf.
 fn add_leaf(g: &[u64], chart: &mut [u64], r: u64, p: u64)

@@ -17,7 +17,7 @@ use Rattle.questions.specs.declared.Due.the-variants.{Grammar, Symbol, Rule, Ru
 use Rattle.questions.specs.Layout.{placeOf, inTable, word, stored}
 use Rattle.questions.specs.Walk.{Room}
 use Rattle.questions.proofs.WellFormedWalk.{room-in, room-place, room-next}
-use Rattle.tables.specs.Storing.{storeAt}
+use Rattle.layout.specs.Storing.{storeAt}
 use Rattle.questions.specs.Questions.{judge}
 use Rattle.questions.specs.Reading.{Verdict, accepted, whenDone, goOn, next}
 use Rattle.tables.specs.Concluding.{passes, nothingDue, Concluded}

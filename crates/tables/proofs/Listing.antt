@@ -13,7 +13,7 @@ use Rattle.masks.specs.Masks.{bit, member, _∪_, single, Apart, Added, Found}
 use Rattle.masks.specs.Laws.{bit-le, bit-empty, bit-union, sum-disjoint, bit-single-self, bit-single-other, member-true, member-false}
 use Rattle.hrg.specs.Counts.{hit, occurs}
 use Rattle.hrg.specs.WellFormedTest.{Decides}
-use Rattle.hrg.proofs.Sums.{occurs-append, hit-self, hit-ne}
+use Rattle.hrg.proofs.Sums.{occurs-around, occurs-next, hit-self, hit-ne}
 use Rattle.hrg.proofs.WellFormedTest.{_and_, decides-le, decides-each}
 use Rattle.questions.specs.Questions.{listed}
 
@@ -25,16 +25,6 @@ true-is false h = absurd h
 pub false-is : (b : Bool) → (T b → ⊥) → false ≡ b
 false-is true h = absurd (h tt)
 false-is false h = refl
-
--- ---- how often a number stands in a list, around a place of it
-pub occurs-around : (y : ℕ) (l : List ℕ) (i : ℕ) → i < length l → occurs y l ≡ occurs y (take i l) + (hit y (getD l i 0) + occurs y (drop (suc i) l))
-unfolding occurs
-occurs-around y l i h = ap (occurs y) (split-at l i 0 h) ∙ occurs-append y (take i l) (getD l i 0 ∷ drop (suc i) l)
-
-pub occurs-next : (y : ℕ) (l : List ℕ) (i : ℕ) → i < length l → occurs y (take (i + 1) l) ≡ occurs y (take i l) + hit y (getD l i 0)
-unfolding occurs
-occurs-next y l i h =
-    ap (λ n. occurs y (take n l)) (add-one i) ∙ ap (occurs y) (take-suc l i 0 h) ∙ occurs-append y (take i l) (getD l i 0 ∷ []) ∙ omega arith
 
 pub bit-single : (x y : ℕ) → bit (single x) y ≡ hit y x
 bit-single x y = go (ℕ-discrete y x)

@@ -11,6 +11,7 @@ use borrow.Author.Tests.{ne-eqb, lt-ltb, le-ltb}
 use Rattle.hrg.specs.Counts.{hit, occurs}
 use Rattle.hrg.specs.WellFormedTest.{each, every}
 use Rattle.hrg.proofs.Sums.{occurs-append, hit-self, hit-ne}
+use Rattle.hrg.proofs.WellFormedTest.{every-false}
 use Rattle.questions.specs.Layout.{planKind, planFirst, planSecond, ruleEdges}
 use Rattle.questions.specs.Questions.{childrenOf, introducedBy, childrenBefore, introducedBefore, planSoFar, planWhole}
 
@@ -101,16 +102,6 @@ every-decided : (n : ℕ) (t : ℕ → Bool) → ((i : ℕ) → i < n → t i �
 unfolding every
 every-decided zero t h = refl
 every-decided (suc n) t h = rw (h 0 (omega arith)) (every-decided n (λ i. t (suc i)) (λ i l. h (suc i) (omega arith)))
-
-pub every-false : (n : ℕ) (t : ℕ → Bool) (i : ℕ) → i < n → t i ≡ false → false ≡ every n t
-unfolding every
-every-false zero t i h e = absurd (omega arith)
-every-false (suc n) t zero h e = rw e
-every-false (suc n) t (suc i) h e = go (t 0) (every n (λ j. t (suc j))) (every-false n (λ j. t (suc j)) i (omega arith) e)
-  where
-    go : (a b : Bool) → false ≡ b → false ≡ (a && b)
-    go true b p = p
-    go false b p = refl
 
 -- the numbers below i pass
 abbrev pub Passing : (ℕ → Bool) → ℕ → Type 0

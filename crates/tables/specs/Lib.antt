@@ -1,4 +1,3 @@
 -- The root of the definitions.
-pub mod Storing
 pub mod Marks
 pub mod Concluding

@@ -11,7 +11,6 @@ ghost use Rattle.questions.specs.Walk.{Room};
 ghost use Rattle.tables.specs.Concluding.{nothingDue, Concluded};
 ghost use Rattle.questions.specs.Checking.{fieldsDue, storedFields, checkLines, checkGrammar, checkGraph};
 use crate::judging;
-use crate::layout;
 use questions::Due;
 use questions::Fields;
 

@@ -5,7 +5,6 @@ ghost use Prim.Native.Nat.{_+_, _≤_};
 ghost use lib.Dec.{eqb, ltb};
 ghost use Rattle.questions.specs.Layout.{inTable, fieldsIn, rulePlan};
 ghost use Rattle.questions.specs.Questions.{ask, planWhole, judgeGrammar, judgeSymbol, judgeRule, judgeRuleEdge, judgePlan, judgeGraph, judgeGraphEdge, judge};
-use crate::layout;
 use crate::marks;
 use crate::plans;
 use questions::Due;

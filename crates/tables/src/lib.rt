@@ -1,6 +1,5 @@
-// Tables of a grammar and a graph: their words, questions 3 to 7 judged, and question 8's check.
+// Tables of a grammar and a graph: questions 3 to 7 judged, and question 8's check.
 pub mod checking;
 pub mod judging;
-pub mod layout;
 mod marks;
 mod plans;

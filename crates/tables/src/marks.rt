@@ -10,7 +10,6 @@ ghost use Rattle.hrg.specs.Counts.{tabulate};
 ghost use Rattle.questions.specs.Layout.{fieldsIn, word, ruleNodes, graphNodes};
 ghost use Rattle.questions.specs.Questions.{listed, covered, nodesOnEdges, nodesOnGraph};
 ghost use Rattle.tables.specs.Marks.{marks};
-use crate::layout;
 use questions::Fields;
 
 // Whether the fields from `from` on are in range and distinct.

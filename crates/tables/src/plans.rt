@@ -7,7 +7,6 @@ ghost use Rattle.hrg.specs.Counts.{occurs, hit};
 ghost use Rattle.hrg.specs.WellFormedTest.{every};
 ghost use Rattle.questions.specs.Layout.{ruleEdges};
 ghost use Rattle.questions.specs.Questions.{childrenOf, introducedBy, childrenBefore, introducedBefore, planSoFar, planWhole};
-use crate::layout;
 
 // 1 where the two numbers are the same.
 fn same(a: u64, b: u64) -> u64

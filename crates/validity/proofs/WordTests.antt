@@ -18,9 +18,9 @@ use Rattle.hrg.specs.ClosureRun.{isTerminal}
 use Rattle.hrg.specs.WellFormedTest.{every}
 use Rattle.hrg.proofs.Sums.{occurs-append}
 use Rattle.hrg.proofs.Plans.{below-introduce, below-known}
+use Rattle.hrg.proofs.WellFormedTest.{every-false}
 use Rattle.questions.specs.Layout.{symbolCount, ruleCount, kindWord, ruleEdges, rulePlan, edgeLabel, planKind, planFirst, planSecond, graphNodes, graphEdges}
 use Rattle.questions.specs.Abstract.{planFrom, grammarOf, graphOf}
-use Rattle.tables.proofs.Planning.{every-false}
 use Rattle.questions.proofs.WellFormedAccepted.{symbols-length, rules-length, kind-is, rule-is, edge-is}
 use Rattle.joins.specs.Joins.{KnownNode, KnownEdge, Accepted}
 use Rattle.joins.proofs.Known.{rule-ok, right-edges, plan-size, plan-ok, plan-node, graph-size, graph-nodes}

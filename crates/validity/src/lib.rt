@@ -8,7 +8,6 @@ ghost use Rattle.questions.specs.Abstract.{grammarOf, graphOf};
 ghost use Rattle.joins.specs.Joins.{KnownNode, KnownEdge, Accepted};
 ghost use Rattle.validity.specs.Checking.{holds, knownEdges, knownNode, knownNodes, inGraph, knownSecond, knownPartners, knownActive, knownPassive, knownRecord, knownChart};
 use agenda::Record;
-use tables::layout;
 
 // Does the chart hold 1 to 4,096 items?
 pub fn holds(chart: &[u64]) -> bool

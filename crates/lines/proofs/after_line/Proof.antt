@@ -2,7 +2,7 @@
 use native.Mathlib.Omega.{arith}
 use mathlib.Core.Path.{sym}
 use borrow.Author.Needs.{needs}
-use Rattle.lines.specs.LineLaws.{after-feed, after-last}
+use Rattle.format.specs.LineLaws.{after-feed, after-last}
 use Rattle.lines.proofs.after_line.Statement.{statement}
 use Rattle.lines.proofs.after_line.Tie as tie
 

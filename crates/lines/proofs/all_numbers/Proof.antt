@@ -6,9 +6,9 @@ use mathlib.Core.Bool.{true}
 use lib.Dec.{leb}
 use borrow.Author.Tests.{le-leb, lt-leb}
 use borrow.Author.Needs.{needs}
-use Rattle.lines.specs.Tests.{allBelow}
-use Rattle.lines.specs.Fields.{numberOf}
-use Rattle.lines.specs.TestLaws.{all-none, all-next, all-no}
+use Rattle.format.specs.Tests.{allBelow}
+use Rattle.format.specs.Fields.{numberOf}
+use Rattle.format.specs.TestLaws.{all-none, all-next, all-no}
 use Rattle.lines.proofs.all_numbers.Statement.{statement}
 use Rattle.lines.proofs.all_numbers.Tie as tie
 

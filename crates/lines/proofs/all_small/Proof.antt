@@ -7,8 +7,8 @@ use lib.ListN.{getD}
 use lib.Dec.{leb}
 use borrow.Author.Tests.{le-leb, lt-leb}
 use borrow.Author.Needs.{needs}
-use Rattle.lines.specs.Tests.{allBelow}
-use Rattle.lines.specs.TestLaws.{all-none, all-next, all-no}
+use Rattle.format.specs.Tests.{allBelow}
+use Rattle.format.specs.TestLaws.{all-none, all-next, all-no}
 use Rattle.lines.proofs.all_small.Statement.{statement}
 use Rattle.lines.proofs.all_small.Tie as tie
 

@@ -1,7 +1,7 @@
 -- A division by a number above 0, and a cast to a byte.
 use mathlib.Core.Path.{sym}
 use borrow.Author.Needs.{needs}
-use Rattle.lines.specs.FieldLaws.{column-blank, column-digit}
+use Rattle.format.specs.FieldLaws.{column-blank, column-digit}
 use Rattle.lines.proofs.column.Statement.{statement}
 use Rattle.lines.proofs.column.Tie as tie
 

@@ -1,6 +1,6 @@
 -- Every line counts today.
 use borrow.Author.Needs.{needs}
-use Rattle.lines.specs.Lines.{countingStart}
+use Rattle.format.specs.Lines.{countingStart}
 use Rattle.lines.proofs.counting_start.Statement.{statement}
 use Rattle.lines.proofs.counting_start.Tie as tie
 

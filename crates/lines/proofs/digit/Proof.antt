@@ -2,7 +2,7 @@
 use native.Mathlib.Omega.{arith}
 use mathlib.Core.Path.{sym}
 use borrow.Author.Needs.{needs}
-use Rattle.lines.specs.FieldLaws.{digit-in, digit-below, digit-above}
+use Rattle.format.specs.FieldLaws.{digit-in, digit-below, digit-above}
 use Rattle.lines.proofs.digit.Statement.{statement}
 use Rattle.lines.proofs.digit.Tie as tie
 

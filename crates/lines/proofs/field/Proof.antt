@@ -2,8 +2,8 @@
 use native.Mathlib.Omega.{arith}
 use mathlib.Core.Path.{sym, _∙_}
 use borrow.Author.Needs.{needs}
-use Rattle.lines.specs.Fields.{fieldCount, fieldBytes}
-use Rattle.lines.specs.FieldLaws.{field-missing, field-cell}
+use Rattle.format.specs.Fields.{fieldCount, fieldBytes}
+use Rattle.format.specs.FieldLaws.{field-missing, field-cell}
 use Rattle.lines.proofs.field.Statement.{statement}
 use Rattle.lines.proofs.field.Tie as tie
 

@@ -1,7 +1,7 @@
 -- A length of 0 has no letter to leave out.
 use native.Mathlib.Omega.{arith}
 use borrow.Author.Needs.{needs}
-use Rattle.lines.specs.Fields.{fieldCount}
+use Rattle.format.specs.Fields.{fieldCount}
 use Rattle.lines.proofs.field_count.Statement.{statement}
 use Rattle.lines.proofs.field_count.Tie as tie
 

@@ -3,7 +3,7 @@ use native.Mathlib.Omega.{arith}
 use Prim.Native.Nat.{_+_}
 use mathlib.Core.Path.{sym}
 use borrow.Author.Tests.{lt-leb}
-use Rattle.lines.specs.TestLaws.{leb-sum}
+use Rattle.format.specs.TestLaws.{leb-sum}
 use Rattle.lines.proofs.has_room.Statement.{statement}
 use Rattle.lines.proofs.has_room.Tie as tie
 

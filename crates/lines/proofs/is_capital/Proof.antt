@@ -1,6 +1,6 @@
 -- Two comparisons.
 use borrow.Author.Needs.{needs}
-use Rattle.lines.specs.Shape.{isCapital}
+use Rattle.format.specs.Shape.{isCapital}
 use Rattle.lines.proofs.is_capital.Statement.{statement}
 use Rattle.lines.proofs.is_capital.Tie as tie
 

@@ -1,6 +1,6 @@
 -- A line that ends before the text does is ended by a line feed.
 use borrow.Author.Needs.{needs}
-use Rattle.lines.specs.Lines.{isEnded}
+use Rattle.format.specs.Lines.{isEnded}
 use Rattle.lines.proofs.is_ended.Statement.{statement}
 use Rattle.lines.proofs.is_ended.Tie as tie
 

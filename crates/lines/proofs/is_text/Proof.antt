@@ -1,7 +1,7 @@
 -- Four comparisons, one for each column.
 use borrow.Author.Needs.{needs}
-use Rattle.lines.specs.Fields.{column, fieldText}
-use Rattle.lines.specs.TestLaws.{same-four}
+use Rattle.format.specs.Fields.{column, fieldText}
+use Rattle.format.specs.TestLaws.{same-four}
 use Rattle.lines.proofs.is_text.Statement.{statement}
 use Rattle.lines.proofs.is_text.Tie as tie
 

@@ -1,7 +1,7 @@
 -- Two tests, after the one that the loop does not make.
 use mathlib.Core.Path.{sym}
 use borrow.Author.Needs.{needs}
-use Rattle.lines.specs.WritingLaws.{writable-first, writable-none}
+use Rattle.format.specs.WritingLaws.{writable-first, writable-none}
 use Rattle.lines.proofs.is_writable.Statement.{statement}
 use Rattle.lines.proofs.is_writable.Tie as tie
 

@@ -3,7 +3,7 @@ use native.Mathlib.Omega.{arith}
 use mathlib.Core.Path.{refl, sym}
 use lib.ListN.{List·getD-eq-default}
 use borrow.Author.Needs.{needs}
-use Rattle.lines.specs.Shape.{letterOf}
+use Rattle.format.specs.Shape.{letterOf}
 use Rattle.lines.proofs.letter_byte.Statement.{statement}
 use Rattle.lines.proofs.letter_byte.Tie as tie
 

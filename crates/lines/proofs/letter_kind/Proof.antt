@@ -2,7 +2,7 @@
 use mathlib.Core.Path.{sym, ap, _∙_}
 use borrow.Author.Tests.{ne-eqb}
 use borrow.Author.Needs.{needs}
-use Rattle.lines.specs.Shape.{letterKind}
+use Rattle.format.specs.Shape.{letterKind}
 use Rattle.lines.proofs.letter_kind.Statement.{statement}
 use Rattle.lines.proofs.letter_kind.Tie as tie
 

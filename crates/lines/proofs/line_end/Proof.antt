@@ -4,8 +4,8 @@ use Prim.Native.Nat.{_+_, _-_, _≤_}
 use mathlib.Core.Path.{_≡_}
 use lib.ListN.{length, drop}
 use borrow.Author.Needs.{needs}
-use Rattle.lines.specs.Lines.{lineLen, lineEnd}
-use Rattle.lines.specs.LineLaws.{start-le, scan-start, scan-end, scan-feed, scan-more}
+use Rattle.format.specs.Lines.{lineLen, lineEnd}
+use Rattle.format.specs.LineLaws.{start-le, scan-start, scan-end, scan-feed, scan-more}
 use Rattle.lines.proofs.line_end.Statement.{statement}
 use Rattle.lines.proofs.line_end.Tie as tie
 

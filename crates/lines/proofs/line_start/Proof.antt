@@ -1,6 +1,6 @@
 -- The lesser of two numbers, by a branch.
 use native.Mathlib.Omega.{arith}
-use Rattle.lines.specs.Lines.{lineStart}
+use Rattle.format.specs.Lines.{lineStart}
 use Rattle.lines.proofs.line_start.Statement.{statement}
 use Rattle.lines.proofs.line_start.Tie as tie
 

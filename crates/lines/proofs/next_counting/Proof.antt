@@ -4,8 +4,8 @@ use Prim.Native.Nat.{ℕ}
 use mathlib.Core.Path.{_≡_, ap, _∙_}
 use lib.ListN.{drop}
 use borrow.Author.Needs.{needs}
-use Rattle.lines.specs.Lines.{lineOf, countingStart, countingOf}
-use Rattle.lines.specs.LineLaws.{start-in, counting-le, counting-part}
+use Rattle.format.specs.Lines.{lineOf, countingStart, countingOf}
+use Rattle.format.specs.LineLaws.{start-in, counting-le, counting-part}
 use Rattle.lines.proofs.next_counting.Statement.{statement}
 use Rattle.lines.proofs.next_counting.Tie as tie
 

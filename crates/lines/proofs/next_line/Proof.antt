@@ -2,7 +2,7 @@
 use native.Mathlib.Omega.{arith}
 use mathlib.Core.Path.{refl}
 use borrow.Author.Needs.{needs}
-use Rattle.lines.specs.LineLaws.{end-le, start-le-end, line-part, part-line}
+use Rattle.format.specs.LineLaws.{end-le, start-le-end, line-part, part-line}
 use Rattle.lines.proofs.next_line.Statement.{statement}
 use Rattle.lines.proofs.next_line.Tie as tie
 

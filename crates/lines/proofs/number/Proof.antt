@@ -1,7 +1,7 @@
 -- The number in the field that is read.
 use mathlib.Core.Path.{ap, _∙_}
 use borrow.Author.Needs.{needs}
-use Rattle.lines.specs.Fields.{numberIn, numberOf}
+use Rattle.format.specs.Fields.{numberIn, numberOf}
 use Rattle.lines.proofs.number.Statement.{statement}
 use Rattle.lines.proofs.number.Tie as tie
 

@@ -2,8 +2,8 @@
 use mathlib.Core.Path.{sym, _∙_}
 use borrow.Author.Tests.{leb-true}
 use borrow.Author.Needs.{needs}
-use Rattle.lines.specs.Fields.{fieldText}
-use Rattle.lines.specs.WritingLaws.{field-large, field-room, put-refused, put-made}
+use Rattle.format.specs.Fields.{fieldText}
+use Rattle.format.specs.WritingLaws.{field-large, field-room, put-refused, put-made}
 use Rattle.lines.proofs.put_field.Statement.{statement}
 use Rattle.lines.proofs.put_field.Tie as tie
 

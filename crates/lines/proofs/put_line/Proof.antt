@@ -5,7 +5,7 @@ use lib.ListN.{length, take}
 use lib.Seq.{length-take-le}
 use borrow.Author.Tests.{leb-true}
 use borrow.Author.Needs.{needs}
-use Rattle.lines.specs.WritingLaws.{lineText-length, line-many, line-not, line-room, put-refused, put-made}
+use Rattle.format.specs.WritingLaws.{lineText-length, line-many, line-not, line-room, put-refused, put-made}
 use Rattle.lines.proofs.put_line.Statement.{statement}
 use Rattle.lines.proofs.put_line.Tie as tie
 

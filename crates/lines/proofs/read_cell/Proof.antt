@@ -1,7 +1,7 @@
 -- The value decides which text is compared.
 use mathlib.Core.Path.{sym, _∙_}
 use borrow.Author.Needs.{needs}
-use Rattle.lines.specs.FieldLaws.{cell-yes, cell-no}
+use Rattle.format.specs.FieldLaws.{cell-yes, cell-no}
 use Rattle.lines.proofs.read_cell.Statement.{statement}
 use Rattle.lines.proofs.read_cell.Tie as tie
 

@@ -1,7 +1,7 @@
 -- The tests of the shape, in their order.
 use borrow.Author.Tests.{eq-eqb, ne-eqb, le-leb, lt-leb}
 use borrow.Author.Needs.{needs}
-use Rattle.lines.specs.Shape.{shapeOf}
+use Rattle.format.specs.Shape.{shapeOf}
 use Rattle.lines.proofs.shape.Statement.{statement}
 use Rattle.lines.proofs.shape.Tie as tie
 

@@ -1,7 +1,7 @@
 -- A sum of products that fits, since a digit is at most 9.
 use native.Mathlib.Omega.{arith}
 use borrow.Author.Needs.{needs}
-use Rattle.lines.specs.FieldLaws.{value-four}
+use Rattle.format.specs.FieldLaws.{value-four}
 use Rattle.lines.proofs.value.Statement.{statement}
 use Rattle.lines.proofs.value.Tie as tie
 

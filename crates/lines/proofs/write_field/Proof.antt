@@ -4,7 +4,7 @@ use mathlib.Core.Path.{refl}
 use lib.ListN.{length-set}
 use native.Mathlib.Numerals.{add-one, add-two, add-three}
 use borrow.Author.Needs.{needs}
-use Rattle.lines.specs.Fields.{column, fieldText}
+use Rattle.format.specs.Fields.{column, fieldText}
 use Rattle.lines.proofs.write_field.Statement.{statement}
 use Rattle.lines.proofs.write_field.Tie as tie
 

@@ -5,8 +5,8 @@ use mathlib.Core.Path.{_≡_, refl, _∙_}
 use lib.ListN.{length, take}
 use lib.Seq.{sets}
 use borrow.Author.Needs.{needs}
-use Rattle.lines.specs.Writing.{fieldsText}
-use Rattle.lines.specs.WritingLaws.{fields-next}
+use Rattle.format.specs.Writing.{fieldsText}
+use Rattle.format.specs.WritingLaws.{fields-next}
 use Rattle.lines.proofs.write_fields.Statement.{statement}
 use Rattle.lines.proofs.write_fields.Tie as tie
 

@@ -4,8 +4,8 @@ use Prim.Native.Nat.{_-_, _≤_}
 use mathlib.Core.Path.{_≡_}
 use lib.ListN.{length, take, length-set}
 use borrow.Author.Needs.{needs}
-use Rattle.lines.specs.Fields.{fieldsOf}
-use Rattle.lines.specs.ShapeLaws.{shape-shaped}
+use Rattle.format.specs.Fields.{fieldsOf}
+use Rattle.format.specs.ShapeLaws.{shape-shaped}
 use Rattle.readers.proofs.Filling.{fields-more, fields-done}
 use Rattle.readers.proofs.fields_of.Statement.{statement}
 use Rattle.readers.proofs.fields_of.Tie as tie

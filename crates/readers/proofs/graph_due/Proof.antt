@@ -2,7 +2,7 @@
 use mathlib.Core.Path.{sym, ap}
 use lib.Dec.{eqb}
 use borrow.Author.Needs.{needs}
-use Rattle.lines.specs.Shape.{kindLetter}
+use Rattle.format.specs.Shape.{kindLetter}
 use Rattle.questions.specs.Layout.{letterDue}
 use Rattle.readers.proofs.Letters.{not-graph}
 use Rattle.readers.proofs.graph_due.Statement.{statement}

@@ -1,8 +1,8 @@
 -- A `match` on the kind of line that the letter starts: one arm for each kind of the two files, and the rest.
 use native.Mathlib.Omega.{arith}
 use borrow.Author.Needs.{needs}
-use Rattle.lines.specs.Shape.{kindLetter}
-use Rattle.lines.specs.declared.Letter.the-variants.{G, S, R, E, P, H}
+use Rattle.format.specs.Shape.{kindLetter}
+use Rattle.format.specs.declared.Letter.the-variants.{G, S, R, E, P, H}
 use Rattle.readers.proofs.Letters.{known-letter, not-due}
 use Rattle.readers.proofs.letter_due.Statement.{statement}
 use Rattle.readers.proofs.letter_due.Tie as tie

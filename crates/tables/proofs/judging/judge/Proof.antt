@@ -5,7 +5,7 @@ use borrow.Author.Tests.{not-true, not-false}
 use borrow.Author.Needs.{needs}
 use Rattle.questions.specs.Layout.{fieldsIn}
 use Rattle.questions.specs.Questions.{judge}
-use Rattle.tables.proofs.Words.{known, chosen, passed}
+use Rattle.layout.proofs.Words.{known, chosen, passed}
 use Rattle.tables.proofs.judging.judge.Statement.{statement}
 use Rattle.tables.proofs.judging.judge.Tie as tie
 

@@ -1,0 +1,332 @@
+// The words of a table by name, the places of its lines and their order, for every table and every number: a word past the end is 0.
+ghost use mathlib.Core.Path.{_≡_};
+ghost use mathlib.Core.Bool.{cond};
+ghost use Prim.Native.Nat.{_+_, _*_, _≤_, min};
+ghost use lib.ListN.{getD, length};
+ghost use Rattle.questions.specs.declared.Due.the-variants.{Symbol, RuleEdge, PlanLine, GraphEdge, Nothing};
+ghost use Rattle.questions.specs.Layout.{placeOf, inTable, fieldsIn, word, block, symbolCount, ruleCount, startSymbol, kindWord, rankAt, ruleSymbol, ruleNodes, ruleEdges, rulePlan, ruleExternal, edgeLabel, edgeNode, planKind, planFirst, planSecond, graphNodes, graphEdges, graphExternal, graphLabel, graphNode};
+ghost use Rattle.questions.specs.Reading.{next};
+ghost use Rattle.layout.specs.Storing.{pasted, storeAt};
+use questions::Due;
+use questions::Fields;
+
+// Word j of the line at place p.
+pub fn word(t: &[u64], p: u64, j: u64) -> u64
+    ensures { λ r. ⌜ r ≡ word (now (t .entry)) p j ⌝ }
+{
+    let n = t.len() as u64;
+    if n / 9 < p {
+        return 0;
+    }
+    let at = 9 * p;
+    if n - at <= j {
+        return 0;
+    }
+    t[(at + j) as usize]
+}
+
+// Word from + k of the line at place base + i.
+fn word_from(t: &[u64], base: u64, i: u64, from: u64, k: u64) -> u64
+    requires { ⌜ (base ≤ length (now t) + 74) × (from ≤ 5) ⌝ }
+    ensures { λ x. ⌜ x ≡ word (now (t .entry)) (base + i) (from + k) ⌝ }
+{
+    let n = t.len() as u64;
+    if n < i {
+        return 0;
+    }
+    if n < k {
+        return 0;
+    }
+    word(t, base + i, from + k)
+}
+
+// Word from + k of the line at place base + 25 * r + i: base is the place of such a line in rule 0.
+fn rule_word(t: &[u64], base: u64, r: u64, i: u64, from: u64, k: u64) -> u64
+    requires { ⌜ (base ≤ 74) × (from ≤ 5) ⌝ }
+    ensures { λ x. ⌜ x ≡ word (now (t .entry)) (base + 25 * r + i) (from + k) ⌝ }
+{
+    let n = t.len() as u64;
+    if n / 25 < r {
+        return 0;
+    }
+    word_from(t, base + 25 * r, i, from, k)
+}
+
+// ---- a grammar table
+pub fn symbol_count(g: &[u64]) -> u64
+    ensures { λ x. ⌜ x ≡ symbolCount (now (g .entry)) ⌝ }
+{
+    word(g, 0, 0)
+}
+
+pub fn rule_count(g: &[u64]) -> u64
+    ensures { λ x. ⌜ x ≡ ruleCount (now (g .entry)) ⌝ }
+{
+    word(g, 0, 1)
+}
+
+pub fn start_symbol(g: &[u64]) -> u64
+    ensures { λ x. ⌜ x ≡ startSymbol (now (g .entry)) ⌝ }
+{
+    word(g, 0, 2)
+}
+
+// 0 terminal, 1 nonterminal.
+pub fn kind_of(g: &[u64], s: u64) -> u64
+    ensures { λ x. ⌜ x ≡ kindWord (now (g .entry)) s ⌝ }
+{
+    word_from(g, 1, s, 1, 0)
+}
+
+// The lesser of two numbers.
+pub(crate) fn at_most(cap: u64, n: u64) -> u64
+    ensures { λ x. ⌜ x ≡ min cap n ⌝ }
+{
+    if n < cap {
+        return n;
+    }
+    cap
+}
+
+pub fn rank_at(g: &[u64], s: u64) -> u64
+    ensures { λ x. ⌜ (x ≡ rankAt (now (g .entry)) s) × (x ≤ 4) ⌝ }
+{
+    at_most(4, word_from(g, 1, s, 2, 0))
+}
+
+pub fn rule_symbol(g: &[u64], r: u64) -> u64
+    ensures { λ x. ⌜ x ≡ ruleSymbol (now (g .entry)) r ⌝ }
+{
+    rule_word(g, 65, r, 0, 1, 0)
+}
+
+pub fn rule_nodes(g: &[u64], r: u64) -> u64
+    ensures { λ x. ⌜ x ≡ ruleNodes (now (g .entry)) r ⌝ }
+{
+    rule_word(g, 65, r, 0, 2, 0)
+}
+
+pub fn rule_edges(g: &[u64], r: u64) -> u64
+    ensures { λ x. ⌜ x ≡ ruleEdges (now (g .entry)) r ⌝ }
+{
+    rule_word(g, 65, r, 0, 3, 0)
+}
+
+pub fn rule_plan(g: &[u64], r: u64) -> u64
+    ensures { λ x. ⌜ x ≡ rulePlan (now (g .entry)) r ⌝ }
+{
+    rule_word(g, 65, r, 0, 4, 0)
+}
+
+pub fn rule_external(g: &[u64], r: u64, k: u64) -> u64
+    ensures { λ x. ⌜ x ≡ ruleExternal (now (g .entry)) r k ⌝ }
+{
+    rule_word(g, 65, r, 0, 5, k)
+}
+
+pub fn edge_label(g: &[u64], r: u64, i: u64) -> u64
+    ensures { λ x. ⌜ x ≡ edgeLabel (now (g .entry)) r i ⌝ }
+{
+    rule_word(g, 66, r, i, 0, 0)
+}
+
+pub fn edge_node(g: &[u64], r: u64, i: u64, k: u64) -> u64
+    ensures { λ x. ⌜ x ≡ edgeNode (now (g .entry)) r i k ⌝ }
+{
+    rule_word(g, 66, r, i, 1, k)
+}
+
+pub fn plan_kind(g: &[u64], r: u64, q: u64) -> u64
+    ensures { λ x. ⌜ x ≡ planKind (now (g .entry)) r q ⌝ }
+{
+    rule_word(g, 74, r, q, 0, 0)
+}
+
+pub fn plan_first(g: &[u64], r: u64, q: u64) -> u64
+    ensures { λ x. ⌜ x ≡ planFirst (now (g .entry)) r q ⌝ }
+{
+    rule_word(g, 74, r, q, 1, 0)
+}
+
+pub fn plan_second(g: &[u64], r: u64, q: u64) -> u64
+    ensures { λ x. ⌜ x ≡ planSecond (now (g .entry)) r q ⌝ }
+{
+    rule_word(g, 74, r, q, 2, 0)
+}
+
+// ---- a graph table
+pub fn graph_nodes(h: &[u64]) -> u64
+    ensures { λ x. ⌜ x ≡ graphNodes (now (h .entry)) ⌝ }
+{
+    word(h, 0, 0)
+}
+
+pub fn graph_edges(h: &[u64]) -> u64
+    ensures { λ x. ⌜ x ≡ graphEdges (now (h .entry)) ⌝ }
+{
+    word(h, 0, 1)
+}
+
+pub fn graph_external(h: &[u64], k: u64) -> u64
+    ensures { λ x. ⌜ x ≡ graphExternal (now (h .entry)) k ⌝ }
+{
+    word_from(h, 0, 0, 2, k)
+}
+
+pub fn graph_label(h: &[u64], e: u64) -> u64
+    ensures { λ x. ⌜ x ≡ graphLabel (now (h .entry)) e ⌝ }
+{
+    word_from(h, 1, e, 0, 0)
+}
+
+pub fn graph_node(h: &[u64], e: u64, k: u64) -> u64
+    ensures { λ x. ⌜ x ≡ graphNode (now (h .entry)) e k ⌝ }
+{
+    word_from(h, 1, e, 1, k)
+}
+
+// ---- places
+// Whether a largest table has a place for the line.
+pub fn in_table(due: Due) -> bool
+    ensures { λ r. ⌜ r ≡ inTable due ⌝ }
+{
+    match due {
+        Due::Grammar => true,
+        Due::Symbol(s) => s < 64,
+        Due::Rule(r) => r < 64,
+        Due::RuleEdge(r, i) => (r < 64) & (i < 8),
+        Due::PlanLine(r, q) => (r < 64) & (q < 16),
+        Due::Graph => true,
+        Due::GraphEdge(e) => e < 64,
+        Due::Nothing => true,
+    }
+}
+
+// The place of the line; 0 for a line that is in no table.
+pub fn place_of(due: Due) -> u64
+    ensures { λ r. ⌜ (r ≡ cond (inTable due) (placeOf due) 0) × (r ≤ 1664) ⌝ }
+{
+    if !in_table(due) {
+        return 0;
+    }
+    match due {
+        Due::Grammar => 0,
+        Due::Symbol(s) => 1 + s,
+        Due::Rule(r) => 65 + 25 * r,
+        Due::RuleEdge(r, i) => 66 + 25 * r + i,
+        Due::PlanLine(r, q) => 74 + 25 * r + q,
+        Due::Graph => 0,
+        Due::GraphEdge(e) => 1 + e,
+        Due::Nothing => 0,
+    }
+}
+
+// ---- the order of lines
+fn after_symbol(t: &[u64], s: u64) -> Due
+    requires { ⌜ s ≤ 63 ⌝ }
+    ensures { λ r. ⌜ r ≡ next (now (t .entry)) (Symbol s) ⌝ }
+{
+    if s + 1 < at_most(64, symbol_count(t)) {
+        return Due::Symbol(s + 1);
+    }
+    Due::Rule(0)
+}
+
+fn after_rule_edge(t: &[u64], r: u64, i: u64) -> Due
+    requires { ⌜ i ≤ 7 ⌝ }
+    ensures { λ x. ⌜ x ≡ next (now (t .entry)) (RuleEdge r i) ⌝ }
+{
+    if i + 1 < at_most(8, rule_edges(t, r)) {
+        return Due::RuleEdge(r, i + 1);
+    }
+    Due::PlanLine(r, 0)
+}
+
+fn after_plan_line(t: &[u64], r: u64, q: u64) -> Due
+    requires { ⌜ (r ≤ 63) × (q ≤ 15) ⌝ }
+    ensures { λ x. ⌜ x ≡ next (now (t .entry)) (PlanLine r q) ⌝ }
+{
+    if q + 1 < at_most(16, rule_plan(t, r)) {
+        return Due::PlanLine(r, q + 1);
+    }
+    if r + 1 < at_most(64, rule_count(t)) {
+        return Due::Rule(r + 1);
+    }
+    Due::Nothing
+}
+
+fn after_graph_edge(t: &[u64], e: u64) -> Due
+    requires { ⌜ e ≤ 63 ⌝ }
+    ensures { λ r. ⌜ r ≡ next (now (t .entry)) (GraphEdge e) ⌝ }
+{
+    if e + 1 < at_most(64, graph_edges(t)) {
+        return Due::GraphEdge(e + 1);
+    }
+    Due::Nothing
+}
+
+// What is due after a line, by the table with that line; nothing after a line that is in no table.
+pub fn next_due(t: &[u64], due: Due) -> Due
+    ensures { λ r. ⌜ r ≡ cond (inTable due) (next (now (t .entry)) due) Nothing ⌝ }
+{
+    if !in_table(due) {
+        return Due::Nothing;
+    }
+    match due {
+        Due::Grammar => Due::Symbol(0),
+        Due::Symbol(s) => after_symbol(t, s),
+        Due::Rule(r) => Due::RuleEdge(r, 0),
+        Due::RuleEdge(r, i) => after_rule_edge(t, r, i),
+        Due::PlanLine(r, q) => after_plan_line(t, r, q),
+        Due::Graph => Due::GraphEdge(0),
+        Due::GraphEdge(e) => after_graph_edge(t, e),
+        Due::Nothing => Due::Nothing,
+    }
+}
+
+// ---- fields, and a line stored
+// Field k, 0 where the line has none.
+pub fn field(f: Fields, k: u64) -> u64
+    ensures { λ r. ⌜ r ≡ getD (fieldsIn f) k 0 ⌝ }
+{
+    if f.count <= k {
+        return 0;
+    }
+    if 18 <= k {
+        return 0;
+    }
+    f.values[k as usize]
+}
+
+// How many fields there are: at most 18, whatever the count says.
+pub fn field_count(f: Fields) -> u64
+    ensures { λ r. ⌜ (r ≡ length (fieldsIn f)) × (r ≤ 18) ⌝ }
+{
+    at_most(18, f.count)
+}
+
+// The nine words of a line with these fields, from word `at` on.
+fn put_line(t: &mut [u64], at: u64, f: Fields)
+    requires { ⌜ at + 9 ≤ length (now t) ⌝ }
+    ensures { λ r. ⌜ now (t .exit) ≡ pasted (now (t .entry)) at (block (fieldsIn f)) 9 ⌝ }
+{
+    let mut j: u64 = 0;
+    while j < 9 {
+        t[(at + j) as usize] = field(f, j);
+        j += 1;
+    }
+}
+
+// The line's fields at its place; a table without that place stays as it is.
+pub fn store(t: &mut [u64], due: Due, f: Fields)
+    ensures { λ r. ⌜ now (t .exit) ≡ storeAt (now (t .entry)) due (fieldsIn f) ⌝ }
+{
+    if !in_table(due) {
+        return;
+    }
+    let at = 9 * place_of(due);
+    if (t.len() as u64) < at + 9 {
+        return;
+    }
+    put_line(t, at, f);
+}
