@@ -79,7 +79,7 @@ pub fn kind_of(g: &[u64], s: u64) -> u64
 }
 
 // The lesser of two numbers.
-pub(crate) fn at_most(cap: u64, n: u64) -> u64
+pub fn at_most(cap: u64, n: u64) -> u64
     ensures { λ x. ⌜ x ≡ min cap n ⌝ }
 {
     if n < cap {
