@@ -12,7 +12,7 @@ use Rattle.format.specs.Shape.{shapeOf, letterOf, letterKind, kindLetter}
 use Rattle.format.specs.ShapeLaws.{shape-shaped, letter-kind, kind-letter}
 use Rattle.format.specs.declared.Letter.{Letter}
 use Rattle.format.specs.declared.Letter.the-variants.{G, S, R, E, P, H, Other}
-use Rattle.lines.proofs.Letter.{the-type as letter-type}
+use Rattle.format.proofs.Letter.{the-type as letter-type}
 use Rattle.questions.proofs.Due.{the-type}
 use Rattle.questions.specs.Layout.{letterDue}
 use Rattle.questions.specs.declared.Due.{Due}
