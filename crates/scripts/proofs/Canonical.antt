@@ -1,20 +1,19 @@
 -- What is written is read back, and a text that reads is the one that is written for its rows.
-use Prim.Native.Nat.{ℕ, zero, suc, _+_, _≤_, _<_}
+use Prim.Native.Nat.{ℕ, zero, suc, _≤_, _<_}
 use mathlib.Core.Path.{_≡_, refl, sym, ap, _∙_}
-use mathlib.Core.Bool.{Bool, true, false, true≢false}
-use mathlib.Core.List.{List, [], _∷_, _++_}
-use lib.ListN.{length, getD, length-append}
+use mathlib.Core.Bool.{Bool, true, false, cond, true≢false}
+use mathlib.Core.List.{List, [], _∷_}
+use lib.ListN.{length, getD}
 use lib.Seq.{ext-getD}
 use native.Mathlib.Omega.{arith}
 use Rattle.format.specs.Lines.{Line, linesOf, textOf}
 use Rattle.format.specs.LineLaws.{text-of-lines, lines-end}
-use Rattle.format.specs.Fields.{column, fieldText, fieldCount, numberOf, fieldsOf}
+use Rattle.format.specs.Fields.{fieldCount, numberOf, fieldsOf}
 use Rattle.format.specs.FieldLaws.{fields-length, fields-in}
-use Rattle.format.specs.Writing.{fieldsText, lineBody, lineText, Writable}
-use Rattle.format.specs.WritingLaws.{lineText-length}
+use Rattle.format.specs.Writing.{lineBody, Writable}
 use Rattle.format.specs.RoundTrip.{written-letter, written-count, written-number, written-fields, written-shape, written-line, shape-written, shape-writable}
-use Rattle.scripts.specs.Scripts.{rowLines, rowsText, rowBytes, WritableLines, none, more, WritableRows, Script, bad, rows, withRow, hasLetter, opens, rowsFrom, scriptOf, rowsIn}
-use Rattle.scripts.proofs.ScriptReading.{Lettered, has-lettered, lettered-has, Opening, opens-opening, opening-opens, row-read, row-refused, row-missing, rows-read, line-behind, script-opened, script-refused, script-missing}
+use Rattle.scripts.specs.Scripts.{rowLines, rowsText, WritableLines, none, more, WritableRows, Script, bad, rows, withRow, hasLetter, opens, rowsFrom, scriptOf, rowsIn}
+use Rattle.scripts.proofs.ScriptTests.{Lettered, has-lettered, lettered-has, opens-opening, opening-opens}
 
 -- ---- rows that are read
 abbrev isBad : Script → Bool
@@ -30,6 +29,11 @@ bad-no-rows h = true≢false (ap isBad h)
 
 pub rows-same : {rs qs : List (List ℕ)} → rows rs ≡ rows qs → rs ≡ qs
 rows-same h = ap rowsOf h
+
+-- rows come only of a line that passes
+passed-rows : (x : Bool) (s : Script) (rs : List (List ℕ)) → cond x s bad ≡ rows rs → (x ≡ true) × (s ≡ rows rs)
+passed-rows true s rs h = (refl, h)
+passed-rows false s rs h = absurd (bad-no-rows h)
 
 -- ---- one written line
 written : ℕ → List ℕ → Line
@@ -87,24 +91,18 @@ single-field line h =
 
 -- ---- what is written is read back
 lines-read : (rs : List (List ℕ)) → WritableLines rs → rowsFrom (length rs) (linesOf (rowLines rs)) ≡ rows rs
-unfolding rowLines written
-lines-read [] none = ap (rowsFrom 0) (lines-end [] 0 (omega arith)) ∙ rows-read
+unfolding rowsFrom rowLines written
+lines-read [] none = ap (rowsFrom 0) (lines-end [] 0 (omega arith))
 lines-read (r ∷ rs) (more w ws) =
-    let l = written 65 r in
-    let rest = rowLines rs in
-    ap (rowsFrom (suc (length rs))) (written-line 65 r rest (λ e. omega arith))
-    ∙ row-read (length rs) l (linesOf rest) (lettered-has 65 l (written-lettered 65 r w))
-    ∙ rw (written-fields 65 r (w .small), lines-read rs ws)
+    ap (rowsFrom (suc (length rs))) (written-line 65 r (rowLines rs) (λ e. omega arith))
+    ∙ rw (lettered-has 65 (written 65 r) (written-lettered 65 r w), written-fields 65 r (w .small), lines-read rs ws)
 
 pub text-rows : (rs : List (List ℕ)) → WritableRows rs → rowsIn (rowsText rs) ≡ rows rs
-unfolding rowsIn rowsText written
+unfolding rowsIn scriptOf rowsText written
 text-rows rs w =
     let n = length rs in
-    let rest = rowLines rs in
-    ap scriptOf (written-line 68 (n ∷ []) rest (λ e. omega arith))
-    ∙ script-opened (written 68 (n ∷ [])) (linesOf rest) (count-opens n (w .some) (w .few))
-    ∙ ap (λ (k : ℕ). rowsFrom k (linesOf rest)) (count-number n (w .few))
-    ∙ lines-read rs (w .each)
+    ap scriptOf (written-line 68 (n ∷ []) (rowLines rs) (λ e. omega arith))
+    ∙ rw (count-opens n (w .some) (w .few), count-number n (w .few)) (lines-read rs (w .each))
 
 -- ---- a text that reads is the one that is written
 -- what lines that read as n rows are
@@ -131,65 +129,33 @@ first-written n l ls (rows qs) rs h e later =
     }
 
 read-lines : (n : ℕ) (ls : List Line) (rs : List (List ℕ)) → rowsFrom n ls ≡ rows rs → Written n ls rs
-unfolding rowLines
+unfolding rowsFrom rowLines
 read-lines zero [] rs h =
-    let same : [] ≡ rs = rows-same (sym rows-read ∙ h) in
+    let same : [] ≡ rs = rows-same h in
     rw (← same) (record { lines = sym (lines-end [] 0 (omega arith)); count = refl; each = none })
-read-lines zero (l ∷ ls) rs h = absurd (bad-no-rows (sym (line-behind l ls) ∙ h))
-read-lines (suc n) [] rs h = absurd (bad-no-rows (sym (row-missing n) ∙ h))
-read-lines (suc n) (l ∷ ls) rs h = go (hasLetter 65 l) refl (λ qs. read-lines n ls qs)
-  where
-    go : (x : Bool) → hasLetter 65 l ≡ x → ((qs : List (List ℕ)) → rowsFrom n ls ≡ rows qs → Written n ls qs) → Written (suc n) (l ∷ ls) rs
-    go true e later = first-written n l ls (rowsFrom n ls) rs (has-lettered 65 l e) (sym (row-read n l ls e) ∙ h) later
-    go false e later = absurd (bad-no-rows (sym (row-refused n l ls e) ∙ h))
+read-lines zero (l ∷ ls) rs h = absurd (bad-no-rows h)
+read-lines (suc n) [] rs h = absurd (bad-no-rows h)
+read-lines (suc n) (l ∷ ls) rs h =
+    let two = passed-rows (hasLetter 65 l) _ rs h in
+    first-written n l ls (rowsFrom n ls) rs (has-lettered 65 l (two .0)) (two .1) (λ qs. read-lines n ls qs)
 
 read-script : (ls : List Line) (rs : List (List ℕ)) → scriptOf ls ≡ rows rs → (ls ≡ linesOf (rowsText rs)) × WritableRows rs
-unfolding rowsText written
-read-script [] rs h = absurd (bad-no-rows (sym script-missing ∙ h))
-read-script (l ∷ ls) rs h = go (opens l) refl
-  where
-    go : (x : Bool) → opens l ≡ x → (l ∷ ls ≡ linesOf (lineText 68 (length rs ∷ []) ++ rowLines rs)) × WritableRows rs
-    go true e =
-        let o = opens-opening l e in
-        let rest = read-lines (numberOf (l .bytes) 0) ls rs (sym (script-opened l ls e) ∙ h) in
-        let fields : fieldsOf (l .bytes) ≡ length rs ∷ [] =
-        single-field (l .bytes) (o .single) ∙ ap (λ (x : ℕ). x ∷ []) (sym (rest .count))
-        in
-        let head : l ≡ written 68 (length rs ∷ []) = lettered-written 68 l (o .lettered) ∙ ap (written 68) fields in (
-          rw (rest .lines) (ap (λ (x : Line). x ∷ linesOf (rowLines rs)) head) ∙ sym (written-line 68 (length rs ∷ []) (rowLines rs) (λ z. omega arith)),
-          record { some = rw (rest .count) (o .some); few = rw (rest .count) (o .few); each = rest .each },
-        )
-    go false e = absurd (bad-no-rows (sym (script-refused l ls e) ∙ h))
+unfolding scriptOf rowsText written
+read-script [] rs h = absurd (bad-no-rows h)
+read-script (l ∷ ls) rs h =
+    let two = passed-rows (opens l) _ rs h in
+    let o = opens-opening l (two .0) in
+    let rest = read-lines _ ls rs (two .1) in
+    let fields : fieldsOf (l .bytes) ≡ length rs ∷ [] =
+    single-field (l .bytes) (o .single) ∙ ap (λ (x : ℕ). x ∷ []) (sym (rest .count))
+    in
+    let head : l ≡ written 68 (length rs ∷ []) = lettered-written 68 l (o .lettered) ∙ ap (written 68) fields in (
+      rw (rest .lines) (ap (λ (x : Line). x ∷ linesOf (rowLines rs)) head) ∙ sym (written-line 68 (length rs ∷ []) (rowLines rs) (λ z. omega arith)),
+      record { some = rw (rest .count) (o .some); few = rw (rest .count) (o .few); each = rest .each },
+    )
 
 pub rows-text : (text : List ℕ) (rs : List (List ℕ)) → rowsIn text ≡ rows rs → (text ≡ rowsText rs) × WritableRows rs
 unfolding rowsIn
 rows-text text rs h =
     let both = read-script (linesOf text) rs h in
     (sym (text-of-lines text) ∙ ap textOf (both .0) ∙ text-of-lines (rowsText rs), both .1)
-
--- ---- lengths
-lines-length : (rs : List (List ℕ)) → length (rowLines rs) ≡ rowBytes rs
-unfolding rowLines rowBytes
-lines-length [] = refl
-lines-length (r ∷ rs) = length-append (lineText 65 r) (rowLines rs) ∙ omega (arith, lineText-length 65 r, lines-length rs)
-
-pub text-length : (rs : List (List ℕ)) → length (rowsText rs) ≡ 6 + rowBytes rs
-unfolding rowsText
-text-length rs =
-    length-append (lineText 68 (length rs ∷ [])) (rowLines rs) ∙ omega (arith, lineText-length 68 (length rs ∷ []), lines-length rs)
-
--- K2's derivation (01, 'Graphs K1 to K10')
-abbrev pub k2Rows : List (List ℕ)
-k2Rows = (0 ∷ 1 ∷ 0 ∷ 2 ∷ 1 ∷ 0 ∷ 1 ∷ []) ∷ (1 ∷ 0 ∷ 1 ∷ 2 ∷ 1 ∷ []) ∷ []
-
-pub k2-bytes : length (rowsText k2Rows) ≡ 58
-unfolding rowBytes
-k2-bytes = text-length k2Rows
-
--- and its text: the three lines of 01, byte by byte
-pub k2-text : rowsText k2Rows
-    ≡ 68 ∷ 32 ∷ 32 ∷ 32 ∷ 50 ∷ 10 ∷
-    65 ∷ 32 ∷ 32 ∷ 32 ∷ 48 ∷ 32 ∷ 32 ∷ 32 ∷ 49 ∷ 32 ∷ 32 ∷ 32 ∷ 48 ∷ 32 ∷ 32 ∷ 32 ∷ 50 ∷ 32 ∷ 32 ∷ 32 ∷ 49 ∷ 32 ∷ 32 ∷ 32 ∷ 48 ∷ 32 ∷ 32 ∷ 32 ∷ 49 ∷ 10 ∷
-    65 ∷ 32 ∷ 32 ∷ 32 ∷ 49 ∷ 32 ∷ 32 ∷ 32 ∷ 48 ∷ 32 ∷ 32 ∷ 32 ∷ 49 ∷ 32 ∷ 32 ∷ 32 ∷ 50 ∷ 32 ∷ 32 ∷ 32 ∷ 49 ∷ 10 ∷ []
-unfolding rowsText rowLines lineText lineBody fieldsText fieldText column
-k2-text = refl
