@@ -1,0 +1,4 @@
+-- The root of the theorems.
+pub mod Rows
+pub mod Tests
+pub mod Sound

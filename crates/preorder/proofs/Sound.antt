@@ -1,0 +1,1 @@
+-- Rows that replay are the rows of a tree that generates the graph.
