@@ -2,3 +2,4 @@
 pub mod Rows
 pub mod Tests
 pub mod Sound
+pub mod Complete

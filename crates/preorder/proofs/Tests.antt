@@ -48,7 +48,7 @@ once-fresh used vs o = go used vs (λ v. omega (arith, occurs-append v used vs, 
     go used (w ∷ vs) o =
         rw (eq-eqb (occurs w used) 0 (omega (arith, o w, hit-self w))) (go (w ∷ used) vs (λ v. omega (arith, o v)))
 
-itself : (b : Bool) → Decides b (T b)
+pub itself : (b : Bool) → Decides b (T b)
 itself b = record { sound = λ t. t; complete = λ t. t }
 
 pub decides-list : (xs ys : List ℕ) → Decides (sameList xs ys) (xs ≡ ys)
