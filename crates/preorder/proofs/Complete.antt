@@ -104,7 +104,7 @@ module _ (G : Grammar) (H : Graph) (rows : List (List ℕ)) where
         let fuel : length (P .edges) + 1 + 10 * sizeIn ps ≤ k = omega (arith, g .rule r (f .known) .right .edge-count .upper) in
         ap (λ (l : List ℕ). with-row k s L n es vs l) (next .here)
         ∙ pass (ltb n (length rows) && rowTest G H n s L vs row) _
-          ((decides-le (suc n) (length rows) and decides-row G H n s L vs row) .complete (next .known, row-ok (once-left (vs ++ images place (internals P)) (innerIn G ps) ov′)))
+        ((decides-le (suc n) (length rows) and decides-row G H n s L vs row) .complete (next .known, row-ok (once-left (vs ++ images place (internals P)) (innerIn G ps) ov′)))
         ∙ ap₂ (λ (l m : List ℕ). replayEdges k G H rows l (P .edges) m (reached (n + 1) es (vs ++ newNodes P row))) place-eq fields-eq
         ∙ ap (λ (l : List ℕ). replayEdges k G H rows place (P .edges) (partNumbers (n + 1) ps) (reached (n + 1) es (vs ++ l))) new-eq
         ∙ under place (P .edges) (n + 1) ps es (vs ++ images place (internals P)) rest fuel fs (next .after) oe ov′
@@ -131,7 +131,7 @@ module _ (G : Grammar) (H : Graph) (rows : List (List ℕ)) where
     with-edge f h w fs q oe ov =
         let oe′ = once-assoc es (f ∷ []) (edgesIn ps) oe in
         let ok : EdgeFits H (e .label) L es f =
-          record { known = w .known; label = w .label; attachment = w .attachment; new = once-fresh es (f ∷ []) (once-left (es ++ f ∷ []) (edgesIn ps) oe′) } in
+        record { known = w .known; label = w .label; attachment = w .attachment; new = once-fresh es (f ∷ []) (once-left (es ++ f ∷ []) (edgesIn ps) oe′) } in
         ap (λ (kind : Kind). byKind kind (check (edgeTest H (e .label) L es f) (used f)) (check (eqb f n) (below (partNumbers n ps)))) (w .kind)
         ∙ pass (edgeTest H (e .label) L es f) (used f) (decides-edge H (e .label) L es f .complete ok)
         ∙ under place rs n ps (es ++ f ∷ []) vs rest h fs q oe′ ov
@@ -140,7 +140,7 @@ module _ (G : Grammar) (H : Graph) (rows : List (List ℕ)) where
     with-tree : CompleteAt k → (t : Tree) → length rs + 1 + 10 * (size t + sizeIn ps) ≤ k → Fits G H (e .label) L t → FitsParts G H place ps rs
         → drop n rows ≡ (treeRows n t ++ partRows (n + size t) ps) ++ rest → Once (es ++ (edgesOf t ++ edgesIn ps)) → Once (vs ++ (innerOf G t ++ innerIn G ps))
         → byKind (kindOf G (e .label)) (check (edgeTest H (e .label) L es n) (replayEdges k G H rows place rs (partNumbers (n + size t) ps) (reached n (es ++ n ∷ []) vs))) (check (eqb n n) (below (partNumbers (n + size t) ps)))
-          ≡ reached (n + (size t + sizeIn ps)) (es ++ (edgesOf t ++ edgesIn ps)) (vs ++ (innerOf G t ++ innerIn G ps))
+        ≡ reached (n + (size t + sizeIn ps)) (es ++ (edgesOf t ++ edgesIn ps)) (vs ++ (innerOf G t ++ innerIn G ps))
     with-tree sub t h w fs q oe ov =
         let oe′ = once-assoc es (edgesOf t) (edgesIn ps) oe in
         let ov′ = once-assoc vs (innerOf G t) (innerIn G ps) ov in
@@ -148,7 +148,7 @@ module _ (G : Grammar) (H : Graph) (rows : List (List ℕ)) where
         ap (λ (kind : Kind). byKind kind (check (edgeTest H (e .label) L es n) (replayEdges k G H rows place rs (partNumbers (n + size t) ps) (reached n (es ++ n ∷ []) vs))) (check (eqb n n) (below (partNumbers (n + size t) ps)))) (fits-kind t w)
         ∙ pass (eqb n n) (below (partNumbers (n + size t) ps)) (eqb-refl n)
         ∙ ap (λ (st : State). replayEdges k G H rows place rs (partNumbers (n + size t) ps) st)
-          (sub (e .label) L n t es vs (partRows (n + size t) ps ++ rest) (omega arith) w q′ (once-left (es ++ edgesOf t) (edgesIn ps) oe′) (once-left (vs ++ innerOf G t) (innerIn G ps) ov′))
+        (sub (e .label) L n t es vs (partRows (n + size t) ps ++ rest) (omega arith) w q′ (once-left (es ++ edgesOf t) (edgesIn ps) oe′) (once-left (vs ++ innerOf G t) (innerIn G ps) ov′))
         ∙ under place rs (n + size t) ps (es ++ edgesOf t) (vs ++ innerOf G t) rest (omega arith) fs (rows-after rows n t (partRows (n + size t) ps ++ rest) q′) oe′ ov′
         ∙ same-state (omega arith) (append-assoc es (edgesOf t) (edgesIn ps)) (append-assoc vs (innerOf G t) (innerIn G ps))
       where

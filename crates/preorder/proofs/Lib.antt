@@ -3,3 +3,6 @@ pub mod Rows
 pub mod Tests
 pub mod Sound
 pub mod Complete
+pub mod Calls
+pub mod Unique
+pub mod Used

@@ -21,7 +21,7 @@ use Rattle.preorder.specs.Replay.{State, reached, failed, check, byKind,
 use Rattle.preorder.proofs.Rows.{length-rows, row-fields}
 use Rattle.preorder.proofs.Tests.{Once, fresh-once, RowOk, decides-row, EdgeFits, decides-edge, Passed, passed}
 
-never : {n : ℕ} {es vs : List ℕ} → failed ≡ reached n es vs → ⊥
+pub never : {n : ℕ} {es vs : List ℕ} → failed ≡ reached n es vs → ⊥
 never e = let z : _≡_ {A = ℕ} 0 1 = cc in omega arith
 
 module _ (G : Grammar) (H : Graph) (rows : List (List ℕ)) where
@@ -58,7 +58,7 @@ module _ (G : Grammar) (H : Graph) (rows : List (List ℕ)) where
       (place : List ℕ) (rs : List Edge) (fs : List ℕ) (n : ℕ) (es vs : List ℕ) (n′ : ℕ) (es′ vs′ : List ℕ)
       → replayEdges k G H rows place rs fs (reached n es vs) ≡ reached n′ es′ vs′ → Under place rs fs n es vs n′ es′ vs′
 
-  stays-failed : (k : ℕ) (place : List ℕ) (rs : List Edge) (fs : List ℕ) → replayEdges k G H rows place rs fs failed ≡ failed
+  pub stays-failed : (k : ℕ) (place : List ℕ) (rs : List Edge) (fs : List ℕ) → replayEdges k G H rows place rs fs failed ≡ failed
   unfolding replayEdges
   stays-failed zero place rs fs = refl
   stays-failed (suc k) place rs fs = refl
