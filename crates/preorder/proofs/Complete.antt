@@ -171,7 +171,7 @@ module _ (G : Grammar) (H : Graph) (rows : List (List ℕ)) where
   complete g (suc k) = let h = complete g k in (step-at g k (h .1), step-edges k (h .0) (h .1))
 
 -- ---- the theorem
-holds : (b : Bool) → T b → b ≡ true
+pub holds : (b : Bool) → T b → b ≡ true
 holds true t = refl
 holds false t = absurd t
 

@@ -1,7 +1,9 @@
 -- A derivation tree as rows of numbers, one row for each application (01, 'Derivation file').
+use mathlib.Core.Path.{_≡_}
 use mathlib.Core.List.{List, [], _∷_, _++_}
-use Prim.Native.Nat.{ℕ, suc, _+_}
-use Rattle.hrg.specs.Trees.{Tree, Parts, apply, end, edge, tree}
+use Prim.Native.Nat.{ℕ, suc, _+_, _≤_}
+use Rattle.hrg.specs.Grammars.{Graph, Grammar}
+use Rattle.hrg.specs.Trees.{Tree, Parts, apply, end, edge, tree, Generates}
 
 -- the number of applications, each 1
 unfoldable mutual
@@ -35,4 +37,12 @@ unfoldable mutual
 
 -- 'All numbering starts at 0.'
 unfoldable pub rowsOf : Tree → List (List ℕ)
+unfolding treeRows
 rowsOf t = treeRows 0 t
+
+-- The rows are those of a tree that generates the graph and has at most 4,096 applications.
+pub record Derives (G : Grammar) (H : Graph) (rows : List (List ℕ)) : Type 0 where
+  pub derivation : Tree
+  pub listed : rows ≡ rowsOf derivation
+  pub generates : Generates G H derivation
+  pub small : size derivation ≤ 4096
