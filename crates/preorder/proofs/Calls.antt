@@ -4,11 +4,10 @@ use mathlib.Core.Bool.{Bool, true, false, _&&_}
 use mathlib.Core.List.{List, [], _∷_, _++_}
 use Prim.Native.Nat.{ℕ, zero, suc, _+_}
 use lib.ListN.{length, getD}
-use lib.Dec.{T, eqb, ltb}
+use lib.Dec.{ltb}
 use Rattle.hrg.specs.Grammars.{Kind, terminal, nonterminal, Edge, Graph, Grammar, kindOf, rightOf}
 use Rattle.hrg.specs.Trees.{images}
-use Rattle.preorder.specs.Replay.{State, reached, failed, check, byKind, ruleIn, placeIn, fieldsIn, newNodes, rowTest, edgeTest, replayAt, replayEdges}
-use Rattle.preorder.proofs.Tests.{Passed, passed, pass}
+use Rattle.preorder.specs.Replay.{State, reached, failed, check, byKind, ruleIn, placeIn, fieldsIn, newNodes, rowTest, edgeTest, partTest, replayAt, replayEdges}
 use Rattle.preorder.proofs.Sound.{never, stays-failed}
 
 -- a check passes the same way over what does not change
@@ -55,11 +54,11 @@ module _ (G : Grammar) (H : Graph) (rows : List (List ℕ)) where
         ap (λ (st : State). replayEdges (suc k) G H rows place rs fs st) (at (e .label) L n es vs n₁ es₁ vs₁ h)
         ∙ edges place rs fs n₁ es₁ vs₁ n′ es′ vs′ q
 
-    by-kind : (kind : Kind) → byKind kind (check (edgeTest H (e .label) L es f) (used k)) (check (eqb f n) (below k)) ≡ reached n′ es′ vs′
-        → byKind kind (check (edgeTest H (e .label) L es f) (used (suc k))) (check (eqb f n) (below (suc k))) ≡ reached n′ es′ vs′
+    by-kind : (kind : Kind) → byKind kind (check (edgeTest H (e .label) L es f) (used k)) (check (partTest n f) (below k)) ≡ reached n′ es′ vs′
+        → byKind kind (check (edgeTest H (e .label) L es f) (used (suc k))) (check (partTest n f) (below (suc k))) ≡ reached n′ es′ vs′
     by-kind terminal q =
         check-more (edgeTest H (e .label) L es f) (used k) (used (suc k)) n′ es′ vs′ (edges place rs fs n (es ++ f ∷ []) vs n′ es′ vs′) q
-    by-kind nonterminal q = check-more (eqb f n) (below k) (below (suc k)) n′ es′ vs′ (after-tree (first k) refl) q
+    by-kind nonterminal q = check-more (partTest n f) (below k) (below (suc k)) n′ es′ vs′ (after-tree (first k) refl) q
 
   more-edges : (k : ℕ) → MoreAt k → MoreEdges k → MoreEdges (suc k)
   unfolding replayEdges

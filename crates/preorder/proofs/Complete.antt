@@ -4,21 +4,19 @@ use mathlib.Core.Bool.{Bool, true, false, _&&_}
 use mathlib.Core.List.{List, [], _∷_, _++_, append-assoc, append-nil}
 use Prim.Native.Nat.{ℕ, zero, suc, _+_, _*_, _≤_, _<_}
 use native.Mathlib.Omega.{arith}
-use native.Mathlib.Numerals.{add-one}
-use lib.ListN.{length, getD, take, drop, length-append}
+use lib.ListN.{length, drop, length-append}
 use lib.Seq.{take-at, drop-at}
-use lib.Dec.{T, eqb, ltb, leb, eqb-refl, lt→ltb, le→leb}
+use lib.Dec.{T, ltb, eqb-refl}
 use Rattle.hrg.specs.Counts.{occurs}
-use Rattle.hrg.specs.Grammars.{Kind, terminal, nonterminal, Edge, Graph, Grammar, kindOf, ruleOf, lhsOf, rightOf, edgeAt}
-use Rattle.hrg.specs.Trees.{at, images, internals, Tree, Parts, apply, end, edge, tree, edgesOf, edgesIn, innerOf, innerIn, FitsEdge, FitsRule, Fits, FitsParts, Apart, Generates}
-use Rattle.hrg.specs.WellFormed.{Between, GrammarOk, GraphOk}
-use Rattle.hrg.specs.WellFormedTest.{Decides, betweenTest}
+use Rattle.hrg.specs.Grammars.{Kind, nonterminal, Edge, Graph, Grammar, kindOf, rightOf}
+use Rattle.hrg.specs.Trees.{images, internals, Tree, Parts, apply, end, edge, tree, edgesOf, edgesIn, innerOf, innerIn, FitsEdge, FitsRule, Fits, FitsParts, Generates}
+use Rattle.hrg.specs.WellFormed.{GrammarOk, GraphOk}
 use Rattle.hrg.proofs.Sums.{occurs-append, occurs-find}
-use Rattle.hrg.proofs.WellFormedTest.{_and_, decides-le, decides-between, decides-eq}
+use Rattle.hrg.proofs.WellFormedTest.{_and_, decides-le, decides-between}
 use Rattle.preorder.specs.Rows.{size, sizeIn, partNumbers, treeRows, partRows, rowsOf}
-use Rattle.preorder.specs.Replay.{State, reached, failed, check, byKind, numberIn, ruleIn, placeIn, fieldsIn, newNodes, rowTest, edgeTest, replayAt, replayEdges, whole, calls, replayed, replays}
-use Rattle.preorder.proofs.Rows.{length-rows, size-positive, Next, next-row, rows-after}
-use Rattle.preorder.proofs.Tests.{Once, once-fresh, RowOk, decides-row, EdgeFits, decides-edge, itself, pass}
+use Rattle.preorder.specs.Replay.{State, reached, check, byKind, ruleIn, placeIn, fieldsIn, newNodes, rowTest, RowOk, edgeTest, EdgeFits, partTest, replayAt, replayEdges, whole, countTest, calls, replayed, replays}
+use Rattle.preorder.proofs.Rows.{length-rows, size-positive, next-row, rows-after}
+use Rattle.preorder.proofs.Tests.{Once, once-fresh, decides-row, decides-edge, itself, pass}
 use Rattle.preorder.proofs.Sound.{decides-whole}
 
 once-left : (xs ys : List ℕ) → Once (xs ++ ys) → Once xs
@@ -127,26 +125,26 @@ module _ (G : Grammar) (H : Graph) (rows : List (List ℕ)) where
 
     with-edge : (f : ℕ) → length rs + 1 + 10 * sizeIn ps ≤ k → FitsEdge G H (e .label) L f → FitsParts G H place ps rs → drop n rows ≡ partRows n ps ++ rest
         → Once (es ++ (f ∷ edgesIn ps)) → Once (vs ++ innerIn G ps)
-        → byKind (kindOf G (e .label)) (check (edgeTest H (e .label) L es f) (used f)) (check (eqb f n) (below (partNumbers n ps))) ≡ reached (n + sizeIn ps) (es ++ (f ∷ edgesIn ps)) (vs ++ innerIn G ps)
+        → byKind (kindOf G (e .label)) (check (edgeTest H (e .label) L es f) (used f)) (check (partTest n f) (below (partNumbers n ps))) ≡ reached (n + sizeIn ps) (es ++ (f ∷ edgesIn ps)) (vs ++ innerIn G ps)
     with-edge f h w fs q oe ov =
         let oe′ = once-assoc es (f ∷ []) (edgesIn ps) oe in
         let ok : EdgeFits H (e .label) L es f =
         record { known = w .known; label = w .label; attachment = w .attachment; new = once-fresh es (f ∷ []) (once-left (es ++ f ∷ []) (edgesIn ps) oe′) } in
-        ap (λ (kind : Kind). byKind kind (check (edgeTest H (e .label) L es f) (used f)) (check (eqb f n) (below (partNumbers n ps)))) (w .kind)
+        ap (λ (kind : Kind). byKind kind (check (edgeTest H (e .label) L es f) (used f)) (check (partTest n f) (below (partNumbers n ps)))) (w .kind)
         ∙ pass (edgeTest H (e .label) L es f) (used f) (decides-edge H (e .label) L es f .complete ok)
         ∙ under place rs n ps (es ++ f ∷ []) vs rest h fs q oe′ ov
         ∙ same-state refl (append-assoc es (f ∷ []) (edgesIn ps)) refl
 
     with-tree : CompleteAt k → (t : Tree) → length rs + 1 + 10 * (size t + sizeIn ps) ≤ k → Fits G H (e .label) L t → FitsParts G H place ps rs
         → drop n rows ≡ (treeRows n t ++ partRows (n + size t) ps) ++ rest → Once (es ++ (edgesOf t ++ edgesIn ps)) → Once (vs ++ (innerOf G t ++ innerIn G ps))
-        → byKind (kindOf G (e .label)) (check (edgeTest H (e .label) L es n) (replayEdges k G H rows place rs (partNumbers (n + size t) ps) (reached n (es ++ n ∷ []) vs))) (check (eqb n n) (below (partNumbers (n + size t) ps)))
+        → byKind (kindOf G (e .label)) (check (edgeTest H (e .label) L es n) (replayEdges k G H rows place rs (partNumbers (n + size t) ps) (reached n (es ++ n ∷ []) vs))) (check (partTest n n) (below (partNumbers (n + size t) ps)))
         ≡ reached (n + (size t + sizeIn ps)) (es ++ (edgesOf t ++ edgesIn ps)) (vs ++ (innerOf G t ++ innerIn G ps))
     with-tree sub t h w fs q oe ov =
         let oe′ = once-assoc es (edgesOf t) (edgesIn ps) oe in
         let ov′ = once-assoc vs (innerOf G t) (innerIn G ps) ov in
         let q′ : drop n rows ≡ treeRows n t ++ (partRows (n + size t) ps ++ rest) = q ∙ append-assoc (treeRows n t) (partRows (n + size t) ps) rest in
-        ap (λ (kind : Kind). byKind kind (check (edgeTest H (e .label) L es n) (replayEdges k G H rows place rs (partNumbers (n + size t) ps) (reached n (es ++ n ∷ []) vs))) (check (eqb n n) (below (partNumbers (n + size t) ps)))) (fits-kind t w)
-        ∙ pass (eqb n n) (below (partNumbers (n + size t) ps)) (eqb-refl n)
+        ap (λ (kind : Kind). byKind kind (check (edgeTest H (e .label) L es n) (replayEdges k G H rows place rs (partNumbers (n + size t) ps) (reached n (es ++ n ∷ []) vs))) (check (partTest n n) (below (partNumbers (n + size t) ps)))) (fits-kind t w)
+        ∙ pass (partTest n n) (below (partNumbers (n + size t) ps)) (eqb-refl n)
         ∙ ap (λ (st : State). replayEdges k G H rows place rs (partNumbers (n + size t) ps) st)
         (sub (e .label) L n t es vs (partRows (n + size t) ps ++ rest) (omega arith) w q′ (once-left (es ++ edgesOf t) (edgesIn ps) oe′) (once-left (vs ++ innerOf G t) (innerIn G ps) ov′))
         ∙ under place rs (n + size t) ps (es ++ edgesOf t) (vs ++ innerOf G t) rest (omega arith) fs (rows-after rows n t (partRows (n + size t) ps ++ rest) q′) oe′ ov′
@@ -189,11 +187,20 @@ module _ (G : Grammar) (H : Graph) (g : GrammarOk G) (t : Tree) (w : Generates G
   unfolding rowsOf
   all-used =
       decides-whole G H rows (0 + size t) (edgesOf t) (H .externals ++ innerOf G t) .complete
-      ((omega (arith, length-rows 0 t), w .edges), λ v l. omega (arith, occurs-append v (H .externals) (innerOf G t), w .nodes v l))
+      (record {
+        all-rows = omega (arith, length-rows 0 t);
+        all-edges = w .edges;
+        all-nodes = λ v l. omega (arith, occurs-append v (H .externals) (innerOf G t), w .nodes v l);
+      })
+
+counted : (t : Tree) → size t ≤ 4096 → T (countTest (rowsOf t))
+unfolding rowsOf
+counted t small =
+    decides-between 1 (length (rowsOf t)) 4096 .complete (record { lower = omega (arith, length-rows 0 t, size-positive t); upper = omega (arith, length-rows 0 t) })
 
 pub replay-complete : (G : Grammar) (H : Graph) → GrammarOk G → GraphOk G H → (t : Tree) → Generates G H t → size t ≤ 4096 → replays G H (rowsOf t) ≡ true
 unfolding replays rowsOf
 replay-complete G H g h t w small =
     holds (replays G H (rowsOf t))
-    ((decides-between 1 (length (rowsOf t)) 4096 and itself (whole H (rowsOf t) (replayed G H (rowsOf t)))) .complete
-    (record { lower = omega (arith, length-rows 0 t, size-positive t); upper = omega (arith, length-rows 0 t) }, subst (λ (st : State). T (whole H (rowsOf t) st)) (sym (reaches G H g t w)) (all-used G H g t w)))
+    ((itself (countTest (rowsOf t)) and itself (whole H (rowsOf t) (replayed G H (rowsOf t)))) .complete
+    (counted t small, subst (λ (st : State). T (whole H (rowsOf t) st)) (sym (reaches G H g t w)) (all-used G H g t w)))

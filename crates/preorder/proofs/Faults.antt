@@ -1,13 +1,12 @@
 -- K2's derivation is the rows that 01 prints, and replays; rows with one fault do not, though grammars and graphs are well-formed.
 use mathlib.Core.Path.{_≡_, refl}
-use mathlib.Core.Bool.{Bool, true, false, _&&_}
-use mathlib.Core.List.{List, [], _∷_, map}
-use Prim.Native.Nat.{ℕ}
+use mathlib.Core.Bool.{true, false, _&&_}
+use mathlib.Core.List.{[], _∷_, map}
 use Rattle.hrg.specs.Cases.{grammarA, k2}
 use Rattle.hrg.specs.WellFormedTest.{grammarTest, graphTest}
 use Rattle.preorder.specs.Rows.{rowsOf}
 use Rattle.preorder.specs.Replay.{replays}
-use Rattle.preorder.specs.Faults.{Trial, onK2, treeOfK2, printed, faults}
+use Rattle.preorder.specs.Faults.{Trial, treeOfK2, printed, faults}
 
 pub k2-rows : rowsOf treeOfK2 ≡ printed
 unfolding rowsOf

@@ -1,6 +1,6 @@
 -- The replay decides whether rows are a derivation of the graph.
-use mathlib.Core.Path.{_≡_, refl, sym, ap, subst, _∙_}
-use mathlib.Core.Bool.{Bool, true, false}
+use mathlib.Core.Path.{_≡_}
+use mathlib.Core.Bool.{true}
 use mathlib.Core.List.{List}
 use Prim.Native.Nat.{ℕ, _≤_}
 use native.Mathlib.Omega.{arith}
@@ -8,11 +8,11 @@ use lib.ListN.{length}
 use lib.Dec.{T}
 use Rattle.hrg.specs.Grammars.{Graph, Grammar}
 use Rattle.hrg.specs.WellFormed.{GrammarOk, GraphOk}
-use Rattle.hrg.specs.WellFormedTest.{Decides, betweenTest}
+use Rattle.hrg.specs.WellFormedTest.{Decides}
 use Rattle.hrg.proofs.WellFormedTest.{decides-between}
 use Rattle.hrg.proofs.ClosureRun.{of-and}
 use Rattle.preorder.specs.Rows.{Derives, rowsOf}
-use Rattle.preorder.specs.Replay.{replays, replayed, whole}
+use Rattle.preorder.specs.Replay.{countTest, replays, replayed, whole}
 use Rattle.preorder.proofs.Sound.{replay-sound}
 use Rattle.preorder.proofs.Complete.{holds, replay-complete}
 
@@ -20,7 +20,7 @@ use Rattle.preorder.proofs.Complete.{holds, replay-complete}
 length-upper : (G : Grammar) (H : Graph) (rows : List (List ℕ)) → T (replays G H rows) → length rows ≤ 4096
 unfolding replays
 length-upper G H rows t =
-    decides-between 1 (length rows) 4096 .sound (of-and (betweenTest 1 (length rows) 4096) (whole H rows (replayed G H rows)) t .0) .upper
+    decides-between 1 (length rows) 4096 .sound (of-and (countTest rows) (whole H rows (replayed G H rows)) t .0) .upper
 
 pub replay-decides : (G : Grammar) (H : Graph) (rows : List (List ℕ)) → GrammarOk G → GraphOk G H → Decides (replays G H rows) (Derives G H rows)
 replay-decides G H rows g h =

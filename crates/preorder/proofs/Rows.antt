@@ -1,13 +1,13 @@
 -- The laws of rows: as many as there are applications; and the rows from a number on.
 use mathlib.Core.Path.{_≡_, refl, sym, ap, _∙_}
-use mathlib.Core.List.{List, [], _∷_, _++_, append-assoc}
-use Prim.Native.Nat.{ℕ, zero, suc, _+_, _-_, _≤_, _<_}
+use mathlib.Core.List.{List, [], _∷_, _++_}
+use Prim.Native.Nat.{ℕ, suc, _+_, _≤_, _<_}
 use native.Mathlib.Omega.{arith}
 use native.Mathlib.Numerals.{add-one}
 use lib.ListN.{length, getD, take, drop, length-append, length-drop, take-append-drop}
 use lib.Seq.{drop-cons, drop-drop, drop-at}
 use Rattle.hrg.specs.Trees.{Tree, Parts, apply, end, edge, tree}
-use Rattle.preorder.specs.Rows.{size, sizeIn, partNumbers, treeRows, partRows}
+use Rattle.preorder.specs.Rows.{size, sizeIn, treeRows, partRows}
 
 -- ---- as many rows as applications
 mutual

@@ -1,25 +1,25 @@
 -- Rows that replay are the rows of a tree that generates the graph.
 use mathlib.Core.Path.{_≡_, refl, sym, ap, ap₂, subst, _∙_}
-use mathlib.Core.Bool.{Bool, true, false, _&&_}
+use mathlib.Core.Bool.{true, _&&_}
 use mathlib.Core.List.{List, [], _∷_, _++_, append-assoc, append-nil}
-use Prim.Native.Nat.{ℕ, zero, suc, _+_, _≤_, _<_}
+use Prim.Native.Nat.{ℕ, zero, suc, _+_, _<_}
 use native.Mathlib.Omega.{arith}
 use native.Mathlib.Numerals.{add-one}
-use lib.ListN.{length, getD, take, drop, length-take, length-drop, length-append}
+use lib.ListN.{length, getD, drop, length-drop}
 use lib.Seq.{drop-cons, drop-length, length-take-le}
-use lib.Dec.{T, eqb, ltb, eqb→eq, ltb→lt}
+use lib.Dec.{T, ltb, eqb→eq, ltb→lt}
 use Rattle.hrg.specs.Counts.{occurs}
-use Rattle.hrg.specs.Grammars.{Kind, terminal, nonterminal, Edge, Graph, Grammar, kindOf, ruleOf, lhsOf, rightOf, edgeAt}
-use Rattle.hrg.specs.Trees.{at, images, internals, Tree, Parts, apply, end, edge, tree, edgesOf, edgesIn, innerOf, innerIn, FitsEdge, FitsRule, Fits, FitsParts, Apart, Generates}
-use Rattle.hrg.specs.WellFormed.{Between, GrammarOk, GraphOk}
-use Rattle.hrg.specs.WellFormedTest.{Decides, betweenTest, every}
-use Rattle.hrg.proofs.WellFormedTest.{_and_, decides-le, decides-eq, decides-between, decides-every}
+use Rattle.hrg.specs.Grammars.{Kind, terminal, nonterminal, Edge, Graph, Grammar, kindOf, rightOf}
+use Rattle.hrg.specs.Trees.{at, images, internals, Tree, Parts, apply, end, edge, tree, edgesOf, edgesIn, innerOf, innerIn, Fits, FitsParts, Generates}
+use Rattle.hrg.specs.WellFormed.{GrammarOk, GraphOk}
+use Rattle.hrg.specs.WellFormedTest.{Decides}
+use Rattle.hrg.proofs.WellFormedTest.{decides-map, _and_, decides-le, decides-eq, decides-every}
 use Rattle.hrg.proofs.Sums.{occurs-append, occurs-at}
 use Rattle.hrg.proofs.ClosureRun.{of-and}
 use Rattle.preorder.specs.Rows.{size, sizeIn, partNumbers, treeRows, partRows, rowsOf}
-use Rattle.preorder.specs.Replay.{State, reached, failed, check, byKind, fresh, numberIn, ruleIn, placeIn, fieldsIn, newNodes, rowTest, edgeTest, replayAt, replayEdges, whole, calls, replayed, replays}
-use Rattle.preorder.proofs.Rows.{length-rows, row-fields}
-use Rattle.preorder.proofs.Tests.{Once, fresh-once, RowOk, decides-row, EdgeFits, decides-edge, Passed, passed}
+use Rattle.preorder.specs.Replay.{State, reached, failed, check, byKind, ruleIn, placeIn, fieldsIn, newNodes, rowTest, RowOk, edgeTest, EdgeFits, partTest, replayAt, replayEdges, whole, Whole, countTest, calls, replayed, replays}
+use Rattle.preorder.proofs.Rows.{row-fields}
+use Rattle.preorder.proofs.Tests.{Once, fresh-once, decides-row, decides-edge, passed}
 
 pub never : {n : ℕ} {es vs : List ℕ} → failed ≡ reached n es vs → ⊥
 never e = let z : _≡_ {A = ℕ} 0 1 = cc in omega arith
@@ -192,13 +192,13 @@ module _ (G : Grammar) (H : Graph) (rows : List (List ℕ)) where
         below = replayEdges k G H rows place rs fs (replayAt k G H rows (e .label) L (reached n es vs))
 
         by-kind : (kind : Kind) → kindOf G (e .label) ≡ kind
-            → byKind kind (check (edgeTest H (e .label) L es f) used) (check (eqb f n) below) ≡ reached n′ es′ vs′
+            → byKind kind (check (edgeTest H (e .label) L es f) used) (check (partTest n f) below) ≡ reached n′ es′ vs′
             → Under place (e ∷ rs) (f ∷ fs) n es vs n′ es′ vs′
         by-kind terminal h q =
             let p = passed (edgeTest H (e .label) L es f) used n′ es′ vs′ q in
             with-edge h (decides-edge H (e .label) L es f .sound (p .test)) (under place rs fs n (es ++ f ∷ []) vs n′ es′ vs′ (p .state))
         by-kind nonterminal h q =
-            let p = passed (eqb f n) below n′ es′ vs′ q in
+            let p = passed (partTest n f) below n′ es′ vs′ q in
             after-tree (replayAt k G H rows (e .label) L (reached n es vs)) refl (eqb→eq f n (p .test)) (p .state)
 
   step-edges : (k : ℕ) → SoundAt k → SoundUnder k → SoundUnder (suc k)
@@ -216,12 +216,13 @@ module _ (G : Grammar) (H : Graph) (rows : List (List ℕ)) where
 
 -- ---- the theorem
 module _ (G : Grammar) (H : Graph) (rows : List (List ℕ)) where
-  -- what a whole replay is
-  pub decides-whole : (n : ℕ) (es vs : List ℕ)
-      → Decides (whole H rows (reached n es vs)) (((n ≡ length rows) × ((e : ℕ) → e < length (H .edges) → 0 < occurs e es)) × ((v : ℕ) → v < H .nodes → 0 < occurs v vs))
+  pub decides-whole : (n : ℕ) (es vs : List ℕ) → Decides (whole H rows (reached n es vs)) (Whole H rows n es vs)
   unfolding whole
   decides-whole n es vs =
-      decides-eq n (length rows) and decides-every (length (H .edges)) (λ e. decides-le 1 (occurs e es)) and decides-every (H .nodes) (λ v. decides-le 1 (occurs v vs))
+      decides-map
+      (decides-eq _ _ and decides-every (length (H .edges)) (λ e. decides-le 1 (occurs e es)) and decides-every (H .nodes) (λ v. decides-le 1 (occurs v vs)))
+      (λ t. record { all-rows = t .0 .0; all-edges = t .0 .1; all-nodes = t .1 })
+      (λ w. ((w .all-rows, w .all-edges), w .all-nodes))
 
   all-used : GraphOk G H → (n : ℕ) (es vs : List ℕ) → At G H rows (G .start) (H .externals) 0 [] (H .externals) n es vs → T (whole H rows (reached n es vs))
       → (t : Tree) × (rows ≡ rowsOf t) × Generates G H t × (size t ≡ length rows)
@@ -231,22 +232,22 @@ module _ (G : Grammar) (H : Graph) (rows : List (List ℕ)) where
       let inner : (v : ℕ) → occurs v vs ≡ occurs v (H .externals) + occurs v (innerOf G (a .found)) =
       λ v. ap (occurs v) (a .nodes) ∙ occurs-append v (H .externals) (innerOf G (a .found)) in (
         a .found,
-        a .listed ∙ ap (λ (k : ℕ). treeRows 0 (a .found) ++ drop k rows) (t .0 .0) ∙ ap (λ (l : List (List ℕ)). treeRows 0 (a .found) ++ l) (drop-length rows) ∙ append-nil (treeRows 0 (a .found)),
+        a .listed ∙ ap (λ (k : ℕ). treeRows 0 (a .found) ++ drop k rows) (t .all-rows) ∙ ap (λ (l : List (List ℕ)). treeRows 0 (a .found) ++ l) (drop-length rows) ∙ append-nil (treeRows 0 (a .found)),
         record {
           fits = a .fits;
           apart = record {
             edges = λ e. omega (arith, ap (occurs e) (a .edges), a .edges-once (λ v. omega arith) e);
             nodes = λ v. omega (arith, inner v, a .nodes-once (h .side .externals .once) v);
           };
-          edges = λ e l. omega (arith, ap (occurs e) (a .edges), t .0 .1 e l);
-          nodes = λ v l. omega (arith, inner v, t .1 v l);
+          edges = λ e l. omega (arith, ap (occurs e) (a .edges), t .all-edges e l);
+          nodes = λ v l. omega (arith, inner v, t .all-nodes v l);
         },
-        omega (arith, a .next, t .0 .0),
+        omega (arith, a .next, t .all-rows),
       )
 
   pub replay-sound : GrammarOk G → GraphOk G H → replays G H rows ≡ true → (t : Tree) × (rows ≡ rowsOf t) × Generates G H t × (size t ≡ length rows)
   unfolding replays replayed whole
-  replay-sound g h e = go (replayed G H rows) refl (of-and (betweenTest 1 (length rows) 4096) (whole H rows (replayed G H rows)) (rw e tt) .1)
+  replay-sound g h e = go (replayed G H rows) refl (of-and (countTest rows) (whole H rows (replayed G H rows)) (rw e tt) .1)
     where
       go : (st : State) → replayed G H rows ≡ st → T (whole H rows st) → (t : Tree) × (rows ≡ rowsOf t) × Generates G H t × (size t ≡ length rows)
       go failed q w = absurd w

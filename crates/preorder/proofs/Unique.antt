@@ -1,12 +1,12 @@
 -- Trees that stand for the same edge and have the same rows are the same tree.
 use mathlib.Core.Path.{_≡_, refl, sym, ap, subst, _∙_}
 use mathlib.Core.List.{List, [], _∷_, _++_, append-assoc, append-nil}
-use Prim.Native.Nat.{ℕ, zero, suc, _+_}
+use Prim.Native.Nat.{ℕ, _+_}
 use native.Mathlib.Omega.{arith}
 use lib.ListN.{length, take, drop}
 use lib.Seq.{take-at, drop-at}
-use Rattle.hrg.specs.Grammars.{Kind, terminal, nonterminal, Edge, Graph, Grammar, kindOf, rightOf}
-use Rattle.hrg.specs.Trees.{images, Tree, Parts, apply, end, edge, tree, FitsEdge, FitsRule, Fits, FitsParts}
+use Rattle.hrg.specs.Grammars.{terminal, nonterminal, Edge, Graph, Grammar, kindOf, rightOf}
+use Rattle.hrg.specs.Trees.{images, Tree, Parts, apply, end, edge, tree, Fits, FitsParts}
 use Rattle.preorder.specs.Rows.{size, partNumbers, treeRows, partRows, rowsOf}
 
 -- two lists that are split at the same place

@@ -1,16 +1,17 @@
--- The lists of used numbers as masks: what a replay on masks tests and keeps is what the replay of specs/Replay does.
-use mathlib.Core.Path.{_≡_, refl, sym, ap, ap₂, _∙_}
-use mathlib.Core.Bool.{Bool, true, false, not, _||_, _&&_}
+-- The lists of used numbers as masks: the laws by which a replay in code keeps a mask for each list.
+use mathlib.Core.Path.{_≡_, refl, sym, ap, ap₂, subst, _∙_}
+use mathlib.Core.Bool.{Bool, true, false, not, _||_}
 use mathlib.Core.List.{List, [], _∷_, _++_}
-use Prim.Native.Nat.{ℕ, zero, suc, _+_, _^_, _≤_, _<_}
+use Prim.Native.Nat.{ℕ, zero, suc, _+_, _^_, _<_}
 use native.Mathlib.Omega.{arith}
-use lib.Dec.{eqb, ltb}
-use borrow.Author.Tests.{eqb-true, eqb-false, eq-eqb, ne-eqb, lt-ltb, le-ltb, ltb-true, ltb-false}
-use Rattle.masks.specs.Masks.{bit, member, _∪_, single}
-use Rattle.masks.specs.Laws.{member-union, member-single, false-member, bit-empty}
+use lib.Dec.{T, eqb, ltb}
+use borrow.Author.Tests.{eqb-true, eqb-false, eq-eqb, ne-eqb, lt-ltb, ltb-true}
+use Rattle.masks.specs.Masks.{member, _∪_, single, full}
+use Rattle.masks.specs.Laws.{member-union, member-single, false-member, bit-empty, bits-lt, bit-full-out, member-full, member-ext-below}
 use Rattle.hrg.specs.Counts.{hit, occurs}
+use Rattle.hrg.specs.WellFormedTest.{Decides, every}
+use Rattle.hrg.proofs.WellFormedTest.{decides-le, decides-every}
 use Rattle.hrg.proofs.Sums.{hit-self, hit-ne, occurs-append}
-use Rattle.preorder.specs.Replay.{fresh}
 
 -- The mask has just the numbers of the list as members.
 pub record Holds (m : ℕ) (l : List ℕ) : Type 0 where
@@ -58,3 +59,19 @@ holds-snoc m a l h =
           let e : hit v a + occurs v l ≡ occurs v (l ++ a ∷ []) = omega (arith, occurs-append v l (a ∷ [])) in
           holds-both m a l v (h .members v) ∙ ap (ltb 0) e;
     }
+
+-- 'all are used' is that the mask is full
+pub holds-all : (n m : ℕ) (l : List ℕ) → Holds m l → m < 2 ^ n → every n (λ v. ltb 0 (occurs v l)) ≡ eqb m (full n)
+holds-all n m l h small = go (every n (λ v. ltb 0 (occurs v l))) refl
+  where
+    all : Decides (every n (λ v. ltb 0 (occurs v l))) ((v : ℕ) → v < n → 0 < occurs v l)
+    all = decides-every n (λ v. decides-le 1 (occurs v l))
+
+    go : (b : Bool) → every n (λ v. ltb 0 (occurs v l)) ≡ b → b ≡ eqb m (full n)
+    go true e =
+        let used : (v : ℕ) → v < n → 0 < occurs v l = all .sound (subst T (sym e) tt) in
+        sym (eq-eqb m (full n) (member-ext-below n m (full n) small (bits-lt n (full n) (bit-full-out n))
+        (λ v i. h .members v ∙ lt-ltb 0 (occurs v l) (used v i) ∙ sym (member-full n v ∙ lt-ltb v n i))))
+    go false e =
+        sym (ne-eqb m (full n) (λ p. subst T e (all .complete
+        (λ v i. ltb-true 0 (occurs v l) (sym (h .members v) ∙ ap (λ (k : ℕ). member k v) p ∙ member-full n v ∙ lt-ltb v n i)))))

@@ -1,10 +1,11 @@
 -- The replay of rows (01, 'In a replay ..', question 13): an application replays its edges in order, and each nonterminal edge replays its own
 -- application. What is used is kept in lists, in the order of use; proofs/Used joins them with masks.
+use mathlib.Core.Path.{_≡_}
 use mathlib.Core.Bool.{Bool, true, false, _&&_}
 use mathlib.Core.List.{List, [], _∷_, _++_}
-use Prim.Native.Nat.{ℕ, zero, suc, _+_, _*_}
+use Prim.Native.Nat.{ℕ, zero, suc, _+_, _*_, _<_}
 use lib.ListN.{length, getD, take, drop}
-use lib.Dec.{eqb, ltb}
+use lib.Dec.{T, eqb, ltb}
 use Rattle.hrg.specs.Counts.{hit, occurs, select, upTo, tabulate}
 use Rattle.hrg.specs.Grammars.{Kind, terminal, nonterminal, Edge, Graph, Grammar, kindOf, lhsOf, rightOf, edgeAt}
 use Rattle.hrg.specs.Trees.{images, internals}
@@ -29,6 +30,9 @@ unfoldable pub fresh : List ℕ → List ℕ → Bool
 unfolding occurs hit
 fresh used [] = true
 fresh used (v ∷ vs) = let rest = fresh (v ∷ used) vs in eqb (occurs v used) 0 && rest
+
+pub record Fresh (used vs : List ℕ) : Type 0 where
+  pub passes : T (fresh used vs)
 
 -- ---- the fields of a row
 abbrev pub numberIn : List ℕ → ℕ
@@ -64,6 +68,16 @@ rowTest G H n s L used row =
     && sameList (images (placeIn P row) (P .externals)) L
     && fresh used (newNodes P row)
 
+-- what the test says
+pub record RowOk (G : Grammar) (H : Graph) (n s : ℕ) (L used row : List ℕ) : Type 0 where
+  pub number : numberIn row ≡ n
+  pub known : ruleIn row < length (G .rules)
+  pub lhs : lhsOf G (ruleIn row) ≡ s
+  pub sized : length row ≡ 2 + (rightOf G (ruleIn row) .nodes + length (rightOf G (ruleIn row) .edges))
+  pub placed : (v : ℕ) → 0 < occurs v (placeIn (rightOf G (ruleIn row)) row) → v < H .nodes
+  pub externals : images (placeIn (rightOf G (ruleIn row)) row) (rightOf G (ruleIn row) .externals) ≡ L
+  pub new : Fresh used (newNodes (rightOf G (ruleIn row)) row)
+
 -- Graph edge g has the label s, lies on exactly the nodes L, and is not used.
 unfoldable pub edgeTest : Graph → ℕ → List ℕ → List ℕ → ℕ → Bool
 unfolding sameList fresh
@@ -72,6 +86,17 @@ edgeTest H s L used g =
     && eqb (edgeAt (H .edges) g .label) s
     && sameList (edgeAt (H .edges) g .attachment) L
     && fresh used (g ∷ [])
+
+-- what the test says
+pub record EdgeFits (H : Graph) (s : ℕ) (L used : List ℕ) (g : ℕ) : Type 0 where
+  pub known : g < length (H .edges)
+  pub label : edgeAt (H .edges) g .label ≡ s
+  pub attachment : edgeAt (H .edges) g .attachment ≡ L
+  pub new : Fresh used (g ∷ [])
+
+-- The field of a nonterminal edge is the number of the next row, n.
+abbrev pub partTest : ℕ → ℕ → Bool
+partTest n f = eqb f n
 
 -- ---- the replay, with so many calls left
 unfoldable mutual
@@ -98,7 +123,7 @@ unfoldable mutual
       let L = images place (e .attachment) in
       let used = replayEdges k G H rows place rs fs (reached n (es ++ f ∷ []) vs) in
       let under = replayEdges k G H rows place rs fs (replayAt k G H rows (e .label) L (reached n es vs)) in
-      byKind (kindOf G (e .label)) (check (edgeTest H (e .label) L es f) used) (check (eqb f n) under)
+      byKind (kindOf G (e .label)) (check (edgeTest H (e .label) L es f) used) (check (partTest n f) under)
 
 -- all rows, graph edges and graph nodes are used
 unfoldable pub whole : Graph → List (List ℕ) → State → Bool
@@ -106,6 +131,16 @@ unfolding every occurs hit
 whole H rows failed = false
 whole H rows (reached n es vs) =
     eqb n (length rows) && every (length (H .edges)) (λ e. ltb 0 (occurs e es)) && every (H .nodes) (λ v. ltb 0 (occurs v vs))
+
+-- what the test says
+pub record Whole (H : Graph) (rows : List (List ℕ)) (n : ℕ) (es vs : List ℕ) : Type 0 where
+  pub all-rows : n ≡ length rows
+  pub all-edges : (e : ℕ) → e < length (H .edges) → 0 < occurs e es
+  pub all-nodes : (v : ℕ) → v < H .nodes → 0 < occurs v vs
+
+-- 'the number of applications (1-4,096)'
+abbrev pub countTest : List (List ℕ) → Bool
+countTest rows = betweenTest 1 (length rows) 4096
 
 -- An application takes a call for itself, one for each of its edges, at most 8, and one for their end.
 abbrev pub calls : List (List ℕ) → ℕ
@@ -119,4 +154,4 @@ replayed G H rows = replayAt (calls rows) G H rows (G .start) (H .externals) (re
 -- The rows are those of a derivation of the graph with 1 to 4,096 applications.
 unfoldable pub replays : Grammar → Graph → List (List ℕ) → Bool
 unfolding whole replayed
-replays G H rows = betweenTest 1 (length rows) 4096 && whole H rows (replayed G H rows)
+replays G H rows = countTest rows && whole H rows (replayed G H rows)
