@@ -1,0 +1,4 @@
+-- The root of the definitions.
+pub mod Rows
+pub mod Replay
+pub mod Faults
