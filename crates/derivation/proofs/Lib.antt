@@ -1,0 +1,3 @@
+-- The root of the theorems.
+pub mod WritableTrees
+pub mod Derivations
