@@ -1,28 +1,35 @@
 -- The replay passes exactly the texts of trees that generate the graph; so the graph is in the grammar's language.
 use mathlib.Core.Path.{_≡_, refl, sym, ap, subst, _∙_}
+use mathlib.Core.Logic.{_↔_}
+use mathlib.Core.Bool.{false}
 use mathlib.Core.List.{List}
-use Prim.Native.Nat.{ℕ, _≤_}
+use Prim.Native.Nat.{ℕ, _+_, _≤_}
 use native.Mathlib.Omega.{arith}
+use lib.ListN.{length}
 use lib.Dec.{T}
-use Rattle.scripts.specs.Scripts.{Script, bad, rows, rowsText, rowsIn}
+use Rattle.scripts.specs.Scripts.{Script, bad, rows, rowsText, rowBytes, rowsIn}
 use Rattle.scripts.proofs.Canonical.{rows-same, text-rows, rows-text}
+use Rattle.scripts.proofs.RowTexts.{text-length}
 use Rattle.hrg.specs.Grammars.{Graph, Grammar, cost}
 use Rattle.hrg.specs.Trees.{Tree, Parts, apply, end, edge, tree, applications, applicationsIn, Generates}
 use Rattle.hrg.specs.WellFormed.{GrammarOk, GraphOk}
 use Rattle.hrg.specs.WellFormedTest.{Decides}
 use Rattle.hrg.specs.Replacement.{Member}
+use Rattle.hrg.proofs.WellFormedTest.{decides-map}
 use Rattle.hrg.proofs.Replacement.{member-generated, replay}
-use Rattle.preorder.specs.Rows.{size, sizeIn, rowsOf}
+use Rattle.preorder.specs.Rows.{size, sizeIn, rowsOf, Derives}
+use Rattle.preorder.specs.Replay.{replays}
+use Rattle.preorder.proofs.Rows.{length-rows, size-positive}
 use Rattle.preorder.proofs.Replay.{replay-decides}
 use Rattle.preorder.proofs.Unique.{rows-unique}
-use Rattle.derivation.specs.Derivations.{derivationText, replayScript, replayText, DerivationOf, ReplayedFrom}
+use Rattle.derivation.specs.Derivations.{derivationText, replayScript, replayText, DerivationOf, ReplayedFrom, PassingText}
 use Rattle.derivation.proofs.WritableTrees.{rows-writable}
 
 -- each application counts 1
 mutual
   unfolding applications size cost
 
-  size-applications : (G : Grammar) (t : Tree) → applications G t ≡ size t
+  pub size-applications : (G : Grammar) (t : Tree) → applications G t ≡ size t
   size-applications G (apply r place ps) = omega (arith, size-parts G ps)
 
   size-parts : (G : Grammar) (ps : Parts) → applicationsIn G ps ≡ sizeIn ps
@@ -30,29 +37,43 @@ mutual
   size-parts G (edge g ps) = size-parts G ps
   size-parts G (tree t ps) = omega (arith, size-applications G t, size-parts G ps)
 
+pub derivation-length : (t : Tree) → length (derivationText t) ≡ 6 + rowBytes (rowsOf t)
+unfolding derivationText
+derivation-length t = text-length (rowsOf t)
+
+-- the rows of a text are a derivation
+abbrev ScriptDerives : Grammar → Graph → Script → Type 0
+ScriptDerives G H bad = ⊥
+ScriptDerives G H (rows rs) = Derives G H rs
+
 module _ (G : Grammar) (H : Graph) (ok : GrammarOk G) (hok : GraphOk G H) where
-  -- the rows of a tree's text
-  derivation-rows : (t : Tree) → Generates G H t → size t ≤ 4096 → rowsIn (derivationText t) ≡ rows (rowsOf t)
+  script-decides : (s : Script) → Decides (replayScript G H s) (ScriptDerives G H s)
+  script-decides bad = record { sound = λ p. p; complete = λ p. p }
+  script-decides (rows rs) = replay-decides G H rs ok hok
+
+  read-derivation : (text : List ℕ) (s : Script) → rowsIn text ≡ s → ScriptDerives G H s → DerivationOf G H text
+  unfolding derivationText
+  read-derivation text bad e d = absurd d
+  read-derivation text (rows rs) e d =
+      record { derivation = d .derivation; written = rows-text text rs e .0 ∙ ap rowsText (d .listed); generates = d .generates; small = d .small }
+
+  -- what is written for a tree is read back
+  pub derivation-rows : (t : Tree) → Generates G H t → size t ≤ 4096 → rowsIn (derivationText t) ≡ rows (rowsOf t)
   unfolding derivationText
   derivation-rows t g h = text-rows (rowsOf t) (rows-writable G H ok hok t g h)
 
-  read-derivation : (text : List ℕ) (s : Script) → rowsIn text ≡ s → T (replayScript G H s) → DerivationOf G H text
-  unfolding derivationText
-  read-derivation text bad e p = absurd p
-  read-derivation text (rows rs) e p =
-      let d = replay-decides G H rs ok hok .sound p in
-      record { derivation = d .derivation; written = rows-text text rs e .0 ∙ ap rowsText (d .listed); generates = d .generates; small = d .small }
+  derivation-read : (text : List ℕ) → DerivationOf G H text → ScriptDerives G H (rowsIn text)
+  derivation-read text d =
+      subst (ScriptDerives G H) (sym (ap rowsIn (d .written) ∙ derivation-rows (d .derivation) (d .generates) (d .small)))
+      (record { derivation = d .derivation; listed = refl; generates = d .generates; small = d .small })
 
+  -- The replay passes exactly the texts of trees of at most 4,096 applications that generate the graph.
   pub replay-text : (text : List ℕ) → Decides (replayText G H text) (DerivationOf G H text)
   unfolding replayText
-  replay-text text =
-      record {
-        sound = read-derivation text (rowsIn text) refl;
-        complete = λ d.
-            subst (λ (s : Script). T (replayScript G H s)) (sym (ap rowsIn (d .written) ∙ derivation-rows (d .derivation) (d .generates) (d .small)))
-            (replay-decides G H (rowsOf (d .derivation)) ok hok .complete
-            (record { derivation = d .derivation; listed = refl; generates = d .generates; small = d .small }));
-      }
+  replay-text text = decides-map (script-decides (rowsIn text)) (read-derivation text (rowsIn text) refl) (derivation-read text)
+
+  pub derivation-passes : (t : Tree) → Generates G H t → size t ≤ 4096 → T (replayText G H (derivationText t))
+  derivation-passes t g h = replay-text (derivationText t) .complete (record { derivation = t; written = refl; generates = g; small = h })
 
   -- with T3: by edge replacement
   pub replay-member : (text : List ℕ) → T (replayText G H text) → ReplayedFrom G H text
@@ -62,21 +83,44 @@ module _ (G : Grammar) (H : Graph) (ok : GrammarOk G) (hok : GraphOk G H) where
       record {
         derivation = t;
         written = d .written;
+        count = record { lower = size-positive t; upper = d .small };
         replay = replay G H ok hok t (d .generates);
         member = member-generated G H ok hok (size t) .1 (t, d .generates, size-applications G t);
-        small = d .small;
       }
 
-  -- A graph in the grammar's language by at most 4,096 steps has a text that replays.
-  pub member-text : (n : ℕ) → Member G H n → n ≤ 4096 → (t : Tree) × (size t ≡ n) × T (replayText G H (derivationText t))
-  member-text n m h =
-      let w = member-generated G H ok hok n .0 m in
-      let t = w .0 in
-      let count : size t ≡ n = sym (size-applications G t) ∙ w .2 in
-      (t, count, replay-text (derivationText t) .complete (record { derivation = t; written = refl; generates = w .1; small = omega (arith, count) }))
+-- the replay by the rows of the text
+pub replay-bad : (G : Grammar) (H : Graph) (text : List ℕ) → rowsIn text ≡ bad → replayText G H text ≡ false
+unfolding replayText
+replay-bad G H text e = ap (replayScript G H) e
+
+pub replay-rows : (G : Grammar) (H : Graph) (text : List ℕ) (rs : List (List ℕ)) → rowsIn text ≡ rows rs → replayText G H text ≡ replays G H rs
+unfolding replayText
+replay-rows G H text rs e = ap (replayScript G H) e
+
+module _ (G : Grammar) (H : Graph) (ok : GrammarOk G) (hok : GraphOk G H) where
+  -- A graph is in the grammar's language by at most 4,096 steps exactly when a text with so many applications replays.
+  pub member-text : (n : ℕ) → n ≤ 4096 → Member G H n ↔ PassingText G H n
+  unfolding rowsOf
+  member-text n h = (
+    λ m. let w = member-generated G H ok hok n .0 m in
+        let t = w .0 in
+        let count : size t ≡ n = sym (size-applications G t) ∙ w .2 in
+        let small : size t ≤ 4096 = omega (arith, count) in
+        record {
+          text = derivationText t;
+          lines = rowsOf t;
+          read = derivation-rows G H ok hok t (w .1) small;
+          count = length-rows 0 t ∙ count;
+          passes = derivation-passes G H ok hok t (w .1) small;
+        },
+    λ p. let d = replay-decides G H (p .lines) ok hok .sound (subst T (replay-rows G H (p .text) (p .lines) (p .read)) (p .passes)) in
+        let t = d .derivation in
+        let count : size t ≡ n = sym (length-rows 0 t) ∙ sym (ap length (d .listed)) ∙ p .count in
+        member-generated G H ok hok n .1 (t, d .generates, size-applications G t ∙ count),
+  )
 
   -- A text is that of one tree only.
   pub text-one : (t u : Tree) → Generates G H t → Generates G H u → size t ≤ 4096 → size u ≤ 4096 → derivationText t ≡ derivationText u → t ≡ u
   text-one t u g k h l e =
       rows-unique G H (G .start) (H .externals) t u (g .fits) (k .fits)
-      (rows-same (sym (derivation-rows t g h) ∙ ap rowsIn e ∙ derivation-rows u k l))
+      (rows-same (sym (derivation-rows G H ok hok t g h) ∙ ap rowsIn e ∙ derivation-rows G H ok hok u k l))

@@ -1,3 +1,4 @@
 -- The root of the theorems.
 pub mod WritableTrees
 pub mod Derivations
+pub mod DerivationCases

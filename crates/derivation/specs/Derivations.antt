@@ -3,8 +3,11 @@ use mathlib.Core.Path.{_≡_}
 use mathlib.Core.Bool.{Bool, false}
 use mathlib.Core.List.{List}
 use Prim.Native.Nat.{ℕ, _≤_}
+use lib.ListN.{length}
+use lib.Dec.{T}
 use Rattle.hrg.specs.Grammars.{Graph, Grammar}
 use Rattle.hrg.specs.Trees.{Tree, Generates}
+use Rattle.hrg.specs.WellFormed.{Between}
 use Rattle.hrg.specs.Replacement.{Member, Replay}
 use Rattle.scripts.specs.Scripts.{Script, bad, rows, rowsText, rowsIn}
 use Rattle.preorder.specs.Rows.{size, rowsOf}
@@ -31,11 +34,19 @@ pub record DerivationOf (G : Grammar) (H : Graph) (text : List ℕ) : Type 0 whe
   pub generates : Generates G H derivation
   pub small : size derivation ≤ 4096
 
--- The same by edge replacement: the applications of the text, from the top, are a sequence of replacement steps from the one start edge to exactly
--- the graph, which is so in the language of the grammar.
+-- By edge replacement: the applications of the text, from the top, are a sequence of replacement steps from the one start edge to exactly the graph,
+-- which is so in the grammar's language.
 pub record ReplayedFrom (G : Grammar) (H : Graph) (text : List ℕ) : Type 0 where
   pub derivation : Tree
   pub written : text ≡ derivationText derivation
+  pub count : Between 1 (size derivation) 4096
   pub replay : Replay G H derivation
   pub member : Member G H (size derivation)
-  pub small : size derivation ≤ 4096
+
+-- a text that replays, with n applications
+pub record PassingText (G : Grammar) (H : Graph) (n : ℕ) : Type 0 where
+  pub text : List ℕ
+  pub lines : List (List ℕ)
+  pub read : rowsIn text ≡ rows lines
+  pub count : length lines ≡ n
+  pub passes : T (replayText G H text)
