@@ -37,10 +37,6 @@ mutual
   size-parts G (edge g ps) = size-parts G ps
   size-parts G (tree t ps) = omega (arith, size-applications G t, size-parts G ps)
 
-pub derivation-length : (t : Tree) → length (derivationText t) ≡ 6 + rowBytes (rowsOf t)
-unfolding derivationText
-derivation-length t = text-length (rowsOf t)
-
 -- the rows of a text are a derivation
 abbrev ScriptDerives : Grammar → Graph → Script → Type 0
 ScriptDerives G H bad = ⊥
@@ -88,6 +84,11 @@ module _ (G : Grammar) (H : Graph) (ok : GrammarOk G) (hok : GraphOk G H) where
         member = member-generated G H ok hok (size t) .1 (t, d .generates, size-applications G t);
       }
 
+-- the bytes that the text of a tree takes up
+pub derivation-length : (t : Tree) → length (derivationText t) ≡ 6 + rowBytes (rowsOf t)
+unfolding derivationText
+derivation-length t = text-length (rowsOf t)
+
 -- the replay by the rows of the text
 pub replay-bad : (G : Grammar) (H : Graph) (text : List ℕ) → rowsIn text ≡ bad → replayText G H text ≡ false
 unfolding replayText
@@ -108,12 +109,12 @@ module _ (G : Grammar) (H : Graph) (ok : GrammarOk G) (hok : GraphOk G H) where
         let small : size t ≤ 4096 = omega (arith, count) in
         record {
           text = derivationText t;
-          lines = rowsOf t;
+          listed = rowsOf t;
           read = derivation-rows G H ok hok t (w .1) small;
           count = length-rows 0 t ∙ count;
           passes = derivation-passes G H ok hok t (w .1) small;
         },
-    λ p. let d = replay-decides G H (p .lines) ok hok .sound (subst T (replay-rows G H (p .text) (p .lines) (p .read)) (p .passes)) in
+    λ p. let d = replay-decides G H (p .listed) ok hok .sound (subst T (replay-rows G H (p .text) (p .listed) (p .read)) (p .passes)) in
         let t = d .derivation in
         let count : size t ≡ n = sym (length-rows 0 t) ∙ sym (ap length (d .listed)) ∙ p .count in
         member-generated G H ok hok n .1 (t, d .generates, size-applications G t ∙ count),

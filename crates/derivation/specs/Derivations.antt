@@ -43,10 +43,10 @@ pub record ReplayedFrom (G : Grammar) (H : Graph) (text : List ℕ) : Type 0 whe
   pub replay : Replay G H derivation
   pub member : Member G H (size derivation)
 
--- a text that replays, with n applications
+-- a text that replays, with n applications, each a row
 pub record PassingText (G : Grammar) (H : Graph) (n : ℕ) : Type 0 where
   pub text : List ℕ
-  pub lines : List (List ℕ)
-  pub read : rowsIn text ≡ rows lines
-  pub count : length lines ≡ n
+  pub listed : List (List ℕ)
+  pub read : rowsIn text ≡ rows listed
+  pub count : length listed ≡ n
   pub passes : T (replayText G H text)
