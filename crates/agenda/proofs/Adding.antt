@@ -39,7 +39,7 @@ pub data Ends (cap : ℕ) (xs rs : List Record) (c : Chart) : Type 0 where
       → cap ≤ length (c .records) → Ends cap xs rs c
 
 -- ---- what the search finds
-data Search (x : Record) (rs : List Record) (n : ℕ) : Found → Type 0 where
+pub data Search (x : Record) (rs : List Record) (n : ℕ) : Found → Type 0 where
   found : {k : ℕ} → k < n → bare x ≡ bare (recordIn rs k) → Search x rs n (At k)
   missing : ((k : ℕ) → k < n → bare x ≡ bare (recordIn rs k) → ⊥) → Search x rs n Nowhere
 
@@ -51,7 +51,7 @@ pub cond-by : {A : Type 0} (P : A → Type 0) (b : Bool) {x y : A} → (b ≡ tr
 cond-by P true f g = f refl
 cond-by P false f g = g refl
 
-searched : (x : Record) (rs : List Record) (n : ℕ) → Search x rs n (lastSame x rs n)
+pub searched : (x : Record) (rs : List Record) (n : ℕ) → Search x rs n (lastSame x rs n)
 unfolding lastSame
 searched x rs zero = missing (λ k l e. omega arith)
 searched x rs (suc n) =

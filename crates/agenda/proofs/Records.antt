@@ -56,7 +56,7 @@ module _ (G : Grammar) (H : Graph) (ok : GrammarOk G) where
   reached-fits (by-binary q r b) = binary-fits b (reached-fits q) (reached-fits r)
 
 -- ---- the item of a record
-padded-take : (n : ℕ) (l : List ℕ) (f : ℕ → ℕ) → length l ≤ n → ((k : ℕ) → f k ≡ getD l k unplaced) → take (length l) (tabulate n f) ≡ l
+pub padded-take : (n : ℕ) (l : List ℕ) (f : ℕ → ℕ) → length l ≤ n → ((k : ℕ) → f k ≡ getD l k unplaced) → take (length l) (tabulate n f) ≡ l
 unfolding tabulate
 padded-take n [] f h e = refl
 padded-take zero (x ∷ xs) f h e = absurd (omega arith)

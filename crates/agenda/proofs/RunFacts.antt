@@ -11,6 +11,7 @@ use Rattle.hrg.specs.Counts.{flag}
 use Rattle.hrg.specs.Grammars.{Graph, PlanNode, leaf, introduce, join, Grammar, planOf, planNode}
 use Rattle.hrg.specs.Items.{Item, LeafRule, leaf-rule, UnaryRule, BinaryRule, closure}
 use Rattle.hrg.specs.WellFormed.{PlanOk, GrammarOk, GraphOk}
+use Rattle.hrg.specs.Deduction.{Reachable}
 use Rattle.hrg.specs.Agenda.{given, from, from₂, Derivation, Entry, Distinct, itemsOf, Made, axiom-made, unary-made, binary-made, Closure}
 use Rattle.hrg.specs.AgendaFacts.{Correct}
 use Rattle.hrg.specs.CountBound.{edgesOfItem, conclusion, passivesOf}
@@ -210,18 +211,26 @@ module _ (G : Grammar) (H : Graph) (ok : GrammarOk G) (hok : GraphOk G H) where
         go Nowhere (nothing h) q = absurd (q refl)
         go (At j) (waits l w h) q = omega (arith, reached-more (runs-reached m) j l w, closure-size G H ok hok is d)
 
-    -- where nothing waits, the steps done are the closure's size
-    pub done-size : c .mark ≡ 0 → leastWaiting (c .records) (length (c .records)) ≡ Nowhere → (is : List Item) → Closure (closure G H) is → handledCount (c .records) ≡ length is
-    done-size m e is d =
-        let r = runs-reached m in
-        r .shows .steps ∙ sym (length-map (r .state .handled) (λ (z : Entry Item). z .item)) ∙ closure-unique (correct r .done (waits-not r)) d
+    -- where nothing waits, every record is handled
+    pub all-handled : leastWaiting (c .records) (length (c .records)) ≡ Nowhere → (k : ℕ) → k < length (c .records) → isHandled (recordIn (c .records) k) ≡ true
+    all-handled e = go (leastWaiting (c .records) (length (c .records))) (chosen (c .records) (length (c .records))) e
       where
-        all-handled : (f : Found) → Chosen (c .records) (length (c .records)) f → f ≡ Nowhere → (k : ℕ) → k < length (c .records) → isHandled (recordIn (c .records) k) ≡ true
-        all-handled Nowhere (nothing h) q = h
-        all-handled (At j) (waits i w h) q = let z : _≡_ {A = ℕ} 0 1 = cc in absurd (omega arith)
+        go : (f : Found) → Chosen (c .records) (length (c .records)) f → f ≡ Nowhere → (k : ℕ) → k < length (c .records) → isHandled (recordIn (c .records) k) ≡ true
+        go Nowhere (nothing h) q = h
+        go (At j) (waits i w h) q = let z : _≡_ {A = ℕ} 0 1 = cc in absurd (omega arith)
 
-        waits-not : (r : Reached G H cap (sumOf ks) (c .records)) → r .state .waiting ≡ []
-        waits-not r = nothing-waits G H ok most r (all-handled _ (chosen (c .records) (length (c .records))) e)
+    -- then the steps done are the closure's size, and every item of the closure is handled
+    module _ (m : c .mark ≡ 0) (e : leastWaiting (c .records) (length (c .records)) ≡ Nowhere) where
+      waits-not : (r : Reached G H cap (sumOf ks) (c .records)) → r .state .waiting ≡ []
+      waits-not r = nothing-waits G H ok most r (all-handled e)
+
+      pub done-size : (is : List Item) → Closure (closure G H) is → handledCount (c .records) ≡ length is
+      done-size is d =
+          let r = runs-reached m in
+          r .shows .steps ∙ sym (length-map (r .state .handled) (λ (z : Entry Item). z .item)) ∙ closure-unique (correct r .done (waits-not r)) d
+
+      pub done-handled : (i : Item) (n : ℕ) → Reachable (closure G H) i n → Handled G (c .records) i
+      done-handled i n x = let r = runs-reached m in to-handled r (correct r .done (waits-not r) .present i n x)
 
     -- never more records than the chart holds
     pub records-held : length (c .records) ≤ cap

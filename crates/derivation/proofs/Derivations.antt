@@ -10,32 +10,20 @@ use lib.Dec.{T}
 use Rattle.scripts.specs.Scripts.{Script, bad, rows, rowsText, rowBytes, rowsIn}
 use Rattle.scripts.proofs.Canonical.{rows-same, text-rows, rows-text}
 use Rattle.scripts.proofs.RowTexts.{text-length}
-use Rattle.hrg.specs.Grammars.{Graph, Grammar, cost}
-use Rattle.hrg.specs.Trees.{Tree, Parts, apply, end, edge, tree, applications, applicationsIn, Generates}
+use Rattle.hrg.specs.Grammars.{Graph, Grammar}
+use Rattle.hrg.specs.Trees.{Tree, Generates}
 use Rattle.hrg.specs.WellFormed.{GrammarOk, GraphOk}
 use Rattle.hrg.specs.WellFormedTest.{Decides}
 use Rattle.hrg.specs.Replacement.{Member}
 use Rattle.hrg.proofs.WellFormedTest.{decides-map}
 use Rattle.hrg.proofs.Replacement.{member-generated, replay}
-use Rattle.preorder.specs.Rows.{size, sizeIn, rowsOf, Derives}
+use Rattle.preorder.specs.Rows.{size, rowsOf, Derives}
 use Rattle.preorder.specs.Replay.{replays}
-use Rattle.preorder.proofs.Rows.{length-rows, size-positive}
+use Rattle.preorder.proofs.Rows.{length-rows, size-positive, size-applications}
 use Rattle.preorder.proofs.Replay.{replay-decides}
 use Rattle.preorder.proofs.Unique.{rows-unique}
 use Rattle.derivation.specs.Derivations.{derivationText, replayScript, replayText, DerivationOf, ReplayedFrom, PassingText}
 use Rattle.derivation.proofs.WritableTrees.{rows-writable}
-
--- each application counts 1
-mutual
-  unfolding applications size cost
-
-  pub size-applications : (G : Grammar) (t : Tree) → applications G t ≡ size t
-  size-applications G (apply r place ps) = omega (arith, size-parts G ps)
-
-  size-parts : (G : Grammar) (ps : Parts) → applicationsIn G ps ≡ sizeIn ps
-  size-parts G end = refl
-  size-parts G (edge g ps) = size-parts G ps
-  size-parts G (tree t ps) = omega (arith, size-applications G t, size-parts G ps)
 
 -- the rows of a text are a derivation
 abbrev ScriptDerives : Grammar → Graph → Script → Type 0

@@ -43,19 +43,20 @@ module _ (G : Grammar) (H : Graph) (ok : GrammarOk G) (hok : GraphOk G H) where
         count = refl;
       }
 
+  -- the tree of a true goal generates the graph
+  pub truth-tree : (n : ℕ) (t : Truth G H (goal G H) n) → Generates G H (t .tree)
+  truth-tree n t =
+      record {
+        fits = t .fits;
+        apart = record { edges = λ e. omega (arith, t .edges e, Rattle.masks.specs.Laws.bit-le (full (length (H .edges))) e); nodes = t .once };
+        edges = λ e l. omega (arith, t .edges e, bit-full-in (length (H .edges)) e l);
+        nodes = λ v l.
+            let c = hok .side .covered v l in
+            held-tree G H ok v (c .edge) (c .on) (t .tree) (G .start) (H .externals) (t .fits) (omega (arith, t .edges (c .edge), bit-full-in (length (H .edges)) (c .edge) (c .known)));
+      }
+
   pub truth-generates : (n : ℕ) → Truth G H (goal G H) n → (t : Tree) × Generates G H t × (applications G t ≡ n)
-  truth-generates n t = (
-    t .tree,
-    record {
-      fits = t .fits;
-      apart = record { edges = λ e. omega (arith, t .edges e, Rattle.masks.specs.Laws.bit-le (full (length (H .edges))) e); nodes = t .once };
-      edges = λ e l. omega (arith, t .edges e, bit-full-in (length (H .edges)) e l);
-      nodes = λ v l.
-          let c = hok .side .covered v l in
-          held-tree G H ok v (c .edge) (c .on) (t .tree) (G .start) (H .externals) (t .fits) (omega (arith, t .edges (c .edge), bit-full-in (length (H .edges)) (c .edge) (c .known)));
-    },
-    t .count,
-  )
+  truth-generates n t = (t .tree, truth-tree n t, t .count)
 
   pub goal-reached : (t : Tree) → Generates G H t → Reachable (closure G H) (goal G H) (applications G t)
   goal-reached t g = complete G H ok hok (goal G H) (applications G t) (generates-truth t g)

@@ -262,3 +262,8 @@ module _ (G : Grammar) (H : Graph) (ok : GrammarOk G) (hok : GraphOk G H) where
           covers = J .covers;
           count = applications-append G (s .parts) (t .parts) ∙ ap₂ _+_ (s .count) (t .count);
         }
+
+    -- the parts of both sides
+    pub join-parts : join-truth .parts ≡ s .parts ⧺ t .parts
+    unfolding join-truth
+    join-parts = refl

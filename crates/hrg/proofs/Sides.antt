@@ -183,3 +183,9 @@ truth-side R ok p inside {m} {n} {f} t =
       covers = t .covers;
       count = t .count;
     }
+
+-- with the same parts
+pub truth-side-parts : {G : Grammar} {H : Graph} (R : Rule) (ok : RuleOk G R) (p : ℕ) (inside : p < length (R .plan)) {m n : ℕ} {f : List ℕ} (t : ActiveTruth G H R p m f n)
+    → truth-side R ok p inside t .parts ≡ t .parts
+unfolding truth-side
+truth-side-parts R ok p inside t = refl

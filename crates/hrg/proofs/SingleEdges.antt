@@ -192,6 +192,10 @@ module _ (G : Grammar) (H : Graph) (ok : GrammarOk G) (hok : GraphOk G H) (r : �
       (record { image = λ v u o. omega (arith, open-in H (single g) v o .0, degree-same (bit (single g)) (λ e. hit e g) (H .edges) v (λ e l. bit-hit g e), degree-one (H .edges) g v) })
       refl
 
+  pub edge-side-parts : (g : ℕ) (x : FitsEdge G H (edgeAt (rightOf G r .edges) i .label) (edgeAt (H .edges) g .attachment) g) → edge-side g x .parts ≡ edge g end
+  unfolding edge-side single-side
+  edge-side-parts g x = refl
+
   -- a tree
   tree-long : (t : Tree) (s : ℕ) (L : List ℕ) → Fits G H s L t → length L ≡ rankOf G s
   tree-long (apply q place ps) s L x =
@@ -210,3 +214,7 @@ module _ (G : Grammar) (H : Graph) (ok : GrammarOk G) (hok : GraphOk G H) (r : �
       (λ e. occurs-append e (edgesOf (x .tree)) [] ∙ omega (arith, x .edges e))
       (λ v u. omega (arith, occurs-append v (innerOf G (x .tree)) [], x .once v))
       (x .covers) (omega (arith, x .count))
+
+  pub tree-side-parts : (m n : ℕ) (L : List ℕ) (x : PassiveTruth G H (edgeAt (rightOf G r .edges) i .label) m L n) → tree-side m n L x .parts ≡ tree (x .tree) end
+  unfolding tree-side single-side
+  tree-side-parts m n L x = refl

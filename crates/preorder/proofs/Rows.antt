@@ -6,7 +6,8 @@ use native.Mathlib.Omega.{arith}
 use native.Mathlib.Numerals.{add-one}
 use lib.ListN.{length, getD, take, drop, length-append, length-drop, take-append-drop}
 use lib.Seq.{drop-cons, drop-drop, drop-at}
-use Rattle.hrg.specs.Trees.{Tree, Parts, apply, end, edge, tree}
+use Rattle.hrg.specs.Grammars.{Grammar, cost}
+use Rattle.hrg.specs.Trees.{Tree, Parts, apply, end, edge, tree, applications, applicationsIn}
 use Rattle.preorder.specs.Rows.{size, sizeIn, treeRows, partRows}
 
 -- ---- as many rows as applications
@@ -25,6 +26,18 @@ mutual
 pub size-positive : (t : Tree) → 1 ≤ size t
 unfolding size
 size-positive (apply r place ps) = omega arith
+
+-- ---- each application counts 1
+mutual
+  unfolding applications size cost
+
+  pub size-applications : (G : Grammar) (t : Tree) → applications G t ≡ size t
+  size-applications G (apply r place ps) = omega (arith, size-parts G ps)
+
+  size-parts : (G : Grammar) (ps : Parts) → applicationsIn G ps ≡ sizeIn ps
+  size-parts G end = refl
+  size-parts G (edge g ps) = size-parts G ps
+  size-parts G (tree t ps) = omega (arith, size-applications G t, size-parts G ps)
 
 -- ---- the rows from number n on
 -- there is a row n, and the rest are the rows after it
