@@ -1,0 +1,297 @@
+-- The replay in code follows the replay of the definition: a law for each way that an application and an edge list go.
+use mathlib.Core.Path.{_≡_, refl, sym, ap, ap₂, subst, _∙_}
+use mathlib.Core.Bool.{Bool, true, false, true≢false}
+use mathlib.Core.List.{List, [], _∷_, _++_}
+use Prim.Native.Nat.{ℕ, zero, suc, _+_, _-_, _≤_, _<_}
+use native.Mathlib.Omega.{arith}
+use native.Mathlib.Numerals.{add-one}
+use lib.ListN.{length, getD, drop, length-drop, drop-of-length-le}
+use lib.Seq.{drop-cons}
+use borrow.Author.Tests.{lt-ltb, le-ltb, eq-eqb, ne-eqb}
+use Rattle.masks.specs.Masks.{_∪_, single, Added}
+use Rattle.format.specs.Lines.{lineOf, afterLine}
+use Rattle.format.specs.Fields.{fieldsOf}
+use Rattle.format.specs.Shape.{shapeOf}
+use Rattle.hrg.specs.Grammars.{Kind, Edge, Graph, Grammar, noEdge, kindOf, rightOf, edgeAt}
+use Rattle.hrg.specs.Trees.{images}
+use Rattle.preorder.specs.Replay.{State, reached, failed, check, byKind, ruleIn, placeIn, fieldsIn, newNodes, rowTest, edgeTest, partTest, replayAt, replayEdges}
+use Rattle.preorder.proofs.Sound.{stays-failed}
+use Rattle.replayer.specs.declared.Progress.{Progress}
+use Rattle.replayer.specs.declared.Part.the-variants.{End, GraphEdge, Application}
+use Rattle.replayer.specs.Fitting.{withAll, rowPasses, edgePasses, SizedRow}
+use Rattle.replayer.specs.Following.{textRows, RowsAt, Reaches, Stands, Applied, Followed, partOf}
+use Rattle.replayer.proofs.MaskTests.{held, marks-snoc, marks-append, row-test, edge-test, edge-known, row-sized, ruled, new-inside}
+use Rattle.replayer.proofs.PlacedRows.{text-few, place-none, place-row}
+use Rattle.replayer.proofs.RowParts.{of-end, of-edge, of-row}
+
+-- a replay that failed is the failed state, one that passes is not
+passing-failed : (q : Progress) → q .ok ≡ false → q .ok ≡ true → ⊥
+passing-failed q f e = true≢false (sym e ∙ f)
+
+stands-as : (H : Graph) (q : Progress) (x y : State) → x ≡ y → Stands H q y → Stands H q x
+stands-as H q x y e s = subst (Stands H q) (sym e) s
+
+-- ---- what the steps make
+pub edge-used : (p : Progress) (g m : ℕ) → Added (p .edges) g m → g < 64
+    → _≡_ {A = Progress} (record { ok = p .ok; next = p .next; at = p .at; edges = m; nodes = p .nodes }) (record { ok = p .ok; next = p .next; at = p .at; edges = p .edges ∪ single g; nodes = p .nodes })
+edge-used p g m a h = rw (a .value h)
+
+pub row-opened : (p : Progress) (a b x y : ℕ) → a ≡ b → x ≡ y
+    → _≡_ {A = Progress} (record { ok = p .ok; next = p .next + 1; at = a; edges = p .edges; nodes = x }) (record { ok = p .ok; next = p .next + 1; at = b; edges = p .edges; nodes = y })
+row-opened p a b x y e q = rw (e, q)
+
+-- where the next row then stands
+pub opened-rows : (text : List ℕ) (p : Progress) → RowsAt text (p .next) (p .at) → p .at < length text → (m : ℕ) (o : Progress)
+    → o ≡ record { ok = p .ok; next = p .next + 1; at = afterLine text (p .at); edges = p .edges; nodes = m } → RowsAt text (o .next) (o .at)
+opened-rows text p r h m o q = subst (λ (x : Progress). RowsAt text (x .next) (x .at)) (sym q) (place-row text (p .next) (p .at) r h .onward)
+
+pub used-rows : (text : List ℕ) (p : Progress) (m : ℕ) → RowsAt text (p .next) (p .at) → (o : Progress)
+    → o ≡ record { ok = p .ok; next = p .next; at = p .at; edges = m; nodes = p .nodes } → RowsAt text (o .next) (o .at)
+used-rows text p m r o q = subst (λ (x : Progress). RowsAt text (x .next) (x .at)) (sym q) r
+
+-- ---- the definition, one step opened
+module _ (G : Grammar) (H : Graph) (R : List (List ℕ)) where
+  at-none : (k s : ℕ) (L : List ℕ) (st : State) → k ≡ 0 → replayAt k G H R s L st ≡ failed
+  unfolding replayAt
+  at-none k s L st e = rw e
+
+  edges-none : (k : ℕ) (place : List ℕ) (rs : List Edge) (fs : List ℕ) (st : State) → k ≡ 0 → replayEdges k G H R place rs fs st ≡ failed
+  unfolding replayAt
+  edges-none k place rs fs st e = rw e
+
+  at-past : (k s : ℕ) (L : List ℕ) (n : ℕ) (es vs : List ℕ) → length R ≤ n → replayAt (suc k) G H R s L (reached n es vs) ≡ failed
+  unfolding replayAt
+  at-past k s L n es vs h = rw (le-ltb n (length R) h)
+
+  at-refused : (k s : ℕ) (L : List ℕ) (n : ℕ) (es vs row : List ℕ) → n < length R → getD R n [] ≡ row → rowTest G H n s L vs row ≡ false
+      → replayAt (suc k) G H R s L (reached n es vs) ≡ failed
+  unfolding replayAt
+  at-refused k s L n es vs row h e t = rw (lt-ltb n (length R) h, e, t)
+
+  at-passed : (k s : ℕ) (L : List ℕ) (n : ℕ) (es vs row : List ℕ) → n < length R → getD R n [] ≡ row → rowTest G H n s L vs row ≡ true
+      → replayAt (suc k) G H R s L (reached n es vs)
+      ≡ replayEdges k G H R (placeIn (rightOf G (ruleIn row)) row) (rightOf G (ruleIn row) .edges) (fieldsIn (rightOf G (ruleIn row)) row) (reached (n + 1) es (vs ++ newNodes (rightOf G (ruleIn row)) row))
+  unfolding replayAt
+  at-passed k s L n es vs row h e t = rw (lt-ltb n (length R) h, e, t)
+
+  edges-end : (k : ℕ) (place : List ℕ) (rs : List Edge) (fs : List ℕ) (i n : ℕ) (es vs : List ℕ) → length rs ≤ i → length fs ≡ length rs
+      → replayEdges (suc k) G H R place (drop i rs) (drop i fs) (reached n es vs) ≡ reached n es vs
+  unfolding replayAt
+  edges-end k place rs fs i n es vs h e = rw (drop-of-length-le rs {i = i} h, drop-of-length-le fs {i = i} (omega arith))
+
+  edges-step : (k : ℕ) (place : List ℕ) (rs : List Edge) (fs : List ℕ) (i n : ℕ) (es vs : List ℕ) → i < length rs → length fs ≡ length rs
+      → replayEdges (suc k) G H R place (drop i rs) (drop i fs) (reached n es vs)
+      ≡ byKind (kindOf G (edgeAt rs i .label))
+      (check (edgeTest H (edgeAt rs i .label) (images place (edgeAt rs i .attachment)) es (getD fs i 0))
+      (replayEdges k G H R place (drop (i + 1) rs) (drop (i + 1) fs) (reached n (es ++ getD fs i 0 ∷ []) vs)))
+      (check (partTest n (getD fs i 0))
+      (replayEdges k G H R place (drop (i + 1) rs) (drop (i + 1) fs) (replayAt k G H R (edgeAt rs i .label) (images place (edgeAt rs i .attachment)) (reached n es vs))))
+  unfolding replayAt
+  edges-step k place rs fs i n es vs h e =
+      ap₂ (λ (a : List Edge) (b : List ℕ). replayEdges (suc k) G H R place a b (reached n es vs)) (drop-cons rs i noEdge h) (drop-cons fs i 0 (omega arith)) ∙ rw add-one
+
+-- ---- the line of the next row
+module _ (text : List ℕ) (n place : ℕ) (r : RowsAt text n place) (h : place < length text) (line : List ℕ) (e : line ≡ lineOf (drop place text)) where
+  pub line-shaped : shapeOf line ≡ true
+  line-shaped = ap shapeOf e ∙ place-row text n place r h .shaped
+
+  pub row-few : n < 4096
+  row-few = omega (arith, place-row text n place r h .known, text-few text)
+
+  row-is : getD (textRows text) n [] ≡ fieldsOf line
+  row-is = place-row text n place r h .fields ∙ ap fieldsOf (sym e)
+
+-- ---- an application
+module _ (G : Grammar) (H : Graph) (text : List ℕ) (s : ℕ) (L : List ℕ) (p : Progress) where
+  applied-failed : (left : ℕ) (q : Progress) → q .ok ≡ false
+      → ((es vs : List ℕ) → Reaches H p (p .next) es vs → replayAt left G H (textRows text) s L (reached (p .next) es vs) ≡ failed) → Applied G H text s L left p q
+  applied-failed left q f e =
+      record { onward = λ o. absurd (passing-failed q f o); stands = λ es vs w. stands-as H q _ failed (e es vs w) f }
+
+  pub applied-none : (left : ℕ) (q : Progress) → left ≡ 0 → q .ok ≡ false → Applied G H text s L left p q
+  applied-none left q e f = applied-failed left q f (λ es vs w. at-none G H (textRows text) left s L _ e)
+
+  pub applied-past : (left : ℕ) (q : Progress) → (left ≡ 0 → ⊥) → RowsAt text (p .next) (p .at) → length text ≤ p .at → q .ok ≡ false → Applied G H text s L left p q
+  applied-past zero q o r h f = absurd (o refl)
+  applied-past (suc k) q o r h f = applied-failed (suc k) q f (λ es vs w. at-past G H (textRows text) k s L (p .next) es vs (place-none text (p .next) (p .at) r h))
+
+  module _ (r : RowsAt text (p .next) (p .at)) (h : p .at < length text) (line : List ℕ) (e : line ≡ lineOf (drop (p .at) text)) where
+    module _ (b : Bool) (t : b ≡ rowPasses G H (p .next) s L (p .nodes) (fieldsOf line)) where
+      tested : {es : List ℕ} (vs : List ℕ) → Reaches H p (p .next) es vs → rowTest G H (p .next) s L vs (fieldsOf line) ≡ b
+      tested vs w = sym (row-test G H (p .next) s L (p .nodes) vs (fieldsOf line) (held (w .used-nodes))) ∙ sym t
+
+      pub applied-refused : (left : ℕ) (q : Progress) → (left ≡ 0 → ⊥) → b ≡ false → q .ok ≡ false → Applied G H text s L left p q
+      applied-refused zero q o c f = absurd (o refl)
+      applied-refused (suc k) q o c f =
+          applied-failed (suc k) q f
+          (λ es vs w. at-refused G H (textRows text) k s L (p .next) es vs (fieldsOf line) (place-row text (p .next) (p .at) r h .known) (row-is text (p .next) (p .at) r h line e) (tested vs w ∙ c))
+
+      passing-sized : b ≡ true → SizedRow G H (fieldsOf line)
+      passing-sized c = row-sized G H (p .next) s L (p .nodes) (fieldsOf line) (sym t ∙ c)
+
+      module _ (c : b ≡ true) (o : Progress)
+          (q : o ≡ record { ok = p .ok; next = p .next + 1; at = afterLine text (p .at); edges = p .edges; nodes = withAll (p .nodes) (newNodes (rightOf G (ruleIn (fieldsOf line))) (fieldsOf line)) }) where
+        opened-reaches : (es vs : List ℕ) → Reaches H p (p .next) es vs → Reaches H o (o .next) es (vs ++ newNodes (rightOf G (ruleIn (fieldsOf line))) (fieldsOf line))
+        opened-reaches es vs w =
+            subst (λ (x : Progress). Reaches H x (x .next) es (vs ++ newNodes (rightOf G (ruleIn (fieldsOf line))) (fieldsOf line))) (sym q)
+            (record {
+              passing = w .passing;
+              row = refl;
+              used-edges = w .used-edges;
+              used-nodes = marks-append (H .nodes) (p .nodes) vs _ (new-inside G H (fieldsOf line) (passing-sized c)) (w .used-nodes);
+            })
+
+        pub applied-opened : (left : ℕ) → (left ≡ 0 → ⊥) → (u : Progress) → Followed G H text (fieldsOf line) 0 (left - 1) o u → Applied G H text s L left p u
+        applied-opened zero n u f = absurd (n refl)
+        applied-opened (suc k) n u f =
+            let less : suc k - 1 ≡ k = omega arith in
+            record {
+              onward = f .onward;
+              stands = λ es vs w.
+                  stands-as H u _ _
+                  (at-passed G H (textRows text) k s L (p .next) es vs (fieldsOf line) (place-row text (p .next) (p .at) r h .known) (row-is text (p .next) (p .at) r h line e) (tested vs w ∙ c)
+                  ∙ ap₂
+                  (λ (j m : ℕ). replayEdges j G H (textRows text) (placeIn (rightOf G (ruleIn (fieldsOf line))) (fieldsOf line)) (rightOf G (ruleIn (fieldsOf line)) .edges) (fieldsIn (rightOf G (ruleIn (fieldsOf line))) (fieldsOf line)) (reached m es (vs ++ newNodes (rightOf G (ruleIn (fieldsOf line))) (fieldsOf line))))
+                  (sym less) (sym (ap (λ (x : Progress). x .next) q)))
+                  (f .stands es (vs ++ newNodes (rightOf G (ruleIn (fieldsOf line))) (fieldsOf line)) (opened-reaches es vs w));
+            }
+
+-- ---- an edge list
+module _ (G : Grammar) (H : Graph) (text row : List ℕ) (z : SizedRow G H row) (i : ℕ) (p : Progress) where
+  abbrev P : Graph
+  P = rightOf G (ruleIn row)
+
+  abbrev place : List ℕ
+  place = placeIn P row
+
+  abbrev label : ℕ
+  label = edgeAt (P .edges) i .label
+
+  abbrev nodes : List ℕ
+  nodes = images place (edgeAt (P .edges) i .attachment)
+
+  fields-length : length (fieldsIn P row) ≡ length (P .edges)
+  fields-length = omega (arith, length-drop (P .nodes) (drop 2 row), length-drop 2 row, ruled G H row z .sized)
+
+  -- the edges from j on, from a state
+  abbrev onFrom : ℕ → ℕ → State → State
+  onFrom j k st = replayEdges k G H (textRows text) place (drop j (P .edges)) (drop j (fieldsIn P row)) st
+
+  followed-failed : (left : ℕ) (q : Progress) → q .ok ≡ false → ((es vs : List ℕ) → Reaches H p (p .next) es vs → onFrom i left (reached (p .next) es vs) ≡ failed)
+      → Followed G H text row i left p q
+  followed-failed left q f e =
+      record { onward = λ o. absurd (passing-failed q f o); stands = λ es vs w. stands-as H q _ failed (e es vs w) f }
+
+  pub followed-none : (left : ℕ) (q : Progress) → left ≡ 0 → q .ok ≡ false → Followed G H text row i left p q
+  followed-none left q e f = followed-failed left q f (λ es vs w. edges-none G H (textRows text) left place _ _ _ e)
+
+  pub followed-end : (left : ℕ) → (left ≡ 0 → ⊥) → partOf G row i ≡ End → RowsAt text (p .next) (p .at) → Followed G H text row i left p p
+  followed-end zero n e r = absurd (n refl)
+  followed-end (suc k) n e r =
+      record {
+        onward = λ o. r;
+        stands = λ es vs w. stands-as H p _ (reached (p .next) es vs) (edges-end G H (textRows text) k place (P .edges) (fieldsIn P row) i (p .next) es vs (of-end G row i e) fields-length) w;
+      }
+
+  -- a graph edge
+  module _ (f : ℕ) (e : partOf G row i ≡ GraphEdge f) where
+    module _ (b : Bool) (t : b ≡ edgePasses H label nodes (p .edges) f) where
+      edge-step : (k : ℕ) {es vs : List ℕ} → Reaches H p (p .next) es vs
+          → onFrom i (suc k) (reached (p .next) es vs) ≡ check b (onFrom (i + 1) k (reached (p .next) (es ++ f ∷ []) vs))
+      edge-step k {es} {vs} w =
+          let o = of-edge G row i f e in
+          let field = getD (fieldsIn P row) i 0 in
+          edges-step G H (textRows text) k place (P .edges) (fieldsIn P row) i (p .next) es vs (o .known) fields-length
+          ∙ ap (λ (y : Kind). byKind y
+          (check (edgeTest H label nodes es field) (onFrom (i + 1) k (reached (p .next) (es ++ field ∷ []) vs)))
+          (check (partTest (p .next) field) (onFrom (i + 1) k (replayAt k G H (textRows text) label nodes (reached (p .next) es vs))))) (o .kind)
+          ∙ ap (λ (y : ℕ). check (edgeTest H label nodes es y) (onFrom (i + 1) k (reached (p .next) (es ++ y ∷ []) vs))) (sym (o .number))
+          ∙ ap (λ (x : Bool). check x (onFrom (i + 1) k (reached (p .next) (es ++ f ∷ []) vs)))
+          (sym (edge-test H label nodes (p .edges) es f (held (w .used-edges))) ∙ sym t)
+
+      pub followed-refused : (left : ℕ) (q : Progress) → (left ≡ 0 → ⊥) → b ≡ false → q .ok ≡ false → Followed G H text row i left p q
+      followed-refused zero q n c d = absurd (n refl)
+      followed-refused (suc k) q n c d =
+          followed-failed (suc k) q d (λ es vs w. edge-step k w ∙ ap (λ (x : Bool). check x (onFrom (i + 1) k (reached (p .next) (es ++ f ∷ []) vs))) c)
+
+      edge-listed : b ≡ true → f < length (H .edges)
+      edge-listed c = edge-known H label nodes (p .edges) f (sym t ∙ c)
+
+      module _ (c : b ≡ true) (o : Progress) (q : o ≡ record { ok = p .ok; next = p .next; at = p .at; edges = p .edges ∪ single f; nodes = p .nodes }) where
+        used-reaches : (es vs : List ℕ) → Reaches H p (p .next) es vs → Reaches H o (o .next) (es ++ f ∷ []) vs
+        used-reaches es vs w =
+            subst (λ (x : Progress). Reaches H x (x .next) (es ++ f ∷ []) vs) (sym q)
+            (record { passing = w .passing; row = refl; used-edges = marks-snoc (length (H .edges)) (p .edges) f es (edge-listed c) (w .used-edges); used-nodes = w .used-nodes })
+
+        pub followed-edge : (left : ℕ) → (left ≡ 0 → ⊥) → (u : Progress) → Followed G H text row (i + 1) (left - 1) o u → Followed G H text row i left p u
+        followed-edge zero n u g = absurd (n refl)
+        followed-edge (suc k) n u g =
+            let less : suc k - 1 ≡ k = omega arith in
+            record {
+              onward = g .onward;
+              stands = λ es vs w.
+                  stands-as H u _ _
+                  (edge-step k w ∙ ap (λ (x : Bool). check x (onFrom (i + 1) k (reached (p .next) (es ++ f ∷ []) vs))) c
+                  ∙ ap₂ (λ (j m : ℕ). onFrom (i + 1) j (reached m (es ++ f ∷ []) vs)) (sym less) (sym (ap (λ (x : Progress). x .next) q)))
+                  (g .stands (es ++ f ∷ []) vs (used-reaches es vs w));
+            }
+
+  -- an application
+  module _ (s f : ℕ) (e : partOf G row i ≡ Application s f) where
+    under-step : (k : ℕ) (es vs : List ℕ)
+        → onFrom i (suc k) (reached (p .next) es vs) ≡ check (partTest (p .next) f) (onFrom (i + 1) k (replayAt k G H (textRows text) s nodes (reached (p .next) es vs)))
+    under-step k es vs =
+        let o = of-row G row i s f e in
+        let field = getD (fieldsIn P row) i 0 in
+        edges-step G H (textRows text) k place (P .edges) (fieldsIn P row) i (p .next) es vs (o .known) fields-length
+        ∙ ap (λ (y : Kind). byKind y
+        (check (edgeTest H label nodes es field) (onFrom (i + 1) k (reached (p .next) (es ++ field ∷ []) vs)))
+        (check (partTest (p .next) field) (onFrom (i + 1) k (replayAt k G H (textRows text) label nodes (reached (p .next) es vs))))) (o .kind)
+        ∙ ap₂ (λ (y m : ℕ). check (partTest (p .next) y) (onFrom (i + 1) k (replayAt k G H (textRows text) m nodes (reached (p .next) es vs)))) (sym (o .number)) (sym (o .symbol))
+
+    pub followed-unnumbered : (left : ℕ) (q : Progress) → (left ≡ 0 → ⊥) → (f ≡ p .next → ⊥) → q .ok ≡ false → Followed G H text row i left p q
+    followed-unnumbered zero q n c d = absurd (n refl)
+    followed-unnumbered (suc k) q n c d =
+        followed-failed (suc k) q d
+        (λ es vs w. under-step k es vs ∙ ap (λ (x : Bool). check x (onFrom (i + 1) k (replayAt k G H (textRows text) s nodes (reached (p .next) es vs)))) (ne-eqb f (p .next) c))
+
+    module _ (c : f ≡ p .next) (L : List ℕ) (l : L ≡ nodes) (u : Progress) where
+      numbered : (k : ℕ) (es vs : List ℕ) → onFrom i (suc k) (reached (p .next) es vs) ≡ onFrom (i + 1) k (replayAt k G H (textRows text) s L (reached (p .next) es vs))
+      numbered k es vs =
+          under-step k es vs ∙ ap (λ (x : Bool). check x (onFrom (i + 1) k (replayAt k G H (textRows text) s nodes (reached (p .next) es vs)))) (eq-eqb f (p .next) c)
+          ∙ ap (λ (m : List ℕ). onFrom (i + 1) k (replayAt k G H (textRows text) s m (reached (p .next) es vs))) (sym l)
+
+      pub followed-under-failed : (left : ℕ) → (left ≡ 0 → ⊥) → Applied G H text s L (left - 1) p u → u .ok ≡ false → Followed G H text row i left p u
+      followed-under-failed zero n a d = absurd (n refl)
+      followed-under-failed (suc k) n a d =
+          followed-failed (suc k) u d
+          (λ es vs w. numbered k es vs ∙ go k (replayAt k G H (textRows text) s L (reached (p .next) es vs))
+          (subst (λ (j : ℕ). Stands H u (replayAt j G H (textRows text) s L (reached (p .next) es vs))) (less k) (a .stands es vs w)))
+        where
+          less : (k : ℕ) → suc k - 1 ≡ k
+          less k = omega arith
+
+          go : (k : ℕ) (st : State) → Stands H u st → onFrom (i + 1) k st ≡ failed
+          go k failed q = stays-failed G H (textRows text) k place _ _
+          go k (reached n es vs) q = absurd (passing-failed u d (q .passing))
+
+      pub followed-under : (left : ℕ) → (left ≡ 0 → ⊥) → Applied G H text s L (left - 1) p u → u .ok ≡ true
+          → (v : Progress) → Followed G H text row (i + 1) (left - 1) u v → Followed G H text row i left p v
+      followed-under zero n a d v g = absurd (n refl)
+      followed-under (suc k) n a d v g =
+          record {
+            onward = g .onward;
+            stands = λ es vs w.
+                stands-as H v _ _ (numbered k es vs)
+                (go k (subst (λ (j : ℕ). Followed G H text row (i + 1) j u v) (less k) g) (replayAt k G H (textRows text) s L (reached (p .next) es vs))
+                (subst (λ (j : ℕ). Stands H u (replayAt j G H (textRows text) s L (reached (p .next) es vs))) (less k) (a .stands es vs w)));
+          }
+        where
+          less : (k : ℕ) → suc k - 1 ≡ k
+          less k = omega arith
+
+          go : (k : ℕ) → Followed G H text row (i + 1) k u v → (st : State) → Stands H u st → Stands H v (onFrom (i + 1) k st)
+          go k g failed q = absurd (passing-failed u q d)
+          go k g (reached m es vs) q =
+              stands-as H v _ (onFrom (i + 1) k (reached (u .next) es vs)) (ap (λ (y : ℕ). onFrom (i + 1) k (reached y es vs)) (sym (q .row)))
+              (g .stands es vs (record { passing = q .passing; row = refl; used-edges = q .used-edges; used-nodes = q .used-nodes }))

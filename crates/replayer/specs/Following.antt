@@ -1,0 +1,76 @@
+-- What the functions promise: a replay with masks for the lists of used numbers, and with places in the text for the rows.
+use mathlib.Core.Path.{_≡_}
+use mathlib.Core.Bool.{true, false, cond}
+use mathlib.Core.List.{List, []}
+use Prim.Native.Nat.{ℕ, _+_, _-_, _^_, _<_}
+use lib.ListN.{length, getD, drop}
+use lib.Dec.{ltb}
+use Rattle.masks.specs.Masks.{member}
+use Rattle.format.specs.Lines.{linesOf}
+use Rattle.scripts.specs.Scripts.{Script, bad, rows, rowsFrom, rowsIn}
+use Rattle.hrg.specs.Counts.{occurs}
+use Rattle.hrg.specs.Grammars.{Kind, terminal, nonterminal, Graph, Grammar, kindOf, rightOf, edgeAt}
+use Rattle.preorder.specs.Replay.{State, reached, failed, ruleIn, placeIn, fieldsIn, replayAt, replayEdges}
+use Rattle.replayer.specs.declared.Progress.{Progress}
+use Rattle.replayer.specs.declared.Part.{Part}
+use Rattle.replayer.specs.declared.Part.the-variants.{End, GraphEdge, Application}
+
+-- ---- rows and places
+-- the rows of a script, none where it is bad
+abbrev pub rowsOfScript : Script → List (List ℕ)
+rowsOfScript bad = []
+rowsOfScript (rows rs) = rs
+
+unfoldable pub textRows : List ℕ → List (List ℕ)
+unfolding rowsIn
+textRows text = rowsOfScript (rowsIn text)
+
+-- From the place on, the text has the lines of the rows from number n on, and nothing behind them.
+pub record RowsAt (text : List ℕ) (n place : ℕ) : Type 0 where
+  pub rest : rowsFrom (length (textRows text) - n) (linesOf (drop place text)) ≡ rows (drop n (textRows text))
+
+-- ---- masks
+-- The mask has just the numbers of the list as members, and all are below n.
+pub record Marks (n m : ℕ) (l : List ℕ) : Type 0 where
+  pub members : (v : ℕ) → member m v ≡ ltb 0 (occurs v l)
+  pub below : m < 2 ^ n
+
+-- The replay came to row n with these graph edges and graph nodes used.
+pub record Reaches (H : Graph) (p : Progress) (n : ℕ) (es vs : List ℕ) : Type 0 where
+  pub passing : p .ok ≡ true
+  pub row : p .next ≡ n
+  pub used-edges : Marks (length (H .edges)) (p .edges) es
+  pub used-nodes : Marks (H .nodes) (p .nodes) vs
+
+abbrev pub Stands : Graph → Progress → State → Type 0
+Stands H p (reached n es vs) = Reaches H p n es vs
+Stands H p failed = p .ok ≡ false
+
+-- From p, the replay of the next row for an edge s on the nodes L, with so many calls left, came to q.
+pub record Applied (G : Grammar) (H : Graph) (text : List ℕ) (s : ℕ) (L : List ℕ) (left : ℕ) (p q : Progress) : Type 0 where
+  pub onward : q .ok ≡ true → RowsAt text (q .next) (q .at)
+  pub stands : (es vs : List ℕ) → Reaches H p (p .next) es vs → Stands H q (replayAt left G H (textRows text) s L (reached (p .next) es vs))
+
+-- From p, the replay of the edges from i on of the row's rule came to q.
+pub record Followed (G : Grammar) (H : Graph) (text row : List ℕ) (i left : ℕ) (p q : Progress) : Type 0 where
+  pub onward : q .ok ≡ true → RowsAt text (q .next) (q .at)
+  pub stands : (es vs : List ℕ) → Reaches H p (p .next) es vs
+      → Stands H q (replayEdges left G H (textRows text) (placeIn (rightOf G (ruleIn row)) row) (drop i (rightOf G (ruleIn row) .edges)) (drop i (fieldsIn (rightOf G (ruleIn row)) row)) (reached (p .next) es vs))
+
+-- ---- the parts of a row
+-- the row names a rule, and has the fields that this needs
+pub record RuledRow (G : Grammar) (row : List ℕ) : Type 0 where
+  pub known : ruleIn row < length (G .rules)
+  pub sized : length row ≡ 2 + (rightOf G (ruleIn row) .nodes + length (rightOf G (ruleIn row) .edges))
+
+-- by its edge's kind, a field is a graph edge or the number of an application
+abbrev pub partBy : Kind → ℕ → ℕ → Part
+partBy terminal s f = GraphEdge f
+partBy nonterminal s f = Application s f
+
+-- what the row says of edge i of its rule
+unfoldable pub partOf : Grammar → List ℕ → ℕ → Part
+partOf G row i =
+    let P = rightOf G (ruleIn row) in
+    let s = edgeAt (P .edges) i .label in
+    cond (ltb i (length (P .edges))) (partBy (kindOf G s) s (getD (fieldsIn P row) i 0)) End
