@@ -11,7 +11,7 @@ ghost use Rattle.questions.specs.Layout.{word, rankAt, startSymbol, ruleSymbol,
 ghost use Rattle.questions.specs.Abstract.{grammarOf, graphOf};
 ghost use Rattle.joins.specs.Joins.{KnownNode, KnownEdge, Accepted, EdgesBelow, MasksBelow, NodesIn, sideWith, SidesOf, Boundary, OpenAt, OpenIn, edgeNodes, Merges, joinedOf};
 
-mod maps;
+pub mod maps;
 
 // The nodes on edges of a set, and on the other edges.
 struct Sides {

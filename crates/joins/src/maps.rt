@@ -36,7 +36,7 @@ fn first_of(a: u64, b: u64) -> u64
 }
 
 // Two maps of n nodes as one.
-pub(crate) fn merge(n: u64, f: [u64; 8], k: [u64; 8]) -> [u64; 8]
+pub fn merge(n: u64, f: [u64; 8], k: [u64; 8]) -> [u64; 8]
     requires { ⌜ n ≤ 8 ⌝ }
     ensures { λ x. ⌜ x ≡ padded (joined n f k) ⌝ }
 {

@@ -310,7 +310,7 @@ fn is_writable(letter: u8, fields: [u64; 18], count: usize) -> bool
     is_capital(letter) & all_small(fields, count)
 }
 
-fn write_line(out: &mut [u8], at: usize, letter: u8, fields: [u64; 18], count: usize) -> usize
+pub fn write_line(out: &mut [u8], at: usize, letter: u8, fields: [u64; 18], count: usize) -> usize
     requires { ⌜ (count ≤ 18) × (at + (4 * count + 2) ≤ length (now out)) ⌝ }
     ensures { λ r. ⌜ (r ≡ at + (4 * count + 2)) × (now (out .exit) ≡ sets (now (out .entry)) at (lineText letter (take count fields))) ⌝ }
 {

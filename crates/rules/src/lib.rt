@@ -108,7 +108,7 @@ pub fn root_nodes(g: &[u64], r: u64, f: [u64; 8]) -> [u64; 8]
 }
 
 // The nodes of graph edge e.
-fn edge_nodes(g: &[u64], h: &[u64], e: u64) -> [u64; 8]
+pub fn edge_nodes(g: &[u64], h: &[u64], e: u64) -> [u64; 8]
     requires { ⌜ Accepted (now g) (now h) × (e < graphEdges (now h)) ⌝ }
     ensures { λ x. ⌜ x ≡ padded (edgeAt (graphOf (now (g .entry)) (now (h .entry)) .edges) e .attachment) ⌝ }
 {

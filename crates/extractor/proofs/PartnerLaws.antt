@@ -1,0 +1,68 @@
+-- The partners below a plan node, opened once in the terms of the code.
+use mathlib.Core.Path.{_≡_, refl, sym, ap, _∙_}
+use mathlib.Core.List.{List}
+use Prim.Native.Nat.{ℕ, zero, suc, _-_}
+use native.Mathlib.Omega.{arith}
+use lib.ListN.{length, set, replicate}
+use borrow.Author.Tests.{ne-eqb}
+use Rattle.hrg.specs.Grammars.{PlanNode, leaf, introduce, join, Grammar, planOf, planNode}
+use Rattle.questions.specs.Abstract.{planFrom}
+use Rattle.agenda.specs.declared.Record.{Record}
+use Rattle.records.specs.Words.{recordAt}
+use Rattle.extraction.specs.Extraction.{partnersVia, partnersWithin, ruleAt, partnersAt}
+
+less : (n : ℕ) → suc n - 1 ≡ n
+less n = omega arith
+
+module _ (w : List ℕ) where
+  abbrev look : ℕ → Record
+  look = λ k. recordAt w k
+
+  module _ (pl : List PlanNode) (left p j : ℕ) (bs : List ℕ) where
+    pub within-end : left ≡ 0 → bs ≡ partnersWithin look pl left p j bs
+    unfolding partnersWithin
+    within-end e = rw e
+
+    within-step : (left ≡ 0 → ⊥) → partnersWithin look pl left p j bs ≡ partnersVia (λ c i cs. partnersWithin look pl (left - 1) c i cs) (recordAt w j) bs (planNode pl p)
+    unfolding partnersWithin
+    within-step n = go left n
+      where
+        go : (left : ℕ) → (left ≡ 0 → ⊥) → partnersWithin look pl left p j bs ≡ partnersVia (λ c i cs. partnersWithin look pl (left - 1) c i cs) (recordAt w j) bs (planNode pl p)
+        go zero n = absurd (n refl)
+        go (suc k) n = rw less
+
+    module _ (some : left ≡ 0 → ⊥) (kind first second : ℕ) (node : planNode pl p ≡ planFrom kind first second) (x : Record) (at : x ≡ recordAt w j) where
+      abbrev below : PlanNode → List ℕ
+      below = λ y. partnersVia (λ c i cs. partnersWithin look pl (left - 1) c i cs) (recordAt w j) bs y
+
+      pub within-leaf : kind ≡ 0 → bs ≡ partnersWithin look pl left p j bs
+      within-leaf e =
+          let here : planNode pl p ≡ leaf = node ∙ rw e in
+          sym (within-step some ∙ ap below here)
+
+      pub within-introduce : (cs v : List ℕ) → kind ≡ 1 → cs ≡ set bs second (x .second) → v ≡ partnersWithin look pl (left - 1) first (x .first) cs → v ≡ partnersWithin look pl left p j bs
+      within-introduce cs v e a b =
+          let here : planNode pl p ≡ introduce first second = node ∙ rw e in
+          b ∙ rw (a, at) (sym (within-step some ∙ ap below here))
+
+      pub within-join : (cs v : List ℕ) → (kind ≡ 0 → ⊥) → (kind ≡ 1 → ⊥) → cs ≡ partnersWithin look pl (left - 1) first (x .first) bs
+          → v ≡ partnersWithin look pl (left - 1) second (x .second) cs → v ≡ partnersWithin look pl left p j bs
+      within-join cs v y z a b =
+          let here : planNode pl p ≡ join first second = node ∙ rw (ne-eqb kind 0 y, ne-eqb kind 1 z) in
+          b ∙ rw (a, at) (sym (within-step some ∙ ap below here))
+
+  -- ---- a passive record
+  pub rule-by : (j : ℕ) (x y : Record) → x ≡ recordAt w j → y ≡ recordAt w (x .first) → y .of ≡ ruleAt look j
+  rule-by j x y a b = rw (b, a)
+
+  module _ (G : Grammar) (j r n : ℕ) (rule : r ≡ ruleAt look j) (size : n ≡ length (planOf G r)) where
+    sized : n ≡ length (planOf G (ruleAt look j))
+    sized = size ∙ ap (λ r. length (planOf G r)) rule
+
+    pub partners-none : n ≡ 0 → replicate 8 0 ≡ partnersAt look G j
+    unfolding partnersAt
+    partners-none e = within-end (planOf G (ruleAt look j)) (length (planOf G (ruleAt look j))) (length (planOf G (ruleAt look j)) - 1) (recordAt w j .first) (replicate 8 0) (sym sized ∙ e)
+
+    pub partners-some : (x : Record) (v : List ℕ) → x ≡ recordAt w j → v ≡ partnersWithin look (planOf G r) n (n - 1) (x .first) (replicate 8 0) → v ≡ partnersAt look G j
+    unfolding partnersAt
+    partners-some x v a b = b ∙ rw (size, rule, a)

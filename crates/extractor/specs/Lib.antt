@@ -1,0 +1,5 @@
+-- The root of the definitions.
+pub mod Texts
+pub mod Reading
+pub mod Lists
+pub mod RowFacts

@@ -1,0 +1,76 @@
+// What a rule of any number has, over an accepted grammar table: an unknown rule has an empty right side and no plan.
+ghost use mathlib.Core.Path.{_≡_};
+ghost use mathlib.Core.Bool.{true};
+ghost use Prim.Native.Nat.{_≤_};
+ghost use lib.ListN.{length};
+ghost use Rattle.hrg.specs.Grammars.{kindOf, rightOf, planOf, edgeAt};
+ghost use Rattle.questions.specs.Checking.{checkGrammar};
+ghost use Rattle.questions.specs.Abstract.{grammarOf};
+ghost use Rattle.joins.specs.Joins.{KnownEdge};
+ghost use Rattle.extractor.specs.Reading.{PlanLineOf, isNonterminal};
+
+// A line of a plan: kind 0 for a leaf.
+pub(crate) struct PlanLine {
+    pub(crate) kind: u64,
+    pub(crate) first: u64,
+    pub(crate) second: u64,
+}
+
+// How many nodes the right side of rule r has.
+pub(crate) fn node_count(g: &[u64], r: u64) -> u64
+    requires { ⌜ checkGrammar (now g) ≡ true ⌝ }
+    ensures { λ x. ⌜ (x ≡ rightOf (grammarOf (now (g .entry))) r .nodes) × (x ≤ 8) ⌝ }
+{
+    if layout::rule_count(g) <= r {
+        return 0;
+    }
+    layout::rule_nodes(g, r)
+}
+
+// How many edges it has.
+pub(crate) fn edge_count(g: &[u64], r: u64) -> u64
+    requires { ⌜ checkGrammar (now g) ≡ true ⌝ }
+    ensures { λ x. ⌜ (x ≡ length (rightOf (grammarOf (now (g .entry))) r .edges)) × (x ≤ 8) ⌝ }
+{
+    if layout::rule_count(g) <= r {
+        return 0;
+    }
+    layout::rule_edges(g, r)
+}
+
+// How many nodes its plan has.
+pub(crate) fn plan_size(g: &[u64], r: u64) -> u64
+    ensures { λ x. ⌜ x ≡ length (planOf (grammarOf (now (g .entry))) r) ⌝ }
+{
+    if layout::rule_count(g) <= r {
+        return 0;
+    }
+    layout::rule_plan(g, r)
+}
+
+// Plan node p of rule r; one past the end is a leaf.
+pub(crate) fn plan_line(g: &[u64], r: u64, p: u64) -> PlanLine
+    requires { ⌜ checkGrammar (now g) ≡ true ⌝ }
+    ensures { λ x. ⌜ PlanLineOf (now (g .entry)) r p x ⌝ }
+{
+    if plan_size(g, r) <= p {
+        return PlanLine {
+            kind: 0,
+            first: 0,
+            second: 0,
+        };
+    }
+    PlanLine {
+        kind: layout::plan_kind(g, r, p),
+        first: layout::plan_first(g, r, p),
+        second: layout::plan_second(g, r, p),
+    }
+}
+
+// Whether edge i of rule r has a nonterminal label.
+pub(crate) fn is_nonterminal(g: &[u64], r: u64, i: u64) -> bool
+    requires { ⌜ KnownEdge (now g) r i ⌝ }
+    ensures { λ x. ⌜ x ≡ isNonterminal (kindOf (grammarOf (now (g .entry))) (edgeAt (rightOf (grammarOf (now (g .entry))) r .edges) i .label)) ⌝ }
+{
+    layout::kind_of(g, layout::edge_label(g, r, i)) != 0
+}
