@@ -16,7 +16,7 @@ use Rattle.joins.specs.Joins.{Accepted}
 use Rattle.records.specs.Words.{Fits, capacity, itemCount, recordsAt, chartOf, written}
 use Rattle.records.proofs.WordLaws.{length-records}
 use Rattle.validity.specs.Checking.{holds, knownChart}
-use Rattle.chart.specs.Calls.{Called, fit, fitChart, whenWaiting, answerOf, startAnswer, startOf, runOf, runsOf, refused}
+use Rattle.chart.specs.Calls.{Called, fit, fitChart, whenWaiting, answerOf, startAnswer, startOf, runOf, runsOf, standingOf, refused}
 use Rattle.chart.specs.Facts.{RunRight, StartChoices, RunChoices}
 use Rattle.chart.specs.declared.Outcome.{Outcome}
 use Rattle.chart.specs.declared.Outcome.the-variants.{Unfit, TooSmall, Unfinished, Done}
@@ -154,3 +154,20 @@ module _ (g h w : List ℕ) (k : ℕ) where
           let q = run-is g h w k fits in
           let words : v ≡ runOf g h w k .words = made ∙ sym (ap (λ (d : Called). d .words) q) in
           whole a v (e ∙ ap (λ (u : List ℕ). answerOf (chartOf u)) words ∙ ap answerOf (run-chart g h w fits k) ∙ sym (ap (λ (d : Called). d .answer) q)) words
+
+-- ---- standing
+module _ (g h w : List ℕ) (b : Bool) (is : b ≡ fit g h w) where
+  unfit-standing : fitChart g h w ≡ false → Unfit ≡ standingOf g h w
+  unfolding standingOf
+  unfit-standing n = rw n
+
+  pub standing-refuses : b ≡ false → Unfit ≡ standingOf g h w
+  standing-refuses n = unfit-standing (not-by g h w (sym is ∙ n))
+
+  module _ (y : b ≡ true) (c : Bool) (known : c ≡ knownChart (grammarOf g) (graphOf g h) w) where
+    pub standing-unknown : c ≡ false → Unfit ≡ standingOf g h w
+    standing-unknown n = unfit-standing (unknown-by g h w (sym known ∙ n) (sym is ∙ y))
+
+    pub standing-is : (a : Outcome) → c ≡ true → a ≡ answerOf (chartOf w) → a ≡ standingOf g h w
+    unfolding standingOf
+    standing-is a z e = rw (fits-by g h w (sym is ∙ y) (sym known ∙ z)) e

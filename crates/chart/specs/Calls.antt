@@ -68,6 +68,11 @@ runOf g h w k =
     let c = runChart (grammarOf g) (graphOf g h) (capacity w) k (chartOf w) in
     cond (fitChart g h w) (record { answer = answerOf c; words = written w c }) (refused w)
 
+-- how a chart stands: what a run of no steps says
+unfoldable pub standingOf : List ℕ → List ℕ → List ℕ → Outcome
+unfolding fitChart answerOf
+standingOf g h w = cond (fitChart g h w) (answerOf (chartOf w)) Unfit
+
 -- a list of runs, each on the words as the last call left them
 unfoldable pub runsOf : List ℕ → List ℕ → List ℕ → List ℕ → List ℕ
 unfolding runOf

@@ -1,7 +1,7 @@
 // The chart: start and run on lent memory.
 ghost use mathlib.Core.Path.{_≡_};
 ghost use Rattle.records.specs.Words.{chartOf};
-ghost use Rattle.chart.specs.Calls.{fit, answerOf, startOf, runOf};
+ghost use Rattle.chart.specs.Calls.{fit, answerOf, startOf, runOf, standingOf};
 ghost use Rattle.chart.specs.Facts.{StartChoices, RunChoices};
 use agenda::Found;
 
@@ -54,6 +54,19 @@ fn outcome_of(chart: &[u64]) -> Outcome
         Found::Nowhere => Outcome::Done(done),
         Found::At(_) => Outcome::Unfinished(done),
     }
+}
+
+// How the chart stands: what a run of no steps says.
+pub fn standing(grammar: &[u64], graph: &[u64], chart: &[u64]) -> Outcome
+    ensures { λ r. ⌜ r ≡ standingOf (now (grammar .entry)) (now (graph .entry)) (now (chart .entry)) ⌝ }
+{
+    if !is_fit(grammar, graph, chart) {
+        return Outcome::Unfit;
+    }
+    if !validity::known(grammar, graph, chart) {
+        return Outcome::Unfit;
+    }
+    outcome_of(chart)
 }
 
 // Does the steps given, or as many as are left.

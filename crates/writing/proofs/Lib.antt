@@ -1,0 +1,5 @@
+-- The root of the theorems.
+pub mod Writings
+pub mod OwnCharts
+pub mod Demand
+pub mod Choices
