@@ -1,0 +1,2 @@
+-- The root of the theorems.
+pub mod Table
