@@ -12,5 +12,3 @@ pub mod Making
 pub mod Simulation
 pub mod Runs
 pub mod RunFacts
--- K1 to K9 on records
-pub mod Cases

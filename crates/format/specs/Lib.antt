@@ -11,3 +11,4 @@ pub mod DecimalLaws
 pub mod ShapeLaws
 pub mod WritingLaws
 pub mod RoundTrip
+pub mod Copying

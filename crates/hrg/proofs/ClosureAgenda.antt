@@ -18,7 +18,6 @@ use Rattle.hrg.specs.AgendaRun.{Computes, startState, runState}
 use Rattle.hrg.specs.ClosureRun.{sameItem, rulesOf}
 use Rattle.hrg.specs.AgendaFacts.{Correct}
 use Rattle.hrg.specs.Outcome.{derivable, underivable, unfinished, goalAmong, outcomeOf, outcome, Right}
-use Rattle.hrg.specs.Cases.{Case, cases}
 use Rattle.hrg.proofs.Soundness.{sound}
 use Rattle.hrg.proofs.Completeness.{complete, least-fewest}
 use Rattle.hrg.proofs.Goals.{goal-reached, goal-generated}
@@ -122,9 +121,3 @@ module _ (G : Grammar) (H : Graph) (ok : GrammarOk G) (hok : GraphOk G H) {k : �
 pub outcome-right : (G : Grammar) (H : Graph) → GrammarOk G → GraphOk G H → (k : ℕ) → Right G H (outcome k G H)
 unfolding outcome
 outcome-right G H ok hok k = state-right G H ok hok (start-runs (computes G H)) (run-runs (computes G H) k)
-
--- ---- K1 to K6: applications and steps, as one table with one fact
-pub table : map (λ (c : Case). outcome 4096 (c .grammar) (c .graph)) cases
-    ≡ derivable 1 5 ∷ derivable 2 10 ∷ underivable 8 ∷ underivable 5 ∷ derivable 2 6 ∷ underivable 8 ∷ []
-unfolding outcome
-table = refl

@@ -1,7 +1,7 @@
--- What a run to the end tells of a graph: the applications of a fewest derivation and the steps, and the table of cases K1 to K6.
+-- What a run to the end tells of a graph: the applications of a fewest derivation and the steps.
 use mathlib.Core.Path.{_≡_}
 use mathlib.Core.Bool.{Bool, true, false}
-use mathlib.Core.List.{List, [], _∷_, map}
+use mathlib.Core.List.{List, [], _∷_}
 use Prim.Native.Nat.{ℕ, _≤_}
 use lib.ListN.{length}
 use Rattle.masks.specs.Masks.{full}

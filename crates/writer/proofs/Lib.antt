@@ -1,4 +1,3 @@
 -- The root of the theorems.
-pub mod Copying
 pub mod Goals
 pub mod Deliveries

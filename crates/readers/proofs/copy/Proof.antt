@@ -5,7 +5,7 @@ use mathlib.Core.Path.{_≡_}
 use lib.ListN.{length, take, drop, length-set}
 use borrow.Author.Needs.{needs}
 use mathlib.Core.List.{_++_}
-use Rattle.readers.proofs.Filling.{copy-more, copy-done}
+use Rattle.format.specs.Copying.{copy-more, copy-done}
 use Rattle.readers.proofs.copy.Statement.{statement}
 use Rattle.readers.proofs.copy.Tie as tie
 

@@ -1,11 +1,11 @@
--- A loop that copies one word a turn.
+-- A loop that copies one byte a turn.
 use native.Mathlib.Omega.{arith}
 use Prim.Native.Nat.{_-_, _≤_}
 use mathlib.Core.Path.{_≡_}
 use lib.ListN.{length, take, drop, length-set}
 use borrow.Author.Needs.{needs}
 use mathlib.Core.List.{_++_}
-use Rattle.writer.proofs.Copying.{copy-more, copy-done}
+use Rattle.format.specs.Copying.{copy-more, copy-done}
 use Rattle.writer.proofs.copy.Statement.{statement}
 use Rattle.writer.proofs.copy.Tie as tie
 

@@ -1,4 +1,4 @@
--- The loop that copies a text over the front of the output.
+-- A list copied over the front of another, one number a turn.
 use mathlib.Core.Path.{_≡_, sym, _∙_}
 use mathlib.Core.List.{List, _++_}
 use Prim.Native.Nat.{ℕ, suc, _+_, _≤_, _<_}
