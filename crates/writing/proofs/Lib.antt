@@ -3,3 +3,4 @@ pub mod Writings
 pub mod OwnCharts
 pub mod Demand
 pub mod Choices
+pub mod Derivations
