@@ -113,6 +113,16 @@ pub place-fits : (w : List ℕ) (j : ℕ) → j < capacity w → 2 + 16 * j + 16
 unfolding capacity
 place-fits w j h = omega arith
 
+-- .. by the number of items that the code has read
+pub beyond : (w : List ℕ) (j n : ℕ) → n ≡ capacity w → n ≤ j → capacity w ≤ j
+beyond w j n e h = omega arith
+
+pub within : (w : List ℕ) (j n : ℕ) → n ≡ capacity w → j < n → j < capacity w
+within w j n e h = omega arith
+
+pub pasted-words : (w v l : List ℕ) (place : ℕ) (x : Record) → l ≡ wordsOf x → v ≡ pasted w place l 16 → v ≡ pasted w place (wordsOf x) 16
+pasted-words w v l place x e h = rw e at h
+
 -- ---- comparing
 and-all : (a b c d : Bool) → a && b && c && d ≡ a && (b && (c && (d && true)))
 and-all true true true true = refl
@@ -162,6 +172,9 @@ count-of w j = refl
 pub handled-of : (w : List ℕ) (j : ℕ) → recordAt w j .handled ≡ fieldAt w j 5
 unfolding recordAt ofWords blockAt fieldAt tabulate
 handled-of w j = refl
+
+pub same-loaded : (x y : Record) (w : List ℕ) (j : ℕ) (b : Bool) → y ≡ recordAt w j → b ≡ sameRecord x y → b ≡ sameRecord x (recordAt w j)
+same-loaded x y w j b e h = rw e at h
 
 pub other-edges : (x : Record) (w : List ℕ) (j : ℕ) (r : ℕ) → r ≡ fieldAt w j 3 → (r ≡ x .edges → ⊥) → false ≡ sameRecord x (recordAt w j)
 unfolding sameRecord

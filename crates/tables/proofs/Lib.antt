@@ -5,3 +5,4 @@ pub mod Covering
 pub mod Planning
 pub mod CheckRun
 pub mod CheckEnds
+pub mod LineAnswers

@@ -1,9 +1,8 @@
 -- By the mark, and by what waits.
 use Prim.Native.Nat.{_-_}
-use mathlib.Core.Path.{_≡_, sym, ap}
+use mathlib.Core.Path.{sym, ap}
 use borrow.Author.Needs.{needs}
 use Rattle.agenda.specs.declared.Found.{Found}
-use Rattle.agenda.specs.declared.Found.the-variants.{Nowhere}
 use Rattle.chart.specs.Calls.{whenWaiting}
 use Rattle.chart.proofs.CallSteps.{outcome-small, outcome-by}
 use Rattle.chart.proofs.outcome_of.Statement.{statement}
@@ -35,7 +34,7 @@ enum-told-2 c = search needs
 returns-2 : tie.Need-returns-2
 returns-2 c =
     let s = c .before .before .before .before .before .before .before .before .args in
-    outcome-by (s .chart .now) _ (c .before .before .before .before .before .before .mark-of .ensures) (c .before .before .before .before .item-count .result) (c .before .before .before .handled-steps .result) (c .before .before .least .result) _ (c .before .before .before .before .before .if1 .left) (c .before .before .before .before .item-count .ensures) (c .before .before .before .handled-steps .ensures) (c .before .before .least .ensures) (ap (whenWaiting (c .before .before .before .handled-steps .result)) (let p : Nowhere ≡ c .before .before .least .result = cc in p))
+    outcome-by (s .chart .now) _ (c .before .before .before .before .before .before .mark-of .ensures) (c .before .before .before .before .item-count .result) (c .before .before .before .handled-steps .result) (c .before .before .least .result) _ (c .before .before .before .before .before .if1 .left) (c .before .before .before .before .item-count .ensures) (c .before .before .before .handled-steps .ensures) (c .before .before .least .ensures) (sym (ap (λ (f : Found). whenWaiting (c .before .before .before .handled-steps .result) f) (c .enum-told .given .1)))
 
 returns-3 : tie.Need-returns-3
 returns-3 c =

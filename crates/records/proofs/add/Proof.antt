@@ -42,7 +42,7 @@ returns-2 c =
     let s = c .before .before .before .before .before .before .before .before .before .before .before .before .before .before .before .args in
     let item-count = c .before .before .before .before .before .before .before .before .before .item-count in
     let find = c .before .before .before .before .before .before .before .find in
-    add-found (s .chart .now) (s .x) _ (item-count .result) (find .result) (c .before .before .before .before .before .before .before .before .before .before .before .before .mark-of .ensures) (c .before .before .before .before .before .before .before .before .before .before .before .if1 .left) (item-count .ensures) (find .ensures) _ _ (cc) (c .before .before .improve .ensures)
+    add-found (s .chart .now) (s .x) _ (item-count .result) (find .result) (c .before .before .before .before .before .before .before .before .before .before .before .before .mark-of .ensures) (c .before .before .before .before .before .before .before .before .before .before .before .if1 .left) (item-count .ensures) (find .ensures) _ _ (c .before .before .before .before .before .j .given .1) (c .before .before .improve .ensures)
 
 same-length-3 : tie.Need-same-length-3
 same-length-3 c = search needs
@@ -52,7 +52,7 @@ returns-3 c =
     let s = c .before .before .before .before .before .before .before .before .before .before .before .before .before .before .args in
     let item-count = c .before .before .before .before .before .before .before .before .item-count in
     let find = c .before .before .before .before .before .before .find in
-    add-new (s .chart .now) (s .x) _ (item-count .result) (find .result) (c .before .before .before .before .before .before .before .before .before .before .before .mark-of .ensures) (c .before .before .before .before .before .before .before .before .before .before .if1 .left) (item-count .ensures) (find .ensures) _ (cc) (c .before .before .append .ensures)
+    add-new (s .chart .now) (s .x) _ (item-count .result) (find .result) (c .before .before .before .before .before .before .before .before .before .before .before .mark-of .ensures) (c .before .before .before .before .before .before .before .before .before .before .if1 .left) (item-count .ensures) (find .ensures) _ (c .before .before .before .before .enum-told .given .1) (c .before .before .append .ensures)
 
 pub add-spec : {M : Type 1} → statement M
 add-spec =

@@ -36,7 +36,7 @@ returns-3 : tie.Need-returns-3
 returns-3 c =
     let s = c .before .before .before .before .before .args in
     let field = c .before .before .before .field in
-    lesser-first (s .chart .now) (s .i) (field .result) (field .ensures) (s .best) (c .before .before .if1 .left) (cc)
+    lesser-first (s .chart .now) (s .i) (field .result) (field .ensures) (s .best) (c .before .before .if1 .left) (c .enum-told .given .1)
 
 returns-4 : tie.Need-returns-4
 returns-4 c =

@@ -1,7 +1,7 @@
 -- The edges by themselves, then the whole record.
 use Prim.Native.Nat.{_-_}
 use borrow.Author.Needs.{needs}
-use Rattle.records.proofs.WordLaws.{other-edges}
+use Rattle.records.proofs.WordLaws.{other-edges, same-loaded}
 use Rattle.records.proofs.same_at.Statement.{statement}
 use Rattle.records.proofs.same_at.Tie as tie
 
@@ -21,7 +21,7 @@ same-requires : tie.Need-same-requires
 same-requires c κs = search needs
 
 returns-2 : tie.Need-returns-2
-returns-2 c = cc
+returns-2 c = same-loaded _ _ _ _ _ (c .before .load .ensures) (c .same .ensures)
 
 pub same-at-spec : {M : Type 1} → statement M
 same-at-spec = tie.close (tie.spec field-requires returns load-requires same-requires returns-2)

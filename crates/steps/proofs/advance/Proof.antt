@@ -36,7 +36,7 @@ returns c =
     let s = c .before .before .before .before .before .before .before .before .before .args in
     let G = grammarOf (s .g .now) in
     let H = graphOf (s .g .now) (s .h .now) in
-    ran-idle G H (s .chart .now) (c .before .before .before .before .before .loop .i) (c .before .before .before .before .before .loop .chart) (c .before .before .before .before .before .loop .inv .2) (s .steps) (c .before .before .next .result) (c .before .before .before .before .before .loop .inv .0) (cc) (c .before .before .next .ensures)
+    ran-idle G H (s .chart .now) (c .before .before .before .before .before .loop .i) (c .before .before .before .before .before .loop .chart) (c .before .before .before .before .before .loop .inv .2) (s .steps) (c .before .before .next .result) (c .before .before .before .before .before .loop .inv .0) (c .enum-told .given .1) (c .before .before .next .ensures)
 
 enum-known-j : tie.Need-enum-known-j Inv-loop μ-loop
 enum-known-j c = search needs
@@ -46,7 +46,7 @@ step-requires c κs =
     let s = c .before .before .before .before .before .before .before .before .before .before .before .args in
     let G = grammarOf (s .g .now) in
     let H = graphOf (s .g .now) (s .h .now) in
-    (c .before .before .before .before .before .before .before .before .before .before .before .pre .0, ran-fits G H (s .chart .now) (c .before .before .before .before .before .before .before .loop .i) (c .before .before .before .before .before .before .before .loop .chart) (c .before .before .before .before .before .before .before .loop .inv .2), next-known (c .before .before .before .before .before .before .before .loop .chart) _ (c .before .before .before .before .next .result) (cc) (c .before .before .before .before .next .ensures))
+    (c .before .before .before .before .before .before .before .before .before .before .before .pre .0, ran-fits G H (s .chart .now) (c .before .before .before .before .before .before .before .loop .i) (c .before .before .before .before .before .before .before .loop .chart) (c .before .before .before .before .before .before .before .loop .inv .2), next-known (c .before .before .before .before .before .before .before .loop .chart) _ (c .before .before .before .before .next .result) (c .before .before .j .given .1) (c .before .before .before .before .next .ensures))
 
 add-i : tie.Need-add-i Inv-loop μ-loop
 add-i c = search needs
@@ -59,7 +59,7 @@ loop-again c =
     let s = c .before .before .before .before .before .before .before .before .before .before .before .before .before .before .args in
     let G = grammarOf (s .g .now) in
     let H = graphOf (s .g .now) (s .h .now) in
-    (omega (arith, c .before .before .before .before .before .before .before .before .before .loop-test .taken), c .before .before .step .kept .1 .1 .0 ∙ c .before .before .before .before .before .before .before .before .before .before .loop .inv .1, ran-step G H (s .chart .now) (c .before .before .before .before .before .before .before .before .before .before .loop .i) (c .before .before .before .before .before .before .before .before .before .before .loop .chart) (c .before .before .before .before .before .before .before .before .before .before .loop .inv .2) _ _ (c .before .before .before .before .before .before .before .next .result) _ (omega arith) (cc) (c .before .before .before .before .before .before .before .next .ensures) (c .before .before .step .ensures))
+    (omega (arith, c .before .before .before .before .before .before .before .before .before .loop-test .taken), c .before .before .step .kept .1 .1 .0 ∙ c .before .before .before .before .before .before .before .before .before .before .loop .inv .1, ran-step G H (s .chart .now) (c .before .before .before .before .before .before .before .before .before .before .loop .i) (c .before .before .before .before .before .before .before .before .before .before .loop .chart) (c .before .before .before .before .before .before .before .before .before .before .loop .inv .2) _ _ (c .before .before .before .before .before .before .before .next .result) _ (omega arith) (c .before .before .before .before .before .j .given .1) (c .before .before .before .before .before .before .before .next .ensures) (c .before .before .step .ensures))
 
 same-length-2 : tie.Need-same-length-2 Inv-loop μ-loop
 same-length-2 c = c .before .loop .inv .1

@@ -1,8 +1,9 @@
--- The answer at each question of a `G` line (proofs/Asking).
+-- The answer at each question of a `G` line (proofs/LineAnswers).
+use mathlib.Core.Path.{refl, sym}
+use mathlib.Core.Bool.{true}
 use borrow.Author.Needs.{needs}
-use borrow.Author.Tests.{eq-eqb, ne-eqb}
-use Rattle.questions.specs.Questions.{judgeGrammar}
-use Rattle.tables.proofs.Asking.{ask-not}
+use Rattle.tables.proofs.Asking.{three, four, past-five}
+use Rattle.tables.proofs.LineAnswers.{grammar-asked}
 use Rattle.tables.proofs.judging.judge_grammar.Statement.{statement}
 use Rattle.tables.proofs.judging.judge_grammar.Tie as tie
 
@@ -19,16 +20,13 @@ field-requires-3 : tie.Need-field-requires-3
 field-requires-3 c κs = search needs
 
 returns : tie.Need-returns
-unfolding judgeGrammar
-returns c = simp (← c .before .before .before .before .field-count .ensures .0, ← c .before .before .before .field .ensures, ← c .before .before .field2 .ensures, ← c .before .field3 .ensures, ask-not, c .if1 .taken)
+returns c = three (grammar-asked _ _ _ _ _ (c .before .before .before .before .field-count .ensures .0) (c .before .before .before .field .ensures) (c .before .before .field2 .ensures) (c .before .field3 .ensures)) (c .if1 .taken)
 
 returns-2 : tie.Need-returns-2
-unfolding judgeGrammar
-returns-2 c = simp (← c .before .before .before .before .before .field-count .ensures .0, ← c .before .before .before .before .field .ensures, ← c .before .before .before .field2 .ensures, ← c .before .before .field3 .ensures, ask-not, c .before .if1 .left, ne-eqb _ _ (c .if2 .taken))
+returns-2 c = four (grammar-asked _ _ _ _ _ (c .before .before .before .before .before .field-count .ensures .0) (c .before .before .before .before .field .ensures) (c .before .before .before .field2 .ensures) (c .before .before .field3 .ensures)) (c .before .if1 .left) 0 refl (c .if2 .taken)
 
 returns-3 : tie.Need-returns-3
-unfolding judgeGrammar
-returns-3 c = simp (← c .before .before .before .before .before .field-count .ensures .0, ← c .before .before .before .before .field .ensures, ← c .before .before .before .field2 .ensures, ← c .before .before .field3 .ensures, ask-not, c .before .if1 .left, eq-eqb _ _ (c .if2 .left))
+returns-3 c = sym (past-five (grammar-asked _ _ _ _ _ (c .before .before .before .before .before .field-count .ensures .0) (c .before .before .before .before .field .ensures) (c .before .before .before .field2 .ensures) (c .before .before .field3 .ensures)) (c .before .if1 .left) 0 refl (c .if2 .left) true refl refl)
 
 pub judge-grammar-spec : {M : Type 1} → statement M
 judge-grammar-spec =

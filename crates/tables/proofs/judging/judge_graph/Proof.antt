@@ -1,8 +1,8 @@
--- The answer at each question of an `H` line (proofs/Asking).
+-- The answer at each question of an `H` line (proofs/LineAnswers).
+use mathlib.Core.Path.{sym}
 use borrow.Author.Needs.{needs}
-use borrow.Author.Tests.{eq-eqb, ne-eqb}
-use Rattle.questions.specs.Questions.{judgeGraph}
-use Rattle.tables.proofs.Asking.{ask-not}
+use Rattle.tables.proofs.Asking.{three, four, five, past-five}
+use Rattle.tables.proofs.LineAnswers.{graph-asked, ranked}
 use Rattle.tables.proofs.judging.judge_graph.Statement.{statement}
 use Rattle.tables.proofs.judging.judge_graph.Tie as tie
 
@@ -16,8 +16,7 @@ field-requires-2 : tie.Need-field-requires-2
 field-requires-2 c κs = search needs
 
 returns : tie.Need-returns
-unfolding judgeGraph
-returns c = simp (← c .before .before .before .field-count .ensures .0, ← c .before .before .field .ensures, ← c .before .field2 .ensures, ask-not, c .if1 .taken)
+returns c = three (graph-asked _ _ _ _ _ (c .before .before .before .field-count .ensures .0) (c .before .before .field .ensures) (c .before .field2 .ensures)) (c .if1 .taken)
 
 start-symbol-requires : tie.Need-start-symbol-requires
 start-symbol-requires c κs = search needs
@@ -29,19 +28,16 @@ add-due : tie.Need-add-due
 add-due c = search needs
 
 returns-2 : tie.Need-returns-2
-unfolding judgeGraph
-returns-2 c = simp (← c .before .before .before .before .before .before .field-count .ensures .0, ← c .before .before .before .before .before .field .ensures, ← c .before .before .before .before .field2 .ensures, ← c .before .before .start-symbol .ensures, ← c .before .rank-at .ensures .0, ask-not, c .before .before .before .if1 .left, ne-eqb _ _ (c .if2 .taken))
+returns-2 c = four (graph-asked _ _ _ _ _ (c .before .before .before .before .before .before .field-count .ensures .0) (c .before .before .before .before .before .field .ensures) (c .before .before .before .before .field2 .ensures)) (c .before .before .before .if1 .left) _ (ranked _ _ _ (c .before .before .start-symbol .ensures) (c .before .rank-at .ensures .0)) (c .if2 .taken)
 
 listed-requires : tie.Need-listed-requires
 listed-requires c κs = search needs
 
 returns-3 : tie.Need-returns-3
-unfolding judgeGraph
-returns-3 c = simp (← c .before .before .before .before .before .before .before .before .field-count .ensures .0, ← c .before .before .before .before .before .before .before .field .ensures, ← c .before .before .before .before .before .before .field2 .ensures, ← c .before .before .before .before .start-symbol .ensures, ← c .before .before .before .rank-at .ensures .0, ask-not, c .before .before .before .before .before .if1 .left, eq-eqb _ _ (c .before .before .if2 .left), ← c .before .listed .ensures, c .if3 .taken)
+returns-3 c = five (graph-asked _ _ _ _ _ (c .before .before .before .before .before .before .before .before .field-count .ensures .0) (c .before .before .before .before .before .before .before .field .ensures) (c .before .before .before .before .before .before .field2 .ensures)) (c .before .before .before .before .before .if1 .left) _ (ranked _ _ _ (c .before .before .before .before .start-symbol .ensures) (c .before .before .before .rank-at .ensures .0)) (c .before .before .if2 .left) _ (c .before .listed .ensures) (c .if3 .taken)
 
 returns-4 : tie.Need-returns-4
-unfolding judgeGraph
-returns-4 c = simp (← c .before .before .before .before .before .before .before .before .field-count .ensures .0, ← c .before .before .before .before .before .before .before .field .ensures, ← c .before .before .before .before .before .before .field2 .ensures, ← c .before .before .before .before .start-symbol .ensures, ← c .before .before .before .rank-at .ensures .0, ask-not, c .before .before .before .before .before .if1 .left, eq-eqb _ _ (c .before .before .if2 .left), ← c .before .listed .ensures, c .if3 .left)
+returns-4 c = sym (past-five (graph-asked _ _ _ _ _ (c .before .before .before .before .before .before .before .before .field-count .ensures .0) (c .before .before .before .before .before .before .before .field .ensures) (c .before .before .before .before .before .before .field2 .ensures)) (c .before .before .before .before .before .if1 .left) _ (ranked _ _ _ (c .before .before .before .before .start-symbol .ensures) (c .before .before .before .rank-at .ensures .0)) (c .before .before .if2 .left) _ (c .before .listed .ensures) (c .if3 .left))
 
 pub judge-graph-spec : {M : Type 1} → statement M
 judge-graph-spec =

@@ -1,10 +1,9 @@
--- The answer at question 3 of a `P` line, and by its kind at the others (proofs/Asking).
-use Prim.Native.Nat.{_<_}
+-- The answer at question 3 of a `P` line, and by its kind at the others (proofs/LineAnswers).
 use native.Mathlib.Omega.{arith}
-use borrow.Author.Tests.{le-leb, lt-leb}
+use mathlib.Core.Path.{refl}
 use borrow.Author.Needs.{needs}
-use Rattle.questions.specs.Questions.{judgePlan}
 use Rattle.tables.proofs.Planning.{leaf-ok}
+use Rattle.tables.proofs.LineAnswers.{plan-short, plan-known, plan-other}
 use Rattle.tables.proofs.judging.judge_plan.Statement.{statement}
 use Rattle.tables.proofs.judging.judge_plan.Tie as tie
 
@@ -21,8 +20,7 @@ field-requires-3 : tie.Need-field-requires-3
 field-requires-3 c κs = search needs
 
 returns : tie.Need-returns
-unfolding judgePlan
-returns c = simp (← c .before .before .before .before .field-count .ensures .0, ← c .before .before .before .field .ensures, ← c .before .before .field2 .ensures, ← c .before .field3 .ensures, lt-leb _ _ (c .if1 .taken))
+returns c = plan-short _ _ _ _ _ _ _ _ (c .before .before .before .before .field-count .ensures .0) (c .before .before .before .field .ensures) (c .before .before .field2 .ensures) (c .before .field3 .ensures) (c .if1 .taken)
 
 judge-known-plan-requires : tie.Need-judge-known-plan-requires
 judge-known-plan-requires c κs = search needs
@@ -40,20 +38,16 @@ judge-known-plan-requires-3 : tie.Need-judge-known-plan-requires-3
 judge-known-plan-requires-3 c κs = search needs
 
 returns-2 : tie.Need-returns-2
-unfolding judgePlan
-returns-2 c = simp (← c .before .before .before .before .before .before .field-count .ensures .0, ← c .before .before .before .before .before .field .ensures, ← c .before .before .before .before .field2 .ensures, ← c .before .before .before .field3 .ensures, le-leb _ _ (c .before .before .if1 .left), c .before .match .keys1, ← leaf-ok (c .before .before .before .before .before .before .before .before .args .g .now) (c .before .before .before .before .before .before .before .before .args .r) (c .before .before .before .before .before .before .before .before .args .q) (c .before .before .before .before .field2 .result) (c .before .before .before .field3 .result)) (c .judge-known-plan .ensures)
+returns-2 c = plan-known _ _ _ _ _ _ _ _ (c .before .before .before .before .before .before .field-count .ensures .0) (c .before .before .before .before .before .field .ensures) (c .before .before .before .before .field2 .ensures) (c .before .before .before .field3 .ensures) (c .before .before .if1 .left) 0 (c .before .match .keys1) refl _ (leaf-ok _ _ _ _ _) _ (c .judge-known-plan .ensures)
 
 returns-3 : tie.Need-returns-3
-unfolding judgePlan
-returns-3 c = simp (← c .before .before .before .before .before .before .before .field-count .ensures .0, ← c .before .before .before .before .before .before .field .ensures, ← c .before .before .before .before .before .field2 .ensures, ← c .before .before .before .before .field3 .ensures, le-leb _ _ (c .before .before .before .if1 .left), c .before .before .match .keys2, ← c .before .introduce-so-far .ensures) (c .judge-known-plan2 .ensures)
+returns-3 c = plan-known _ _ _ _ _ _ _ _ (c .before .before .before .before .before .before .before .field-count .ensures .0) (c .before .before .before .before .before .before .field .ensures) (c .before .before .before .before .before .field2 .ensures) (c .before .before .before .before .field3 .ensures) (c .before .before .before .if1 .left) 1 (c .before .before .match .keys2) refl _ (c .before .introduce-so-far .ensures) _ (c .judge-known-plan2 .ensures)
 
 returns-4 : tie.Need-returns-4
-unfolding judgePlan
-returns-4 c = simp (← c .before .before .before .before .before .before .before .field-count .ensures .0, ← c .before .before .before .before .before .before .field .ensures, ← c .before .before .before .before .before .field2 .ensures, ← c .before .before .before .before .field3 .ensures, le-leb _ _ (c .before .before .before .if1 .left), c .before .before .match .keys3, ← c .before .join-so-far .ensures) (c .judge-known-plan3 .ensures)
+returns-4 c = plan-known _ _ _ _ _ _ _ _ (c .before .before .before .before .before .before .before .field-count .ensures .0) (c .before .before .before .before .before .before .field .ensures) (c .before .before .before .before .before .field2 .ensures) (c .before .before .before .before .field3 .ensures) (c .before .before .before .if1 .left) 2 (c .before .before .match .keys3) refl _ (c .before .join-so-far .ensures) _ (c .judge-known-plan3 .ensures)
 
 returns-5 : tie.Need-returns-5
-unfolding judgePlan
-returns-5 c = let other : 2 < c .before .before .before .before .field .result = omega (arith, c .match .rest .0 .0 .1, c .match .rest .0 .1, c .match .rest .1) in simp (← c .before .before .before .before .before .field-count .ensures .0, ← c .before .before .before .before .field .ensures, ← c .before .before .before .field2 .ensures, ← c .before .before .field3 .ensures, le-leb _ _ (c .before .if1 .left), lt-leb _ _ other)
+returns-5 c = plan-other _ _ _ _ _ _ _ _ (c .before .before .before .before .before .field-count .ensures .0) (c .before .before .before .before .field .ensures) (c .before .before .before .field2 .ensures) (c .before .before .field3 .ensures) (c .before .if1 .left) (omega (arith, c .match .rest .0 .0 .1, c .match .rest .0 .1, c .match .rest .1))
 
 pub judge-plan-spec : {M : Type 1} → statement M
 judge-plan-spec =

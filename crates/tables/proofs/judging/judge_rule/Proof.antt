@@ -1,8 +1,8 @@
--- The answer at each question of an `R` line (proofs/Asking).
+-- The answer at each question of an `R` line (proofs/LineAnswers).
+use mathlib.Core.Path.{sym}
 use borrow.Author.Needs.{needs}
-use borrow.Author.Tests.{eq-eqb, ne-eqb, not-true, not-false}
-use Rattle.questions.specs.Questions.{judgeRule}
-use Rattle.tables.proofs.Asking.{ask-not}
+use Rattle.tables.proofs.Asking.{three, four, five, past-five}
+use Rattle.tables.proofs.LineAnswers.{rule-asked}
 use Rattle.tables.proofs.judging.judge_rule.Statement.{statement}
 use Rattle.tables.proofs.judging.judge_rule.Tie as tie
 
@@ -31,8 +31,7 @@ kind-of-requires : tie.Need-kind-of-requires
 kind-of-requires c κs = search needs
 
 returns : tie.Need-returns
-unfolding judgeRule
-returns c = simp (← c .before .before .before .before .before .before .before .before .field-count .ensures .0, ← c .before .before .before .before .before .before .before .field .ensures, ← c .before .before .before .before .before .before .field2 .ensures, ← c .before .before .before .before .before .field3 .ensures, ← c .before .before .before .before .field4 .ensures, ← c .before .before .before .field5 .ensures, ← c .before .before .symbol-count .ensures, ← c .before .kind-of .ensures, ask-not, c .if1 .taken)
+returns c = three (rule-asked _ _ _ _ _ _ _ _ _ _ _ (c .before .before .before .before .before .before .before .before .field-count .ensures .0) (c .before .before .before .before .before .before .before .field .ensures) (c .before .before .before .before .before .before .field2 .ensures) (c .before .before .before .before .before .field3 .ensures) (c .before .before .before .before .field4 .ensures) (c .before .before .before .field5 .ensures) (c .before .before .symbol-count .ensures) (c .before .kind-of .ensures)) (c .if1 .taken)
 
 rank-at-requires : tie.Need-rank-at-requires
 rank-at-requires c κs = search needs
@@ -41,19 +40,16 @@ add-due : tie.Need-add-due
 add-due c = search needs
 
 returns-2 : tie.Need-returns-2
-unfolding judgeRule
-returns-2 c = simp (← c .before .before .before .before .before .before .before .before .before .before .field-count .ensures .0, ← c .before .before .before .before .before .before .before .before .before .field .ensures, ← c .before .before .before .before .before .before .before .before .field2 .ensures, ← c .before .before .before .before .before .before .before .field3 .ensures, ← c .before .before .before .before .before .before .field4 .ensures, ← c .before .before .before .before .before .field5 .ensures, ← c .before .before .before .before .symbol-count .ensures, ← c .before .before .before .kind-of .ensures, ← c .before .rank-at .ensures .0, ask-not, c .before .before .if1 .left, ne-eqb _ _ (c .if2 .taken))
+returns-2 c = four (rule-asked _ _ _ _ _ _ _ _ _ _ _ (c .before .before .before .before .before .before .before .before .before .before .field-count .ensures .0) (c .before .before .before .before .before .before .before .before .before .field .ensures) (c .before .before .before .before .before .before .before .before .field2 .ensures) (c .before .before .before .before .before .before .before .field3 .ensures) (c .before .before .before .before .before .before .field4 .ensures) (c .before .before .before .before .before .field5 .ensures) (c .before .before .before .before .symbol-count .ensures) (c .before .before .before .kind-of .ensures)) (c .before .before .if1 .left) _ (c .before .rank-at .ensures .0) (c .if2 .taken)
 
 listed-requires : tie.Need-listed-requires
 listed-requires c κs = search needs
 
 returns-3 : tie.Need-returns-3
-unfolding judgeRule
-returns-3 c = rw (← c .before .before .before .before .before .before .before .before .before .before .before .before .field-count .ensures .0, ← c .before .before .before .before .before .before .before .before .before .before .before .field .ensures, ← c .before .before .before .before .before .before .before .before .before .before .field2 .ensures, ← c .before .before .before .before .before .before .before .before .before .field3 .ensures, ← c .before .before .before .before .before .before .before .before .field4 .ensures, ← c .before .before .before .before .before .before .before .field5 .ensures, ← c .before .before .before .before .before .before .symbol-count .ensures, ← c .before .before .before .before .before .kind-of .ensures, ← c .before .before .before .rank-at .ensures .0, ← c .before .listed .ensures) (simp (ask-not, c .before .before .before .before .if1 .left, eq-eqb _ _ (c .before .before .if2 .left), not-true (c .before .listed .result) (c .if3 .taken)))
+returns-3 c = five (rule-asked _ _ _ _ _ _ _ _ _ _ _ (c .before .before .before .before .before .before .before .before .before .before .before .before .field-count .ensures .0) (c .before .before .before .before .before .before .before .before .before .before .before .field .ensures) (c .before .before .before .before .before .before .before .before .before .before .field2 .ensures) (c .before .before .before .before .before .before .before .before .before .field3 .ensures) (c .before .before .before .before .before .before .before .before .field4 .ensures) (c .before .before .before .before .before .before .before .field5 .ensures) (c .before .before .before .before .before .before .symbol-count .ensures) (c .before .before .before .before .before .kind-of .ensures)) (c .before .before .before .before .if1 .left) _ (c .before .before .before .rank-at .ensures .0) (c .before .before .if2 .left) _ (c .before .listed .ensures) (c .if3 .taken)
 
 returns-4 : tie.Need-returns-4
-unfolding judgeRule
-returns-4 c = rw (← c .before .before .before .before .before .before .before .before .before .before .before .before .field-count .ensures .0, ← c .before .before .before .before .before .before .before .before .before .before .before .field .ensures, ← c .before .before .before .before .before .before .before .before .before .before .field2 .ensures, ← c .before .before .before .before .before .before .before .before .before .field3 .ensures, ← c .before .before .before .before .before .before .before .before .field4 .ensures, ← c .before .before .before .before .before .before .before .field5 .ensures, ← c .before .before .before .before .before .before .symbol-count .ensures, ← c .before .before .before .before .before .kind-of .ensures, ← c .before .before .before .rank-at .ensures .0, ← c .before .listed .ensures) (simp (ask-not, c .before .before .before .before .if1 .left, eq-eqb _ _ (c .before .before .if2 .left), not-false (c .before .listed .result) (c .if3 .left)))
+returns-4 c = sym (past-five (rule-asked _ _ _ _ _ _ _ _ _ _ _ (c .before .before .before .before .before .before .before .before .before .before .before .before .field-count .ensures .0) (c .before .before .before .before .before .before .before .before .before .before .before .field .ensures) (c .before .before .before .before .before .before .before .before .before .before .field2 .ensures) (c .before .before .before .before .before .before .before .before .before .field3 .ensures) (c .before .before .before .before .before .before .before .before .field4 .ensures) (c .before .before .before .before .before .before .before .field5 .ensures) (c .before .before .before .before .before .before .symbol-count .ensures) (c .before .before .before .before .before .kind-of .ensures)) (c .before .before .before .before .if1 .left) _ (c .before .before .before .rank-at .ensures .0) (c .before .before .if2 .left) _ (c .before .listed .ensures) (c .if3 .left))
 
 pub judge-rule-spec : {M : Type 1} → statement M
 judge-rule-spec =

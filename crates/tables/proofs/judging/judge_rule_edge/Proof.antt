@@ -1,8 +1,8 @@
--- The answer at each question of a rule's `E` line (proofs/Asking).
+-- The answer at each question of a rule's `E` line (proofs/LineAnswers).
+use mathlib.Core.Path.{refl}
 use borrow.Author.Needs.{needs}
-use borrow.Author.Tests.{eq-eqb, ne-eqb, lt-ltb, le-ltb, not-true, not-false}
-use Rattle.questions.specs.Questions.{judgeRuleEdge}
-use Rattle.tables.proofs.Asking.{ask-not}
+use Rattle.tables.proofs.Asking.{three, four, five, more-edges, six, all-covered}
+use Rattle.tables.proofs.LineAnswers.{rule-edge-asked, listed-in}
 use Rattle.tables.proofs.judging.judge_rule_edge.Statement.{statement}
 use Rattle.tables.proofs.judging.judge_rule_edge.Tie as tie
 
@@ -19,15 +19,13 @@ rank-at-requires : tie.Need-rank-at-requires
 rank-at-requires c κs = search needs
 
 returns : tie.Need-returns
-unfolding judgeRuleEdge
-returns c = simp (← c .before .before .before .before .field-count .ensures .0, ← c .before .before .before .field .ensures, ← c .before .before .symbol-count .ensures, ← c .before .rank-at .ensures .0, ask-not, c .if1 .taken)
+returns c = three ((rule-edge-asked _ _ _ _ _ _ _ _ (c .before .before .before .before .field-count .ensures .0) (c .before .before .before .field .ensures) (c .before .before .symbol-count .ensures) (c .before .rank-at .ensures .0)) .asked) (c .if1 .taken)
 
 add-due : tie.Need-add-due
 add-due c = search needs
 
 returns-2 : tie.Need-returns-2
-unfolding judgeRuleEdge
-returns-2 c = simp (← c .before .before .before .before .before .field-count .ensures .0, ← c .before .before .before .before .field .ensures, ← c .before .before .before .symbol-count .ensures, ← c .before .before .rank-at .ensures .0, ask-not, c .before .if1 .left, ne-eqb _ _ (c .if2 .taken))
+returns-2 c = four ((rule-edge-asked _ _ _ _ _ _ _ _ (c .before .before .before .before .before .field-count .ensures .0) (c .before .before .before .before .field .ensures) (c .before .before .before .symbol-count .ensures) (c .before .before .rank-at .ensures .0)) .asked) (c .before .if1 .left) _ refl (c .if2 .taken)
 
 rule-nodes-requires : tie.Need-rule-nodes-requires
 rule-nodes-requires c κs = search needs
@@ -36,8 +34,7 @@ listed-requires : tie.Need-listed-requires
 listed-requires c κs = search needs
 
 returns-3 : tie.Need-returns-3
-unfolding judgeRuleEdge
-returns-3 c = rw (← c .before .before .before .before .before .before .before .before .field-count .ensures .0, ← c .before .before .before .before .before .before .before .field .ensures, ← c .before .before .before .before .before .before .symbol-count .ensures, ← c .before .before .before .before .before .rank-at .ensures .0, ← c .before .before .rule-nodes .ensures, ← c .before .listed .ensures) (simp (ask-not, c .before .before .before .before .if1 .left, eq-eqb _ _ (c .before .before .before .if2 .left), not-true (c .before .listed .result) (c .if3 .taken)))
+returns-3 c = five ((rule-edge-asked _ _ _ _ _ _ _ _ (c .before .before .before .before .before .before .before .before .field-count .ensures .0) (c .before .before .before .before .before .before .before .field .ensures) (c .before .before .before .before .before .before .symbol-count .ensures) (c .before .before .before .before .before .rank-at .ensures .0)) .asked) (c .before .before .before .before .if1 .left) _ refl (c .before .before .before .if2 .left) _ (listed-in _ _ _ _ (c .before .before .rule-nodes .ensures) (c .before .listed .ensures)) (c .if3 .taken)
 
 add-if4 : tie.Need-add-if4
 add-if4 c = search needs
@@ -46,19 +43,16 @@ rule-edges-requires : tie.Need-rule-edges-requires
 rule-edges-requires c κs = search needs
 
 returns-4 : tie.Need-returns-4
-unfolding judgeRuleEdge
-returns-4 c = rw (← c .before .before .before .before .before .before .before .before .before .before .field-count .ensures .0, ← c .before .before .before .before .before .before .before .before .before .field .ensures, ← c .before .before .before .before .before .before .before .before .symbol-count .ensures, ← c .before .before .before .before .before .before .before .rank-at .ensures .0, ← c .before .rule-edges .ensures, ← c .before .before .before .before .rule-nodes .ensures, ← c .before .before .before .listed .ensures) (simp (ask-not, c .before .before .before .before .before .before .if1 .left, eq-eqb _ _ (c .before .before .before .before .before .if2 .left), not-false (c .before .before .before .listed .result) (c .before .before .if3 .left), lt-ltb _ _ (c .if4 .taken)))
+returns-4 c = more-edges (rule-edge-asked _ _ _ _ _ _ _ _ (c .before .before .before .before .before .before .before .before .before .before .field-count .ensures .0) (c .before .before .before .before .before .before .before .before .before .field .ensures) (c .before .before .before .before .before .before .before .before .symbol-count .ensures) (c .before .before .before .before .before .before .before .rank-at .ensures .0)) (c .before .before .before .before .before .before .if1 .left) _ refl (c .before .before .before .before .before .if2 .left) _ (listed-in _ _ _ _ (c .before .before .before .before .rule-nodes .ensures) (c .before .before .before .listed .ensures)) (c .before .before .if3 .left) _ (c .before .rule-edges .ensures) (c .if4 .taken)
 
 rule-covered-requires : tie.Need-rule-covered-requires
 rule-covered-requires c κs = search needs
 
 returns-5 : tie.Need-returns-5
-unfolding judgeRuleEdge
-returns-5 c = rw (← c .before .before .before .before .before .before .before .before .before .before .before .before .field-count .ensures .0, ← c .before .before .before .before .before .before .before .before .before .before .before .field .ensures, ← c .before .before .before .before .before .before .before .before .before .before .symbol-count .ensures, ← c .before .before .before .before .before .before .before .before .before .rank-at .ensures .0, ← c .before .rule-covered .ensures, ← c .before .before .before .rule-edges .ensures, ← c .before .before .before .before .before .before .rule-nodes .ensures, ← c .before .before .before .before .before .listed .ensures) (simp (ask-not, c .before .before .before .before .before .before .before .before .if1 .left, eq-eqb _ _ (c .before .before .before .before .before .before .before .if2 .left), not-false (c .before .before .before .before .before .listed .result) (c .before .before .before .before .if3 .left), le-ltb _ _ (c .before .before .if4 .left), not-true (c .before .rule-covered .result) (c .if5 .taken)))
+returns-5 c = six (rule-edge-asked _ _ _ _ _ _ _ _ (c .before .before .before .before .before .before .before .before .before .before .before .before .field-count .ensures .0) (c .before .before .before .before .before .before .before .before .before .before .before .field .ensures) (c .before .before .before .before .before .before .before .before .before .before .symbol-count .ensures) (c .before .before .before .before .before .before .before .before .before .rank-at .ensures .0)) (c .before .before .before .before .before .before .before .before .if1 .left) _ refl (c .before .before .before .before .before .before .before .if2 .left) _ (listed-in _ _ _ _ (c .before .before .before .before .before .before .rule-nodes .ensures) (c .before .before .before .before .before .listed .ensures)) (c .before .before .before .before .if3 .left) _ (c .before .before .before .rule-edges .ensures) (c .before .before .if4 .left) _ (c .before .rule-covered .ensures) (c .if5 .taken)
 
 returns-6 : tie.Need-returns-6
-unfolding judgeRuleEdge
-returns-6 c = rw (← c .before .before .before .before .before .before .before .before .before .before .before .before .field-count .ensures .0, ← c .before .before .before .before .before .before .before .before .before .before .before .field .ensures, ← c .before .before .before .before .before .before .before .before .before .before .symbol-count .ensures, ← c .before .before .before .before .before .before .before .before .before .rank-at .ensures .0, ← c .before .rule-covered .ensures, ← c .before .before .before .rule-edges .ensures, ← c .before .before .before .before .before .before .rule-nodes .ensures, ← c .before .before .before .before .before .listed .ensures) (simp (ask-not, c .before .before .before .before .before .before .before .before .if1 .left, eq-eqb _ _ (c .before .before .before .before .before .before .before .if2 .left), not-false (c .before .before .before .before .before .listed .result) (c .before .before .before .before .if3 .left), le-ltb _ _ (c .before .before .if4 .left), not-false (c .before .rule-covered .result) (c .if5 .left)))
+returns-6 c = all-covered (rule-edge-asked _ _ _ _ _ _ _ _ (c .before .before .before .before .before .before .before .before .before .before .before .before .field-count .ensures .0) (c .before .before .before .before .before .before .before .before .before .before .before .field .ensures) (c .before .before .before .before .before .before .before .before .before .before .symbol-count .ensures) (c .before .before .before .before .before .before .before .before .before .rank-at .ensures .0)) (c .before .before .before .before .before .before .before .before .if1 .left) _ refl (c .before .before .before .before .before .before .before .if2 .left) _ (listed-in _ _ _ _ (c .before .before .before .before .before .before .rule-nodes .ensures) (c .before .before .before .before .before .listed .ensures)) (c .before .before .before .before .if3 .left) _ (c .before .before .before .rule-edges .ensures) (c .before .before .if4 .left) _ (c .before .rule-covered .ensures) (c .if5 .left)
 
 pub judge-rule-edge-spec : {M : Type 1} → statement M
 judge-rule-edge-spec =

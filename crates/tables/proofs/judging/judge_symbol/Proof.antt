@@ -1,8 +1,9 @@
--- The answer at each question of an `S` line (proofs/Asking).
+-- The answer at each question of an `S` line (proofs/LineAnswers).
+use mathlib.Core.Path.{refl, sym}
+use mathlib.Core.Bool.{true}
 use borrow.Author.Needs.{needs}
-use borrow.Author.Tests.{eq-eqb, ne-eqb}
-use Rattle.questions.specs.Questions.{judgeSymbol}
-use Rattle.tables.proofs.Asking.{ask-not}
+use Rattle.tables.proofs.Asking.{three, four, past-five}
+use Rattle.tables.proofs.LineAnswers.{symbol-asked}
 use Rattle.tables.proofs.judging.judge_symbol.Statement.{statement}
 use Rattle.tables.proofs.judging.judge_symbol.Tie as tie
 
@@ -22,16 +23,13 @@ start-symbol-requires : tie.Need-start-symbol-requires
 start-symbol-requires c κs = search needs
 
 returns : tie.Need-returns
-unfolding judgeSymbol
-returns c = simp (← c .before .before .before .before .before .field-count .ensures .0, ← c .before .before .before .before .field .ensures, ← c .before .before .before .field2 .ensures, ← c .before .before .field3 .ensures, ← c .before .start-symbol .ensures, ask-not, c .if1 .taken)
+returns c = three (symbol-asked _ _ _ _ _ _ _ _ (c .before .before .before .before .before .field-count .ensures .0) (c .before .before .before .before .field .ensures) (c .before .before .before .field2 .ensures) (c .before .before .field3 .ensures) (c .before .start-symbol .ensures)) (c .if1 .taken)
 
 returns-2 : tie.Need-returns-2
-unfolding judgeSymbol
-returns-2 c = simp (← c .before .before .before .before .before .before .field-count .ensures .0, ← c .before .before .before .before .before .field .ensures, ← c .before .before .before .before .field2 .ensures, ← c .before .before .before .field3 .ensures, ← c .before .before .start-symbol .ensures, ask-not, c .before .if1 .left, ne-eqb _ _ (c .if2 .taken))
+returns-2 c = four (symbol-asked _ _ _ _ _ _ _ _ (c .before .before .before .before .before .before .field-count .ensures .0) (c .before .before .before .before .before .field .ensures) (c .before .before .before .before .field2 .ensures) (c .before .before .before .field3 .ensures) (c .before .before .start-symbol .ensures)) (c .before .if1 .left) 0 refl (c .if2 .taken)
 
 returns-3 : tie.Need-returns-3
-unfolding judgeSymbol
-returns-3 c = simp (← c .before .before .before .before .before .before .field-count .ensures .0, ← c .before .before .before .before .before .field .ensures, ← c .before .before .before .before .field2 .ensures, ← c .before .before .before .field3 .ensures, ← c .before .before .start-symbol .ensures, ask-not, c .before .if1 .left, eq-eqb _ _ (c .if2 .left))
+returns-3 c = sym (past-five (symbol-asked _ _ _ _ _ _ _ _ (c .before .before .before .before .before .before .field-count .ensures .0) (c .before .before .before .before .before .field .ensures) (c .before .before .before .before .field2 .ensures) (c .before .before .before .field3 .ensures) (c .before .before .start-symbol .ensures)) (c .before .if1 .left) 0 refl (c .if2 .left) true refl refl)
 
 pub judge-symbol-spec : {M : Type 1} → statement M
 judge-symbol-spec =
