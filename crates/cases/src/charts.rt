@@ -25,20 +25,20 @@ fn steps_of(a: Outcome) -> u64 {
     }
 }
 
-fn print_number(n: u64) {
+pub(crate) fn print_number(n: u64) {
     crate::blank();
     io::print_decimal(STDOUT_FILENO, n);
 }
 
 // ---- files
 
-fn load_grammar(path: &[u8], g: &mut [u64]) {
+pub(crate) fn load_grammar(path: &[u8], g: &mut [u64]) {
     let mut text = io::large_buffer();
     let n = crate::read_file(path, &mut text);
     readers::read_grammar(&text[..n], g);
 }
 
-fn load_graph(path: &[u8], g: &[u64], h: &mut [u64]) {
+pub(crate) fn load_graph(path: &[u8], g: &[u64], h: &mut [u64]) {
     let mut text = io::large_buffer();
     let n = crate::read_file(path, &mut text);
     readers::read_graph(g, &text[..n], h);
@@ -95,8 +95,8 @@ fn same(a: &[u64], b: &[u64]) -> bool {
     true
 }
 
-fn print_kept(a: &[u64], b: &[u64]) {
-    if same(a, b) {
+pub(crate) fn print_kept(kept: bool) {
+    if kept {
         io::write_all(STDOUT_FILENO, b" kept");
     } else {
         io::write_all(STDOUT_FILENO, b" changed");
@@ -112,12 +112,12 @@ fn no_steps(g: &[u64], h: &[u64]) {
     print_number(number_of(chart::start(g, h, &mut items)));
     crate::copy(&items, &mut before);
     run_more(g, h, &mut items, 0);
-    print_kept(&before, &items);
+    print_kept(same(&before, &items));
 }
 
 // ---- question 8: touched charts
 
-fn put(t: &mut [u64], at: usize, value: u64) {
+pub(crate) fn put(t: &mut [u64], at: usize, value: u64) {
     if at < t.len() {
         t[at] = value;
     }
@@ -134,7 +134,7 @@ fn touched_case(g: &[u64], h: &[u64], done: &[u64], at: usize, value: u64) {
     print_number(at as u64);
     print_number(value);
     run_more(g, h, &mut items, 0);
-    print_kept(&before, &items);
+    print_kept(same(&before, &items));
 }
 
 // In item 0, a leaf's: kind, rule, plan node, edges and a node.
@@ -155,10 +155,15 @@ fn touched_words(g: &[u64], h: &[u64], done: &[u64]) {
     touched_case(g, h, done, 1, 5);
 }
 
+// Start, and all the steps.
+pub(crate) fn finish(g: &[u64], h: &[u64], items: &mut [u64]) {
+    chart::start(g, h, items);
+    chart::run(g, h, items, all_steps());
+}
+
 fn touched_charts(g: &[u64], h: &[u64]) {
     let mut done = [0u64; 162];
-    chart::start(g, h, &mut done);
-    chart::run(g, h, &mut done, all_steps());
+    finish(g, h, &mut done);
     touched_items(g, h, &done);
     touched_words(g, h, &done);
 }

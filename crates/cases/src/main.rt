@@ -1,10 +1,11 @@
 // Reads the files that its arguments name, grammars (g..) and graphs (h..), and prints each one's refusal, or 0 and a checksum of its table; then tries
-// short and touched tables; then runs charts.
+// short and touched tables; then runs charts; then writes and replays derivations.
 ghost use Rattle.io.specs.Counts.{Counts};
 use libc::STDOUT_FILENO;
 use questions::Answer;
 
 mod charts;
+mod writings;
 
 // ---- lent tables
 
@@ -285,6 +286,7 @@ fn main() {
     let short = short_grammars(&mut g, &mut s);
     let graphs = graph_tables(&g, &mut s);
     charts::print_all(&mut g);
+    writings::print_all(&mut g);
     if files & short & graphs {
         io::write_all(STDOUT_FILENO, b"kept\n");
     } else {
