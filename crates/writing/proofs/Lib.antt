@@ -4,3 +4,4 @@ pub mod OwnCharts
 pub mod Demand
 pub mod Choices
 pub mod Derivations
+pub mod CountsUnread
