@@ -1,0 +1,4 @@
+-- The laws that the proofs cite, and the theorems of the two programs.
+pub mod FileLaws
+pub mod PrintLaws
+pub mod ProgramLaws
