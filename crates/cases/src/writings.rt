@@ -1,5 +1,5 @@
 // K1 to K6 and K10 through the compiled writer and replay; then touched charts, partners in a circle, shared partners, and derivations as deep as they can be.
-ghost use Prim.Native.Nat.{_≤_, _<_};
+ghost use Prim.Native.Nat.{_<_};
 use crate::charts::print_number;
 use crate::charts::put;
 use libc::STDOUT_FILENO;
@@ -262,36 +262,31 @@ fn set_record(
     }
 }
 
-// A leaf of rule 0 and one of rule r, then rule 0 on the graph's edge and its passive item, in a chart of n items.
-fn set_base(items: &mut [u64], r: u64, n: usize) {
-    put(items, 0, n as u64);
-    put(items, 1, 0);
+// A leaf of rule 0 and one of rule r, then rule 0 on the graph's edge and its passive item, in a chart of 4,096 items.
+fn set_base(items: &mut [u64], r: u64) {
+    put(items, 0, 4096);
     set_record(items, 0, 0, 0, 0, 0, 0);
     set_record(items, 1, 0, r, 0, 0, 0);
     set_record(items, 2, 0, 0, 1, 0, 0);
     set_record(items, 3, 1, 1, 0, 2, 0);
 }
 
-// n items: above the base, each passive item stands by rule 1 for the one below it.
-fn set_nested(items: &mut [u64], n: usize)
-    requires { ⌜ n ≤ 4096 ⌝ }
-{
-    set_base(items, 1, n);
+// Above the base each passive item stands by rule 1 for the one below it.
+fn set_nested(items: &mut [u64]) {
+    set_base(items, 1);
     let mut j = 4;
-    while j < n {
+    while j < 4096 {
         set_record(items, j, 0, 1, 1, 1, j - 1);
         set_record(items, j + 1, 1, 1, 0, j, 0);
         j += 2;
     }
 }
 
-// n items: above the base, each passive item has by rule 2 the one below it twice.
-fn set_doubled(items: &mut [u64], n: usize)
-    requires { ⌜ n ≤ 4096 ⌝ }
-{
-    set_base(items, 2, n);
+// Above the base each passive item has by rule 2 the one below it twice.
+fn set_doubled(items: &mut [u64]) {
+    set_base(items, 2);
     let mut j = 4;
-    while j < n {
+    while j < 4096 {
         set_record(items, j, 0, 2, 1, 1, j - 1);
         set_record(items, j + 1, 0, 2, 2, j, j - 1);
         set_record(items, j + 2, 1, 1, 0, j + 1, 0);
@@ -299,41 +294,29 @@ fn set_doubled(items: &mut [u64], n: usize)
     }
 }
 
-fn doubled_case(name: &[u8], g: &[u64], h: &[u64], items: &mut [u64], out: &mut [u8], n: usize)
-    requires { ⌜ n ≤ 4096 ⌝ }
-{
-    set_doubled(items, n);
-    write_case(name, g, h, items, out);
-}
-
-// The lowest renaming has the passive item at `from` under it; from 5 on that is above it.
-fn nested_case(
-    name: &[u8],
-    g: &[u64],
-    h: &[u64],
-    items: &mut [u64],
-    out: &mut [u8],
-    n: usize,
-    from: u64,
-)
-    requires { ⌜ n ≤ 4096 ⌝ }
-{
-    set_nested(items, n);
-    put(items, 81, from);
-    write_case(name, g, h, items, out);
-}
-
-fn made_charts(g: &[u64], h: &[u64]) {
+// All 4,096 items; then with the last passive item under the lowest renaming; then of six items, with the passive one above that renaming under it.
+fn nested_charts(g: &[u64], h: &[u64]) {
     let mut items = [0u64; 65538];
     let mut out = [0u8; 65536];
-    nested_case(b"nested-6", g, h, &mut items, &mut out, 6, 3);
-    nested_case(b"circle-6", g, h, &mut items, &mut out, 6, 5);
-    nested_case(b"circle-4096", g, h, &mut items, &mut out, 4096, 4095);
-    nested_case(b"nested-4096", g, h, &mut items, &mut out, 4096, 3);
-    doubled_case(b"doubled-7", g, h, &mut items, &mut out, 7);
-    doubled_case(b"doubled-37", g, h, &mut items, &mut out, 37);
-    doubled_case(b"doubled-40", g, h, &mut items, &mut out, 40);
-    doubled_case(b"doubled-4096", g, h, &mut items, &mut out, 4096);
+    set_nested(&mut items);
+    write_case(b"nested-4096", g, h, &items, &mut out);
+    put(&mut items, 81, 4095);
+    write_case(b"circle-4096", g, h, &items, &mut out);
+    put(&mut items, 81, 5);
+    put(&mut items, 0, 6);
+    write_case(b"circle-6", g, h, &items, &mut out);
+}
+
+// All 4,096 items, 1,364 levels; then 12 levels with 8,191 applications, and 11 with 4,095.
+fn doubled_charts(g: &[u64], h: &[u64]) {
+    let mut items = [0u64; 65538];
+    let mut out = [0u8; 65536];
+    set_doubled(&mut items);
+    write_case(b"doubled-4096", g, h, &items, &mut out);
+    put(&mut items, 0, 40);
+    write_case(b"doubled-40", g, h, &items, &mut out);
+    put(&mut items, 0, 37);
+    write_case(b"doubled-37", g, h, &items, &mut out);
 }
 
 // ---- a derivation of n applications, each but the last one a renaming of the next
@@ -368,7 +351,6 @@ fn nested_file(g: &[u64], h: &[u64], n: u64) {
 
 fn with_grammar_a(g: &[u64]) {
     graph_case(b"write-k1", b"h-k1.txt", g);
-    graph_case(b"write-k2", b"h-k2.txt", g);
     graph_case(b"write-k3", b"h-k3.txt", g);
     graph_case(b"write-k4", b"h-k4.txt", g);
     graph_case(b"write-k6", b"h-k6.txt", g);
@@ -379,7 +361,8 @@ fn with_grammar_a(g: &[u64]) {
 fn with_nested(g: &[u64]) {
     let mut h = [0u64; 585];
     crate::charts::load_graph(b"h-k1.txt", g, &mut h);
-    made_charts(g, &h);
+    nested_charts(g, &h);
+    doubled_charts(g, &h);
     nested_file(g, &h, 4096);
     nested_file(g, &h, 4097);
 }
@@ -387,16 +370,15 @@ fn with_nested(g: &[u64]) {
 // With `g-two.txt` K6's graph has two derivations.
 fn with_others(g: &mut [u64]) {
     crate::charts::load_grammar(b"g-b.txt", g);
-    graph_case(b"write-k5", b"h-k5.txt", g);
-    touched_charts(b"touched-k5", b"h-k5.txt", g);
+    touched_charts(b"write-k5", b"h-k5.txt", g);
     crate::charts::load_grammar(b"g-two.txt", g);
-    touched_charts(b"touched-two", b"h-k6.txt", g);
+    touched_charts(b"write-two", b"h-k6.txt", g);
 }
 
 pub(crate) fn print_all(g: &mut [u64]) {
     crate::charts::load_grammar(b"g-a.txt", g);
     with_grammar_a(g);
-    touched_charts(b"touched-k2", b"h-k2.txt", g);
+    touched_charts(b"write-k2", b"h-k2.txt", g);
     with_others(g);
     crate::charts::load_grammar(b"g-nested.txt", g);
     with_nested(g);

@@ -7,10 +7,10 @@ use Rattle.cases.proofs.writings.set_nested.Statement.{statement}
 use Rattle.cases.proofs.writings.set_nested.Tie as tie
 
 abbrev Inv-loop : tie.InvT-loop
-Inv-loop items₀ n j₀ items j = (length items ≡ length items₀) × (4 ≤ j)
+Inv-loop items₀ j₀ items j = (length items ≡ length items₀) × (4 ≤ j)
 
 abbrev μ-loop : tie.MeasureT-loop
-μ-loop items₀ n j₀ items j = n - j
+μ-loop items₀ j₀ items j = 4096 - j
 
 set-base-requires : tie.Need-set-base-requires Inv-loop μ-loop
 set-base-requires c κs = search needs
