@@ -16,7 +16,7 @@ use replayer::Verdict;
 
 // ---- 01's number of each answer, 0 where it is no refusal
 
-fn reading_number(a: Answer) -> u64
+pub fn reading_number(a: Answer) -> u64
     ensures { λ r. ⌜ r ≡ readingNumber a ⌝ }
 {
     match a {
@@ -25,7 +25,7 @@ fn reading_number(a: Answer) -> u64
     }
 }
 
-fn chart_number(o: Outcome) -> u64
+pub fn chart_number(o: Outcome) -> u64
     ensures { λ r. ⌜ r ≡ chartNumber o ⌝ }
 {
     match o {
@@ -49,7 +49,7 @@ fn writing_number(a: writing::Answer) -> u64
     }
 }
 
-fn verdict_number(v: Verdict) -> u64
+pub fn verdict_number(v: Verdict) -> u64
     ensures { λ r. ⌜ r ≡ verdictNumber v ⌝ }
 {
     match v {
