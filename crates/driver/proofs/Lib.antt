@@ -2,3 +2,7 @@
 pub mod FileLaws
 pub mod PrintLaws
 pub mod ProgramLaws
+pub mod Printed
+pub mod AcceptedFiles
+pub mod Deriving
+pub mod Programs

@@ -1,3 +1,4 @@
--- The root of the definitions: the files, and what the programs print.
+-- The root of the definitions: the files, what the programs print, and what holds of it.
 pub mod Files
 pub mod Driver
+pub mod Facts

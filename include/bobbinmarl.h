@@ -1,0 +1,80 @@
+/* Bobbinmarl for C: readers of grammars and graphs, a chart run in steps, a writer of derivations, and a replay.
+ *
+ * '01' is the paper that fixes files, questions and answers. Every function is proved to meet a contract that fixes its answer and every byte
+ * and word that it is lent (crates/capi/src/lib.rt). It is told no more than its parameters, keeps nothing between calls, and needs no heap.
+ * Lend it 8 MiB of stack: the replay of 4,096 applications, each under the one before, takes about 4.
+ *
+ * The caller sees to it that
+ * - a pointer and the length behind it (in elements, not bytes) name memory that may be read, and written where it is not const, for the whole
+ *   call, and nothing else changes meanwhile; where the length is 0, any pointer will do;
+ * - memory that is written overlaps nothing else of the same call;
+ * - `done` and `told` point to a word.
+ *
+ * An answer is a number of 01's questions, the first one that is answered no:
+ *    0  done
+ *    1  a line is not of the shape
+ *    2  a line of this letter is not due here, or is missing, or is one too many
+ *    3  a fixed field is missing or out of its range
+ *    4  a line lists more or fewer nodes than are due, or has fields to spare
+ *    5  a listed node is out of range, or listed twice
+ *    6  a node is on no edge
+ *    7  the plan breaks its rules, or is not whole
+ *    8  the chart does not hold 1 to 4,096 items, no accepted texts could have filled the tables, or the chart holds what does not exist
+ *    9  the chart does not hold the closure
+ *   10  items wait: run on
+ *   11  the goal is not in the closure: the grammar does not derive the graph
+ *   12  the output does not hold the derivation
+ *   13  the file is no derivation of this graph
+ * 1 to 8 and 11 to 13 change no lent byte or word. 9 and 10 leave the handled items in the chart.
+ */
+#ifndef BOBBINMARL_H
+#define BOBBINMARL_H
+
+#include <stddef.h>
+#include <stdint.h>
+
+#ifdef __cplusplus
+extern "C" {
+#endif
+
+/* How many words to lend: the tables of the largest grammar (14,985) and of the largest graph (585), and a chart that holds so many items
+ * (2 words, and 16 for each item; 0 where items is 0 or above 4,096). Longer tables and charts are taken too: words behind the table stay, and a chart
+ * holds as many items as fit. */
+size_t bobbinmarl_grammar_words(void);
+size_t bobbinmarl_graph_words(void);
+size_t bobbinmarl_chart_words(size_t items);
+
+/* Reads a grammar text into the table. 0: the table is filled. 1 to 7: the text is refused, line by line. 8: the text passes, and the table is too
+ * short. The text may have any length; the limit of 32,768 bytes is the programs' own. */
+uint64_t bobbinmarl_read_grammar(const uint8_t *text, size_t text_len, uint64_t *table, size_t table_len);
+
+/* Reads a graph text with a grammar's table into a table. 8 ahead of the text: no reading filled the grammar table. Else as above. */
+uint64_t bobbinmarl_read_graph(const uint64_t *grammar, size_t grammar_len, const uint8_t *text, size_t text_len, uint64_t *table,
+                               size_t table_len);
+
+/* Starts a chart, whatever it holds: makes the leaf items present. 0: started. 8: the tables or the chart's size are refused. 9: the leaf items
+ * alone are more than it holds. */
+uint64_t bobbinmarl_start(const uint64_t *grammar, size_t grammar_len, const uint64_t *graph, size_t graph_len, uint64_t *chart,
+                          size_t chart_len);
+
+/* Does the steps given, or as many as are left, on a chart that was started. 0: all items are handled; *done is the number of steps since the start,
+ * which is that of the closure's items. 10: items wait after *done steps; the next run goes on. 9: one item more was found than the chart holds; every
+ * later run says so, and *done stays. 8: the tables or the chart are refused, and *done stays. */
+uint64_t bobbinmarl_run(const uint64_t *grammar, size_t grammar_len, const uint64_t *graph, size_t graph_len, uint64_t *chart, size_t chart_len,
+                        uint64_t steps, uint64_t *done);
+
+/* Writes the derivation of the graph that a chart holds, as the text of a derivation file; on a chart untouched since its start, one with the
+ * fewest applications. 0: *told bytes are written to the front of out, and the rest of it stays. 10: items wait after *told steps. 8 (also where a
+ * touched chart leads to no derivation), 9, 11 and 12 as above, and *told stays. */
+uint64_t bobbinmarl_write(const uint64_t *grammar, size_t grammar_len, const uint64_t *graph, size_t graph_len, const uint64_t *chart,
+                          size_t chart_len, uint8_t *out, size_t out_len, uint64_t *told);
+
+/* Replays the text of a derivation file. 0: it is a derivation of the graph. 13: it is none. 8: the tables are refused. */
+uint64_t bobbinmarl_replay(const uint64_t *grammar, size_t grammar_len, const uint64_t *graph, size_t graph_len, const uint8_t *derivation,
+                           size_t derivation_len);
+
+#ifdef __cplusplus
+}
+#endif
+
+#endif
