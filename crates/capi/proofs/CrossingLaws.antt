@@ -18,7 +18,7 @@ use Rattle.writing.specs.Demand.{WriteChoices}
 use Rattle.writing.specs.declared.Answer.{Answer}
 use Rattle.replayer.specs.Verdicts.{numberOf as verdictNumber, replayOf, Exact}
 use Rattle.replayer.specs.declared.Verdict.{Verdict}
-use Rattle.driver.specs.Files.{FileGives, numbered, readingNumber}
+use Rattle.programs.specs.Files.{FileGives, numbered, readingNumber}
 use Rattle.capi.specs.Crossing.{stepsTold, bytesTold, Started, Ran, Written, Replayed}
 
 abbrev words : ℕ → ℕ

@@ -11,7 +11,7 @@ ghost use Rattle.chart.specs.Facts.{StartChoices, RunChoices};
 ghost use Rattle.writing.specs.Writing.{numberOf as writingNumber, writeOf};
 ghost use Rattle.writing.specs.Demand.{WriteChoices};
 ghost use Rattle.replayer.specs.Verdicts.{numberOf as verdictNumber, replayOf, Exact};
-ghost use Rattle.driver.specs.Files.{FileGives, numbered};
+ghost use Rattle.programs.specs.Files.{FileGives, numbered};
 ghost use Rattle.capi.specs.Crossing.{stepsTold, bytesTold, Started, Ran, Written, Replayed};
 use chart::Outcome;
 use writing::Answer;

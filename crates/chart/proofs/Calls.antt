@@ -22,9 +22,9 @@ use Rattle.records.proofs.Rewritten.{Grown}
 use Rattle.records.proofs.Grown.{holds-own}
 use Rattle.steps.proofs.RunLaws.{run-grown, start-holds}
 use Rattle.validity.specs.Checking.{holds, knownChart}
-use Rattle.chart.specs.Calls.{numberOf, Called, fit, fitChart, answerOf, startAnswer, refused, startOf, runOf}
+use Rattle.chart.specs.Calls.{numberOf, Called, fit, fitChart, answerOf, startAnswer, refused, startOf, runOf, standingOf}
 use Rattle.chart.specs.declared.Outcome.{Outcome}
-use Rattle.chart.specs.declared.Outcome.the-variants.{TooSmall}
+use Rattle.chart.specs.declared.Outcome.the-variants.{Unfit, TooSmall}
 use Rattle.validity.proofs.KnownCharts.{holds-header, holds-most, known-fits, known-records, written-known}
 use Rattle.validity.proofs.Own.{run-known}
 use Rattle.chart.proofs.Answers.{answer-marked, answer-fit, start-answer-fit}
@@ -221,3 +221,12 @@ module _ (g h w : List ℕ) (j k : ℕ) where
       go : (b : Bool) → fitChart g h w ≡ b → runOf g h (runOf g h w j .words) k ≡ runOf g h w (j + k)
       go true e = split-is e
       go false e = split-not e
+
+-- how a chart stands is what a run of no steps answers, whatever the words
+pub standing-run : (g h w : List ℕ) → standingOf g h w ≡ runOf g h w 0 .answer
+unfolding standingOf runOf runChart
+standing-run g h w = go (fitChart g h w)
+  where
+    go : (b : Bool) → cond b (answerOf (chartOf w)) Unfit ≡ cond b (record { answer = answerOf (chartOf w); words = written w (chartOf w) }) (refused w) .answer
+    go true = refl
+    go false = refl

@@ -5,30 +5,27 @@ use mathlib.Core.List.{List}
 use Prim.Native.Nat.{ℕ, _≤_, _<_}
 use lib.ListN.{length}
 use lib.Dec.{eqb}
-use borrow.Author.Tests.{le-leb, lt-leb, eq-eqb, ne-eqb}
+use borrow.Author.Tests.{eq-eqb, ne-eqb}
 use Rattle.questions.specs.Reading.{readGrammar}
 use Rattle.questions.specs.Checking.{readGraph}
 use Rattle.questions.specs.declared.Answer.{Answer}
 use Rattle.readers.specs.Readers.{Gives}
-use Rattle.driver.specs.Files.{readingNumber, fileBytes, numbered, grammarFile, graphFile, filesOf, FileGives, FilesGive}
+use Rattle.programs.specs.Files.{readingNumber, fileBytes, numbered, grammarFile, graphFile, filesOf, FileGives, FilesGive}
+use Rattle.programs.proofs.Limits.{grammar-oversize, grammar-within, graph-oversize, graph-within}
 
 pub grammar-over : (text former : List ℕ) → fileBytes < length text → FileGives (grammarFile text former) 1 former
-unfolding grammarFile
-grammar-over text former h = rw (lt-leb (length text) fileBytes h) (record { answers = refl; leaves = refl })
+grammar-over text former h = rw (grammar-oversize text former h) (record { answers = refl; leaves = refl })
 
 pub grammar-read : (text former table : List ℕ) (a : Answer) (k : ℕ) → length text ≤ fileBytes → Gives (readGrammar text former) a table → k ≡ readingNumber a
     → FileGives (grammarFile text former) k table
-unfolding grammarFile
-grammar-read text former table a k h gives e = rw (le-leb (length text) fileBytes h) (record { answers = e ∙ ap readingNumber (gives .answers); leaves = gives .leaves })
+grammar-read text former table a k h gives e = rw (grammar-within text former h) (record { answers = e ∙ ap readingNumber (gives .answers); leaves = gives .leaves })
 
 pub graph-over : (g text former : List ℕ) → fileBytes < length text → FileGives (graphFile g text former) 1 former
-unfolding graphFile
-graph-over g text former h = rw (lt-leb (length text) fileBytes h) (record { answers = refl; leaves = refl })
+graph-over g text former h = rw (graph-oversize g text former h) (record { answers = refl; leaves = refl })
 
 pub graph-read : (g text former table : List ℕ) (a : Answer) (k : ℕ) → length text ≤ fileBytes → Gives (readGraph g text former) a table → k ≡ readingNumber a
     → FileGives (graphFile g text former) k table
-unfolding graphFile
-graph-read g text former table a k h gives e = rw (le-leb (length text) fileBytes h) (record { answers = e ∙ ap readingNumber (gives .answers); leaves = gives .leaves })
+graph-read g text former table a k h gives e = rw (graph-within g text former h) (record { answers = e ∙ ap readingNumber (gives .answers); leaves = gives .leaves })
 
 module _ (grammar graph formerGrammar formerGraph g : List ℕ) (k : ℕ) (first : FileGives (grammarFile grammar formerGrammar) k g) where
   pub files-refused : (k ≡ 0 → ⊥) → FilesGive (filesOf grammar graph formerGrammar formerGraph) k g formerGraph

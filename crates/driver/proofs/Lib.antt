@@ -1,8 +1,4 @@
--- The laws that the proofs cite, and the theorems of the two programs.
+-- The laws that the proofs cite.
 pub mod FileLaws
 pub mod PrintLaws
 pub mod ProgramLaws
-pub mod Printed
-pub mod AcceptedFiles
-pub mod Deriving
-pub mod Programs

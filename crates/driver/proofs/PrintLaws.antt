@@ -7,7 +7,7 @@ use lib.ListN.{length, take, drop, length-append, length-drop, drop-of-length-le
 use lib.Seq.{sets, sets-eq, take-append-seam, drop-append-add, drop-drop, length-take-le}
 use Rattle.format.specs.Writing.{lineText, lineBody, fieldsText}
 use Rattle.format.specs.Fields.{fieldText}
-use Rattle.driver.specs.Driver.{refusalLine, stepsLine, Prints}
+use Rattle.programs.specs.Programs.{refusalLine, stepsLine, Prints}
 
 number-length : (letter n : ℕ) → length (lineText letter (n ∷ [])) ≡ 6
 unfolding lineText lineBody fieldsText fieldText

@@ -7,7 +7,7 @@ use native.Mathlib.Omega.{arith}
 use lib.ListN.{length, take, replicate, length-replicate}
 use lib.Seq.{length-take-le}
 use lib.Dec.{eqb}
-use borrow.Author.Tests.{le-leb, lt-leb, eq-eqb, ne-eqb}
+use borrow.Author.Tests.{eq-eqb, ne-eqb}
 use denote.Enum.Declared.{tagOf}
 use types.Run.{OneOf, miss}
 use Rattle.questions.specs.Layout.{grammarWords, graphWords}
@@ -22,8 +22,9 @@ use Rattle.writing.proofs.Answer.{the-type as answer-type}
 use Rattle.writing.specs.declared.Answer.the-variants.{Unfit, TooSmall, Unfinished, Underivable, NoRoom, Written}
 use Rattle.replayer.specs.Verdicts.{numberOf as verdictNumber, replayOf}
 use Rattle.replayer.specs.declared.Verdict.{Verdict}
-use Rattle.driver.specs.Files.{fileBytes, filesOf, FilesGive}
-use Rattle.driver.specs.Driver.{Derived, refused, derived, derivedText, refusalLine, stepsLine, items, chartWords, outputBytes, whenWritten, writeChart, whenRan, deriveTables, deriveFiles, replayTables, replayFiles, Prints}
+use Rattle.programs.specs.Files.{fileBytes, filesOf, FilesGive}
+use Rattle.programs.specs.Programs.{Derived, refused, derived, derivedText, refusalLine, stepsLine, items, chartWords, outputBytes, whenWritten, writeChart, whenRan, deriveTables, deriveFiles, replayTables, replayFiles, Prints}
+use Rattle.programs.proofs.Limits.{derivation-oversize, derivation-within}
 
 abbrev cleared : ℕ → List ℕ
 cleared n = replicate n 0
@@ -113,9 +114,7 @@ module _ (grammar graph g h : List ℕ) (k : ℕ) (files : FilesGive (filesOf gr
   replays-read text j z p = rw (← files .answers, eq-eqb k 0 z, ← files .leavesGrammar, ← files .leavesGraph) p
 
 pub replays-over : (g h text : List ℕ) → fileBytes < length text → 1 ≡ replayTables g h text
-unfolding replayTables
-replays-over g h text l = rw (lt-leb (length text) fileBytes l)
+replays-over g h text l = sym (derivation-oversize g h text l)
 
 pub replays-text : (g h text : List ℕ) (v : Verdict) (k : ℕ) → length text ≤ fileBytes → v ≡ replayOf g h text → k ≡ verdictNumber v → k ≡ replayTables g h text
-unfolding replayTables
-replays-text g h text v k l e q = rw (le-leb (length text) fileBytes l) (q ∙ ap verdictNumber e)
+replays-text g h text v k l e q = q ∙ ap verdictNumber e ∙ sym (derivation-within g h text l)

@@ -3,7 +3,7 @@ use native.Mathlib.Omega.{arith}
 use mathlib.Core.Path.{_≡_, refl, sym, ap, _∙_}
 use borrow.Author.Needs.{needs}
 use Rattle.driver.proofs.PrintLaws.{refusal-line}
-use Rattle.driver.specs.Driver.{refusalLine}
+use Rattle.programs.specs.Programs.{refusalLine}
 use Rattle.driver.proofs.replay.Statement.{statement}
 use Rattle.driver.proofs.replay.Tie as tie
 

@@ -1,0 +1,91 @@
+//! K1 to K9 and further graphs through start and run: each line has the numbers that they answer, and the steps done; then touched charts.
+
+use crate::{kept, Data};
+use bobbinmarl::calls::{self, Outcome};
+
+fn number(outcome: Outcome) -> u64 {
+    match outcome {
+        Outcome::Unfit => 8,
+        Outcome::TooSmall => 9,
+        Outcome::Unfinished(_) => 10,
+        Outcome::Done(_) => 0,
+    }
+}
+
+fn steps(outcome: Outcome) -> u64 {
+    match outcome {
+        Outcome::Unfinished(steps) | Outcome::Done(steps) => steps,
+        Outcome::Unfit | Outcome::TooSmall => 0,
+    }
+}
+
+/// A chart of so many words that holds something else.
+fn lent(words: usize) -> Vec<u64> {
+    vec![7; words]
+}
+
+/// Starts and runs in pieces of these steps, on one line.
+fn run(name: &str, grammar: &[u64], graph: &[u64], chart: &mut [u64], pieces: &[u64]) {
+    print!("{name} {}", number(calls::start(grammar, graph, chart)));
+    for &piece in pieces {
+        let outcome = calls::run(grammar, graph, chart, piece);
+        print!(" {} {}", number(outcome), steps(outcome));
+    }
+    println!();
+}
+
+/// The chart of ten items after all steps.
+pub fn finished(grammar: &[u64], graph: &[u64]) -> Vec<u64> {
+    let mut chart = lent(162);
+    calls::start(grammar, graph, &mut chart);
+    calls::run(grammar, graph, &mut chart, u64::MAX);
+    chart
+}
+
+/// K9: no steps on a fresh chart.
+fn no_steps(grammar: &[u64], graph: &[u64]) {
+    let mut chart = lent(162);
+    let started = number(calls::start(grammar, graph, &mut chart));
+    let before = chart.clone();
+    let outcome = calls::run(grammar, graph, &mut chart, 0);
+    println!("k9 {started} {} {} {}", number(outcome), steps(outcome), kept(chart == before));
+}
+
+/// K2's finished chart with another word at a place: no steps. In item 0, a leaf's: kind, rule, plan node, edges and a node; the first partner of
+/// item 2, the number of items; then what is not asked: count and handled word of item 0, and the mark.
+fn touched(grammar: &[u64], graph: &[u64]) {
+    let places = [(2, 2), (3, 2), (4, 3), (5, 4), (8, 3), (48, 10), (0, 11), (6, 99), (7, 0), (1, 5)];
+    for (at, value) in places {
+        let mut chart = finished(grammar, graph);
+        chart[at] = value;
+        let before = chart.clone();
+        let outcome = calls::run(grammar, graph, &mut chart, 0);
+        println!("touched-chart {at} {value} {} {} {}", number(outcome), steps(outcome), kept(chart == before));
+    }
+}
+
+fn with_k2(grammar: &[u64], graph: &[u64]) {
+    run("k7", grammar, graph, &mut lent(146), &[u64::MAX]);
+    run("k7", grammar, graph, &mut lent(162), &[u64::MAX]);
+    run("k8", grammar, graph, &mut lent(162), &[9, 1]);
+    no_steps(grammar, graph);
+    touched(grammar, graph);
+    run("size-0", grammar, graph, &mut lent(17), &[0]);
+    run("size-1", grammar, graph, &mut lent(18), &[0]);
+}
+
+pub fn print_all(data: &Data) {
+    let mut chart = lent(calls::chart_words(2048).expect("a chart of 2,048 items"));
+    let mut whole = |name: &str, grammar: &str, graph: &str| {
+        let grammar = data.grammar(grammar);
+        run(name, &grammar, &data.graph(&grammar, graph), &mut chart, &[u64::MAX]);
+    };
+    for name in ["k1", "k2", "k3", "k4", "k6", "path"] {
+        whole(name, "g-a.txt", &format!("h-{name}.txt"));
+    }
+    whole("k5", "g-b.txt", "h-k5.txt");
+    whole("ends", "g-ends.txt", "h-k5.txt");
+    whole("join", "g-join.txt", "h-k2.txt");
+    let grammar = data.grammar("g-a.txt");
+    with_k2(&grammar, &data.graph(&grammar, "h-k2.txt"));
+}

@@ -1,0 +1,222 @@
+//! K1 to K6 and K10 through the writer and the replay; then touched charts, partners in a circle, shared partners, and derivations as deep as
+//! they can be.
+
+use crate::{charts::finished, kept, Data};
+use bobbinmarl::calls::{self, Answer, Verdict};
+
+fn number(answer: Answer) -> u64 {
+    match answer {
+        Answer::Unfit => 8,
+        Answer::TooSmall => 9,
+        Answer::Unfinished(_) => 10,
+        Answer::Underivable => 11,
+        Answer::NoRoom => 12,
+        Answer::Written(_) => 0,
+    }
+}
+
+fn replay_number(grammar: &[u64], graph: &[u64], text: &[u8]) -> u64 {
+    match calls::replay(grammar, graph, text) {
+        Verdict::Unfit => 8,
+        Verdict::NoDerivation => 13,
+        Verdict::Passed => 0,
+    }
+}
+
+/// What a writing came to: its number, the text, and whether all other bytes of the output stayed as they were.
+struct Trial {
+    number: u64,
+    text: Vec<u8>,
+    kept: bool,
+}
+
+/// What byte i of a lent output holds before a writing: no byte of a text.
+fn pattern(i: usize) -> u8 {
+    (128 + i % 100) as u8
+}
+
+fn write(grammar: &[u64], graph: &[u64], chart: &[u64], room: usize) -> Trial {
+    let mut out: Vec<u8> = (0..room).map(pattern).collect();
+    let answer = calls::write(grammar, graph, chart, &mut out);
+    let bytes = if let Answer::Written(bytes) = answer { bytes } else { 0 };
+    let kept = (bytes..room).all(|i| out[i] == pattern(i));
+    out.truncate(bytes);
+    Trial { number: number(answer), text: out, kept }
+}
+
+/// The number; where a text is written its length, what the replay says, and a short text itself.
+fn case(name: &str, grammar: &[u64], graph: &[u64], chart: &[u64], room: usize) -> Vec<u8> {
+    let trial = write(grammar, graph, chart, room);
+    print!("{name} {}", trial.number);
+    if trial.number == 0 {
+        print!(" {} {}", trial.text.len(), replay_number(grammar, graph, &trial.text));
+    }
+    println!(" {}", kept(trial.kept));
+    if trial.text.len() <= 64 {
+        print!("{}", String::from_utf8_lossy(&trial.text));
+    }
+    trial.text
+}
+
+// ------------------------------------------------------------------------------------------------------- touched charts
+
+/// How often a writing said 8, 9, 10, 11, 12 and wrote; then the texts that differ from the one of the untouched chart, those that the replay
+/// refuses, and how often something else changed.
+#[derive(Default)]
+struct Tally([u64; 9]);
+
+impl Tally {
+    fn add(&mut self, grammar: &[u64], graph: &[u64], chart: &[u64], text: &[u8]) {
+        let trial = write(grammar, graph, chart, 64);
+        let at = [8, 9, 10, 11, 12, 0].iter().position(|&n| n == trial.number).expect("a number of the writer's");
+        self.0[at] += 1;
+        self.0[8] += u64::from(!trial.kept);
+        if trial.number == 0 {
+            self.0[6] += u64::from(trial.text != text);
+            self.0[7] += u64::from(replay_number(grammar, graph, &trial.text) != 0);
+        }
+    }
+
+    fn print(&self, name: &str, value: u64) {
+        let counts: Vec<String> = self.0.iter().map(u64::to_string).collect();
+        println!("{name} {value} {}", counts.join(" "));
+    }
+}
+
+/// Each word of the chart in turn.
+fn touch_words(grammar: &[u64], graph: &[u64], done: &[u64], text: &[u8], change: impl Fn(u64) -> u64) -> Tally {
+    let mut tally = Tally::default();
+    for at in 0..done.len() {
+        let mut chart = done.to_vec();
+        chart[at] = change(chart[at]);
+        tally.add(grammar, graph, &chart, text);
+    }
+    tally
+}
+
+/// The first partner of one record and the second one of another, each a number below ten: the digits of i.
+fn touch_pairs(grammar: &[u64], graph: &[u64], done: &[u64], text: &[u8]) -> Tally {
+    let mut tally = Tally::default();
+    for i in 0..10_000 {
+        let mut chart = done.to_vec();
+        chart[16 + i % 10 * 16] = (i / 10 % 10) as u64;
+        chart[17 + i / 100 % 10 * 16] = (i / 1000) as u64;
+        tally.add(grammar, graph, &chart, text);
+    }
+    tally
+}
+
+fn touched_charts(name: &str, grammar: &[u64], graph: &[u64]) {
+    let done = finished(grammar, graph);
+    let text = case(name, grammar, graph, &done, 64);
+    for value in [0, 1, 2, 5, 9, 10, 64, u64::MAX] {
+        touch_words(grammar, graph, &done, &text, |_| value).print("set", value);
+    }
+    touch_words(grammar, graph, &done, &text, |word| word % 1_000_000 + 1).print("add", 1);
+    touch_pairs(grammar, graph, &done, &text).print("pairs", 10_000);
+}
+
+// ------------------------------------------------------------------------------ charts made by hand, for a graph of one edge
+
+/// A chart's words: the number of items, the mark, and sixteen words for each item.
+struct Chart(Vec<u64>);
+
+impl Chart {
+    /// A leaf of rule 0 and one of rule `rule`, then rule 0 on the graph's edge and its passive item, in a chart of 4,096 items.
+    fn new(rule: u64) -> Chart {
+        let mut chart = Chart(vec![0; 65538]);
+        chart.0[0] = 4096;
+        chart.set(0, [0, 0, 0], 0, 0);
+        chart.set(1, [0, rule, 0], 0, 0);
+        chart.set(2, [0, 0, 1], 0, 0);
+        chart.set(3, [1, 1, 0], 2, 0);
+        chart
+    }
+
+    /// A handled record: kind, rule or symbol, plan node, and its partners; its edges and nodes are the graph's.
+    fn set(&mut self, j: usize, [kind, of, plan]: [u64; 3], first: usize, second: usize) {
+        // The last places are outside the chart: a level that is not whole.
+        if j < 4096 {
+            let words = [kind, of, plan, 1, 1, 1, 0, 1, 64, 64, 64, 64, 64, 64, first as u64, second as u64];
+            self.0[2 + 16 * j..18 + 16 * j].copy_from_slice(&words);
+        }
+    }
+
+    /// Each passive item stands by rule 1 for the one below it.
+    fn nested() -> Chart {
+        let mut chart = Chart::new(1);
+        for j in (4..4096).step_by(2) {
+            chart.set(j, [0, 1, 1], 1, j - 1);
+            chart.set(j + 1, [1, 1, 0], j, 0);
+        }
+        chart
+    }
+
+    /// Each passive item has by rule 2 the one below it twice.
+    fn doubled() -> Chart {
+        let mut chart = Chart::new(2);
+        for j in (4..4096).step_by(3) {
+            chart.set(j, [0, 2, 1], 1, j - 1);
+            chart.set(j + 1, [0, 2, 2], j, j - 1);
+            chart.set(j + 2, [1, 1, 0], j + 1, 0);
+        }
+        chart
+    }
+}
+
+const ROOM: usize = 65_536;
+
+/// All 4,096 items; then with the last passive item under the lowest renaming; then of six items, with the passive one above that renaming under it.
+fn nested_charts(grammar: &[u64], graph: &[u64]) {
+    let mut chart = Chart::nested().0;
+    case("nested-4096", grammar, graph, &chart, ROOM);
+    chart[81] = 4095;
+    case("circle-4096", grammar, graph, &chart, ROOM);
+    chart[81] = 5;
+    chart[0] = 6;
+    case("circle-6", grammar, graph, &chart, ROOM);
+}
+
+/// All 4,096 items, 1,364 levels; then 12 levels with 8,191 applications, and 11 with 4,095.
+fn doubled_charts(grammar: &[u64], graph: &[u64]) {
+    let mut chart = Chart::doubled().0;
+    case("doubled-4096", grammar, graph, &chart, ROOM);
+    chart[0] = 40;
+    case("doubled-40", grammar, graph, &chart, ROOM);
+    chart[0] = 37;
+    case("doubled-37", grammar, graph, &chart, ROOM);
+}
+
+/// A derivation of n applications, each but the last one a renaming of the next.
+fn nested_file(grammar: &[u64], graph: &[u64], n: usize) {
+    let mut text = format!("D{n:4}\n");
+    for i in 0..n {
+        let (rule, part) = if i + 1 < n { (1, i + 1) } else { (0, 0) };
+        text += &format!("A{i:4}{rule:4}{:4}{:4}{part:4}\n", 0, 1);
+    }
+    println!("nested-file {n} {}", replay_number(grammar, graph, text.as_bytes()));
+}
+
+pub fn print_all(data: &Data) {
+    let a = data.grammar("g-a.txt");
+    for name in ["k1", "k3", "k4", "k6"] {
+        let graph = data.graph(&a, &format!("h-{name}.txt"));
+        case(&format!("write-{name}"), &a, &graph, &finished(&a, &graph), 64);
+    }
+    let k2 = data.graph(&a, "h-k2.txt");
+    case("k10-58", &a, &k2, &finished(&a, &k2), 58);
+    case("k10-57", &a, &k2, &finished(&a, &k2), 57);
+    touched_charts("write-k2", &a, &k2);
+    let b = data.grammar("g-b.txt");
+    touched_charts("write-k5", &b, &data.graph(&b, "h-k5.txt"));
+    // With this grammar K6's graph has two derivations.
+    let two = data.grammar("g-two.txt");
+    touched_charts("write-two", &two, &data.graph(&two, "h-k6.txt"));
+    // Rule 1 renames, rule 2 has two nonterminal edges.
+    let nested = data.grammar("g-nested.txt");
+    let k1 = data.graph(&nested, "h-k1.txt");
+    nested_charts(&nested, &k1);
+    doubled_charts(&nested, &k1);
+    nested_file(&nested, &k1, 4096);
+    nested_file(&nested, &k1, 4097);
+}
