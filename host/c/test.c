@@ -1,0 +1,437 @@
+/* The calls of the header, seen from C: K1 to K10 of 01, every refusal, and what a call leaves as it was.
+ * The last line is 'c checks N, failures M'; the exit status is 0 only where something was checked and nothing failed. */
+#include <inttypes.h>
+#include <stdio.h>
+#include <string.h>
+
+#include "bobbinmarl.h"
+
+static int checks, failures;
+
+#define CHECK(fact) check((fact), #fact, __func__, __LINE__)
+
+static void check(int holds, const char *fact, const char *where, int line)
+{
+    checks++;
+    if (!holds) {
+        failures++;
+        printf("test.c:%d (%s): not so: %s\n", line, where, fact);
+    }
+}
+
+/* ---- what is lent, with guards around each part; `kept` is a copy from before a call */
+
+enum { GUARD = 8, GRAMMAR = 14985, GRAPH = 585, CHART = 2 + 16 * 4097, OUT = 64 };
+
+static struct lent {
+    uint64_t guard0[GUARD];
+    uint64_t grammar[GRAMMAR + GUARD];
+    uint64_t guard1[GUARD];
+    uint64_t graph[GRAPH + GUARD];
+    uint64_t guard2[GUARD];
+    uint64_t chart[CHART + GUARD];
+    uint64_t guard3[GUARD];
+    uint8_t out[OUT];
+    uint64_t guard4[GUARD];
+    uint64_t told;
+    uint64_t guard5[GUARD];
+} lent, kept;
+
+static void keep(void)
+{
+    memcpy(&kept, &lent, sizeof lent);
+}
+
+/* Other bytes everywhere, none of them 0. */
+static void fill(void)
+{
+    unsigned char *bytes = (unsigned char *)&lent;
+    for (size_t i = 0; i < sizeof lent; i++)
+        bytes[i] = (unsigned char)(1 + i % 251);
+}
+
+static int same(void)
+{
+    return memcmp(&lent, &kept, sizeof lent) == 0;
+}
+
+/* Is all as kept, but for so many bytes from `part` on? */
+static int same_but(const void *part, size_t size)
+{
+    const unsigned char *now = (const unsigned char *)&lent, *then = (const unsigned char *)&kept;
+    size_t start = (size_t)((const unsigned char *)part - now), end = start + size;
+    return memcmp(now, then, start) == 0 && memcmp(now + end, then + end, sizeof lent - end) == 0;
+}
+
+#define TABLES lent.grammar, GRAMMAR, lent.graph, GRAPH
+
+static size_t chart_words(size_t items)
+{
+    return 2 + 16 * items;
+}
+
+static uint64_t read_grammar(const char *text)
+{
+    return bobbinmarl_read_grammar((const uint8_t *)text, strlen(text), lent.grammar, GRAMMAR);
+}
+
+static uint64_t read_graph(const char *text)
+{
+    return bobbinmarl_read_graph(lent.grammar, GRAMMAR, (const uint8_t *)text, strlen(text), lent.graph, GRAPH);
+}
+
+static uint64_t start(size_t items)
+{
+    return bobbinmarl_start(TABLES, lent.chart, chart_words(items));
+}
+
+static uint64_t run(size_t items, uint64_t steps)
+{
+    return bobbinmarl_run(TABLES, lent.chart, chart_words(items), steps, &lent.told);
+}
+
+static uint64_t write_out(size_t items, size_t room)
+{
+    return bobbinmarl_write(TABLES, lent.chart, chart_words(items), lent.out, room, &lent.told);
+}
+
+static uint64_t replay(const char *text)
+{
+    return bobbinmarl_replay(TABLES, (const uint8_t *)text, strlen(text));
+}
+
+/* ---- texts */
+
+#define GRAMMAR_A(first, edge, last)                                                                                                       \
+    first "S   0   0   2\nS   1   1   2\n"                                                                                                 \
+          "R   0   1   2   1   2   0   1\nE   0   0   1\nP   0   0   0\nP   1   0   0\n"                                                   \
+          "R   1   1   3   2   3   0   1\nE   0   0   2\n" edge "P   0   0   0\nP   1   0   0\n" last
+
+static const char grammar_a[] = GRAMMAR_A("G   2   2   1\n", "E   1   2   1\n", "P   1   1   1\n");
+static const char grammar_b[] = "G   3   2   1\nS   0   0   2\nS   1   1   1\nS   2   1   2\n"
+                                "R   0   1   2   1   2   0\nE   2   0   1\nP   0   0   0\nP   1   0   0\n"
+                                "R   1   2   2   1   2   0   1\nE   0   0   1\nP   0   0   0\nP   1   0   0\n";
+static const char grammar_renaming[] = "G   2   2   1\nS   0   0   2\nS   1   1   2\n"
+                                       "R   0   1   2   1   2   0   1\nE   0   0   1\nP   0   0   0\nP   1   0   0\n"
+                                       "R   1   1   2   1   2   0   1\nE   1   0   1\nP   0   0   0\nP   1   0   0\n";
+static const char k1[] = "H   2   1   0   1\nE   0   0   1\n";
+static const char k2[] = "H   3   2   0   2\nE   0   0   1\nE   0   1   2\n";
+static const char k3[] = "H   3   2   0   1\nE   0   0   1\nE   0   0   2\n";
+static const char k4[] = "H   2   1   1   0\nE   0   0   1\n";
+static const char k5[] = "H   2   1   0\nE   0   0   1\n";
+static const char k6[] = "H   2   2   0   1\nE   0   0   1\nE   0   0   1\n";
+static const char derivation_k2[] = "D   2\nA   0   1   0   2   1   0   1\nA   1   0   1   2   1\n";
+enum { K2_BYTES = sizeof derivation_k2 - 1, K2_ITEMS = 10 };
+
+/* Fresh memory with both tables read. */
+static void read_both(const char *grammar, const char *graph)
+{
+    fill();
+    CHECK(read_grammar(grammar) == 0);
+    CHECK(read_graph(graph) == 0);
+}
+
+/* K2 on a chart of ten items, with so many steps done. */
+static void run_k2(uint64_t steps)
+{
+    read_both(grammar_a, k2);
+    CHECK(start(K2_ITEMS) == 0);
+    CHECK(run(K2_ITEMS, steps) == (steps < K2_ITEMS ? 10 : 0));
+    CHECK(lent.told == (steps < K2_ITEMS ? steps : K2_ITEMS));
+}
+
+/* ---- tests */
+
+static void test_words(void)
+{
+    CHECK(bobbinmarl_grammar_words() == GRAMMAR);
+    CHECK(bobbinmarl_graph_words() == GRAPH);
+    CHECK(bobbinmarl_chart_words(0) == 0);
+    CHECK(bobbinmarl_chart_words(1) == 18);
+    CHECK(bobbinmarl_chart_words(4096) == 65538);
+    CHECK(bobbinmarl_chart_words(4097) == 0);
+    CHECK(bobbinmarl_chart_words(SIZE_MAX) == 0);
+}
+
+/* The steps of a closure, and the applications of its derivation, none where the answer is 11. */
+static void test_graph(const char *grammar, const char *graph, uint64_t steps, int applications)
+{
+    read_both(grammar, graph);
+    keep();
+    CHECK(start(2048) == 0);
+    CHECK(same_but(lent.chart, sizeof(uint64_t) * chart_words(2048)));
+    CHECK(run(2048, 2048) == 0);
+    CHECK(lent.told == steps);
+    keep();
+    uint64_t answer = write_out(2048, OUT);
+    if (applications == 0) {
+        CHECK(answer == 11);
+        CHECK(same());
+        return;
+    }
+    CHECK(answer == 0 && lent.told < OUT);
+    if (answer != 0 || lent.told >= OUT)
+        return;
+    char first[16];
+    snprintf(first, sizeof first, "D%4d\n", applications);
+    CHECK(memcmp(lent.out, first, strlen(first)) == 0);
+    size_t written = (size_t)lent.told;
+    CHECK(bobbinmarl_replay(TABLES, lent.out, written) == 0);
+    lent.told = kept.told;
+    CHECK(same_but(lent.out, written));
+}
+
+static void test_k1_to_k6(void)
+{
+    test_graph(grammar_a, k1, 5, 1);
+    test_graph(grammar_a, k2, 10, 2);
+    test_graph(grammar_a, k3, 8, 0);
+    test_graph(grammar_a, k4, 5, 0);
+    test_graph(grammar_b, k5, 6, 2);
+    test_graph(grammar_a, k6, 8, 0);
+}
+
+/* A chart of nine is too small, says so ever after, and tells no steps. */
+static void test_k7(void)
+{
+    read_both(grammar_a, k2);
+    CHECK(start(9) == 0);
+    keep();
+    CHECK(run(9, 9) == 9);
+    CHECK(same_but(lent.chart, sizeof(uint64_t) * chart_words(9)));
+    /* The first word counts the items; the sixth of an item says whether it is handled. */
+    CHECK(lent.chart[0] == 9 && lent.chart[2 + 5] == 1);
+    keep();
+    CHECK(run(9, 9) == 9);
+    CHECK(same());
+    CHECK(write_out(9, OUT) == 9);
+    CHECK(same());
+    CHECK(start(1) == 9);
+    CHECK(start(10) == 0);
+    CHECK(run(10, 10) == 0);
+    CHECK(lent.told == 10);
+}
+
+static void test_k8(void)
+{
+    run_k2(9);
+    keep();
+    lent.told = 77;
+    CHECK(write_out(K2_ITEMS, OUT) == 10);
+    CHECK(lent.told == 9);
+    CHECK(same());
+    CHECK(run(K2_ITEMS, 1) == 0);
+    CHECK(lent.told == 10);
+}
+
+static void test_k9(void)
+{
+    run_k2(0);
+    keep();
+    CHECK(run(K2_ITEMS, 0) == 10);
+    CHECK(lent.told == 0);
+    CHECK(same());
+}
+
+static void test_k10(void)
+{
+    run_k2(10);
+    keep();
+    CHECK(K2_BYTES == 58);
+    CHECK(write_out(K2_ITEMS, 57) == 12);
+    CHECK(same());
+    CHECK(write_out(K2_ITEMS, 58) == 0);
+    CHECK(lent.told == 58);
+    CHECK(memcmp(lent.out, derivation_k2, K2_BYTES) == 0);
+    lent.told = kept.told;
+    CHECK(same_but(lent.out, K2_BYTES));
+}
+
+/* Runs in pieces leave the chart of one run. */
+static void test_pieces(void)
+{
+    for (uint64_t first = 0; first <= K2_ITEMS; first++) {
+        run_k2(K2_ITEMS);
+        keep();
+        CHECK(start(K2_ITEMS) == 0);
+        CHECK(run(K2_ITEMS, first) == (first < K2_ITEMS ? 10 : 0));
+        CHECK(run(K2_ITEMS, K2_ITEMS - first) == 0);
+        CHECK(same());
+    }
+}
+
+static void refused_grammar(uint64_t number, const char *text)
+{
+    fill();
+    keep();
+    CHECK(read_grammar(text) == number);
+    CHECK(same());
+}
+
+static void refused_graph(uint64_t number, const char *text)
+{
+    fill();
+    CHECK(read_grammar(grammar_a) == 0);
+    keep();
+    CHECK(read_graph(text) == number);
+    CHECK(same());
+}
+
+static void test_texts(void)
+{
+    refused_grammar(1, GRAMMAR_A("G 2 2 1\n", "E   1   2   1\n", "P   1   1   1\n"));
+    refused_grammar(1, GRAMMAR_A("G   2   2   1\n", "E   1   2   1\n", "P   1   1   1"));
+    refused_grammar(2, GRAMMAR_A("G   2   2   1\n", "E   1   2   1\n", ""));
+    refused_grammar(3, GRAMMAR_A("G   2   2   0\n", "E   1   2   1\n", "P   1   1   1\n"));
+    refused_grammar(4, GRAMMAR_A("G   2   2   1   0\n", "E   1   2   1\n", "P   1   1   1\n"));
+    refused_grammar(5, GRAMMAR_A("G   2   2   1\n", "E   1   2   2\n", "P   1   1   1\n"));
+    refused_grammar(6, GRAMMAR_A("G   2   2   1\n", "E   1   0   2\n", "P   1   1   1\n"));
+    refused_grammar(7, GRAMMAR_A("G   2   2   1\n", "E   1   2   1\n", "P   1   0   1\n"));
+    refused_graph(1, "H   3   2   0   2\nE   0   0   1\nE   0   1   2");
+    refused_graph(2, "H   3   2   0   2\nE   0   0   1\n");
+    refused_graph(3, "H   3   2   0   2\nE   1   0   1\nE   0   1   2\n");
+    refused_graph(4, "H   3   2   0\nE   0   0   1\nE   0   1   2\n");
+    refused_graph(5, "H   3   2   0   2\nE   0   0   1\nE   0   1   3\n");
+    refused_graph(6, "H   4   2   0   2\nE   0   0   1\nE   0   1   2\n");
+}
+
+/* A short table is refused, a longer one is taken, and words behind the table stay. */
+static void test_table_lengths(void)
+{
+    const uint8_t *text = (const uint8_t *)grammar_a, *other = (const uint8_t *)k2;
+    size_t length = strlen(grammar_a), other_length = strlen(k2);
+    fill();
+    keep();
+    CHECK(bobbinmarl_read_grammar(text, length, lent.grammar, GRAMMAR - 1) == 8);
+    CHECK(bobbinmarl_read_grammar(text, length, lent.grammar, 0) == 8);
+    CHECK(same());
+    CHECK(bobbinmarl_read_grammar(text, length, lent.grammar, GRAMMAR + GUARD) == 0);
+    CHECK(same_but(lent.grammar, sizeof(uint64_t) * GRAMMAR) && !same());
+    keep();
+    CHECK(bobbinmarl_read_graph(lent.grammar, GRAMMAR, other, other_length, lent.graph, GRAPH - 1) == 8);
+    CHECK(bobbinmarl_read_graph(lent.grammar, GRAMMAR, other, other_length, lent.graph, 0) == 8);
+    CHECK(bobbinmarl_read_graph(lent.grammar, GRAMMAR - 1, other, other_length, lent.graph, GRAPH) == 8);
+    CHECK(same());
+    CHECK(bobbinmarl_read_graph(lent.grammar, GRAMMAR + GUARD, other, other_length, lent.graph, GRAPH + GUARD) == 0);
+    CHECK(same_but(lent.graph, sizeof(uint64_t) * GRAPH) && !same());
+}
+
+/* A chart holds as many items as fit, and words behind the last one stay. */
+static void test_chart_lengths(void)
+{
+    size_t words = chart_words(K2_ITEMS) + 15;
+    read_both(grammar_a, k2);
+    keep();
+    CHECK(bobbinmarl_start(TABLES, lent.chart, words) == 0);
+    CHECK(bobbinmarl_run(TABLES, lent.chart, words, K2_ITEMS, &lent.told) == 0);
+    CHECK(lent.told == K2_ITEMS);
+    lent.told = kept.told;
+    CHECK(same_but(lent.chart, sizeof(uint64_t) * chart_words(K2_ITEMS)));
+    CHECK(bobbinmarl_start(TABLES, lent.chart, chart_words(9) + 15) == 0);
+    CHECK(bobbinmarl_run(TABLES, lent.chart, chart_words(9) + 15, K2_ITEMS, &lent.told) == 9);
+}
+
+/* All that follows the readers says 8, and changes nothing; `told` stays too. */
+static void refused_lent(size_t items)
+{
+    keep();
+    CHECK(start(items) == 8);
+    CHECK(run(items, 1) == 8);
+    CHECK(write_out(items, OUT) == 8);
+    CHECK(same());
+}
+
+static void test_unfit(void)
+{
+    run_k2(10);
+    refused_lent(0);
+    refused_lent(4097);
+    lent.grammar[0] += 9999;
+    refused_lent(K2_ITEMS);
+    CHECK(replay(derivation_k2) == 8);
+    CHECK(read_graph(k2) == 8);
+    CHECK(read_graph("x") == 8);
+    CHECK(same());
+    run_k2(10);
+    lent.graph[0] += 9999;
+    refused_lent(K2_ITEMS);
+    CHECK(replay(derivation_k2) == 8);
+    /* An item of a kind that is none, and more items than the chart holds. */
+    run_k2(10);
+    lent.chart[2] = 2;
+    keep();
+    CHECK(run(K2_ITEMS, 1) == 8);
+    CHECK(write_out(K2_ITEMS, OUT) == 8);
+    CHECK(same());
+    run_k2(10);
+    lent.chart[0] = 11;
+    keep();
+    CHECK(run(K2_ITEMS, 1) == 8);
+    CHECK(write_out(K2_ITEMS, OUT) == 8);
+    CHECK(same());
+}
+
+static void test_replay(void)
+{
+    read_both(grammar_a, k2);
+    keep();
+    CHECK(replay(derivation_k2) == 0);
+    CHECK(replay("") == 13);
+    CHECK(replay("D   2\nA   0   1   0   2   1   0   1\nA   1   0   1   2   0\n") == 13);
+    CHECK(replay("D   2\nA   0   1   0   2   1   0   1\nA   1   0   1   2   1\nC  10\n") == 13);
+    CHECK(same());
+}
+
+/* A derivation of n applications, each but the last one a renaming of the next, with 22 bytes for each. */
+static void test_nested(void)
+{
+    static char text[6 + 22 * 4097 + 1];
+    read_both(grammar_renaming, k1);
+    for (int n = 4096; n <= 4097; n++) {
+        int at = snprintf(text, sizeof text, "D%4d\n", n);
+        for (int i = 0; i < n - 1; i++)
+            at += snprintf(text + at, sizeof text - (size_t)at, "A%4d   1   0   1%4d\n", i, i + 1);
+        snprintf(text + at, sizeof text - (size_t)at, "A%4d   0   0   1   0\n", n - 1);
+        CHECK(replay(text) == (n == 4096 ? 0 : 13));
+    }
+}
+
+/* Where the length is 0, any pointer will do. */
+static void test_length_zero(void)
+{
+    CHECK(bobbinmarl_read_grammar(NULL, 0, NULL, 0) == 2);
+    CHECK(bobbinmarl_read_graph(NULL, 0, NULL, 0, NULL, 0) == 8);
+    CHECK(bobbinmarl_start(NULL, 0, NULL, 0, NULL, 0) == 8);
+    uint64_t told = 77;
+    CHECK(bobbinmarl_run(NULL, 0, NULL, 0, NULL, 0, 1, &told) == 8);
+    CHECK(bobbinmarl_write(NULL, 0, NULL, 0, NULL, 0, NULL, 0, &told) == 8);
+    CHECK(told == 77);
+    CHECK(bobbinmarl_replay(NULL, 0, NULL, 0, NULL, 0) == 8);
+    run_k2(10);
+    keep();
+    CHECK(bobbinmarl_read_grammar(NULL, 0, lent.grammar, GRAMMAR) == 2);
+    CHECK(bobbinmarl_read_graph(lent.grammar, GRAMMAR, NULL, 0, lent.graph, GRAPH) == 2);
+    CHECK(bobbinmarl_write(TABLES, lent.chart, chart_words(K2_ITEMS), NULL, 0, &lent.told) == 12);
+    CHECK(bobbinmarl_replay(TABLES, NULL, 0) == 13);
+    CHECK(same());
+}
+
+int main(void)
+{
+    test_words();
+    test_k1_to_k6();
+    test_k7();
+    test_k8();
+    test_k9();
+    test_k10();
+    test_pieces();
+    test_texts();
+    test_table_lengths();
+    test_chart_lengths();
+    test_unfit();
+    test_replay();
+    test_nested();
+    test_length_zero();
+    printf("c checks %d, failures %d\n", checks, failures);
+    return checks > 0 && failures == 0 ? 0 : 1;
+}
