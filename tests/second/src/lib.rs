@@ -4,6 +4,7 @@
 
 pub mod chart;
 pub mod check;
+pub mod checks;
 pub mod gen;
 pub mod model;
 pub mod naive;

@@ -6,6 +6,18 @@ pub struct Symbol {
     pub rank: usize,
 }
 
+impl Symbol {
+    pub fn terminal(rank: usize) -> Self {
+        let nonterminal = false;
+        Symbol { nonterminal, rank }
+    }
+
+    pub fn nonterminal(rank: usize) -> Self {
+        let nonterminal = true;
+        Symbol { nonterminal, rank }
+    }
+}
+
 /// A labelled hyperedge, in a rule's right-hand side or in a graph.
 #[derive(Clone, Debug, PartialEq, Eq)]
 pub struct Edge {
@@ -109,6 +121,26 @@ impl Grammar {
         self.symbols[symbol].nonterminal
     }
 
+    /// Whether some rules that only rename lead round a circle.
+    pub fn has_circle(&self) -> bool {
+        let mut below = vec![0u64; self.symbols.len()];
+        for rule in &self.rules {
+            let symbol = rule.edges[0].symbol;
+            let only_renames = rule.edges.len() == 1 && rule.nodes == rule.external.len();
+            if only_renames && self.is_nonterminal(symbol) {
+                below[rule.nonterminal] |= 1 << symbol;
+            }
+        }
+        // After so many rounds, all that a row of renamings leads to.
+        for _ in 0..self.symbols.len() {
+            for at in 0..below.len() {
+                let next = (0..below.len()).filter(|&s| below[at] >> s & 1 == 1);
+                below[at] |= next.fold(0, |set, s| set | below[s]);
+            }
+        }
+        (0..below.len()).any(|at| below[at] >> at & 1 == 1)
+    }
+
     pub fn lines(&self) -> Vec<Line> {
         let mut lines = vec![line(
             b'G',
@@ -163,6 +195,23 @@ impl Graph {
             }
         }
         incident
+    }
+
+    pub fn is_connected(&self) -> bool {
+        let incident = self.incidence();
+        let (mut edges, mut reached) = (1u64, vec![0]);
+        while let Some(edge) = reached.pop() {
+            for &node in &self.edges[edge].nodes {
+                let new = incident[node] & !edges;
+                reached.extend((0..self.edges.len()).filter(|e| new >> e & 1 == 1));
+                edges |= new;
+            }
+        }
+        edges == self.all_edges()
+    }
+
+    pub fn has_parallel_edges(&self) -> bool {
+        (1..self.edges.len()).any(|at| self.edges[..at].contains(&self.edges[at]))
     }
 
     pub fn all_edges(&self) -> u64 {

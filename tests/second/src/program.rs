@@ -56,23 +56,22 @@ fn try_replay(grammar: &[u8], graph: &[u8], derivation: &[u8]) -> Result<u8, u8>
     ))
 }
 
-/// What 01 fixes of `derive`'s output: all but the `A` lines, as which of several fewest
-/// derivations is written is free.
-pub fn fixed_part(output: &[u8]) -> Vec<u8> {
+fn without_lines(letter: u8, output: &[u8]) -> Vec<u8> {
     output
         .split_inclusive(|&b| b == b'\n')
-        .filter(|line| line[0] != b'A')
+        .filter(|line| line[0] != letter)
         .flatten()
         .copied()
         .collect()
 }
 
+/// What 01 fixes of `derive`'s output: all but the `A` lines, as which of several fewest
+/// derivations is written is free.
+pub fn fixed_part(output: &[u8]) -> Vec<u8> {
+    without_lines(b'A', output)
+}
+
 /// The derivation file in `derive`'s output: all but the `C` line.
 pub fn derivation_part(output: &[u8]) -> Vec<u8> {
-    output
-        .split_inclusive(|&b| b == b'\n')
-        .filter(|line| line[0] != b'C')
-        .flatten()
-        .copied()
-        .collect()
+    without_lines(b'C', output)
 }

@@ -13,7 +13,7 @@ pub fn parse_line(bytes: &[u8]) -> Option<Line> {
         return None;
     }
     let count = columns.len() / 4;
-    if count < 1 || count > 18 {
+    if !(1..=18).contains(&count) {
         return None;
     }
     let mut fields = Vec::with_capacity(count);
