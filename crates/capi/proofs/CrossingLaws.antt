@@ -14,12 +14,14 @@ use Rattle.chart.specs.Calls.{numberOf as chartNumber, startOf, runOf}
 use Rattle.chart.specs.Facts.{StartChoices, RunChoices}
 use Rattle.chart.specs.declared.Outcome.{Outcome}
 use Rattle.writing.specs.Writing.{numberOf as writingNumber, writeOf}
-use Rattle.writing.specs.Demand.{WriteChoices}
+use Rattle.writing.specs.Filling.{fillOf}
+use Rattle.writing.specs.Demand.{WriteChoices, FillChoices}
 use Rattle.writing.specs.declared.Answer.{Answer}
+use Rattle.writing.specs.declared.Application.{Application}
 use Rattle.replayer.specs.Verdicts.{numberOf as verdictNumber, replayOf, Exact}
 use Rattle.replayer.specs.declared.Verdict.{Verdict}
 use Rattle.programs.specs.Files.{FileGives, numbered, readingNumber}
-use Rattle.capi.specs.Crossing.{stepsTold, bytesTold, Started, Ran, Written, Replayed}
+use Rattle.capi.specs.Crossing.{stepsTold, bytesTold, Started, Ran, Written, FilledRow, Replayed}
 
 abbrev words : ℕ → ℕ
 words items = cond (leb 1 items && leb items 4096) (2 + 16 * items) 0
@@ -57,6 +59,16 @@ write-crosses g h w out now former told a k e p choices q t =
       leaves = p;
       tells = t ∙ ap (λ x. bytesTold x former) e;
       choices = subst (λ x. WriteChoices g h w out x now) e choices;
+    }
+
+pub fill-crosses : (g h w : List ℕ) (rows now : List Application) (former told : ℕ) (a : Answer) (k : ℕ) → a ≡ fillOf g h w rows .answer → now ≡ fillOf g h w rows .rows → FillChoices g h w rows a now
+    → k ≡ writingNumber a → told ≡ bytesTold a former → FilledRow g h w rows former k now told
+fill-crosses g h w rows now former told a k e p choices q t =
+    record {
+      answers = q ∙ ap writingNumber e;
+      leaves = p;
+      tells = t ∙ ap (λ x. bytesTold x former) e;
+      choices = subst (λ x. FillChoices g h w rows x now) e choices;
     }
 
 pub replay-crosses : (g h text : List ℕ) (v : Verdict) (k : ℕ) → v ≡ replayOf g h text → Exact g h text v → k ≡ verdictNumber v → Replayed g h text k

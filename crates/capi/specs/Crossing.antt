@@ -7,9 +7,11 @@ use Rattle.chart.specs.Facts.{StartChoices, RunChoices}
 use Rattle.chart.specs.declared.Outcome.{Outcome}
 use Rattle.chart.specs.declared.Outcome.the-variants.{Unfit as Unfit-chart, TooSmall as TooSmall-chart, Unfinished as Unfinished-chart, Done}
 use Rattle.writing.specs.Writing.{numberOf as writingNumber, writeOf}
-use Rattle.writing.specs.Demand.{WriteChoices}
+use Rattle.writing.specs.Filling.{fillOf}
+use Rattle.writing.specs.Demand.{WriteChoices, FillChoices}
 use Rattle.writing.specs.declared.Answer.{Answer}
 use Rattle.writing.specs.declared.Answer.the-variants.{Unfit, TooSmall, Unfinished, Underivable, NoRoom, Written as Written-answer}
+use Rattle.writing.specs.declared.Application.{Application}
 use Rattle.replayer.specs.Verdicts.{numberOf as verdictNumber, replayOf, Exact}
 
 -- the lent word after an outcome: the steps that it reports, else what stood there
@@ -19,7 +21,7 @@ stepsTold TooSmall-chart former = former
 stepsTold (Unfinished-chart k) former = k
 stepsTold (Done k) former = k
 
--- the lent word after a writing: its bytes, or the steps done where items wait
+-- the lent word after a writing: its bytes, or its records, or the steps done where items wait
 abbrev pub bytesTold : Answer → ℕ → ℕ
 bytesTold Unfit former = former
 bytesTold TooSmall former = former
@@ -44,6 +46,12 @@ pub record Written (g h w out : List ℕ) (former number : ℕ) (now : List ℕ)
   pub leaves : now ≡ writeOf g h w out .out
   pub tells : told ≡ bytesTold (writeOf g h w out .answer) former
   pub choices : WriteChoices g h w out (writeOf g h w out .answer) now
+
+pub record FilledRow (g h w : List ℕ) (rows : List Application) (former number : ℕ) (now : List Application) (told : ℕ) : Type 0 where
+  pub answers : number ≡ writingNumber (fillOf g h w rows .answer)
+  pub leaves : now ≡ fillOf g h w rows .rows
+  pub tells : told ≡ bytesTold (fillOf g h w rows .answer) former
+  pub choices : FillChoices g h w rows (fillOf g h w rows .answer) now
 
 pub record Replayed (g h text : List ℕ) (number : ℕ) : Type 0 where
   pub answers : number ≡ verdictNumber (replayOf g h text)

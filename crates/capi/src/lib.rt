@@ -1,4 +1,4 @@
-// The interface for C (include/bobbinmarl.h): a slice crosses as a pointer and a length, an answer as 01's number, its steps or bytes through a lent word.
+// The interface for C (include/bobbinmarl.h): a slice crosses as a pointer and a length, an answer as 01's number, its steps, bytes or records through a lent word.
 ghost use mathlib.Core.Path.{_≡_};
 ghost use mathlib.Core.Bool.{cond, _&&_};
 ghost use Prim.Native.Nat.{_+_, _*_};
@@ -12,9 +12,10 @@ ghost use Rattle.writing.specs.Writing.{numberOf as writingNumber, writeOf};
 ghost use Rattle.writing.specs.Demand.{WriteChoices};
 ghost use Rattle.replayer.specs.Verdicts.{numberOf as verdictNumber, replayOf, Exact};
 ghost use Rattle.programs.specs.Files.{FileGives, numbered};
-ghost use Rattle.capi.specs.Crossing.{stepsTold, bytesTold, Started, Ran, Written, Replayed};
+ghost use Rattle.capi.specs.Crossing.{stepsTold, bytesTold, Started, Ran, Written, FilledRow, Replayed};
 use chart::Outcome;
 use writing::Answer;
+use writing::Application;
 
 // ---- how many words to lend
 
@@ -105,7 +106,7 @@ pub extern "C" fn bobbinmarl_run(
 
 // ---- the writer
 
-// The number of an answer; the bytes written, or the steps done where items wait, go into the lent word, which else stays.
+// The number of an answer; the bytes or records written, or the steps done where items wait, go into the lent word, which else stays.
 fn tell_bytes(a: Answer, told: &mut u64) -> u64
     ensures { λ r. ⌜ (r ≡ writingNumber a) × (now (told .exit) ≡ bytesTold a (now (told .entry))) ⌝ }
 {
@@ -136,6 +137,21 @@ pub extern "C" fn bobbinmarl_write(
     ensures { λ r. ⌜ Written (now (grammar .entry)) (now (graph .entry)) (now (chart .entry)) (now (out .entry)) (now (told .entry)) r (now (out .exit)) (now (told .exit)) ⌝ }
 {
     let answer = writer::write(grammar, graph, chart, out);
+    tell_bytes(answer, told)
+}
+
+// The second form of the answer: a row of records.
+#[no_mangle]
+pub extern "C" fn bobbinmarl_fill(
+    grammar: &[u64],
+    graph: &[u64],
+    chart: &[u64],
+    rows: &mut [Application],
+    told: &mut u64,
+) -> u64
+    ensures { λ r. ⌜ FilledRow (now (grammar .entry)) (now (graph .entry)) (now (chart .entry)) (now (rows .entry)) (now (told .entry)) r (now (rows .exit)) (now (told .exit)) ⌝ }
+{
+    let answer = filler::fill(grammar, graph, chart, rows);
     tell_bytes(answer, told)
 }
 

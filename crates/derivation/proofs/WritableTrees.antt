@@ -34,7 +34,7 @@ small-place (v ∷ place) h = small-cons v place (h 0 (omega arith)) (small-plac
 
 module _ (G : Grammar) (H : Graph) (ok : GrammarOk G) (hok : GraphOk G H) where
   -- ---- a number for each part
-  numbers-length : (place : List ℕ) (ps : Parts) (rs : List Edge) (n : ℕ) → FitsParts G H place ps rs → length (partNumbers n ps) ≡ length rs
+  pub numbers-length : (place : List ℕ) (ps : Parts) (rs : List Edge) (n : ℕ) → FitsParts G H place ps rs → length (partNumbers n ps) ≡ length rs
   unfolding partNumbers
   numbers-length place end [] n f = refl
   numbers-length place end (r ∷ rs) n f = absurd f

@@ -90,7 +90,7 @@ module _ (g h w : List ℕ) (e : fit g h w ≡ true) (k : ℕ) where
     writes-tree : Writes G H (fit-grammar g h w e) (fit-graph g h w e) (capacity w) (fit-most g h w e) (k ∷ []) c is (done .0) (done .1) (λ j. recordAt v j) look-same (goalIn G H (c .records))
         → Deriving g h (writeChart g h v steps)
     writes-tree (no-tree none f) = means (refused 11) (by-writing (refused-writing Underivable out) (searches out ∙ ap (writeGoal G H (λ j. recordAt v j) out) f)) (underivable none)
-    writes-tree (a-tree t few wr) = go (decLe (length (derivationText t)) (length out))
+    writes-tree (a-tree t few wr l ch) = go (decLe (length (derivationText t)) (length out))
       where
         go : Dec (length (derivationText t) ≤ length out) → Deriving g h (writeChart g h v steps)
         go (yes l) =

@@ -2,11 +2,11 @@
 use mathlib.Core.Path.{_≡_, refl, sym, ap, _∙_, subst}
 use mathlib.Core.Logic.{_≢_, _↔_}
 use mathlib.Core.Bool.{Bool, true, false}
-use mathlib.Core.List.{List, [], _∷_}
+use mathlib.Core.List.{List, [], _∷_, _++_}
 use Prim.Native.Nat.{ℕ, _+_, _≤_, _<_, min}
 use native.Mathlib.Decide.{decLe}
 use native.Mathlib.Omega.{arith}
-use lib.ListN.{length, take}
+use lib.ListN.{length, take, drop}
 use Rattle.hrg.specs.Grammars.{Graph, Grammar}
 use Rattle.hrg.specs.Trees.{Tree, Generates}
 use Rattle.hrg.specs.Items.{Item, closure}
@@ -30,12 +30,16 @@ use Rattle.chart.specs.declared.Outcome.the-variants.{TooSmall as TooSmall-char
 use Rattle.chart.proofs.Answers.{answer-marked, answer-waiting}
 use Rattle.chart.proofs.Calls.{fit-grammar, fit-graph, fit-most}
 use Rattle.chart.proofs.Demand.{runs-known, runs-chart}
+use Rattle.preorder.specs.Rows.{size}
 use Rattle.derivation.specs.Derivations.{derivationText}
 use Rattle.writing.specs.Writing.{numberOf, Wrote, refused, goalIn, writeGoal, writeOf}
-use Rattle.writing.specs.Demand.{Call, run, write, afterCalls, stepsGiven, AllHandled, SomeLeft, FewestTree, WritesTree, CallsRight}
+use Rattle.writing.specs.Filling.{recordsOf, Choice, chooses, chosenGoal, chosenOf, Filled, unfilled, fillOf}
+use Rattle.writing.specs.Demand.{Call, run, write, fill, afterCalls, stepsGiven, AllHandled, SomeLeft, FewestTree, WritesTree, FillsTree, CallsRight}
+use Rattle.writing.specs.declared.Application.{Application}
 use Rattle.writing.specs.declared.Answer.{Answer}
 use Rattle.writing.specs.declared.Answer.the-variants.{TooSmall, Unfinished, Underivable, NoRoom, Written}
 use Rattle.writing.proofs.Writings.{write-by}
+use Rattle.writing.proofs.Filling.{records-held, records-short, records-size, chosen-by, fill-refuses, chosen-records}
 use Rattle.writing.proofs.OwnCharts.{Writes, no-tree, a-tree, goal-writes}
 
 -- ---- a list of calls is its runs
@@ -43,6 +47,7 @@ unfoldable pub runsIn : List Call → List ℕ
 runsIn [] = []
 runsIn (run k ∷ cs) = k ∷ runsIn cs
 runsIn (write out ∷ cs) = runsIn cs
+runsIn (fill former ∷ cs) = runsIn cs
 
 -- a writing changes nothing in the chart
 pub calls-runs : (g h w : List ℕ) (cs : List Call) → afterCalls g h w cs ≡ runsOf g h w (runsIn cs)
@@ -50,12 +55,14 @@ unfolding afterCalls runsOf runsIn
 calls-runs g h w [] = refl
 calls-runs g h w (run k ∷ cs) = calls-runs g h (runOf g h w k .words) cs
 calls-runs g h w (write out ∷ cs) = calls-runs g h w cs
+calls-runs g h w (fill former ∷ cs) = calls-runs g h w cs
 
 pub given-sum : (cs : List Call) → stepsGiven cs ≡ sumOf (runsIn cs)
 unfolding stepsGiven sumOf runsIn
 given-sum [] = refl
 given-sum (run k ∷ cs) = ap (λ (n : ℕ). k + n) (given-sum cs)
 given-sum (write out ∷ cs) = given-sum cs
+given-sum (fill former ∷ cs) = given-sum cs
 
 -- ---- what is left
 pub nothing-left : (rs : List Record) → AllHandled rs → leastWaiting rs (length rs) ≡ Nowhere
@@ -135,20 +142,63 @@ module _ (g h w : List ℕ) (e : fit g h w ≡ true) (ks : List ℕ) where
         left : Writes G H ok good (capacity w) most ks c is fits (nothing-left (c .records) all) (λ j. recordAt v j) look-same (goalIn G H (c .records)) → writeOf g h v out ≡ refused Underivable out
             → (t : Tree) → Generates G H t → ⊥
         left (no-tree none f) q = none
-        left (a-tree t few wr) q = absurd (not-refused t out _ (wr out) (sym (searches out) ∙ q))
+        left (a-tree t few wr l ch) q = absurd (not-refused t out _ (wr out) (sym (searches out) ∙ q))
 
         right : Writes G H ok good (capacity w) most ks c is fits (nothing-left (c .records) all) (λ j. recordAt v j) look-same (goalIn G H (c .records)) → ((t : Tree) → Generates G H t → ⊥)
             → writeOf g h v out ≡ refused Underivable out
         right (no-tree none f) n = searches out ∙ ap (writeGoal G H (λ j. recordAt v j) out) f
-        right (a-tree t few wr) n = absurd (n t (few .generates))
+        right (a-tree t few wr l ch) n = absurd (n t (few .generates))
 
-    pub write-fewest : (u : Tree) → Generates G H u → (t : Tree) × FewestTree G H t × ((out : List ℕ) → WritesTree t out (writeOf g h v out))
+    -- the same of a row
+    chosen-is : chosenOf g h v ≡ chosenGoal G H (λ j. recordAt v j) (goalIn G H (c .records))
+    chosen-is = chosen-by g h v (Done (handledCount (c .records))) stands-done
+
+    tree-fills : (t : Tree) → Generates G H t → size t ≤ 4096 → chosenGoal G H (λ j. recordAt v j) (goalIn G H (c .records)) ≡ chooses (derivationText t)
+        → (former : List Application) → FillsTree t former (fillOf g h v former)
+    unfolding recordsOf
+    tree-fills t gen l ch former =
+        let q = chosen-records g h v t gen l (chosen-is ∙ ch) former in
+        let n = records-size 0 t in
+        record {
+          held = λ k. q ∙ records-held (recordsOf t) former (omega (arith, n, k)) ∙ ap (λ (m : ℕ). record { answer = Written m; rows = recordsOf t ++ drop m former }) n;
+          short = λ k. q ∙ records-short (recordsOf t) former (omega (arith, n, k));
+        }
+
+    row-not-refused : (t : Tree) (former : List Application) (x : Filled) → FillsTree t former x → x ≡ unfilled Underivable former → ⊥
+    row-not-refused t former x fl q = go (decLe (size t) (length former))
+      where
+        go : Dec (size t ≤ length former) → ⊥
+        go (yes l) = let z : _≡_ {A = ℕ} 0 11 = ap (λ (y : Filled). numberOf (y .answer)) (sym (fl .held l) ∙ q) in omega (arith, z)
+        go (no n) = let z : _≡_ {A = ℕ} 12 11 = ap (λ (y : Filled). numberOf (y .answer)) (sym (fl .short (omega arith)) ∙ q) in omega (arith, z)
+
+    abbrev Outcomes : Type 0
+    Outcomes = Writes G H ok good (capacity w) most ks c is fits (nothing-left (c .records) all) (λ j. recordAt v j) look-same (goalIn G H (c .records))
+
+    pub fill-underivable : (former : List Application) → (fillOf g h v former ≡ unfilled Underivable former) ↔ ((t : Tree) → Generates G H t → ⊥)
+    fill-underivable former = (λ q. left outcome q, λ none. right outcome none)
+      where
+        left : Outcomes → fillOf g h v former ≡ unfilled Underivable former → (t : Tree) → Generates G H t → ⊥
+        left (no-tree none f) q = none
+        left (a-tree t few wr l ch) q = absurd (row-not-refused t former _ (tree-fills t (few .generates) l ch former) q)
+
+        right : Outcomes → ((t : Tree) → Generates G H t → ⊥) → fillOf g h v former ≡ unfilled Underivable former
+        right (no-tree none f) n = fill-refuses g h v former Underivable (chosen-is ∙ ap (chosenGoal G H (λ j. recordAt v j)) f)
+        right (a-tree t few wr l ch) n = absurd (n t (few .generates))
+
+    -- one tree, as text and as records
+    pub write-fewest : (u : Tree) → Generates G H u
+        → (t : Tree) × FewestTree G H t × ((out : List ℕ) → WritesTree t out (writeOf g h v out)) × ((former : List Application) → FillsTree t former (fillOf g h v former))
     write-fewest u gen = go outcome
       where
-        go : Writes G H ok good (capacity w) most ks c is fits (nothing-left (c .records) all) (λ j. recordAt v j) look-same (goalIn G H (c .records))
-            → (t : Tree) × FewestTree G H t × ((out : List ℕ) → WritesTree t out (writeOf g h v out))
+        go : Outcomes → (t : Tree) × FewestTree G H t × ((out : List ℕ) → WritesTree t out (writeOf g h v out)) × ((former : List Application) → FillsTree t former (fillOf g h v former))
         go (no-tree none f) = absurd (none u gen)
-        go (a-tree t few wr) = (t, few, λ out. subst (λ (x : Wrote). WritesTree t out x) (sym (searches out)) (wr out))
+        go (a-tree t few wr l ch) = (t, few, λ out. subst (λ (x : Wrote). WritesTree t out x) (sym (searches out)) (wr out), tree-fills t (few .generates) l ch)
+
+  stands-small : c .mark ≢ 0 → standingOf g h v ≡ TooSmall-chart
+  stands-small m = stands ∙ answer-marked c m
+
+  stands-waiting : c .mark ≡ 0 → SomeLeft (c .records) → standingOf g h v ≡ Unfinished-chart (handledCount (c .records))
+  stands-waiting m s = stands ∙ answer-waiting c m ∙ ap (whenWaiting (handledCount (c .records))) (some-left (c .records) s .found)
 
   runs-calls : CallsRight g h (capacity w) (sumOf ks) (runsOf g h (startOf g h w .words) ks)
   runs-calls =
@@ -161,14 +211,15 @@ module _ (g h w : List ℕ) (e : fit g h w ≡ true) (ks : List ℕ) where
         steps = λ m. runs-correct G H ok good (capacity w) most ks c is m .steps (z .0) (z .1);
         done = λ m all. done-size G H ok good (capacity w) most ks c is m (nothing-left (c .records) all) (z .0) (z .1);
         underivable = write-underivable;
+        underivable-row = fill-underivable;
         writes = write-fewest;
-        nine = λ m out. write-by g h v out TooSmall-chart (stands ∙ answer-marked c m);
-        ten = λ m s out.
-            let f = some-left (c .records) s in
-            write-by g h v out (Unfinished-chart (handledCount (c .records))) (stands ∙ answer-waiting c m ∙ ap (whenWaiting (handledCount (c .records))) (f .found));
+        nine = λ m out. write-by g h v out TooSmall-chart (stands-small m);
+        nine-row = λ m former. fill-refuses g h v former TooSmall (chosen-by g h v TooSmall-chart (stands-small m));
+        ten = λ m s out. write-by g h v out (Unfinished-chart (handledCount (c .records))) (stands-waiting m s);
+        ten-row = λ m s former. fill-refuses g h v former (Unfinished (handledCount (c .records))) (chosen-by g h v (Unfinished-chart (handledCount (c .records))) (stands-waiting m s));
       }
 
--- Demand 3: after a start that passes question 8 and any list of runs and writings.
+-- Demand 3: after a start that passes question 8 and any list of runs and writings, as text or as records.
 pub demand-3 : (g h w : List ℕ) → fit g h w ≡ true → (cs : List Call) → CallsRight g h (capacity w) (stepsGiven cs) (afterCalls g h (startOf g h w .words) cs)
 demand-3 g h w e cs =
     subst (λ (v : List ℕ). CallsRight g h (capacity w) (stepsGiven cs) v) (sym (calls-runs g h (startOf g h w .words) cs))

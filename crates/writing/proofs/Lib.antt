@@ -1,5 +1,6 @@
 -- The root of the theorems.
 pub mod Writings
+pub mod Filling
 pub mod OwnCharts
 pub mod Demand
 pub mod Choices

@@ -33,6 +33,7 @@ use Rattle.derivation.proofs.Derivations.{derivation-passes}
 use Rattle.extraction.specs.Extraction.{Spelt, spelt, treeAt}
 use Rattle.extraction.proofs.SpelledTrees.{chart-goal-tree}
 use Rattle.writing.specs.Writing.{Wrote, refused, writeText, derives, writeSpelt, goalIn, writeGoal}
+use Rattle.writing.specs.Filling.{Choice, refuses, chooses, chosenSpelt, chosenGoal}
 use Rattle.writing.specs.Demand.{FewestTree, WritesTree}
 use Rattle.writing.specs.declared.Answer.the-variants.{Unfit, Underivable, NoRoom, Written}
 use Rattle.writing.proofs.Writings.{holding, text-held, text-short}
@@ -105,6 +106,10 @@ module _ (G : Grammar) (H : Graph) (ok : GrammarOk G) (hok : GraphOk G H) (cap :
     writes-found out =
         ap (writeSpelt G H out) (found-tree .4 4096 small) ∙ ap (λ (b : Bool). cond b (writeText (derivationText (found-tree .0)) out) (refused Unfit out)) derives-found
 
+    chosen-found : chosenSpelt G H (treeAt look G H 4096 j) ≡ chooses (derivationText (found-tree .0))
+    chosen-found =
+        ap (chosenSpelt G H) (found-tree .4 4096 small) ∙ ap (λ (b : Bool). cond b (chooses (derivationText (found-tree .0))) (refuses Unfit)) derives-found
+
     found-writes : (out : List ℕ) → WritesTree (found-tree .0) out (writeSpelt G H out (treeAt look G H 4096 j))
     found-writes out =
         record {
@@ -116,7 +121,7 @@ module _ (G : Grammar) (H : Graph) (ok : GrammarOk G) (hok : GraphOk G H) (cap :
   -- What a writing does with what the search found: no tree, or one with the fewest applications.
   pub data Writes (f : Found) : Type 0 where
     no-tree : ((t : Tree) → Generates G H t → ⊥) → f ≡ Nowhere → Writes f
-    a-tree : (t : Tree) → FewestTree G H t → ((out : List ℕ) → WritesTree t out (writeGoal G H look out f)) → Writes f
+    a-tree : (t : Tree) → FewestTree G H t → ((out : List ℕ) → WritesTree t out (writeGoal G H look out f)) → size t ≤ 4096 → chosenGoal G H look f ≡ chooses (derivationText t) → Writes f
 
   pub goal-writes : Writes (goalIn G H (c .records))
   unfolding goalIn
@@ -126,4 +131,4 @@ module _ (G : Grammar) (H : Graph) (ok : GrammarOk G) (hok : GraphOk G H) (cap :
       go Nowhere (missing none) = no-tree (λ u g. not-missing u g none) refl
       go (At j) (found l e) =
           let item : itemOf G (recordIn (c .records) j) ≡ goal G H = sym (bare-item G (recordOf (goal G H) 0 0 0) (recordIn (c .records) j) e) ∙ wanted-item in
-          a-tree (found-tree j l item .0) (fewest j l item) (found-writes j l item)
+          a-tree (found-tree j l item .0) (fewest j l item) (found-writes j l item) (small j l item) (chosen-found j l item)

@@ -18,15 +18,19 @@ use Rattle.agenda.specs.declared.Record.{Record}
 use Rattle.questions.specs.Abstract.{grammarOf, graphOf}
 use Rattle.records.specs.Words.{capacity, chartOf}
 use Rattle.chart.specs.Calls.{fit, startOf, runOf}
-use Rattle.derivation.specs.Derivations.{derivationText, DerivationOf}
+use Rattle.preorder.specs.Rows.{size}
+use Rattle.derivation.specs.Derivations.{derivationText, replayText, DerivationOf}
 use Rattle.writing.specs.Writing.{Wrote, refused, writeOf}
+use Rattle.writing.specs.Filling.{recordsOf, recordsText, Filled, unfilled, fillOf}
+use Rattle.writing.specs.declared.Application.{Application}
 use Rattle.writing.specs.declared.Answer.{Answer}
 use Rattle.writing.specs.declared.Answer.the-variants.{TooSmall, Unfinished, Underivable, NoRoom, Written}
 
--- a run of so many steps, or a writing with an output of these bytes
+-- a run of so many steps, or a writing: as text with an output of these bytes, or as records with a row of these
 pub data Call : Type 0 where
   run : (steps : ℕ) → Call
   write : (out : List ℕ) → Call
+  fill : (former : List Application) → Call
 
 -- the words of the chart after a list of calls; a writing only reads them
 unfoldable pub afterCalls : List ℕ → List ℕ → List ℕ → List Call → List ℕ
@@ -34,12 +38,14 @@ unfolding runOf
 afterCalls g h w [] = w
 afterCalls g h w (run k ∷ cs) = afterCalls g h (runOf g h w k .words) cs
 afterCalls g h w (write out ∷ cs) = afterCalls g h w cs
+afterCalls g h w (fill former ∷ cs) = afterCalls g h w cs
 
 -- the steps that the runs were given in all
 unfoldable pub stepsGiven : List Call → ℕ
 stepsGiven [] = 0
 stepsGiven (run k ∷ cs) = k + stepsGiven cs
 stepsGiven (write out ∷ cs) = stepsGiven cs
+stepsGiven (fill former ∷ cs) = stepsGiven cs
 
 -- the closure has n items
 pub record ClosureSize (G : Grammar) (H : Graph) (n : ℕ) : Type 0 where
@@ -68,6 +74,20 @@ pub record WritesTree (t : Tree) (out : List ℕ) (wrote : Wrote) : Type 0 where
       → wrote ≡ record { answer = Written (length (derivationText t)); out = derivationText t ++ drop (length (derivationText t)) out }
   pub short : length out < length (derivationText t) → wrote ≡ refused NoRoom out
 
+-- The same as records: they are the tree's where the row holds them, and it says 12 where not.
+pub record FillsTree (t : Tree) (former : List Application) (filled : Filled) : Type 0 where
+  pub held : size t ≤ length former → filled ≡ record { answer = Written (size t); rows = recordsOf t ++ drop (size t) former }
+  pub short : length former < size t → filled ≡ unfilled NoRoom former
+
+-- The records are those of a tree that generates the graph, and turned into text they are its text, which replays.
+pub record RecordsOf (G : Grammar) (H : Graph) (xs : List Application) : Type 0 where
+  pub derivation : Tree
+  pub generates : Generates G H derivation
+  pub small : size derivation ≤ 4096
+  pub listed : xs ≡ recordsOf derivation
+  pub text : recordsText xs ≡ derivationText derivation
+  pub replays : replayText G H (recordsText xs) ≡ true
+
 -- After the calls: v are the chart's words, which hold cap items, and the runs were given k steps in all.
 pub record CallsRight (g h : List ℕ) (cap k : ℕ) (v : List ℕ) : Type 0 where
   pub size : ℕ
@@ -84,12 +104,16 @@ pub record CallsRight (g h : List ℕ) (cap k : ℕ) (v : List ℕ) : Type 0 whe
   -- 'and a writing refuses the graph as underivable exactly when no derivation tree generates it'
   pub underivable : chartOf v .mark ≡ 0 → AllHandled (chartOf v .records) → (out : List ℕ)
       → (writeOf g h v out ≡ refused Underivable out) ↔ ((t : Tree) → Generates (grammarOf g) (graphOf g h) t → ⊥)
-  -- 'and else writes one with the fewest applications, in document 01's derivation lines .., if the output holds it'; which one does not hang on the output
+  pub underivable-row : chartOf v .mark ≡ 0 → AllHandled (chartOf v .records) → (former : List Application)
+      → (fillOf g h v former ≡ unfilled Underivable former) ↔ ((t : Tree) → Generates (grammarOf g) (graphOf g h) t → ⊥)
+  -- 'and else writes one with the fewest applications, in document 01's derivation lines or records, if the output holds it'; which one does not hang on the output, and is the same for both
   pub writes : chartOf v .mark ≡ 0 → AllHandled (chartOf v .records) → (u : Tree) → Generates (grammarOf g) (graphOf g h) u
-      → (t : Tree) × FewestTree (grammarOf g) (graphOf g h) t × ((out : List ℕ) → WritesTree t out (writeOf g h v out))
+      → (t : Tree) × FewestTree (grammarOf g) (graphOf g h) t × ((out : List ℕ) → WritesTree t out (writeOf g h v out)) × ((former : List Application) → FillsTree t former (fillOf g h v former))
   -- before that, a writing says 9 or 10
   pub nine : (chartOf v .mark ≡ 0 → ⊥) → (out : List ℕ) → writeOf g h v out ≡ refused TooSmall out
+  pub nine-row : (chartOf v .mark ≡ 0 → ⊥) → (former : List Application) → fillOf g h v former ≡ unfilled TooSmall former
   pub ten : chartOf v .mark ≡ 0 → SomeLeft (chartOf v .records) → (out : List ℕ) → writeOf g h v out ≡ refused (Unfinished (handledCount (chartOf v .records))) out
+  pub ten-row : chartOf v .mark ≡ 0 → SomeLeft (chartOf v .records) → (former : List Application) → fillOf g h v former ≡ unfilled (Unfinished (handledCount (chartOf v .records))) former
 
 -- A writing on the words w that answered a and left `now` in the output: what holds of the derivation that it chose.
 pub record WriteChoices (g h w out : List ℕ) (a : Answer) (now : List ℕ) : Type 0 where
@@ -99,3 +123,12 @@ pub record WriteChoices (g h w out : List ℕ) (a : Answer) (now : List ℕ) : T
   -- untouched since a start: it has the fewest applications
   pub fewest : (former : List ℕ) (cs : List Call) → fit g h former ≡ true → w ≡ afterCalls g h (startOf g h former .words) cs → (n : ℕ) → a ≡ Written n
       → (t : Tree) × FewestTree (grammarOf g) (graphOf g h) t × (take n now ≡ derivationText t)
+
+-- A filling on the words w that answered a and left `now` in the row: what holds of the derivation that it chose.
+pub record FillChoices (g h w : List ℕ) (former : List Application) (a : Answer) (now : List Application) : Type 0 where
+  -- whatever the chart: the records are those of a tree that generates the graph, and turned into text they are its text; those behind them stay
+  pub derivation : (n : ℕ) → a ≡ Written n → RecordsOf (grammarOf g) (graphOf g h) (take n now)
+  pub behind : (n : ℕ) → a ≡ Written n → (n ≤ length former) × (drop n now ≡ drop n former)
+  -- untouched since a start: it has the fewest applications
+  pub fewest : (beginning : List ℕ) (cs : List Call) → fit g h beginning ≡ true → w ≡ afterCalls g h (startOf g h beginning .words) cs → (n : ℕ) → a ≡ Written n
+      → (t : Tree) × FewestTree (grammarOf g) (graphOf g h) t × (take n now ≡ recordsOf t)

@@ -1,3 +1,4 @@
 -- The root of the definitions.
 pub mod Writing
+pub mod Filling
 pub mod Demand

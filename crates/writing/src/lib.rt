@@ -10,3 +10,14 @@ pub enum Answer {
     NoRoom,
     Written(u64),
 }
+
+// An application of a rule, its number being its place in the row: the rule, how many nodes and edges the rule has, the graph node of each rule node, and for each
+// rule edge the graph edge, or the number of the application that replaces it. Unused places are 0.
+#[repr(C)]
+pub struct Application {
+    pub rule: u64,
+    pub node_count: u64,
+    pub part_count: u64,
+    pub nodes: [u64; 8],
+    pub parts: [u64; 8],
+}
