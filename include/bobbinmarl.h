@@ -1,4 +1,4 @@
-/* Bobbinmarl for C: readers of grammars and graphs, a chart run in steps, a writer of derivations, and a replay.
+/* Bobbinmarl for C: readers of grammars and graphs, a chart run in steps, a writer of derivations as text or as records, and a replay.
  *
  * '01' is the paper that fixes files, questions and answers. Every function is proved to meet a contract that fixes its answer and every byte
  * and word that it is lent (crates/capi/src/lib.rt). It is told no more than its parameters, keeps nothing between calls, and needs no heap.
@@ -25,7 +25,7 @@
  *   11  the goal is not in the closure: the grammar does not derive the graph
  *   12  the output does not hold the derivation
  *   13  the file is no derivation of this graph
- * 1 to 8 and 11 to 13 change no lent byte or word. 9 and 10 leave the handled items in the chart.
+ * 1 to 8 and 11 to 13 change no lent byte, word or record. 9 and 10 leave the handled items in the chart.
  */
 #ifndef BOBBINMARL_H
 #define BOBBINMARL_H
@@ -68,6 +68,29 @@ uint64_t bobbinmarl_run(const uint64_t *grammar, size_t grammar_len, const uint6
  * touched chart leads to no derivation), 9, 11 and 12 as above, and *told stays. */
 uint64_t bobbinmarl_write(const uint64_t *grammar, size_t grammar_len, const uint64_t *graph, size_t graph_len, const uint64_t *chart,
                           size_t chart_len, uint8_t *out, size_t out_len, uint64_t *told);
+
+/* One application of a derivation: what a line `A` of the text says, without the application's own number, which is its place in the row. Numbering is
+ * from the top: an application, then its parts in edge order, each with everything under it before the next part. 19 words without gaps. */
+typedef struct bobbinmarl_application {
+    uint64_t rule;       /* the number of the rule */
+    uint64_t node_count; /* how many nodes the rule has: so many places of `nodes` are in use, 1 to 8 */
+    uint64_t part_count; /* how many edges the rule has: so many places of `parts` are in use, 1 to 8 */
+    uint64_t nodes[8];   /* the graph node of each rule node; unused places are 0 */
+    uint64_t parts[8];   /* for each rule edge the graph edge (of a terminal) or the number of the application that replaces it (of a nonterminal);
+                          * unused places are 0 */
+} bobbinmarl_application;
+
+#if defined(__cplusplus) && __cplusplus >= 201103L
+static_assert(sizeof(bobbinmarl_application) == 152, "19 words");
+#elif defined(__STDC_VERSION__) && __STDC_VERSION__ >= 201112L
+_Static_assert(sizeof(bobbinmarl_application) == 152, "19 words");
+#endif
+
+/* Fills a row of application records with the derivation that bobbinmarl_write writes as text: record i is the line of application i. rows_len counts
+ * records; no derivation has more than 4,096. 0: *told records are filled at the front of rows, and those behind them stay. 12: the row has fewer
+ * places than the derivation has applications. All else is as for bobbinmarl_write, *told too. A refusal changes no record. */
+uint64_t bobbinmarl_fill(const uint64_t *grammar, size_t grammar_len, const uint64_t *graph, size_t graph_len, const uint64_t *chart,
+                         size_t chart_len, bobbinmarl_application *rows, size_t rows_len, uint64_t *told);
 
 /* Replays the text of a derivation file. 0: it is a derivation of the graph. 13: it is none. 8: the tables are refused. */
 uint64_t bobbinmarl_replay(const uint64_t *grammar, size_t grammar_len, const uint64_t *graph, size_t graph_len, const uint8_t *derivation,

@@ -1,10 +1,12 @@
-/* Derives the graph of a folder with the folder's grammar, replays the derivation, and prints what the program `derive` prints.
- * usage: example FOLDER
+/* Derives the graph of a folder with the folder's grammar, replays the derivation, and prints what the program `derive` prints; with --records it has
+ * the derivation as records and prints these in words.
+ * usage: example [--records] FOLDER
  * Exit status: 0 a derivation, 1 a refusal, whose words go to standard error, 2 trouble.
  * All that the library is lent is static here; with 8 MiB of stack the main thread has enough. */
 #include <inttypes.h>
 #include <stdio.h>
 #include <stdlib.h>
+#include <string.h>
 
 #include "bobbinmarl.h"
 
@@ -13,11 +15,14 @@ enum { GRAMMAR_WORDS = 14985, GRAPH_WORDS = 585 };
 /* A chart takes 2 words and 16 for each item. */
 enum { ITEMS = 2048, CHART_WORDS = 2 + 16 * ITEMS };
 enum { FILE_BYTES = 32768, OUT_BYTES = 32768, PATH_BYTES = 4096 };
+/* No derivation has more applications. */
+enum { ROWS = 4096 };
 
 static uint64_t grammar[GRAMMAR_WORDS];
 static uint64_t graph[GRAPH_WORDS];
 static uint64_t chart[CHART_WORDS];
 static uint8_t out[OUT_BYTES];
+static bobbinmarl_application rows[ROWS];
 /* One byte more than a file may have, to see that it has more. */
 static uint8_t text[FILE_BYTES + 1];
 
@@ -81,28 +86,63 @@ static size_t read_file(const char *folder, const char *name, const char *what)
     return count;
 }
 
-int main(int count, char **arguments)
+/* Reads the folder's files and fills the chart; gives the steps. */
+static uint64_t derive(const char *folder)
 {
-    if (count != 2)
-        trouble("usage:", "example FOLDER");
-
-    size_t length = read_file(arguments[1], "grammar.txt", "grammar");
+    size_t length = read_file(folder, "grammar.txt", "grammar");
     require(bobbinmarl_read_grammar(text, length, grammar, GRAMMAR_WORDS), "grammar");
-    length = read_file(arguments[1], "graph.txt", "graph");
+    length = read_file(folder, "graph.txt", "graph");
     require(bobbinmarl_read_graph(grammar, GRAMMAR_WORDS, text, length, graph, GRAPH_WORDS), "graph");
 
     /* A chart of so many items is done after as many steps, or too small. */
     uint64_t steps = 0;
     require(bobbinmarl_start(grammar, GRAMMAR_WORDS, graph, GRAPH_WORDS, chart, CHART_WORDS), "start");
     require(bobbinmarl_run(grammar, GRAMMAR_WORDS, graph, GRAPH_WORDS, chart, CHART_WORDS, ITEMS, &steps), "run");
+    return steps;
+}
 
+static void print_text(const char *folder, uint64_t steps)
+{
     uint64_t written = 0;
     require(bobbinmarl_write(grammar, GRAMMAR_WORDS, graph, GRAPH_WORDS, chart, CHART_WORDS, out, OUT_BYTES, &written), "writing");
     if (bobbinmarl_replay(grammar, GRAMMAR_WORDS, graph, GRAPH_WORDS, out, (size_t)written) != 0)
-        trouble("does not replay: the derivation of", arguments[1]);
-
+        trouble("does not replay: the derivation of", folder);
     fwrite(out, 1, (size_t)written, stdout);
     printf("C%4" PRIu64 "\n", steps);
+}
+
+static void print_numbers(const char *what, const uint64_t *numbers, uint64_t count)
+{
+    printf(", %s", what);
+    for (uint64_t i = 0; i < count; i++)
+        printf(" %" PRIu64, numbers[i]);
+}
+
+/* One line for each record, such as `application 0: rule 1, nodes 0 2 1, parts 0 1`. */
+static void print_records(void)
+{
+    uint64_t filled = 0;
+    require(bobbinmarl_fill(grammar, GRAMMAR_WORDS, graph, GRAPH_WORDS, chart, CHART_WORDS, rows, ROWS, &filled), "filling");
+    for (uint64_t i = 0; i < filled; i++) {
+        printf("application %" PRIu64 ": rule %" PRIu64, i, rows[i].rule);
+        print_numbers("nodes", rows[i].nodes, rows[i].node_count);
+        print_numbers("parts", rows[i].parts, rows[i].part_count);
+        putchar('\n');
+    }
+}
+
+int main(int count, char **arguments)
+{
+    int records = count > 1 && strcmp(arguments[1], "--records") == 0;
+    if (count != 2 + records)
+        trouble("usage:", "example [--records] FOLDER");
+    const char *folder = arguments[1 + records];
+
+    uint64_t steps = derive(folder);
+    if (records)
+        print_records();
+    else
+        print_text(folder, steps);
     end_output();
     return 0;
 }

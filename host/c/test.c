@@ -21,7 +21,7 @@ static void check(int holds, const char *fact, const char *where, int line)
 
 /* ---- what is lent, with guards around each part; `kept` is a copy from before a call */
 
-enum { GUARD = 8, GRAMMAR = 14985, GRAPH = 585, CHART = 2 + 16 * 4097, OUT = 64 };
+enum { GUARD = 8, GRAMMAR = 14985, GRAPH = 585, CHART = 2 + 16 * 4097, OUT = 64, ROWS = 2048 };
 
 static struct lent {
     uint64_t guard0[GUARD];
@@ -33,8 +33,10 @@ static struct lent {
     uint64_t guard3[GUARD];
     uint8_t out[OUT];
     uint64_t guard4[GUARD];
-    uint64_t told;
+    bobbinmarl_application rows[ROWS];
     uint64_t guard5[GUARD];
+    uint64_t told;
+    uint64_t guard6[GUARD];
 } lent, kept;
 
 static void keep(void)
@@ -43,7 +45,7 @@ static void keep(void)
 }
 
 /* Other bytes everywhere, none of them 0. */
-static void fill(void)
+static void paint(void)
 {
     unsigned char *bytes = (unsigned char *)&lent;
     for (size_t i = 0; i < sizeof lent; i++)
@@ -95,6 +97,11 @@ static uint64_t write_out(size_t items, size_t room)
     return bobbinmarl_write(TABLES, lent.chart, chart_words(items), lent.out, room, &lent.told);
 }
 
+static uint64_t fill(size_t items, size_t room)
+{
+    return bobbinmarl_fill(TABLES, lent.chart, chart_words(items), lent.rows, room, &lent.told);
+}
+
 static uint64_t replay(const char *text)
 {
     return bobbinmarl_replay(TABLES, (const uint8_t *)text, strlen(text));
@@ -123,10 +130,37 @@ static const char k6[] = "H   2   2   0   1\nE   0   0   1\nE   0   0   1\n";
 static const char derivation_k2[] = "D   2\nA   0   1   0   2   1   0   1\nA   1   0   1   2   1\n";
 enum { K2_BYTES = sizeof derivation_k2 - 1, K2_ITEMS = 10 };
 
+static const bobbinmarl_application records_k2[] = {
+    {.rule = 1, .node_count = 3, .part_count = 2, .nodes = {0, 2, 1}, .parts = {0, 1}},
+    {.rule = 0, .node_count = 2, .part_count = 1, .nodes = {1, 2}, .parts = {1}},
+};
+
+static int put_numbers(char *text, const uint64_t *numbers, uint64_t count)
+{
+    int at = 0;
+    for (uint64_t i = 0; i < count && i < 8; i++)
+        at += sprintf(text + at, "%4" PRIu64, numbers[i]);
+    return at;
+}
+
+/* The derivation file of up to eight records; of what is no record it may be any text that fits. */
+static const char *text_of(const bobbinmarl_application *rows, uint64_t count)
+{
+    static char text[4096];
+    int at = sprintf(text, "D%4" PRIu64 "\n", count);
+    for (uint64_t i = 0; i < count && i < 8; i++) {
+        at += sprintf(text + at, "A%4" PRIu64 "%4" PRIu64, i, rows[i].rule);
+        at += put_numbers(text + at, rows[i].nodes, rows[i].node_count);
+        at += put_numbers(text + at, rows[i].parts, rows[i].part_count);
+        at += sprintf(text + at, "\n");
+    }
+    return text;
+}
+
 /* Fresh memory with both tables read. */
 static void read_both(const char *grammar, const char *graph)
 {
-    fill();
+    paint();
     CHECK(read_grammar(grammar) == 0);
     CHECK(read_graph(graph) == 0);
 }
@@ -153,6 +187,19 @@ static void test_words(void)
     CHECK(bobbinmarl_chart_words(SIZE_MAX) == 0);
 }
 
+/* The same derivation as records: text from them is the text that was written. */
+static void test_records(size_t items, size_t written, uint64_t applications)
+{
+    lent.told = 77;
+    keep();
+    CHECK(fill(items, ROWS) == 0);
+    CHECK(lent.told == applications);
+    const char *text = text_of(lent.rows, applications);
+    CHECK(strlen(text) == written && memcmp(text, lent.out, written) == 0);
+    lent.told = kept.told;
+    CHECK(same_but(lent.rows, applications * sizeof lent.rows[0]));
+}
+
 /* The steps of a closure, and the applications of its derivation, none where the answer is 11. */
 static void test_graph(const char *grammar, const char *graph, uint64_t steps, int applications)
 {
@@ -166,6 +213,7 @@ static void test_graph(const char *grammar, const char *graph, uint64_t steps, i
     uint64_t answer = write_out(2048, OUT);
     if (applications == 0) {
         CHECK(answer == 11);
+        CHECK(fill(2048, ROWS) == 11);
         CHECK(same());
         return;
     }
@@ -179,6 +227,7 @@ static void test_graph(const char *grammar, const char *graph, uint64_t steps, i
     CHECK(bobbinmarl_replay(TABLES, lent.out, written) == 0);
     lent.told = kept.told;
     CHECK(same_but(lent.out, written));
+    test_records(2048, written, (uint64_t)applications);
 }
 
 static void test_k1_to_k6(void)
@@ -205,6 +254,7 @@ static void test_k7(void)
     CHECK(run(9, 9) == 9);
     CHECK(same());
     CHECK(write_out(9, OUT) == 9);
+    CHECK(fill(9, ROWS) == 9);
     CHECK(same());
     CHECK(start(1) == 9);
     CHECK(start(10) == 0);
@@ -218,6 +268,9 @@ static void test_k8(void)
     keep();
     lent.told = 77;
     CHECK(write_out(K2_ITEMS, OUT) == 10);
+    CHECK(lent.told == 9);
+    lent.told = 77;
+    CHECK(fill(K2_ITEMS, ROWS) == 10);
     CHECK(lent.told == 9);
     CHECK(same());
     CHECK(run(K2_ITEMS, 1) == 0);
@@ -247,6 +300,64 @@ static void test_k10(void)
     CHECK(same_but(lent.out, K2_BYTES));
 }
 
+/* K2's records: a row of one does not hold them, and what lies behind them stays. */
+static void test_row(void)
+{
+    CHECK(sizeof(bobbinmarl_application) == 152);
+    run_k2(K2_ITEMS);
+    keep();
+    CHECK(fill(K2_ITEMS, 0) == 12);
+    CHECK(fill(K2_ITEMS, 1) == 12);
+    CHECK(same());
+    for (size_t room = 2; room < 5; room++) {
+        run_k2(K2_ITEMS);
+        keep();
+        CHECK(fill(K2_ITEMS, room) == 0);
+        CHECK(lent.told == 2);
+        CHECK(memcmp(lent.rows, records_k2, sizeof records_k2) == 0);
+        lent.told = kept.told;
+        CHECK(same_but(lent.rows, sizeof records_k2));
+    }
+}
+
+/* Do text and records of K2's chart, as it stands, have the same answer and, where they are written, the same derivation, and does all else stay? */
+static int alike(uint64_t *number)
+{
+    enum { ROOM = 4 };
+    lent.told = 77;
+    uint64_t written = write_out(K2_ITEMS, OUT), told = lent.told;
+    lent.told = 77;
+    memset(lent.rows, 0xa5, ROOM * sizeof lent.rows[0]);
+    keep();
+    *number = fill(K2_ITEMS, ROOM);
+    uint64_t count = lent.told;
+    lent.told = kept.told;
+    if (*number != written)
+        return 0;
+    if (*number != 0)
+        return count == told && same();
+    const char *text = text_of(lent.rows, count);
+    return count <= ROOM && same_but(lent.rows, count * sizeof lent.rows[0]) && strlen(text) == told && memcmp(text, lent.out, told) == 0;
+}
+
+/* Every word of K2's finished chart set to values in and out of its range. */
+static void test_touched(void)
+{
+    static const uint64_t values[] = {0, 1, 3, 10, 64, UINT64_MAX};
+    int seen[14] = {0};
+    run_k2(K2_ITEMS);
+    for (size_t at = 0; at < chart_words(K2_ITEMS); at++) {
+        uint64_t former = lent.chart[at], number = 0;
+        for (size_t v = 0; v < sizeof values / sizeof values[0]; v++) {
+            lent.chart[at] = values[v];
+            CHECK(alike(&number));
+            seen[number % 14] = 1;
+        }
+        lent.chart[at] = former;
+    }
+    CHECK(seen[0] && seen[8] && seen[9] && seen[10] && seen[11] && !seen[12]);
+}
+
 /* Runs in pieces leave the chart of one run. */
 static void test_pieces(void)
 {
@@ -262,7 +373,7 @@ static void test_pieces(void)
 
 static void refused_grammar(uint64_t number, const char *text)
 {
-    fill();
+    paint();
     keep();
     CHECK(read_grammar(text) == number);
     CHECK(same());
@@ -270,7 +381,7 @@ static void refused_grammar(uint64_t number, const char *text)
 
 static void refused_graph(uint64_t number, const char *text)
 {
-    fill();
+    paint();
     CHECK(read_grammar(grammar_a) == 0);
     keep();
     CHECK(read_graph(text) == number);
@@ -300,7 +411,7 @@ static void test_table_lengths(void)
 {
     const uint8_t *text = (const uint8_t *)grammar_a, *other = (const uint8_t *)k2;
     size_t length = strlen(grammar_a), other_length = strlen(k2);
-    fill();
+    paint();
     keep();
     CHECK(bobbinmarl_read_grammar(text, length, lent.grammar, GRAMMAR - 1) == 8);
     CHECK(bobbinmarl_read_grammar(text, length, lent.grammar, 0) == 8);
@@ -338,6 +449,7 @@ static void refused_lent(size_t items)
     CHECK(start(items) == 8);
     CHECK(run(items, 1) == 8);
     CHECK(write_out(items, OUT) == 8);
+    CHECK(fill(items, ROWS) == 8);
     CHECK(same());
 }
 
@@ -362,12 +474,14 @@ static void test_unfit(void)
     keep();
     CHECK(run(K2_ITEMS, 1) == 8);
     CHECK(write_out(K2_ITEMS, OUT) == 8);
+    CHECK(fill(K2_ITEMS, ROWS) == 8);
     CHECK(same());
     run_k2(10);
     lent.chart[0] = 11;
     keep();
     CHECK(run(K2_ITEMS, 1) == 8);
     CHECK(write_out(K2_ITEMS, OUT) == 8);
+    CHECK(fill(K2_ITEMS, ROWS) == 8);
     CHECK(same());
 }
 
@@ -396,6 +510,52 @@ static void test_nested(void)
     }
 }
 
+static uint64_t *put_item(uint64_t *at, uint64_t kind, uint64_t of, uint64_t plan, uint64_t first, uint64_t second)
+{
+    const uint64_t item[16] = {kind, of, plan, 1, 1, 1, 0, 1, 64, 64, 64, 64, 64, 64, first, second};
+    memcpy(at, item, sizeof item);
+    return at + 16;
+}
+
+/* A chart of 4,096 items that spells the deepest derivation a chart can: leaves, rule 0 on the graph's edge, and above it each passive item by rule 1 for
+ * the one below it. */
+static void put_deepest_chart(void)
+{
+    uint64_t *at = lent.chart;
+    *at++ = 4096;
+    *at++ = 0;
+    at = put_item(at, 0, 0, 0, 0, 0);
+    at = put_item(at, 0, 1, 0, 0, 0);
+    at = put_item(at, 0, 0, 1, 0, 0);
+    at = put_item(at, 1, 1, 0, 2, 0);
+    for (uint64_t i = 4; i < 4096; i += 2) {
+        at = put_item(at, 0, 1, 1, 1, i - 1);
+        at = put_item(at, 1, 1, 0, i, 0);
+    }
+}
+
+/* 2,047 nested applications: each but the last one is a renaming of the next. */
+static void test_deepest(void)
+{
+    enum { DEEPEST = 2047 };
+    read_both(grammar_renaming, k1);
+    put_deepest_chart();
+    keep();
+    CHECK(fill(4096, DEEPEST - 1) == 12);
+    CHECK(same());
+    CHECK(fill(4096, ROWS) == 0);
+    CHECK(lent.told == DEEPEST);
+    lent.told = kept.told;
+    CHECK(same_but(lent.rows, DEEPEST * sizeof lent.rows[0]));
+    int right = 0;
+    for (uint64_t i = 0; i < DEEPEST; i++) {
+        int last = i == DEEPEST - 1;
+        const bobbinmarl_application due = {!last, 2, 1, {0, 1}, {last ? 0 : i + 1}};
+        right += memcmp(&lent.rows[i], &due, sizeof due) == 0;
+    }
+    CHECK(right == DEEPEST);
+}
+
 /* Where the length is 0, any pointer will do. */
 static void test_length_zero(void)
 {
@@ -405,6 +565,7 @@ static void test_length_zero(void)
     uint64_t told = 77;
     CHECK(bobbinmarl_run(NULL, 0, NULL, 0, NULL, 0, 1, &told) == 8);
     CHECK(bobbinmarl_write(NULL, 0, NULL, 0, NULL, 0, NULL, 0, &told) == 8);
+    CHECK(bobbinmarl_fill(NULL, 0, NULL, 0, NULL, 0, NULL, 0, &told) == 8);
     CHECK(told == 77);
     CHECK(bobbinmarl_replay(NULL, 0, NULL, 0, NULL, 0) == 8);
     run_k2(10);
@@ -412,6 +573,7 @@ static void test_length_zero(void)
     CHECK(bobbinmarl_read_grammar(NULL, 0, lent.grammar, GRAMMAR) == 2);
     CHECK(bobbinmarl_read_graph(lent.grammar, GRAMMAR, NULL, 0, lent.graph, GRAPH) == 2);
     CHECK(bobbinmarl_write(TABLES, lent.chart, chart_words(K2_ITEMS), NULL, 0, &lent.told) == 12);
+    CHECK(bobbinmarl_fill(TABLES, lent.chart, chart_words(K2_ITEMS), NULL, 0, &lent.told) == 12);
     CHECK(bobbinmarl_replay(TABLES, NULL, 0) == 13);
     CHECK(same());
 }
@@ -424,6 +586,8 @@ int main(void)
     test_k8();
     test_k9();
     test_k10();
+    test_row();
+    test_touched();
     test_pieces();
     test_texts();
     test_table_lengths();
@@ -431,6 +595,7 @@ int main(void)
     test_unfit();
     test_replay();
     test_nested();
+    test_deepest();
     test_length_zero();
     printf("c checks %d, failures %d\n", checks, failures);
     return checks > 0 && failures == 0 ? 0 : 1;

@@ -1,8 +1,10 @@
 //! The calls of the proved library over lent slices, safe: a slice carries its length, an exclusive borrow keeps what is written apart from
 //! what is read, and an answer is an enum. Nothing is allocated or kept.
 //!
-//! [`write()`] and [`replay`] may take up to [`STACK_BYTES`](crate::STACK_BYTES) of stack, more than a thread of Rust has by default; the
-//! others take less than 256 KiB. Where the stack ends too early the process ends, as with any function of Rust.
+//! [`write()`], [`fill`] and [`replay`] may take up to [`STACK_BYTES`](crate::STACK_BYTES) of stack, more than a thread of Rust has by default;
+//! the others take less than 256 KiB. Where the stack ends too early the process ends, as with any function of Rust.
+
+use std::mem::{align_of, size_of};
 
 /// The functions of include/bobbinmarl.h.
 ///
@@ -15,8 +17,11 @@
 /// - the functions keep no pointer and call nothing of the caller's, and do not unwind;
 /// - they touch their stack page by page, so that a stack that is too short ends at its guard page and nothing else is written.
 ///
-/// The types are those of the header: `usize` for `size_t`, `u64` for `uint64_t`, `u8` for `uint8_t`.
+/// The types are those of the header: `usize` for `size_t`, `u64` for `uint64_t`, `u8` for `uint8_t`, `Application` for its struct, which may
+/// hold any words.
 mod ffi {
+    use super::Application;
+
     extern "C" {
         pub fn bobbinmarl_grammar_words() -> usize;
         pub fn bobbinmarl_graph_words() -> usize;
@@ -57,6 +62,17 @@ mod ffi {
             chart_len: usize,
             out: *mut u8,
             out_len: usize,
+            told: *mut u64,
+        ) -> u64;
+        pub fn bobbinmarl_fill(
+            grammar: *const u64,
+            grammar_len: usize,
+            graph: *const u64,
+            graph_len: usize,
+            chart: *const u64,
+            chart_len: usize,
+            rows: *mut Application,
+            rows_len: usize,
             told: *mut u64,
         ) -> u64;
         pub fn bobbinmarl_replay(
@@ -104,7 +120,26 @@ pub enum Outcome {
     Done(u64),
 }
 
-/// What a writing answers.
+/// One application of a derivation, in the layout of the header's struct. Its number is its place in the row, counted from the top.
+#[repr(C)]
+#[derive(Clone, Copy, Debug, Default, PartialEq, Eq)]
+pub struct Application {
+    /// The number of the rule.
+    pub rule: u64,
+    /// How many nodes the rule has: so many places of `nodes` are in use.
+    pub node_count: u64,
+    /// How many edges the rule has: so many places of `parts` are in use.
+    pub part_count: u64,
+    /// The graph node of each rule node; unused places are 0. [`nodes()`](Application::nodes) gives those in use.
+    pub nodes: [u64; 8],
+    /// For each rule edge the graph edge (of a terminal) or the number of the application that replaces it (of a nonterminal); unused places
+    /// are 0. [`parts()`](Application::parts) gives those in use.
+    pub parts: [u64; 8],
+}
+
+const _: () = assert!(size_of::<Application>() == 152 && align_of::<Application>() == align_of::<u64>());
+
+/// What a writing answers, as text or as records.
 #[derive(Clone, Copy, Debug, PartialEq, Eq)]
 pub enum Answer {
     /// 8: the tables or the chart are refused, or a touched chart leads to no derivation of the graph.
@@ -117,7 +152,7 @@ pub enum Answer {
     Underivable,
     /// 12: the output does not hold the derivation.
     NoRoom,
-    /// So many bytes are written to the front of the output.
+    /// So many bytes are written to the front of the output, or so many records filled at the front of the row.
     Written(usize),
 }
 
@@ -158,6 +193,18 @@ fn outcome(number: u64, done: u64) -> Outcome {
         8 => Outcome::Unfit,
         9 => Outcome::TooSmall,
         10 => Outcome::Unfinished(done),
+        other => unknown(other),
+    }
+}
+
+fn answer(number: u64, told: u64) -> Answer {
+    match number {
+        0 => Answer::Written(told as usize),
+        8 => Answer::Unfit,
+        9 => Answer::TooSmall,
+        10 => Answer::Unfinished(told),
+        11 => Answer::Underivable,
+        12 => Answer::NoRoom,
         other => unknown(other),
     }
 }
@@ -259,15 +306,30 @@ pub fn write(grammar: &[u64], graph: &[u64], chart: &[u64], out: &mut [u8]) -> A
             &mut told,
         )
     };
-    match number {
-        0 => Answer::Written(told as usize),
-        8 => Answer::Unfit,
-        9 => Answer::TooSmall,
-        10 => Answer::Unfinished(told),
-        11 => Answer::Underivable,
-        12 => Answer::NoRoom,
-        other => unknown(other),
-    }
+    answer(number, told)
+}
+
+/// Fills the row from its front with the derivation that [`write()`] writes as text; records behind the last one stay. A refusal changes no
+/// record; `NoRoom` says that the row has fewer places than the derivation has applications.
+///
+/// It takes as much stack as [`write()`].
+pub fn fill(grammar: &[u64], graph: &[u64], chart: &[u64], rows: &mut [Application]) -> Answer {
+    let mut told = 0;
+    // SAFETY: as said at `ffi`.
+    let number = unsafe {
+        ffi::bobbinmarl_fill(
+            grammar.as_ptr(),
+            grammar.len(),
+            graph.as_ptr(),
+            graph.len(),
+            chart.as_ptr(),
+            chart.len(),
+            rows.as_mut_ptr(),
+            rows.len(),
+            &mut told,
+        )
+    };
+    answer(number, told)
 }
 
 /// Replays a derivation text.

@@ -1,6 +1,7 @@
 //! Charts that were started on a graph: words that only the library has written.
 
-use crate::calls;
+use crate::applications::MOST_APPLICATIONS;
+use crate::calls::{self, Application};
 use crate::refusal::{of_answer, of_outcome, Refusal};
 use crate::stack::with_stack;
 use crate::texts::Graph;
@@ -9,7 +10,7 @@ use crate::texts::Graph;
 pub const MOST_ITEMS: usize = 4096;
 
 /// The bytes of the longest derivation: 4,096 lines of 74 bytes behind the first of six.
-pub const DERIVATION_BYTES: usize = 6 + 4096 * 74;
+pub const DERIVATION_BYTES: usize = 6 + MOST_APPLICATIONS * 74;
 
 /// A chart that was started on a graph, which it borrows.
 #[derive(Clone, Debug)]
@@ -75,6 +76,35 @@ impl<'a> Chart<'a> {
         out.truncate(length);
         out.shrink_to_fit();
         Ok(out)
+    }
+
+    /// Fills a row of records from its front with the derivation that [`write`](Chart::write) writes as text, and gives
+    /// their number. Records behind them stay; a refusal changes no record.
+    ///
+    /// Refusals: as [`write`](Chart::write), 12 where `rows` has fewer places than the derivation has applications.
+    ///
+    /// Works on a thread of its own with [`STACK_BYTES`](crate::STACK_BYTES) of stack.
+    ///
+    /// # Panics
+    /// If the system gives no thread.
+    pub fn fill(&self, rows: &mut [Application]) -> Result<usize, Refusal> {
+        let answer = with_stack(|| calls::fill(self.graph.grammar().table(), self.graph.table(), &self.words, rows));
+        of_answer(answer)
+    }
+
+    /// The records of the derivation, as [`fill`](Chart::fill) fills them. [`MOST_APPLICATIONS`] are lent, so that 12 does
+    /// not come.
+    ///
+    /// Works on a thread of its own with [`STACK_BYTES`](crate::STACK_BYTES) of stack.
+    ///
+    /// # Panics
+    /// If the system gives no thread.
+    pub fn applications(&self) -> Result<Vec<Application>, Refusal> {
+        let mut rows = vec![Application::default(); MOST_APPLICATIONS];
+        let count = self.fill(&mut rows)?;
+        rows.truncate(count);
+        rows.shrink_to_fit();
+        Ok(rows)
     }
 
     /// The graph that it was started on.

@@ -6,7 +6,7 @@
 //! its numbers. The files are described in docs/FORMATS.md of the repository, the refusals in docs/REFUSALS.md.
 //!
 //! ```
-//! use bobbinmarl::{Chart, Grammar, Graph, Refusal};
+//! use bobbinmarl::{text_of, Chart, Grammar, Graph, Refusal};
 //!
 //! // Paths of one edge or more: an edge, or an edge and a path behind it.
 //! let grammar = "\
@@ -45,6 +45,12 @@
 //! ");
 //! graph.replay(&derivation)?;
 //! assert_eq!(graph.replay(b"D   1\n"), Err(Refusal::NoDerivation));
+//!
+//! // The same as records: an application's number is its place in the row.
+//! let rows = chart.applications()?;
+//! assert_eq!((rows[0].rule, rows[0].nodes(), rows[0].parts()), (1, &[0, 2, 1][..], &[0, 1][..]));
+//! assert_eq!((rows[1].rule, rows[1].nodes(), rows[1].parts()), (0, &[1, 2][..], &[1][..]));
+//! assert_eq!(text_of(&rows), derivation);
 //! # Ok::<(), Box<dyn std::error::Error>>(())
 //! ```
 //!
@@ -64,13 +70,15 @@
 #![deny(clippy::undocumented_unsafe_blocks)]
 #![warn(missing_docs)]
 
+mod applications;
 pub mod calls;
 mod chart;
 mod refusal;
 mod stack;
 mod texts;
 
-pub use calls::Fault;
+pub use applications::{text_of, MOST_APPLICATIONS};
+pub use calls::{Application, Fault};
 pub use chart::{Chart, DERIVATION_BYTES, MOST_ITEMS};
 pub use refusal::Refusal;
 pub use stack::{with_stack, STACK_BYTES};

@@ -114,10 +114,10 @@ pub(crate) fn of_outcome(outcome: Outcome) -> Result<u64, Refusal> {
     }
 }
 
-/// The bytes of a writing, or its refusal.
+/// The bytes or records of a writing, or its refusal.
 pub(crate) fn of_answer(answer: Answer) -> Result<usize, Refusal> {
     match answer {
-        Answer::Written(bytes) => Ok(bytes),
+        Answer::Written(length) => Ok(length),
         Answer::NoRoom => Err(Refusal::NoRoom),
         Answer::Underivable => Err(Refusal::Underivable),
         Answer::Unfinished(steps) => Err(Refusal::Unfinished(steps)),
@@ -131,5 +131,26 @@ pub(crate) fn of_verdict(verdict: Verdict) -> Result<(), Refusal> {
         Verdict::Passed => Ok(()),
         Verdict::NoDerivation => Err(Refusal::NoDerivation),
         Verdict::Unfit => Err(Refusal::Unfit),
+    }
+}
+
+impl Outcome {
+    /// 01's number, 0 where it is no refusal.
+    pub fn number(self) -> u64 {
+        of_outcome(self).err().map_or(0, Refusal::number)
+    }
+}
+
+impl Answer {
+    /// 01's number, 0 where it is no refusal.
+    pub fn number(self) -> u64 {
+        of_answer(self).err().map_or(0, Refusal::number)
+    }
+}
+
+impl Verdict {
+    /// 01's number, 0 where it is no refusal.
+    pub fn number(self) -> u64 {
+        of_verdict(self).err().map_or(0, Refusal::number)
     }
 }

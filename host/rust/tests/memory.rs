@@ -4,17 +4,9 @@ mod common;
 
 use bobbinmarl::calls::{self, Answer, Fault, Outcome, Verdict};
 use bobbinmarl::DERIVATION_BYTES;
-use common::{example, stored, texts, with_line, Lent};
+use common::{example, stored, texts, unchanged, with_line, Lent};
 
 const K2_BYTES: usize = 58;
-
-/// A call that must change nothing; the answer is its own.
-fn unchanged<T>(lent: &mut Lent, call: impl FnOnce(&mut Lent) -> T) -> T {
-    let before = lent.clone();
-    let answer = call(lent);
-    assert!(*lent == before, "a lent word or byte changed");
-    answer
-}
 
 #[test]
 fn words_to_lend() {

@@ -2,8 +2,8 @@
 
 mod common;
 
-use bobbinmarl::calls::{self, Answer, Verdict};
-use bobbinmarl::{with_stack, Chart, Grammar, Graph, Refusal, STACK_BYTES};
+use bobbinmarl::calls::{self, Answer, Application, Verdict};
+use bobbinmarl::{text_of, with_stack, Chart, Grammar, Graph, Refusal, STACK_BYTES};
 use common::example;
 use std::thread;
 
@@ -39,14 +39,18 @@ fn nested(n: u64) -> Vec<u8> {
     format!("D{n:4}\n{rows}").into_bytes()
 }
 
-fn on_usual_stack<T: Send>(work: impl FnOnce() -> T + Send) -> T {
+fn on_stack<T: Send>(bytes: usize, work: impl FnOnce() -> T + Send) -> T {
     thread::scope(|scope| {
         let thread = thread::Builder::new()
-            .stack_size(USUAL_STACK)
+            .stack_size(bytes)
             .spawn_scoped(scope, work)
             .unwrap();
         thread.join().unwrap()
     })
+}
+
+fn on_usual_stack<T: Send>(work: impl FnOnce() -> T + Send) -> T {
+    on_stack(USUAL_STACK, work)
 }
 
 /// The owning types need no more than the usual stack, since they see to it themselves.
@@ -72,16 +76,26 @@ fn nested_renamings_replay_over_slices() {
     let grammar = grammar();
     let graph = Graph::read(&grammar, &example("k1", "graph.txt")).unwrap();
     let text = nested(4096);
-    let work = || calls::replay(grammar.table(), graph.table(), &text);
-    let verdict = thread::scope(|scope| {
-        thread::Builder::new()
-            .stack_size(STACK_BYTES)
-            .spawn_scoped(scope, work)
-            .unwrap()
-            .join()
-            .unwrap()
-    });
+    let verdict = on_stack(STACK_BYTES, || calls::replay(grammar.table(), graph.table(), &text));
     assert_eq!(verdict, Verdict::Passed);
+}
+
+/// Text and records take buffers of some 300 KiB each on the stack: the owning types take them elsewhere than on the caller's.
+#[test]
+fn owned_charts_need_little_stack() {
+    on_stack(256 << 10, || {
+        let grammar = Grammar::read(&example("k2", "grammar.txt")).unwrap();
+        let graph = Graph::read(&grammar, &example("k2", "graph.txt")).unwrap();
+        let mut chart = Chart::start(&graph, 10).unwrap();
+        assert_eq!(chart.run(10), Ok(10));
+        let mut out = vec![0; 58];
+        assert_eq!(chart.write(&mut out), Ok(58));
+        let mut rows = vec![Application::default(); 2];
+        assert_eq!(chart.fill(&mut rows), Ok(2));
+        assert_eq!(text_of(&rows), out);
+        assert_eq!(chart.applications().unwrap(), rows);
+        assert_eq!(graph.replay(&chart.derivation().unwrap()), Ok(()));
+    });
 }
 
 /// A chart of 4,096 items that spells the deepest derivation a chart can: leaves, rule 0 on the graph's edge, and above it
@@ -114,6 +128,29 @@ fn the_deepest_chart_is_written() {
     assert_eq!(out[45040..], *b"x");
 }
 
+/// The same as records, with one behind them that stays.
+#[test]
+fn the_deepest_chart_is_filled() {
+    let grammar = grammar();
+    let graph = Graph::read(&grammar, &example("k1", "graph.txt")).unwrap();
+    let chart = deepest_chart();
+    let guard = Application {
+        rule: 77,
+        ..Application::default()
+    };
+    let mut rows = vec![guard; 2047 + 1];
+    let answer = with_stack(|| calls::fill(grammar.table(), graph.table(), &chart, &mut rows[..2046]));
+    assert_eq!(answer, Answer::NoRoom);
+    assert!(rows.iter().all(|record| *record == guard));
+    let answer = with_stack(|| calls::fill(grammar.table(), graph.table(), &chart, &mut rows));
+    assert_eq!(answer, Answer::Written(2047));
+    assert_eq!(text_of(&rows[..2047]), nested(2047));
+    assert!(rows[..2047]
+        .iter()
+        .all(|record| (record.node_count, record.part_count) == (2, 1)));
+    assert_eq!(rows[2047], guard);
+}
+
 /// The graph of a path with so many edges from node 0 to the last.
 fn path(edges: usize) -> Vec<u8> {
     let lines: String = (0..edges).map(|i| format!("E   0{i:4}{:4}\n", i + 1)).collect();
@@ -132,6 +169,7 @@ fn the_longest_path_is_derived_and_replays() {
         let derivation = chart.derivation().unwrap();
         assert!(derivation.starts_with(b"D  62\n"));
         assert_eq!(graph.replay(&derivation), Ok(()));
+        assert_eq!(text_of(&chart.applications().unwrap()), derivation);
         let graph = Graph::read(&grammar, &path(63)).unwrap();
         assert_eq!(Chart::start(&graph, 4096).unwrap().run(4096), Err(Refusal::TooSmall));
     });
@@ -151,4 +189,5 @@ fn types_are_send_and_sync() {
     both::<Graph<'static>>();
     both::<Chart<'static>>();
     both::<Refusal>();
+    both::<Application>();
 }

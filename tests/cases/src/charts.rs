@@ -3,15 +3,6 @@
 use crate::{kept, Data};
 use bobbinmarl::calls::{self, Outcome};
 
-fn number(outcome: Outcome) -> u64 {
-    match outcome {
-        Outcome::Unfit => 8,
-        Outcome::TooSmall => 9,
-        Outcome::Unfinished(_) => 10,
-        Outcome::Done(_) => 0,
-    }
-}
-
 fn steps(outcome: Outcome) -> u64 {
     match outcome {
         Outcome::Unfinished(steps) | Outcome::Done(steps) => steps,
@@ -26,10 +17,10 @@ fn lent(words: usize) -> Vec<u64> {
 
 /// Starts and runs in pieces of these steps, on one line.
 fn run(name: &str, grammar: &[u64], graph: &[u64], chart: &mut [u64], pieces: &[u64]) {
-    print!("{name} {}", number(calls::start(grammar, graph, chart)));
+    print!("{name} {}", calls::start(grammar, graph, chart).number());
     for &piece in pieces {
         let outcome = calls::run(grammar, graph, chart, piece);
-        print!(" {} {}", number(outcome), steps(outcome));
+        print!(" {} {}", outcome.number(), steps(outcome));
     }
     println!();
 }
@@ -45,10 +36,10 @@ pub fn finished(grammar: &[u64], graph: &[u64]) -> Vec<u64> {
 /// K9: no steps on a fresh chart.
 fn no_steps(grammar: &[u64], graph: &[u64]) {
     let mut chart = lent(162);
-    let started = number(calls::start(grammar, graph, &mut chart));
+    let started = calls::start(grammar, graph, &mut chart).number();
     let before = chart.clone();
     let outcome = calls::run(grammar, graph, &mut chart, 0);
-    println!("k9 {started} {} {} {}", number(outcome), steps(outcome), kept(chart == before));
+    println!("k9 {started} {} {} {}", outcome.number(), steps(outcome), kept(chart == before));
 }
 
 /// K2's finished chart with another word at a place: no steps. In item 0, a leaf's: kind, rule, plan node, edges and a node; the first partner of
@@ -60,7 +51,12 @@ fn touched(grammar: &[u64], graph: &[u64]) {
         chart[at] = value;
         let before = chart.clone();
         let outcome = calls::run(grammar, graph, &mut chart, 0);
-        println!("touched-chart {at} {value} {} {} {}", number(outcome), steps(outcome), kept(chart == before));
+        println!(
+            "touched-chart {at} {value} {} {} {}",
+            outcome.number(),
+            steps(outcome),
+            kept(chart == before)
+        );
     }
 }
 

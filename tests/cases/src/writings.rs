@@ -2,25 +2,10 @@
 //! they can be.
 
 use crate::{charts::finished, kept, Data};
-use bobbinmarl::calls::{self, Answer, Verdict};
-
-fn number(answer: Answer) -> u64 {
-    match answer {
-        Answer::Unfit => 8,
-        Answer::TooSmall => 9,
-        Answer::Unfinished(_) => 10,
-        Answer::Underivable => 11,
-        Answer::NoRoom => 12,
-        Answer::Written(_) => 0,
-    }
-}
+use bobbinmarl::calls::{self, Answer};
 
 fn replay_number(grammar: &[u64], graph: &[u64], text: &[u8]) -> u64 {
-    match calls::replay(grammar, graph, text) {
-        Verdict::Unfit => 8,
-        Verdict::NoDerivation => 13,
-        Verdict::Passed => 0,
-    }
+    calls::replay(grammar, graph, text).number()
 }
 
 /// What a writing came to: its number, the text, and whether all other bytes of the output stayed as they were.
@@ -41,7 +26,11 @@ fn write(grammar: &[u64], graph: &[u64], chart: &[u64], room: usize) -> Trial {
     let bytes = if let Answer::Written(bytes) = answer { bytes } else { 0 };
     let kept = (bytes..room).all(|i| out[i] == pattern(i));
     out.truncate(bytes);
-    Trial { number: number(answer), text: out, kept }
+    Trial {
+        number: answer.number(),
+        text: out,
+        kept,
+    }
 }
 
 /// The number; where a text is written its length, what the replay says, and a short text itself.
@@ -68,7 +57,10 @@ struct Tally([u64; 9]);
 impl Tally {
     fn add(&mut self, grammar: &[u64], graph: &[u64], chart: &[u64], text: &[u8]) {
         let trial = write(grammar, graph, chart, 64);
-        let at = [8, 9, 10, 11, 12, 0].iter().position(|&n| n == trial.number).expect("a number of the writer's");
+        let at = [8, 9, 10, 11, 12, 0]
+            .iter()
+            .position(|&n| n == trial.number)
+            .expect("a number of the writer's");
         self.0[at] += 1;
         self.0[8] += u64::from(!trial.kept);
         if trial.number == 0 {

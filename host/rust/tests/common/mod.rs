@@ -1,7 +1,7 @@
 //! Texts that the tests read, and memory that they lend.
 #![allow(dead_code)]
 
-use bobbinmarl::calls::{self, Answer, Fault, Outcome, Verdict};
+use bobbinmarl::calls::{self, Answer, Application, Fault, Outcome, Verdict};
 use std::fs;
 use std::ops::Range;
 use std::path::{Path, PathBuf};
@@ -63,15 +63,42 @@ pub fn reading_number(reading: Result<(), Fault>) -> u64 {
 
 const MARGIN: usize = 24;
 
-/// What the calls are lent: parts of two blocks, with a margin around each part, and no word of it 0 at first.
+/// What the calls are lent: parts of three blocks, with a margin around each part, and no word of it 0 at first.
 #[derive(Clone, PartialEq, Eq)]
 pub struct Lent {
     words: Vec<u64>,
     bytes: Vec<u8>,
+    records: Vec<Application>,
     grammar: Range<usize>,
     graph: Range<usize>,
     chart: Range<usize>,
     out: Range<usize>,
+    rows: Range<usize>,
+}
+
+/// A word that depends on its place, 0 at none that a test has.
+fn pattern(place: usize) -> u64 {
+    (place as u64 + 1).wrapping_mul(0x9e37_79b9_7f4a_7c15)
+}
+
+/// A record whose every word depends on its place.
+fn pattern_record(place: usize) -> Application {
+    let word = |i: usize| pattern(19 * place + i);
+    Application {
+        rule: word(0),
+        node_count: word(1),
+        part_count: word(2),
+        nodes: std::array::from_fn(|i| word(3 + i)),
+        parts: std::array::from_fn(|i| word(11 + i)),
+    }
+}
+
+/// A call that must change nothing; the answer is its own.
+pub fn unchanged<T>(lent: &mut Lent, call: impl FnOnce(&mut Lent) -> T) -> T {
+    let before = lent.clone();
+    let answer = call(lent);
+    assert!(*lent == before, "a lent word, byte or record changed");
+    answer
 }
 
 fn behind(start: usize, length: usize) -> Range<usize> {
@@ -79,24 +106,32 @@ fn behind(start: usize, length: usize) -> Range<usize> {
 }
 
 impl Lent {
-    /// Parts of these lengths, in words and bytes.
+    /// Parts of these lengths, in words and bytes, and a row of no records.
     pub fn new(grammar: usize, graph: usize, chart: usize, out: usize) -> Lent {
         let grammar = behind(0, grammar);
         let graph = behind(grammar.end, graph);
         let chart = behind(graph.end, chart);
         let out = behind(0, out);
-        let words = (1..=chart.end + MARGIN)
-            .map(|i| (i as u64).wrapping_mul(0x9e37_79b9_7f4a_7c15))
-            .collect();
+        let words = (0..chart.end + MARGIN).map(pattern).collect();
         let bytes = (0..out.end + MARGIN).map(|i| (i % 251) as u8 + 1).collect();
-        Lent {
+        let lent = Lent {
             words,
             bytes,
+            records: Vec::new(),
             grammar,
             graph,
             chart,
             out,
-        }
+            rows: 0..0,
+        };
+        lent.with_rows(0)
+    }
+
+    /// The same with a row of so many records.
+    pub fn with_rows(mut self, rows: usize) -> Lent {
+        self.rows = behind(0, rows);
+        self.records = (0..self.rows.end + MARGIN).map(pattern_record).collect();
+        self
     }
 
     /// Tables of full length, a chart of so many items, so many bytes of output.
@@ -142,6 +177,10 @@ impl Lent {
         &mut self.bytes[self.out.clone()]
     }
 
+    pub fn rows(&mut self) -> &mut [Application] {
+        &mut self.records[self.rows.clone()]
+    }
+
     /// Is everything as in `before`, but for the chart?
     pub fn same_but_chart(&self, before: &Lent) -> bool {
         let mut copy = self.clone();
@@ -179,6 +218,17 @@ impl Lent {
             &words[self.graph.clone()],
             &words[self.chart.clone()],
             out,
+        )
+    }
+
+    pub fn fill(&mut self) -> Answer {
+        let rows = &mut self.records[self.rows.clone()];
+        let words = &self.words;
+        calls::fill(
+            &words[self.grammar.clone()],
+            &words[self.graph.clone()],
+            &words[self.chart.clone()],
+            rows,
         )
     }
 

@@ -228,6 +228,70 @@ pub fn draw_long(rng: &mut Rng, applications: usize) -> Pair {
     }
 }
 
+/// A grammar of paths over symbol 0, each edge of which takes a whole row of renamings; mostly with
+/// plans of one leaf only, which leave room in a chart for more applications.
+fn row_grammar(rng: &mut Rng) -> Grammar {
+    let (terminal, start, first) = (0, 1, 2);
+    let last = first + rng.range(40, 60) - 1;
+    let mut symbols = vec![Symbol::terminal(2)];
+    symbols.resize(last + 1, Symbol::nonterminal(2));
+    let one_leaf = !rng.one_in(4);
+    let mut rules = vec![renaming(rng, start, first, 2)];
+    for symbol in first..=last {
+        let next = if symbol < last { symbol + 1 } else { terminal };
+        rules.push(renaming(rng, symbol, next, 2));
+    }
+    for rule in rules.iter_mut().filter(|_| one_leaf) {
+        rule.plan = vec![PlanNode::Leaf, PlanNode::Introduce { child: 0, edge: 0 }];
+    }
+    let edge = |symbol, nodes: [usize; 2]| Edge {
+        symbol,
+        nodes: nodes.to_vec(),
+    };
+    rules.push(Rule {
+        nonterminal: start,
+        nodes: 3,
+        external: vec![0, 1],
+        edges: vec![edge(first, [0, 2]), edge(start, [2, 1])],
+        plan: gen::random_plan(rng, 2),
+    });
+    rng.shuffle(&mut rules);
+    Grammar {
+        symbols,
+        start,
+        rules,
+    }
+}
+
+fn path(terminal: usize, edges: usize) -> Graph {
+    let edge = |at| Edge {
+        symbol: terminal,
+        nodes: vec![at, at + 1],
+    };
+    Graph {
+        nodes: edges + 1,
+        external: vec![0, edges],
+        edges: (0..edges).map(edge).collect(),
+    }
+}
+
+/// A path whose fewest derivations have hundreds of applications or more, and whose closure
+/// `items` hold.
+pub fn draw_row(rng: &mut Rng, items: usize) -> Pair {
+    loop {
+        let grammar = row_grammar(rng);
+        let graph = path(0, rng.range(15, 25));
+        if Chart::start_any_size(&grammar, &graph, items).run_to_end() != Answer::TooSmall {
+            let (graph, sources) = (gen::renumber(rng, &grammar, &graph, &[]).0, Vec::new());
+            return Pair {
+                grammar,
+                graph,
+                sources,
+            };
+        }
+    }
+}
+
 /// The text of these lines with one fault or more, or noise in its place; now and then unharmed.
 fn spoil(rng: &mut Rng, grammar: &Grammar, lines: &[Line]) -> Vec<u8> {
     match rng.below(10) {

@@ -39,11 +39,9 @@ impl Totals {
         *most = value.max(*most);
     }
 
-    /// The numbers that no call was answered with.
-    pub fn numbers_missing(&self) -> Vec<usize> {
-        (0..NUMBERS)
-            .filter(|&number| self.answers.values().all(|answers| answers[number] == 0))
-            .collect()
+    pub fn has_answered(&self, call: &str, number: u8) -> bool {
+        let answers = self.answers.get(call);
+        answers.is_some_and(|answers| answers[number as usize] > 0)
     }
 
     pub fn has(&self, group: &str, name: &str) -> bool {

@@ -1,5 +1,6 @@
 //! The proved library, called over lent memory and held against the second parser.
 
+mod filling;
 mod lent;
 mod parsing;
 mod profile;
@@ -16,10 +17,22 @@ use std::time::Duration;
 
 const CASE_LIMIT: Duration = Duration::from_secs(60);
 const MOST_ITEMS: usize = 4_096;
+const MOST_APPLICATIONS: usize = 4_096;
 const ACCEPTED: &str = "accepted graphs";
 
+/// The numbers that each call can answer with: every one of them must have come.
+const ANSWERS: [(&str, &[u8]); 7] = [
+    ("read_grammar", &[0, 1, 2, 3, 4, 5, 6, 7, 8]),
+    ("read_graph", &[0, 1, 2, 3, 4, 5, 6, 8]),
+    ("start", &[0, 8, 9]),
+    ("run", &[0, 8, 9, 10]),
+    ("write", &[0, 8, 9, 10, 11, 12]),
+    ("fill", &[0, 8, 9, 10, 11, 12]),
+    ("replay", &[0, 8, 13]),
+];
+
 /// Kinds of graphs of which some must be accepted.
-const REQUIRED: [&str; 11] = [
+const REQUIRED: [&str; 12] = [
     "start of rank 0",
     "start of rank 1",
     "start of rank 2",
@@ -31,6 +44,7 @@ const REQUIRED: [&str; 11] = [
     "with parallel edges",
     "by a plan that joins",
     "with a circle of renamings",
+    "by above 1,000 applications",
 ];
 
 /// Compares on so many cases; what was met and the number of mismatches. An answer or a kind of
@@ -46,8 +60,12 @@ pub fn compare(seed: u64, cases: usize) -> (Totals, usize) {
         })
         .collect();
     let totals = workers::run(checkers, seed, cases, CASE_LIMIT);
-    for number in totals.numbers_missing() {
-        log.mismatch(cases, &format!("no call was answered {number}"), &[]);
+    for (call, numbers) in ANSWERS {
+        for &number in numbers {
+            if !totals.has_answered(call, number) {
+                log.mismatch(cases, &format!("{call} never answered {number}"), &[]);
+            }
+        }
     }
     for name in REQUIRED {
         if !totals.has(ACCEPTED, name) {
@@ -93,7 +111,8 @@ fn draw(rng: &mut Rng) -> (Kind, &'static str, Pair) {
         ),
         48..=53 => (Kind::Whole, "large graphs (to 64 edges)", draw_large),
         54 => (Kind::Whole, "long derivations (to 4,097)", draw_long),
-        55..=70 => (
+        55 => (Kind::Whole, "paths by rows of renamings", draw_row),
+        56..=70 => (
             Kind::GrammarText,
             "damaged grammar texts",
             cases::draw_small,
@@ -110,6 +129,10 @@ fn draw(rng: &mut Rng) -> (Kind, &'static str, Pair) {
 
 fn draw_large(rng: &mut Rng) -> Pair {
     cases::draw_large(rng, MOST_ITEMS)
+}
+
+fn draw_row(rng: &mut Rng) -> Pair {
+    cases::draw_row(rng, MOST_ITEMS)
 }
 
 fn draw_long(rng: &mut Rng) -> Pair {
@@ -191,6 +214,7 @@ impl Checker<'_> {
                 derivation.iter().any(|a| joins(a.rule)),
             ),
             ("with a circle of renamings", grammar.has_circle()),
+            ("by above 1,000 applications", derivation.len() > 1_000),
         ];
         for (name, _) in kinds.into_iter().filter(|kind| kind.1) {
             self.totals.count(ACCEPTED, name);

@@ -1,4 +1,5 @@
-//! Start, runs in pieces, the writer and the replay, over charts and outputs of every size.
+//! Start, runs in pieces, the writer in both forms and the replay, over charts and outputs of every
+//! size.
 
 use super::lent::{self, bytes, words, Lent};
 use super::profile::Profile;
@@ -13,15 +14,6 @@ use second::trees::{Fewest, Trees};
 /// Graphs of so many edges are also judged by searching for derivation trees.
 const TREES_TO: usize = 6;
 const TREE_STATES: usize = 3_000;
-
-pub fn number_of(outcome: Outcome) -> u8 {
-    match outcome {
-        Outcome::Unfit => 8,
-        Outcome::TooSmall => 9,
-        Outcome::Unfinished(_) => 10,
-        Outcome::Done(_) => 0,
-    }
-}
 
 /// The words of a chart that holds just so many items.
 fn chart_words(items: usize) -> usize {
@@ -146,7 +138,7 @@ impl Checker<'_> {
         self.check_unfit_replay(&short);
     }
 
-    /// Start, run and writer all say 8 and change nothing.
+    /// Start, run and writer, in both its forms, all say 8 and change nothing.
     pub fn check_unfit(
         &mut self,
         rng: &mut Rng,
@@ -162,6 +154,7 @@ impl Checker<'_> {
         let mut out = bytes(rng, length);
         let written = tables.write(&chart.now, &mut out.now);
         self.agree(&format!("write, {what}"), Answer::Unfit, written);
+        self.check_unfilled(rng, tables, &chart.now, Answer::Unfit);
         let unchanged = chart.unchanged() && out.unchanged();
         self.hold(&format!("8 changes nothing, {what}"), unchanged);
         for call in ["start", "run", "write"] {
@@ -194,7 +187,7 @@ impl Checker<'_> {
             "start: words behind the items stay",
             chart.unchanged_from(chart_words(capacity)),
         );
-        self.totals.answered("start", number_of(due));
+        self.totals.answered("start", due.number() as u8);
         got == due
     }
 
@@ -227,7 +220,7 @@ impl Checker<'_> {
                 let what = format!("run of {steps} in {capacity} items");
                 self.mismatch(&format!("{what}: due one of {allowed:?}, got {got:?}"));
             }
-            self.totals.answered("run", number_of(got));
+            self.totals.answered("run", got.number() as u8);
             let idle = steps == 0 || matches!(last, Outcome::Done(_) | Outcome::TooSmall);
             let stays_from = if idle { 0 } else { chart_words(capacity) };
             self.hold("run: words stay", chart.unchanged_from(stays_from));
@@ -252,7 +245,7 @@ impl Checker<'_> {
         self.hold(&format!("fewest over trees: {fewest:?}"), right);
     }
 
-    /// The writer with outputs of several lengths; the text if there is one.
+    /// The writer with outputs and rows of several lengths; the text if there is one.
     fn check_write(
         &mut self,
         rng: &mut Rng,
@@ -265,11 +258,12 @@ impl Checker<'_> {
             Due::Refused(answer) => {
                 let length = *rng.pick(&[0, 1, 100, 1_000]);
                 self.check_refused(rng, tables, &chart.now, length, *answer);
+                self.check_unfilled(rng, tables, &chart.now, *answer);
                 None
             }
             Due::Derivation(count) => self.check_written(rng, tables, &chart.now, *count),
         };
-        self.hold("write: the chart stays", chart.unchanged());
+        self.hold("write and fill: the chart stays", chart.unchanged());
         text
     }
 
@@ -285,15 +279,7 @@ impl Checker<'_> {
         let got = tables.write(chart, &mut out.now);
         self.agree(&format!("write to {length} bytes"), due, got);
         self.hold("write: a refusal changes nothing", out.unchanged());
-        let number = match due {
-            Answer::Unfit => 8,
-            Answer::TooSmall => 9,
-            Answer::Unfinished(_) => 10,
-            Answer::Underivable => 11,
-            Answer::NoRoom => 12,
-            Answer::Written(_) => 0,
-        };
-        self.totals.answered("write", number);
+        self.totals.answered("write", due.number() as u8);
     }
 
     fn check_written(
@@ -328,6 +314,7 @@ impl Checker<'_> {
             lent::shorter(rng, length)
         };
         self.check_refused(rng, tables, chart, short, Answer::NoRoom);
+        self.check_filled(rng, tables, chart, &text);
         Some(text)
     }
 

@@ -2,16 +2,15 @@
 //! what it refuses, never writes a text that does not replay, and accepts no table without a text.
 
 use super::lent::{bytes, words, Lent};
-use super::parsing::number_of;
-use super::{readings, Checker, Tables, MOST_ITEMS};
+use super::{readings, Checker, Tables, MOST_APPLICATIONS, MOST_ITEMS};
 use bobbinmarl::calls::{self, Answer, Outcome, Verdict};
 use second::chart::Chart;
 use second::gen::{self, Rng};
 use second::model::{lines_to_text, Grammar, Line};
 use second::read::{read_grammar, read_graph};
 
-/// No derivation text is longer: a `D` line, and 4,096 `A` lines of 18 fields.
-const MOST_BYTES: usize = 6 + 4_096 * 74;
+/// No derivation text is longer: a `D` line, and `A` lines of 18 fields.
+const MOST_BYTES: usize = 6 + MOST_APPLICATIONS * 74;
 const TOUCHED: &str = "touched";
 
 /// Changes one word, more often one that is in use.
@@ -198,7 +197,7 @@ impl Checker<'_> {
         for steps in [rng.below(4) as u64, u64::MAX] {
             chart.settle();
             let outcome = other.run(&mut chart.now, steps);
-            let name = format!("charts run on: {}", number_of(outcome));
+            let name = format!("charts run on: {}", outcome.number());
             self.totals.count(TOUCHED, name);
             if outcome == Outcome::Unfit {
                 self.hold("run: 8 changes nothing", chart.unchanged());
@@ -221,31 +220,39 @@ impl Checker<'_> {
         read.is_ok()
     }
 
-    /// Whatever the chart holds: a refusal changes nothing, and what is written replays and does
-    /// not hang on the output's length.
+    /// Whatever the chart holds: a refusal changes nothing, what is written replays and does not
+    /// hang on the output's length, and rows get what the text says.
     fn check_touched_write(&mut self, rng: &mut Rng, tables: &Tables, chart: &[u64]) {
         let chart = Lent::of(chart.to_vec());
         let mut out = bytes(rng, MOST_BYTES);
         let answer = tables.write(&chart.now, &mut out.now);
-        self.hold("write: the chart stays", chart.unchanged());
         let name = match answer {
             Answer::Written(_) => "written".to_string(),
             other => format!("{other:?}").to_lowercase(),
         };
         let name = name.split('(').next().unwrap_or_default().to_string();
         self.totals.count(TOUCHED, format!("charts {name}"));
-        let Answer::Written(length) = answer else {
-            return self.hold("write: a refusal changes nothing", out.unchanged());
-        };
-        self.hold("write: bytes behind stay", out.unchanged_from(length));
-        let text = &out.now[..length];
-        self.check_passes(tables, text);
-        let mut exact = bytes(rng, length);
-        let again = tables.write(&chart.now, &mut exact.now);
-        self.agree("write again", answer, again);
+        if let Answer::Written(length) = answer {
+            self.hold("write: bytes behind stay", out.unchanged_from(length));
+            let text = &out.now[..length];
+            self.check_passes(tables, text);
+            self.check_rewritten(rng, tables, &chart.now, text);
+            self.check_filled(rng, tables, &chart.now, text);
+        } else {
+            self.hold("write: a refusal changes nothing", out.unchanged());
+            self.check_unfilled(rng, tables, &chart.now, answer);
+        }
+        self.hold("write and fill: the chart stays", chart.unchanged());
+    }
+
+    /// The same text comes where it just fits, and 12 where it does not.
+    fn check_rewritten(&mut self, rng: &mut Rng, tables: &Tables, chart: &[u64], text: &[u8]) {
+        let mut exact = bytes(rng, text.len());
+        let again = tables.write(chart, &mut exact.now);
+        self.agree("write again", Answer::Written(text.len()), again);
         self.hold("write again: the same text", exact.now == text);
-        let mut short = bytes(rng, length - 1);
-        let refused = tables.write(&chart.now, &mut short.now);
+        let mut short = bytes(rng, text.len() - 1);
+        let refused = tables.write(chart, &mut short.now);
         self.agree("write, one byte less", Answer::NoRoom, refused);
         self.hold("write: 12 changes nothing", short.unchanged());
     }
