@@ -235,17 +235,6 @@ fn written_and_filled(lent: &mut Lent) -> Answer {
     filled
 }
 
-fn number(answer: Answer) -> u64 {
-    match answer {
-        Answer::Written(_) => 0,
-        Answer::Unfit => 8,
-        Answer::TooSmall => 9,
-        Answer::Unfinished(_) => 10,
-        Answer::Underivable => 11,
-        Answer::NoRoom => 12,
-    }
-}
-
 /// Every word of small finished charts set to values in and out of its range.
 #[test]
 fn touched_charts_are_filled_as_they_are_written() {
@@ -256,7 +245,7 @@ fn touched_charts_are_filled_as_they_are_written() {
             for value in [0, 1, 2, 3, 4, 5, 7, 8, 10, 14, 63, 64, 65, u64::MAX] {
                 let mut lent = finished.clone();
                 lent.chart()[at] = value;
-                seen.insert(number(written_and_filled(&mut lent)));
+                seen.insert(written_and_filled(&mut lent).number());
             }
         }
     }
