@@ -25,7 +25,7 @@ use Rattle.questions.specs.Abstract.{build, ruleFrom, grammarOf, graphOf}
 use Rattle.agenda.specs.Records.{itemOf, sameRecord, plus}
 use Rattle.agenda.specs.Consequences.{gather, atRoot, terminalAt as terminalAt-agenda, withTerminal, pair, withPartner, consequences, leafRecords}
 use Rattle.agenda.specs.Steps.{lastSame, placed, added, addedAll, lesser, leastWaiting, handledAt, stepChart, runChart, startChart, runsChart, handledCount, sumOf}
-use Rattle.records.specs.Words.{capacity, itemCount, fieldAt, blockAt, ofWords, recordAt, recordsAt, lesserAt, chartOf, wordsOf, pasted, saved, allWords, written, improvedAt, appendedTo, placedIn, addedTo, markedAt, grownBy, kindsFit, mayPair}
+use Rattle.records.specs.Words.{capacity, itemCount, fieldAt, blockAt, ofWords, recordAt, recordsAt, lesserAt, chartOf, wordsOf, pasted, saved, allWords, written, improvedAt, appendedTo, placedIn, addedTo, markedAt, grownBy}
 use Rattle.validity.specs.Checking.{holds, knownEdges, knownNode, knownNodes, inGraph, knownSecond, knownPartners, knownActive, knownPassive, knownRecord, knownChart}
 use Rattle.chart.specs.Calls.{fit, fitChart, answerOf, startAnswer, startOf, runOf, standingOf, runsOf}
 use Rattle.scripts.specs.Scripts.{rowLines, rowsText, rowBytes, hasLetter, opens, rowsFrom, scriptOf, rowsIn}
@@ -48,10 +48,10 @@ abbrev due : Row → List ℕ
 due r = cond (eqb (r .told .writing) 0) (r .told .bytes ++ stepsLine (getD (getD (r .told .ran) 0 []) 1 0)) (refusalLine (r .told .writing))
 
 pub table-prints : map printed (take 6 table) ≡ map due (take 6 table)
-unfolding bytesOf grammarFile graphFile filesOf refusalLine stepsLine writeChart deriveTables deriveFiles bit member _∪_ disjoint single full within ofBits allBelow sameBytes withByte linesOf lineBytes textOf lineLen lineOf lineStart lineEnd isEnded afterLine countingStart countingOf column fieldText digitOf valueFrom valueOf cellOf fieldCount fieldBytes fieldOf numberOf numbersFrom fieldsOf letterOf letterKind kindLetter isCapital shapeOf fieldsText lineBody lineText writable fieldFits lineFits hit occurs tabulate upTo select belowWithin below isBoundary isOpen isOpenAt joined restrict nodeFor attach padded internals edgesOf innerOf applications sameList sameItem agree oneToOne covering combine leafAt leaves withEdge terminalAt rootAt unaryOf nonterminalAt joinAt binaryOf every some each listedTest edgeTest onEdgeTest sideTest planTest ruleTest symbolTest grammarTest graphTest touches cost placeOf letterDue inTable word block stored listed covered judgeGrammar judgeSymbol judgeRule nodesOnEdges judgeRuleEdge childrenOf introducedBy childrenBefore introducedBefore planSoFar planWhole judgePlan judgeGraph nodesOnGraph judgeGraphEdge judge next judgeLine readLines grammarVerdict graphVerdict delivered readGrammar fieldsDue storedFields checkLines checkGrammar checkGraph readGraph build ruleFrom grammarOf graphOf itemOf sameRecord plus gather atRoot terminalAt-agenda withTerminal pair withPartner consequences leafRecords lastSame placed added addedAll lesser leastWaiting handledAt stepChart runChart startChart runsChart handledCount sumOf capacity itemCount fieldAt blockAt ofWords recordAt recordsAt lesserAt chartOf wordsOf pasted saved allWords written improvedAt appendedTo placedIn addedTo markedAt grownBy kindsFit mayPair holds knownEdges knownNode knownNodes inGraph knownSecond knownPartners knownActive knownPassive knownRecord knownChart fit fitChart answerOf startAnswer startOf runOf standingOf runsOf rowLines rowsText rowBytes hasLetter opens rowsFrom scriptOf rowsIn partNumbers rowsOf size treeRows fresh newNodes rowTest edgeTest-preorder whole replayed replays replayAt derivationText replayText partnersWithin partnersAt partNodes placedBy placeAt partsBy treeAt writeText derives goalIn writeOf
+unfolding bytesOf grammarFile graphFile filesOf refusalLine stepsLine writeChart deriveTables deriveFiles bit member _∪_ disjoint single full within ofBits allBelow sameBytes withByte linesOf lineBytes textOf lineLen lineOf lineStart lineEnd isEnded afterLine countingStart countingOf column fieldText digitOf valueFrom valueOf cellOf fieldCount fieldBytes fieldOf numberOf numbersFrom fieldsOf letterOf letterKind kindLetter isCapital shapeOf fieldsText lineBody lineText writable fieldFits lineFits hit occurs tabulate upTo select belowWithin below isBoundary isOpen isOpenAt joined restrict nodeFor attach padded internals edgesOf innerOf applications sameList sameItem agree oneToOne covering combine leafAt leaves withEdge terminalAt rootAt unaryOf nonterminalAt joinAt binaryOf every some each listedTest edgeTest onEdgeTest sideTest planTest ruleTest symbolTest grammarTest graphTest touches cost placeOf letterDue inTable word block stored listed covered judgeGrammar judgeSymbol judgeRule nodesOnEdges judgeRuleEdge childrenOf introducedBy childrenBefore introducedBefore planSoFar planWhole judgePlan judgeGraph nodesOnGraph judgeGraphEdge judge next judgeLine readLines grammarVerdict graphVerdict delivered readGrammar fieldsDue storedFields checkLines checkGrammar checkGraph readGraph build ruleFrom grammarOf graphOf itemOf sameRecord plus gather atRoot terminalAt-agenda withTerminal pair withPartner consequences leafRecords lastSame placed added addedAll lesser leastWaiting handledAt stepChart runChart startChart runsChart handledCount sumOf capacity itemCount fieldAt blockAt ofWords recordAt recordsAt lesserAt chartOf wordsOf pasted saved allWords written improvedAt appendedTo placedIn addedTo markedAt grownBy holds knownEdges knownNode knownNodes inGraph knownSecond knownPartners knownActive knownPassive knownRecord knownChart fit fitChart answerOf startAnswer startOf runOf standingOf runsOf rowLines rowsText rowBytes hasLetter opens rowsFrom scriptOf rowsIn partNumbers rowsOf size treeRows fresh newNodes rowTest edgeTest-preorder whole replayed replays replayAt derivationText replayText partnersWithin partnersAt partNodes placedBy placeAt partsBy treeAt writeText derives goalIn writeOf
 table-prints = refl
 
 -- 01: '`derive` on K2 writes exactly'
 pub K2-prints : map printed (take 1 (drop 1 table)) ≡ bytesOf "D   2\nA   0   1   0   2   1   0   1\nA   1   0   1   2   1\nC  10\n" ∷ []
-unfolding bytesOf grammarFile graphFile filesOf refusalLine stepsLine writeChart deriveTables deriveFiles bit member _∪_ disjoint single full within ofBits allBelow sameBytes withByte linesOf lineBytes textOf lineLen lineOf lineStart lineEnd isEnded afterLine countingStart countingOf column fieldText digitOf valueFrom valueOf cellOf fieldCount fieldBytes fieldOf numberOf numbersFrom fieldsOf letterOf letterKind kindLetter isCapital shapeOf fieldsText lineBody lineText writable fieldFits lineFits hit occurs tabulate upTo select belowWithin below isBoundary isOpen isOpenAt joined restrict nodeFor attach padded internals edgesOf innerOf applications sameList sameItem agree oneToOne covering combine leafAt leaves withEdge terminalAt rootAt unaryOf nonterminalAt joinAt binaryOf every some each listedTest edgeTest onEdgeTest sideTest planTest ruleTest symbolTest grammarTest graphTest touches cost placeOf letterDue inTable word block stored listed covered judgeGrammar judgeSymbol judgeRule nodesOnEdges judgeRuleEdge childrenOf introducedBy childrenBefore introducedBefore planSoFar planWhole judgePlan judgeGraph nodesOnGraph judgeGraphEdge judge next judgeLine readLines grammarVerdict graphVerdict delivered readGrammar fieldsDue storedFields checkLines checkGrammar checkGraph readGraph build ruleFrom grammarOf graphOf itemOf sameRecord plus gather atRoot terminalAt-agenda withTerminal pair withPartner consequences leafRecords lastSame placed added addedAll lesser leastWaiting handledAt stepChart runChart startChart runsChart handledCount sumOf capacity itemCount fieldAt blockAt ofWords recordAt recordsAt lesserAt chartOf wordsOf pasted saved allWords written improvedAt appendedTo placedIn addedTo markedAt grownBy kindsFit mayPair holds knownEdges knownNode knownNodes inGraph knownSecond knownPartners knownActive knownPassive knownRecord knownChart fit fitChart answerOf startAnswer startOf runOf standingOf runsOf rowLines rowsText rowBytes hasLetter opens rowsFrom scriptOf rowsIn partNumbers rowsOf size treeRows fresh newNodes rowTest edgeTest-preorder whole replayed replays replayAt derivationText replayText partnersWithin partnersAt partNodes placedBy placeAt partsBy treeAt writeText derives goalIn writeOf
+unfolding bytesOf grammarFile graphFile filesOf refusalLine stepsLine writeChart deriveTables deriveFiles bit member _∪_ disjoint single full within ofBits allBelow sameBytes withByte linesOf lineBytes textOf lineLen lineOf lineStart lineEnd isEnded afterLine countingStart countingOf column fieldText digitOf valueFrom valueOf cellOf fieldCount fieldBytes fieldOf numberOf numbersFrom fieldsOf letterOf letterKind kindLetter isCapital shapeOf fieldsText lineBody lineText writable fieldFits lineFits hit occurs tabulate upTo select belowWithin below isBoundary isOpen isOpenAt joined restrict nodeFor attach padded internals edgesOf innerOf applications sameList sameItem agree oneToOne covering combine leafAt leaves withEdge terminalAt rootAt unaryOf nonterminalAt joinAt binaryOf every some each listedTest edgeTest onEdgeTest sideTest planTest ruleTest symbolTest grammarTest graphTest touches cost placeOf letterDue inTable word block stored listed covered judgeGrammar judgeSymbol judgeRule nodesOnEdges judgeRuleEdge childrenOf introducedBy childrenBefore introducedBefore planSoFar planWhole judgePlan judgeGraph nodesOnGraph judgeGraphEdge judge next judgeLine readLines grammarVerdict graphVerdict delivered readGrammar fieldsDue storedFields checkLines checkGrammar checkGraph readGraph build ruleFrom grammarOf graphOf itemOf sameRecord plus gather atRoot terminalAt-agenda withTerminal pair withPartner consequences leafRecords lastSame placed added addedAll lesser leastWaiting handledAt stepChart runChart startChart runsChart handledCount sumOf capacity itemCount fieldAt blockAt ofWords recordAt recordsAt lesserAt chartOf wordsOf pasted saved allWords written improvedAt appendedTo placedIn addedTo markedAt grownBy holds knownEdges knownNode knownNodes inGraph knownSecond knownPartners knownActive knownPassive knownRecord knownChart fit fitChart answerOf startAnswer startOf runOf standingOf runsOf rowLines rowsText rowBytes hasLetter opens rowsFrom scriptOf rowsIn partNumbers rowsOf size treeRows fresh newNodes rowTest edgeTest-preorder whole replayed replays replayAt derivationText replayText partnersWithin partnersAt partNodes placedBy placeAt partsBy treeAt writeText derives goalIn writeOf
 K2-prints = refl

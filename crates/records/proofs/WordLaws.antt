@@ -10,7 +10,6 @@ use lib.Dec.{eqb, leb}
 use lib.ListN.{length, length-append, getD, set, List·getD-eq-default, List·getD-append}
 use lib.Seq.{set-out, getD-at, paste-suc, paste-zero, getD-set-same, getD-set-other, ext-getD}
 use borrow.Author.Tests.{lt-ltb, le-ltb, le-leb, lt-leb, eq-eqb, ne-eqb}
-use Rattle.masks.specs.Masks.{disjoint}
 use Rattle.hrg.specs.Counts.{tabulate, flag}
 use Rattle.hrg.specs.ClosureRun.{sameList}
 use Rattle.agenda.specs.declared.Record.{Record}
@@ -19,7 +18,7 @@ use Rattle.agenda.specs.declared.Found.the-variants.{At, Nowhere}
 use Rattle.agenda.specs.Records.{sameRecord, isHandled}
 use Rattle.agenda.specs.Consequences.{recordIn, noRecord}
 use Rattle.agenda.specs.Steps.{improved, lastSame, lesser, leastWaiting, handledCount}
-use Rattle.records.specs.Words.{itemCount, improvedAt, appendedTo, placedIn, addedTo, markedAt, recordsAt, lesserAt, capacity, fieldAt, blockAt, ofWords, recordAt, wordsOf, pasted, saved, kindsFit, mayPair}
+use Rattle.records.specs.Words.{itemCount, improvedAt, appendedTo, placedIn, addedTo, markedAt, recordsAt, lesserAt, capacity, fieldAt, blockAt, ofWords, recordAt, wordsOf, pasted, saved}
 
 -- ---- reading
 pub past-end : (w : List ℕ) (i : ℕ) → length w ≤ i → 0 ≡ getD w i 0
@@ -160,6 +159,10 @@ kind-of w j = refl
 pub rule-of : (w : List ℕ) (j : ℕ) → recordAt w j .of ≡ fieldAt w j 1
 unfolding recordAt ofWords blockAt fieldAt tabulate
 rule-of w j = refl
+
+pub plan-of : (w : List ℕ) (j : ℕ) → recordAt w j .plan ≡ fieldAt w j 2
+unfolding recordAt ofWords blockAt
+plan-of w j = refl
 
 pub edges-of : (w : List ℕ) (j : ℕ) → recordAt w j .edges ≡ fieldAt w j 3
 unfolding recordAt ofWords blockAt fieldAt tabulate
@@ -358,34 +361,3 @@ mark-none w j h = rw (le-ltb j (capacity w) h)
 pub mark-some : (w : List ℕ) (j : ℕ) → j < capacity w → set w (2 + 16 * j + 5) 1 ≡ markedAt w j
 unfolding markedAt
 mark-some w j h = rw (lt-ltb j (capacity w) h)
-
--- ---- records that may make something together
-pub kinds-passive : (kind of kind′ of′ : ℕ) → (kind ≡ 0 → ⊥) → eqb kind′ 0 ≡ kindsFit kind of kind′ of′
-unfolding kindsFit
-kinds-passive kind of kind′ of′ h = rw (ne-eqb kind 0 h) refl
-
-pub kinds-other : (kind of kind′ of′ : ℕ) → kind ≡ 0 → (kind′ ≡ 0 → ⊥) → true ≡ kindsFit kind of kind′ of′
-unfolding kindsFit
-kinds-other kind of kind′ of′ e h = rw (eq-eqb kind 0 e, ne-eqb kind′ 0 h) refl
-
-pub kinds-active : (kind of kind′ of′ : ℕ) → kind ≡ 0 → kind′ ≡ 0 → eqb of of′ ≡ kindsFit kind of kind′ of′
-unfolding kindsFit
-kinds-active kind of kind′ of′ e h = rw (eq-eqb kind 0 e, eq-eqb kind′ 0 h) refl
-
-module _ (w : List ℕ) (k : ℕ) (x : Record) (r : ℕ) (is : r ≡ fieldAt w k 5) where
-  pub pair-waits : r ≡ 0 → false ≡ mayPair x (recordAt w k)
-  unfolding mayPair
-  pair-waits z = rw (handled-no w k r is z)
-
-  pub pair-meets : (e : ℕ) (b : Bool) → (r ≡ 0 → ⊥) → e ≡ fieldAt w k 3 → b ≡ disjoint (x .edges) e → b ≡ false → false ≡ mayPair x (recordAt w k)
-  unfolding mayPair
-  pair-meets e b h q t n =
-      let d : disjoint (x .edges) (recordAt w k .edges) ≡ false = ap (disjoint (x .edges)) (edges-of w k ∙ sym q) ∙ sym t ∙ n in
-      rw (handled-yes w k r is h, d)
-
-  pub pair-kinds : (e a b : ℕ) (d c : Bool) → (r ≡ 0 → ⊥) → e ≡ fieldAt w k 3 → d ≡ disjoint (x .edges) e → d ≡ true → a ≡ fieldAt w k 0 → b ≡ fieldAt w k 1 → c ≡ kindsFit (x .kind) (x .of) a b
-      → c ≡ mayPair x (recordAt w k)
-  unfolding mayPair
-  pair-kinds e a b d c h q t y qa qb fits =
-      let z : disjoint (x .edges) (recordAt w k .edges) ≡ true = ap (disjoint (x .edges)) (edges-of w k ∙ sym q) ∙ sym t ∙ y in
-      rw (handled-yes w k r is h, z) (fits ∙ ap₂ (λ (i j : ℕ). kindsFit (x .kind) (x .of) i j) (qa ∙ sym (kind-of w k)) (qb ∙ sym (rule-of w k)))

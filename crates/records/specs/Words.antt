@@ -4,8 +4,7 @@ use Prim.Native.Nat.{ℕ, zero, suc, _+_, _-_, _*_, _/_, _≤_, min}
 use lib.ListN.{length, getD, drop, set}
 use lib.Seq.{paste}
 use lib.Dec.{eqb, ltb, leb}
-use mathlib.Core.Bool.{Bool, true, cond, _&&_, _||_}
-use Rattle.masks.specs.Masks.{disjoint}
+use mathlib.Core.Bool.{cond, _||_}
 use Rattle.hrg.specs.Counts.{tabulate}
 use Rattle.agenda.specs.Records.{isHandled}
 use Rattle.agenda.specs.Steps.{Chart, improved, lastSame, addedAll}
@@ -120,13 +119,3 @@ markedAt w j = cond (ltb j (capacity w)) (set w (2 + 16 * j + 5) 1) w
 -- w with the records xs, one after another
 unfoldable pub grownBy : List ℕ → List Record → List ℕ
 grownBy w xs = written w (addedAll (capacity w) xs (chartOf w))
-
--- ---- records that may make something together
--- not two passive items, nor two active ones of different rules
-unfoldable pub kindsFit : ℕ → ℕ → ℕ → ℕ → Bool
-kindsFit kind of kind′ of′ = cond (eqb kind 0) (cond (eqb kind′ 0) (eqb of of′) true) (eqb kind′ 0)
-
--- y is handled, its edge set and that of x are disjoint, and their kinds fit: of all other pairs no rule makes anything
-unfoldable pub mayPair : Record → Record → Bool
-unfolding kindsFit
-mayPair x y = isHandled y && (disjoint (x .edges) (y .edges) && kindsFit (x .kind) (x .of) (y .kind) (y .of))

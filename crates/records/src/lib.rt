@@ -2,7 +2,7 @@
 ghost use mathlib.Core.Path.{_≡_};
 ghost use Prim.Native.Nat.{_≤_, _<_, _+_};
 ghost use lib.ListN.{length, getD};
-ghost use Rattle.records.specs.Words.{capacity, itemCount, fieldAt, blockAt, ofWords, recordAt, recordsAt, wordsOf, pasted, saved, lesserAt, improvedAt, appendedTo, addedTo, markedAt, kindsFit, mayPair};
+ghost use Rattle.records.specs.Words.{capacity, itemCount, fieldAt, blockAt, ofWords, recordAt, recordsAt, wordsOf, pasted, saved, lesserAt, improvedAt, appendedTo, addedTo, markedAt};
 ghost use Rattle.agenda.specs.Records.{sameRecord, isHandled};
 ghost use Rattle.agenda.specs.Steps.{lastSame, leastWaiting, handledCount};
 use agenda::Found;
@@ -49,7 +49,7 @@ pub fn mark_of(chart: &[u64]) -> u64
 }
 
 // Word k of the record at place j, 0 past the end. No slice is so long that it has a place 2^59.
-fn field(chart: &[u64], j: u64, k: u64) -> u64
+pub fn field(chart: &[u64], j: u64, k: u64) -> u64
     requires { ⌜ k < 16 ⌝ }
     ensures { λ r. ⌜ r ≡ fieldAt (now (chart .entry)) j k ⌝ }
 {
@@ -300,30 +300,4 @@ pub fn mark_handled(chart: &mut [u64], j: u64)
         return;
     }
     chart[(2 + 16 * j + 5) as usize] = 1;
-}
-
-// Whether items of two kinds, each of a rule or a symbol, may make something together: not two passive ones, nor two active ones of different rules.
-fn kinds_fit(kind: u64, of: u64, other: u64, owner: u64) -> bool
-    ensures { λ r. ⌜ r ≡ kindsFit kind of other owner ⌝ }
-{
-    if kind != 0 {
-        return other == 0;
-    }
-    if other != 0 {
-        return true;
-    }
-    of == owner
-}
-
-// Whether the record at place k may make something with x. Only the words that tell are read: most pairs end here.
-pub fn may_pair(chart: &[u64], k: u64, x: Record) -> bool
-    ensures { λ r. ⌜ r ≡ mayPair x (recordAt (now (chart .entry)) k) ⌝ }
-{
-    if field(chart, k, 5) == 0 {
-        return false;
-    }
-    if !masks::disjoint(x.edges, field(chart, k, 3)) {
-        return false;
-    }
-    kinds_fit(x.kind, x.of, field(chart, k, 0), field(chart, k, 1))
 }

@@ -5,3 +5,6 @@ pub mod NodeLists
 -- what a rule makes, as at most one item
 pub mod RuleItems
 pub mod RuleAnswers
+-- what an item wants, and what meets at no plan node
+pub mod WantLaws
+pub mod Meeting

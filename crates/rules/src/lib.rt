@@ -18,6 +18,8 @@ ghost use Rattle.rules.specs.Rules.{madeOf, madeAt, terminalItems, binar
 use agenda::Record;
 use joins::Joined;
 
+pub mod wants;
+
 // The active item that a rule makes: nothing where found is false.
 pub struct Made {
     pub found: bool,

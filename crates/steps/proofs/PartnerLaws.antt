@@ -1,13 +1,12 @@
 -- What a record makes with graph edges and with another record, as the functions of crate joins tell it.
 use Prim.Native.Nat.{ℕ, _+_, _≤_, _<_}
 use mathlib.Core.Path.{_≡_, refl, sym, ap, ap₂, _∙_}
-use mathlib.Core.Bool.{Bool, true, false, _&&_, cond}
+use mathlib.Core.Bool.{Bool, true, false, _&&_, false≢true}
 use mathlib.Core.List.{List, [], _∷_, _++_, map}
 use native.Mathlib.Omega.{arith}
 use lib.Bits.{and-comm}
 use lib.Dec.{eqb}
 use lib.ListN.{length}
-use borrow.Author.Tests.{eqb-false, ne-eqb}
 use Rattle.masks.specs.Masks.{disjoint}
 use Rattle.hrg.specs.Grammars.{Graph, Grammar}
 use Rattle.hrg.specs.Items.{Item}
@@ -15,15 +14,19 @@ use Rattle.hrg.specs.ClosureRun.{guard, binaryOf}
 use Rattle.agenda.specs.declared.Record.{Record}
 use Rattle.agenda.specs.Records.{recordOf, itemOf, isHandled, plus}
 use Rattle.agenda.specs.Consequences.{withTerminal, pair}
+use Rattle.questions.specs.Checking.{checkGrammar}
 use Rattle.questions.specs.Abstract.{grammarOf, graphOf}
 use Rattle.joins.specs.Joins.{Accepted}
 use Rattle.rules.specs.Rules.{madeOf, madeRecords, terminalItems}
+use Rattle.rules.specs.Wants.{wantIn, WantTable, meets}
 use Rattle.rules.specs.declared.Made.{Made}
-use Rattle.rules.proofs.RuleItems.{with-terminal, pair-apart, pair-rules, pair-passive}
+use Rattle.rules.proofs.RuleItems.{with-terminal, pair-apart}
 use Rattle.rules.proofs.RuleAnswers.{pair-records, terminal-records}
-use Rattle.records.specs.Words.{Fits, addedTo, grownBy, kindsFit, mayPair}
+use Rattle.rules.proofs.Meeting.{apart, unwanting}
+use Rattle.records.specs.Words.{Fits, fieldAt, recordAt, addedTo, grownBy}
+use Rattle.records.proofs.WordLaws.{kind-of, rule-of, plan-of, edges-of, handled-yes, handled-no}
 use Rattle.records.proofs.Grown.{grown-none, grown-one}
-use Rattle.steps.specs.Partners.{withRecord}
+use Rattle.steps.specs.Partners.{withRecord, mayMeet}
 
 -- ---- the record of a made item
 module _ (w : List ℕ) (o : Fits w) (made : Made) (r n a b : ℕ) where
@@ -67,9 +70,6 @@ disjoint-flip : (a b : ℕ) → disjoint a b ≡ false → disjoint b a ≡ fals
 unfolding disjoint
 disjoint-flip a b h = ap (λ m. eqb m 0) (and-comm b a) ∙ h
 
-eqb-flip : (a b : ℕ) → eqb a b ≡ false → eqb b a ≡ false
-eqb-flip a b h = ne-eqb b a (λ q. eqb-false a b h (sym q))
-
 module _ (G : Grammar) (H : Graph) (x y : Record) (j k : ℕ) where
   abbrev both : List Record
   both = pair G H x j y k ++ pair G H y k x j
@@ -79,30 +79,63 @@ module _ (G : Grammar) (H : Graph) (x y : Record) (j k : ℕ) where
   none p q =
       ap₂ (λ (a b : List Item). map (λ (i : Item). recordOf i (plus (x .count) (y .count)) j k) a ++ map (λ (i : Item). recordOf i (plus (y .count) (x .count)) k j) b) p q
 
-  by-kinds : (a b c : Bool) → eqb (x .kind) 0 ≡ a → eqb (y .kind) 0 ≡ b → eqb (x .of) (y .of) ≡ c → cond a (cond b c true) b ≡ false → both ≡ []
-  by-kinds true true true p q r h = absurd (let z : _≡_ {A = ℕ} 0 1 = cc in omega arith)
-  by-kinds true true false p q r h = none (pair-rules G H x y p q r) (pair-rules G H y x q p (eqb-flip (x .of) (y .of) r))
-  by-kinds true false c p q r h = absurd (let z : _≡_ {A = ℕ} 0 1 = cc in omega arith)
-  by-kinds false true c p q r h = absurd (let z : _≡_ {A = ℕ} 0 1 = cc in omega arith)
-  by-kinds false false c p q r h = none (pair-passive G H x y p) (pair-passive G H y x q)
+  edges-none : disjoint (x .edges) (y .edges) ≡ false → both ≡ []
+  edges-none e = none (pair-apart G H x y e) (pair-apart G H y x (disjoint-flip (x .edges) (y .edges) e))
 
-  by-edges : (d : Bool) → disjoint (x .edges) (y .edges) ≡ d → d && kindsFit (x .kind) (x .of) (y .kind) (y .of) ≡ false → both ≡ []
-  unfolding kindsFit
-  by-edges true e h = by-kinds (eqb (x .kind) 0) (eqb (y .kind) 0) (eqb (x .of) (y .of)) refl refl refl h
-  by-edges false e h = none (pair-apart G H x y e) (pair-apart G H y x (disjoint-flip (x .edges) (y .edges) e))
+  last-true : (a t s : Bool) → a && (t && s) ≡ true → t ≡ true
+  last-true true true s h = refl
+  last-true true false s h = h
+  last-true false t s h = absurd (false≢true h)
 
-  by-handled : (t : Bool) → t && (disjoint (x .edges) (y .edges) && kindsFit (x .kind) (x .of) (y .kind) (y .of)) ≡ false → guard t both ≡ []
-  by-handled true h = by-edges (disjoint (x .edges) (y .edges)) refl h
-  by-handled false h = refl
+  pub partner-both : (t : List ℕ) (want : ℕ) (b : Bool) → b ≡ mayMeet t want x y → b ≡ true → withRecord G H x j y k ≡ both
+  unfolding withRecord mayMeet
+  partner-both t want b q h = ap (λ (t : Bool). guard t both) (last-true (meets t (x .kind) (x .of) want (y .kind) (y .of) (y .plan)) (isHandled y) (disjoint (x .edges) (y .edges)) (sym q ∙ h))
 
-  pub partner-none : (w : List ℕ) (b : Bool) → Fits w → b ≡ mayPair x y → b ≡ false → w ≡ grownBy w (withRecord G H x j y k)
-  unfolding withRecord mayPair
-  partner-none w b o q h = sym (grown-none w o) ∙ ap (grownBy w) (sym (by-handled (isHandled y) (sym q ∙ h)))
+guard-empty : (b : Bool) (l : List Record) → l ≡ [] → guard b l ≡ []
+guard-empty true l e = e
+guard-empty false l e = refl
 
-  handled-by : (t s : Bool) → t && s ≡ true → t ≡ true
-  handled-by true s h = refl
-  handled-by false s h = h
+module _ (g : List ℕ) (checked : checkGrammar g ≡ true) (H : Graph) (t : List ℕ) (table : WantTable g t) (x y : Record) (want : ℕ) (is : want ≡ wantIn t (x .of) (x .plan)) (j k : ℕ) where
+  abbrev G : Grammar
+  G = grammarOf g
 
-  pub partner-both : (b : Bool) → b ≡ mayPair x y → b ≡ true → withRecord G H x j y k ≡ both
-  unfolding withRecord mayPair
-  partner-both b q h = ap (λ (t : Bool). guard t both) (handled-by (isHandled y) _ (sym q ∙ h))
+  by-tests : (m s d : Bool) → meets t (x .kind) (x .of) want (y .kind) (y .of) (y .plan) ≡ m → isHandled y ≡ s → disjoint (x .edges) (y .edges) ≡ d → m && (s && d) ≡ false
+      → guard s (pair G H x j y k ++ pair G H y k x j) ≡ []
+  by-tests false s d p q e h = let n = apart g checked H t table x y want is p in guard-empty s _ (none G H x y j k (n .forth) (n .back))
+  by-tests true false d p q e h = refl
+  by-tests true true false p q e h = edges-none G H x y j k e
+  by-tests true true true p q e h = absurd (false≢true (sym h))
+
+  pub partner-none : (w : List ℕ) (b : Bool) → Fits w → b ≡ mayMeet t want x y → b ≡ false → w ≡ grownBy w (withRecord G H x j y k)
+  unfolding withRecord mayMeet
+  partner-none w b o q h =
+      sym (grown-none w o)
+      ∙ ap (grownBy w)
+      (sym (by-tests (meets t (x .kind) (x .of) want (y .kind) (y .of) (y .plan)) (isHandled y) (disjoint (x .edges) (y .edges)) refl refl refl (sym q ∙ h)))
+
+  pub unwanting-none : x .kind ≡ 0 → want ≡ 80 → withRecord G H x j y k ≡ []
+  unfolding withRecord
+  unwanting-none a e = let n = unwanting g checked H t table x y want is a e in guard-empty (isHandled y) _ (none G H x y j k (n .forth) (n .back))
+
+-- ---- by the words that the test reads
+module _ (t w : List ℕ) (want : ℕ) (x : Record) (k kind of plan : ℕ) (a : kind ≡ fieldAt w k 0) (b : of ≡ fieldAt w k 1) (c : plan ≡ fieldAt w k 2) (m : Bool) (is : m ≡ meets t (x .kind) (x .of) want kind of plan) where
+  abbrev y : Record
+  y = recordAt w k
+
+  met : meets t (x .kind) (x .of) want (y .kind) (y .of) (y .plan) ≡ m
+  met =
+      (λ i. meets t (x .kind) (x .of) want ((kind-of w k ∙ sym a) i) ((rule-of w k ∙ sym b) i) ((plan-of w k ∙ sym c) i))
+      ∙ sym is
+
+  pub meet-nowhere : m ≡ false → false ≡ mayMeet t want x y
+  unfolding mayMeet
+  meet-nowhere h = rw (met ∙ h)
+
+  module _ (r : ℕ) (handled : r ≡ fieldAt w k 5) (h : m ≡ true) where
+    pub meet-waits : r ≡ 0 → false ≡ mayMeet t want x y
+    unfolding mayMeet
+    meet-waits z = rw (met ∙ h, handled-no w k r handled z)
+
+    pub meet-edges : (r ≡ 0 → ⊥) → (e : ℕ) (d : Bool) → e ≡ fieldAt w k 3 → d ≡ disjoint (x .edges) e → d ≡ mayMeet t want x y
+    unfolding mayMeet
+    meet-edges z e d q p = rw (met ∙ h, handled-yes w k r handled z) (p ∙ ap (disjoint (x .edges)) (q ∙ sym (edges-of w k)))

@@ -17,12 +17,12 @@ use Rattle.agenda.specs.Consequences.{gather, recordIn, atRoot, terminalAt, wit
 use Rattle.agenda.specs.Steps.{Chart, addedAll, handledNow, handledAt}
 use Rattle.agenda.proofs.Records.{record-eight}
 use Rattle.agenda.proofs.Consequences.{in-consequence}
-use Rattle.records.specs.Words.{Fits, capacity, itemCount, recordAt, recordsAt, chartOf, written, markedAt, grownBy, mayPair}
+use Rattle.records.specs.Words.{Fits, capacity, itemCount, recordAt, recordsAt, chartOf, written, markedAt, grownBy}
 use Rattle.records.proofs.WordLaws.{length-records, record-in}
 use Rattle.records.proofs.Written.{handle-written, chart-of-written, fits-written, written-over}
 use Rattle.records.proofs.Rewritten.{Grown, handledIn, grown-handled, count-on, capacity-on, record-on}
 use Rattle.records.proofs.Grown.{Whole, whole-none, whole-guard, whole-append, whole-map, whole-items, whole-gather, holds-own, grown-all, grown-none, grown-fits, grown-more, grown-longer, grown-flag, grown-record}
-use Rattle.steps.specs.Partners.{withRecord}
+use Rattle.steps.specs.Partners.{withRecord, mayMeet}
 use Rattle.steps.proofs.PartnerLaws.{partner-both}
 
 -- ---- a loop from 0 on
@@ -66,6 +66,11 @@ added-longer w v xs o e p = subst (λ (u : List ℕ). itemCount w ≤ itemCount 
 pub added-then : (w v u : List ℕ) (xs ys : List Record) → Fits w → Whole xs → Whole ys → v ≡ grownBy w xs → u ≡ grownBy v ys → u ≡ grownBy w (xs ++ ys)
 added-then w v u xs ys o e e′ p q = q ∙ ap (λ (t : List ℕ). grownBy t ys) p ∙ grown-more w o xs e ys e′
 
+gather-empty : (f : ℕ → List Record) → ((k : ℕ) → f k ≡ []) → (n : ℕ) → gather n f ≡ []
+unfolding gather
+gather-empty f none zero = refl
+gather-empty f none (suc n) = ap₂ (λ (a b : List Record). a ++ b) (gather-empty f none n) (none n)
+
 -- ---- eight places
 module _ (G : Grammar) (H : Graph) where
   pub root-whole : (i : Item) (n j : ℕ) → Whole (atRoot G i n j)
@@ -104,12 +109,16 @@ module _ (G : Grammar) (H : Graph) where
       ap (λ (u : List ℕ). withRecord G H x j (recordAt u k) k) p
       ∙ record-same x j (recordAt (grownBy w xs) k) (recordAt w k) k (grown-flag w o xs e k l) (grown-record w o xs e k l)
 
-  pub partner-added : (w v u : List ℕ) (x y : Record) (j k : ℕ) (b : Bool) → Fits w → y ≡ recordAt w k → b ≡ mayPair x (recordAt w k) → b ≡ true
+  pub partner-added : (w v u t : List ℕ) (want : ℕ) (x y : Record) (j k : ℕ) (b : Bool) → Fits w → y ≡ recordAt w k → b ≡ mayMeet t want x (recordAt w k) → b ≡ true
       → v ≡ grownBy w (pair G H x j y k) → u ≡ grownBy v (pair G H y k x j) → u ≡ grownBy w (withRecord G H x j (recordAt w k) k)
-  partner-added w v u x y j k b o q t h p₁ p₂ =
+  partner-added w v u t want x y j k b o q m h p₁ p₂ =
       added-then w v u (pair G H x j y k) (pair G H y k x j) o (pair-whole x j y k) (pair-whole y k x j) p₁ p₂
       ∙ ap (λ (z : Record). grownBy w (pair G H x j z k ++ pair G H z k x j)) q
-      ∙ ap (grownBy w) (sym (partner-both G H x (recordAt w k) j k b t h))
+      ∙ ap (grownBy w) (sym (partner-both G H x (recordAt w k) j k t want b m h))
+
+  -- no partner makes anything
+  pub no-partners : (w : List ℕ) (f : ℕ → List Record) (n : ℕ) → Fits w → ((k : ℕ) → f k ≡ []) → w ≡ grownBy w (gather n f)
+  no-partners w f n o none = nothing-added w (gather n f) o (gather-empty f none n)
 
   -- the loop over partners
   module _ (w : List ℕ) (o : Fits w) (x : Record) (j : ℕ) where

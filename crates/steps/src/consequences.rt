@@ -9,10 +9,12 @@ ghost use Rattle.questions.specs.Checking.{checkGrammar};
 ghost use Rattle.questions.specs.Abstract.{grammarOf, graphOf};
 ghost use Rattle.joins.specs.Joins.{Accepted};
 ghost use Rattle.rules.specs.Rules.{madeRecords};
+ghost use Rattle.rules.specs.Wants.{wantIn, WantTable};
 ghost use Rattle.records.specs.Words.{Fits, itemCount, recordAt, grownBy};
-ghost use Rattle.steps.specs.Partners.{withRecord};
+ghost use Rattle.steps.specs.Partners.{withRecord, mayMeet};
 use agenda::Record;
 use rules::Made;
+use rules::wants;
 
 // A sum that stays in a word.
 fn plus(a: u64, b: u64) -> u64
@@ -104,12 +106,37 @@ fn add_pair(g: &[u64], h: &[u64], chart: &mut [u64], x: Record, j: u64, y: Recor
     add_made(chart, made, x.of, plus(x.count, y.count), j, k);
 }
 
+// Whether the record at place k may make something with x, which wants `want` if it is active. Only the words that tell are read: most pairs end here.
+fn may_meet(wants: &[u64; 1024], chart: &[u64], k: u64, x: Record, want: u64) -> bool
+    ensures { λ r. ⌜ r ≡ mayMeet (now (wants .entry)) want x (recordAt (now (chart .entry)) k) ⌝ }
+{
+    let kind = records::field(chart, k, 0);
+    let of = records::field(chart, k, 1);
+    let plan = records::field(chart, k, 2);
+    if !wants::meet(wants, x.kind, x.of, want, kind, of, plan) {
+        return false;
+    }
+    if records::field(chart, k, 5) == 0 {
+        return false;
+    }
+    masks::disjoint(x.edges, records::field(chart, k, 3))
+}
+
 // What x at place j makes with the record at place k, in both orders, if that one is handled.
-fn add_partner(g: &[u64], h: &[u64], chart: &mut [u64], x: Record, j: u64, k: u64)
-    requires { ⌜ Accepted (now g) (now h) × Fits (now chart) ⌝ }
+fn add_partner(
+    g: &[u64],
+    h: &[u64],
+    wants: &[u64; 1024],
+    chart: &mut [u64],
+    x: Record,
+    want: u64,
+    j: u64,
+    k: u64,
+)
+    requires { ⌜ Accepted (now g) (now h) × Fits (now chart) × WantTable (now g) (now wants) × (want ≡ wantIn (now wants) (x .of) (x .plan)) ⌝ }
     ensures { λ r. ⌜ now (chart .exit) ≡ grownBy (now (chart .entry)) (withRecord (grammarOf (now (g .entry))) (graphOf (now (g .entry)) (now (h .entry))) x j (recordAt (now (chart .entry)) k) k) ⌝ }
 {
-    if !records::may_pair(chart, k, x) {
+    if !may_meet(wants, chart, k, x, want) {
         return;
     }
     let y = records::load(chart, k);
@@ -118,13 +145,42 @@ fn add_partner(g: &[u64], h: &[u64], chart: &mut [u64], x: Record, j: u64, k: u6
 }
 
 // What x at place j makes with each of the first n records.
-pub(crate) fn add_partners(g: &[u64], h: &[u64], chart: &mut [u64], x: Record, j: u64, n: u64)
-    requires { ⌜ Accepted (now g) (now h) × Fits (now chart) × (n ≤ itemCount (now chart)) ⌝ }
+fn add_each(
+    g: &[u64],
+    h: &[u64],
+    wants: &[u64; 1024],
+    chart: &mut [u64],
+    x: Record,
+    want: u64,
+    j: u64,
+    n: u64,
+)
+    requires { ⌜ Accepted (now g) (now h) × Fits (now chart) × (n ≤ itemCount (now chart)) × WantTable (now g) (now wants) × (want ≡ wantIn (now wants) (x .of) (x .plan)) ⌝ }
     ensures { λ r. ⌜ now (chart .exit) ≡ grownBy (now (chart .entry)) (gather n (λ k. withRecord (grammarOf (now (g .entry))) (graphOf (now (g .entry)) (now (h .entry))) x j (recordAt (now (chart .entry)) k) k)) ⌝ }
 {
     let mut k: u64 = 0;
     while k < n {
-        add_partner(g, h, chart, x, j, k);
+        add_partner(g, h, wants, chart, x, want, j, k);
         k += 1;
     }
+}
+
+// The same; an active item that wants nothing is tried with none.
+pub(crate) fn add_partners(
+    g: &[u64],
+    h: &[u64],
+    wants: &[u64; 1024],
+    chart: &mut [u64],
+    x: Record,
+    j: u64,
+    n: u64,
+)
+    requires { ⌜ Accepted (now g) (now h) × Fits (now chart) × (n ≤ itemCount (now chart)) × WantTable (now g) (now wants) ⌝ }
+    ensures { λ r. ⌜ now (chart .exit) ≡ grownBy (now (chart .entry)) (gather n (λ k. withRecord (grammarOf (now (g .entry))) (graphOf (now (g .entry)) (now (h .entry))) x j (recordAt (now (chart .entry)) k) k)) ⌝ }
+{
+    let want = wants::want_of(wants, x.of, x.plan);
+    if (x.kind == 0) & (want == 80) {
+        return;
+    }
+    add_each(g, h, wants, chart, x, want, j, n);
 }

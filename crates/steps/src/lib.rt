@@ -7,6 +7,7 @@ ghost use Rattle.agenda.specs.Steps.{startChart, handledAt, runChart};
 ghost use Rattle.questions.specs.Checking.{checkGrammar};
 ghost use Rattle.questions.specs.Abstract.{grammarOf, graphOf};
 ghost use Rattle.joins.specs.Joins.{Accepted};
+ghost use Rattle.rules.specs.Wants.{WantTable};
 ghost use Rattle.records.specs.Words.{Fits, capacity, itemCount, chartOf, written};
 ghost use Rattle.steps.specs.Runs.{nextIn};
 use agenda::Found;
@@ -35,8 +36,8 @@ pub fn next(chart: &[u64]) -> Found
 }
 
 // One step: the record at place j is handled, and what it makes with graph edges and handled records is added.
-fn step(g: &[u64], h: &[u64], chart: &mut [u64], j: u64)
-    requires { ⌜ Accepted (now g) (now h) × Fits (now chart) × (j < itemCount (now chart)) ⌝ }
+fn step(g: &[u64], h: &[u64], wants: &[u64; 1024], chart: &mut [u64], j: u64)
+    requires { ⌜ Accepted (now g) (now h) × Fits (now chart) × (j < itemCount (now chart)) × WantTable (now g) (now wants) ⌝ }
     ensures { λ r. ⌜ now (chart .exit) ≡ written (now (chart .entry)) (handledAt (grammarOf (now (g .entry))) (graphOf (now (g .entry)) (now (h .entry))) (capacity (now (chart .entry))) j (chartOf (now (chart .entry)))) ⌝ }
 {
     records::mark_handled(chart, j);
@@ -44,19 +45,20 @@ fn step(g: &[u64], h: &[u64], chart: &mut [u64], j: u64)
     let x = records::load(chart, j);
     consequences::add_root(g, chart, x, j);
     consequences::add_terminals(g, h, chart, x, j);
-    consequences::add_partners(g, h, chart, x, j, n);
+    consequences::add_partners(g, h, wants, chart, x, j, n);
 }
 
-// So many steps, or as many as are left.
+// So many steps, or as many as are left. What active items want is worked out once for all of them.
 pub fn advance(g: &[u64], h: &[u64], chart: &mut [u64], steps: u64)
     requires { ⌜ Accepted (now g) (now h) × Fits (now chart) ⌝ }
     ensures { λ r. ⌜ now (chart .exit) ≡ written (now (chart .entry)) (runChart (grammarOf (now (g .entry))) (graphOf (now (g .entry)) (now (h .entry))) (capacity (now (chart .entry))) steps (chartOf (now (chart .entry)))) ⌝ }
 {
+    let wants = rules::wants::table(g);
     let mut i: u64 = 0;
     while i < steps {
         match next(chart) {
             Found::Nowhere => return,
-            Found::At(j) => step(g, h, chart, j),
+            Found::At(j) => step(g, h, &wants, chart, j),
         }
         i += 1;
     }

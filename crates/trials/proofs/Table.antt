@@ -21,7 +21,7 @@ use Rattle.questions.specs.Abstract.{build, ruleFrom, grammarOf, graphOf}
 use Rattle.agenda.specs.Records.{itemOf, sameRecord, plus}
 use Rattle.agenda.specs.Consequences.{gather, atRoot, terminalAt as terminalAt-agenda, withTerminal, pair, withPartner, consequences, leafRecords}
 use Rattle.agenda.specs.Steps.{lastSame, placed, added, addedAll, lesser, leastWaiting, handledAt, stepChart, runChart, startChart, runsChart, handledCount, sumOf}
-use Rattle.records.specs.Words.{capacity, itemCount, fieldAt, blockAt, ofWords, recordAt, recordsAt, lesserAt, chartOf, wordsOf, pasted, saved, allWords, written, improvedAt, appendedTo, placedIn, addedTo, markedAt, grownBy, kindsFit, mayPair}
+use Rattle.records.specs.Words.{capacity, itemCount, fieldAt, blockAt, ofWords, recordAt, recordsAt, lesserAt, chartOf, wordsOf, pasted, saved, allWords, written, improvedAt, appendedTo, placedIn, addedTo, markedAt, grownBy}
 use Rattle.validity.specs.Checking.{holds, knownEdges, knownNode, knownNodes, inGraph, knownSecond, knownPartners, knownActive, knownPassive, knownRecord, knownChart}
 use Rattle.chart.specs.Calls.{fit, fitChart, answerOf, startAnswer, startOf, runOf, standingOf, runsOf}
 use Rattle.scripts.specs.Scripts.{rowLines, rowsText, rowBytes, hasLetter, opens, rowsFrom, scriptOf, rowsIn}
@@ -34,5 +34,5 @@ use Rattle.trials.specs.Trials.{Trial, Told, told}
 use Rattle.trials.specs.Table.{bytesOf, Row, table}
 
 pub table-holds : map (λ (r : Row). told (r .trial)) table ≡ map (λ (r : Row). r .told) table
-unfolding told bytesOf bit member _∪_ disjoint single full within ofBits allBelow sameBytes withByte linesOf lineBytes textOf lineLen lineOf lineStart lineEnd isEnded afterLine countingStart countingOf column fieldText digitOf valueFrom valueOf cellOf fieldCount fieldBytes fieldOf numberOf numbersFrom fieldsOf letterOf letterKind kindLetter isCapital shapeOf fieldsText lineBody lineText writable fieldFits lineFits hit occurs tabulate upTo select belowWithin below isBoundary isOpen isOpenAt joined restrict nodeFor attach padded internals edgesOf innerOf applications sameList sameItem agree oneToOne covering combine leafAt leaves withEdge terminalAt rootAt unaryOf nonterminalAt joinAt binaryOf every some each listedTest edgeTest onEdgeTest sideTest planTest ruleTest symbolTest grammarTest graphTest touches cost placeOf letterDue inTable word block stored listed covered judgeGrammar judgeSymbol judgeRule nodesOnEdges judgeRuleEdge childrenOf introducedBy childrenBefore introducedBefore planSoFar planWhole judgePlan judgeGraph nodesOnGraph judgeGraphEdge judge next judgeLine readLines grammarVerdict graphVerdict delivered readGrammar fieldsDue storedFields checkLines checkGrammar checkGraph readGraph build ruleFrom grammarOf graphOf itemOf sameRecord plus gather atRoot terminalAt-agenda withTerminal pair withPartner consequences leafRecords lastSame placed added addedAll lesser leastWaiting handledAt stepChart runChart startChart runsChart handledCount sumOf capacity itemCount fieldAt blockAt ofWords recordAt recordsAt lesserAt chartOf wordsOf pasted saved allWords written improvedAt appendedTo placedIn addedTo markedAt grownBy kindsFit mayPair holds knownEdges knownNode knownNodes inGraph knownSecond knownPartners knownActive knownPassive knownRecord knownChart fit fitChart answerOf startAnswer startOf runOf standingOf runsOf rowLines rowsText rowBytes hasLetter opens rowsFrom scriptOf rowsIn partNumbers rowsOf size treeRows fresh newNodes rowTest edgeTest-preorder whole replayed replays replayAt derivationText replayText partnersWithin partnersAt partNodes placedBy placeAt partsBy treeAt writeText derives goalIn writeOf
+unfolding told bytesOf bit member _∪_ disjoint single full within ofBits allBelow sameBytes withByte linesOf lineBytes textOf lineLen lineOf lineStart lineEnd isEnded afterLine countingStart countingOf column fieldText digitOf valueFrom valueOf cellOf fieldCount fieldBytes fieldOf numberOf numbersFrom fieldsOf letterOf letterKind kindLetter isCapital shapeOf fieldsText lineBody lineText writable fieldFits lineFits hit occurs tabulate upTo select belowWithin below isBoundary isOpen isOpenAt joined restrict nodeFor attach padded internals edgesOf innerOf applications sameList sameItem agree oneToOne covering combine leafAt leaves withEdge terminalAt rootAt unaryOf nonterminalAt joinAt binaryOf every some each listedTest edgeTest onEdgeTest sideTest planTest ruleTest symbolTest grammarTest graphTest touches cost placeOf letterDue inTable word block stored listed covered judgeGrammar judgeSymbol judgeRule nodesOnEdges judgeRuleEdge childrenOf introducedBy childrenBefore introducedBefore planSoFar planWhole judgePlan judgeGraph nodesOnGraph judgeGraphEdge judge next judgeLine readLines grammarVerdict graphVerdict delivered readGrammar fieldsDue storedFields checkLines checkGrammar checkGraph readGraph build ruleFrom grammarOf graphOf itemOf sameRecord plus gather atRoot terminalAt-agenda withTerminal pair withPartner consequences leafRecords lastSame placed added addedAll lesser leastWaiting handledAt stepChart runChart startChart runsChart handledCount sumOf capacity itemCount fieldAt blockAt ofWords recordAt recordsAt lesserAt chartOf wordsOf pasted saved allWords written improvedAt appendedTo placedIn addedTo markedAt grownBy holds knownEdges knownNode knownNodes inGraph knownSecond knownPartners knownActive knownPassive knownRecord knownChart fit fitChart answerOf startAnswer startOf runOf standingOf runsOf rowLines rowsText rowBytes hasLetter opens rowsFrom scriptOf rowsIn partNumbers rowsOf size treeRows fresh newNodes rowTest edgeTest-preorder whole replayed replays replayAt derivationText replayText partnersWithin partnersAt partNodes placedBy placeAt partsBy treeAt writeText derives goalIn writeOf
 table-holds = refl

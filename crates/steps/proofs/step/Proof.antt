@@ -35,7 +35,7 @@ add-partners-requires c κs =
     let G = grammarOf (s .g .now) in
     let H = graphOf (s .g .now) (s .h .now) in
     let room = edges-fits G H (s .chart .now) (c .before .before .before .before .before .before .before .before .before .before .before .before .before .before .before .before .before .before .before .before .pre .1) (s .j) (c .before .before .before .before .before .before .before .before .before .before .before .before .before .before .before .before .before .before .before .before .pre .2) _ (c .before .before .before .before .before .before .before .before .before .before .before .before .before .before .before .mark-handled .ensures) (c .before .before .before .before .before .before .before .before .before .load .result) _ (c .before .before .before .before .before .before .before .add-root .ensures) _ _ (c .before .before .before .before .before .before .before .before .before .before .before .item-count .ensures) (c .before .before .before .add-terminals .ensures) in
-    (c .before .before .before .before .before .before .before .before .before .before .before .before .before .before .before .before .before .before .before .before .pre .0, room .0, room .1)
+    (c .before .before .before .before .before .before .before .before .before .before .before .before .before .before .before .before .before .before .before .before .pre .0, room .0, room .1, c .before .before .before .before .before .before .before .before .before .before .before .before .before .before .before .before .before .before .before .before .pre .3)
 
 same-length : tie.Need-same-length
 same-length c = search needs

@@ -1,69 +1,38 @@
--- The partners so far; handled records stay while others are added.
-use native.Mathlib.Omega.{arith}
-use Prim.Native.Nat.{_-_, _≤_}
-use mathlib.Core.Path.{_≡_, refl, _∙_}
-use lib.ListN.{length}
+-- An active item that wants nothing makes nothing with any record.
+use Prim.Native.Nat.{_-_}
+use lib.Dec.{eqb}
 use borrow.Author.Needs.{needs}
+use borrow.Author.Tests.{eqb-true}
+use Rattle.hrg.proofs.Degrees.{and-true}
 use Rattle.questions.specs.Abstract.{grammarOf, graphOf}
 use Rattle.records.specs.Words.{recordAt}
 use Rattle.steps.specs.Partners.{withRecord}
-use Rattle.steps.proofs.StepLaws.{Gathered, record-whole, gathered-none, gathered-fits, gathered-all, partners-next}
+use Rattle.steps.proofs.PartnerLaws.{unwanting-none}
+use Rattle.steps.proofs.StepLaws.{no-partners}
 use Rattle.steps.proofs.consequences.add_partners.Statement.{statement}
 use Rattle.steps.proofs.consequences.add_partners.Tie as tie
 
-abbrev Inv-loop : tie.InvT-loop
-Inv-loop g h chart₀ x j n k₀ chart k = (k ≤ n) × (length chart ≡ length chart₀) × Gathered chart₀ (λ i. withRecord (grammarOf g) (graphOf g h) x j (recordAt chart₀ i) i) chart k
+want-of-requires : tie.Need-want-of-requires
+want-of-requires c κs = search needs
 
-abbrev μ-loop : tie.MeasureT-loop
-μ-loop g h chart₀ x j n k₀ chart k = n - k
-
-loop-holds : tie.Need-loop-holds Inv-loop μ-loop
-loop-holds c =
-    let s = c .before .before .before .args in
-    let G = grammarOf (s .g .now) in
-    let H = graphOf (s .g .now) (s .h .now) in
-    (omega arith, refl, gathered-none (s .chart .now) (c .before .before .before .pre .1) (λ i. withRecord G H (s .x) (s .j) (recordAt (s .chart .now) i) i) (λ i. record-whole G H (s .x) (s .j) (recordAt (s .chart .now) i) i))
-
-add-partner-requires : tie.Need-add-partner-requires Inv-loop μ-loop
-add-partner-requires c κs =
+returns : tie.Need-returns
+returns c =
     let s = c .before .before .before .before .before .before .args in
     let G = grammarOf (s .g .now) in
     let H = graphOf (s .g .now) (s .h .now) in
-    (c .before .before .before .before .before .before .pre .0, gathered-fits (s .chart .now) (c .before .before .before .before .before .before .pre .1) (λ i. withRecord G H (s .x) (s .j) (recordAt (s .chart .now) i) i) (λ i. record-whole G H (s .x) (s .j) (recordAt (s .chart .now) i) i) (c .before .before .loop .chart) (c .before .before .loop .k) (c .before .before .loop .inv .2))
+    let (a, b) = and-true (eqb (s .x .kind) 0) (eqb (c .before .before .want-of .result) 80) (c .if1 .taken) in
+    no-partners G H (s .chart .now) (λ k. withRecord G H (s .x) (s .j) (recordAt (s .chart .now) k) k) (s .n) (c .before .before .before .before .before .before .pre .1)
+    (λ k. unwanting-none (s .g .now) (c .before .before .before .before .before .before .pre .0 .grammar) H (s .wants .now) (c .before .before .before .before .before .before .pre .3) (s .x) (recordAt (s .chart .now) k) (c .before .before .want-of .result) (c .before .before .want-of .ensures) (s .j) k (eqb-true _ _ a) (eqb-true _ _ b))
 
-add-k : tie.Need-add-k Inv-loop μ-loop
-add-k c = search needs
+add-each-requires : tie.Need-add-each-requires
+add-each-requires c κs = (c .before .before .before .before .before .before .before .pre .0, c .before .before .before .before .before .before .before .pre .1, c .before .before .before .before .before .before .before .pre .2, c .before .before .before .before .before .before .before .pre .3, c .before .before .before .want-of .ensures)
 
-loop-less : tie.Need-loop-less Inv-loop μ-loop
-loop-less c = omega (arith, c .before .before .before .before .loop-test .taken)
+same-length : tie.Need-same-length
+same-length c = search needs
 
-loop-again : tie.Need-loop-again Inv-loop μ-loop
-loop-again c =
-    let s = c .before .before .before .before .before .before .before .before .before .args in
-    let G = grammarOf (s .g .now) in
-    let H = graphOf (s .g .now) (s .h .now) in
-    (omega (arith, c .before .before .before .before .loop-test .taken), c .before .before .add-partner .kept .1 .1 .0 ∙ c .before .before .before .before .before .loop .inv .1, partners-next G H (s .chart .now) (c .before .before .before .before .before .before .before .before .before .pre .1) (s .x) (s .j) (c .before .before .before .before .before .loop .chart) _ (c .before .before .before .before .before .loop .k) _ (omega arith) (omega (arith, c .before .before .before .before .loop-test .taken, c .before .before .before .before .before .before .before .before .before .pre .2)) (c .before .before .before .before .before .loop .inv .2) (c .before .before .add-partner .ensures))
-
-same-length : tie.Need-same-length Inv-loop μ-loop
-same-length c = c .before .loop .inv .1
-
-returns : tie.Need-returns Inv-loop μ-loop
-returns c =
-    let s = c .before .before .before .before .before .args in
-    let G = grammarOf (s .g .now) in
-    let H = graphOf (s .g .now) (s .h .now) in
-    gathered-all (s .chart .now) (c .before .before .before .before .before .pre .1) (λ i. withRecord G H (s .x) (s .j) (recordAt (s .chart .now) i) i) (λ i. record-whole G H (s .x) (s .j) (recordAt (s .chart .now) i) i) _ (c .before .loop .k) (s .n) (omega (arith, c .loop-test .left, c .before .loop .inv .0)) (c .before .loop .inv .2)
+returns-2 : tie.Need-returns-2
+returns-2 c = search needs
 
 pub add-partners-spec : {M : Type 1} → statement M
 add-partners-spec =
-    tie.close
-    (tie.spec
-    Inv-loop
-    μ-loop
-    loop-holds
-    add-partner-requires
-    add-k
-    loop-less
-    loop-again
-    same-length
-    returns)
+    tie.close (tie.spec want-of-requires returns add-each-requires same-length returns-2)

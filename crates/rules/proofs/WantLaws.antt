@@ -1,0 +1,204 @@
+-- What an item wants is told by the one plan node above it, and read off a table word by word.
+use mathlib.Core.Path.{_≡_, refl, sym, ap, ap₂, _∙_}
+use mathlib.Core.Bool.{Bool, true, false, _&&_, cond}
+use mathlib.Core.List.{List, [], _∷_, _++_}
+use Prim.Native.Nat.{ℕ, _+_, _*_, _/_, _%_, _≤_, _<_}
+use native.Mathlib.Omega.{arith}
+use native.Mathlib.Decide.{decLt}
+use lib.ListN.{length, getD, set, replicate, getD-replicate, List·getD-eq-default}
+use lib.Seq.{getD-set-same, getD-set-other}
+use lib.Dec.{eqb, ltb}
+use borrow.Author.Tests.{eq-eqb, ne-eqb, lt-ltb, le-ltb}
+use Rattle.hrg.specs.Counts.{hit, occurs}
+use Rattle.hrg.specs.Grammars.{Edge, Rule, Grammar, noRule, PlanNode, leaf, introduce, join, ruleOf, rightOf, planOf, planNode, edgeAt}
+use Rattle.hrg.specs.WellFormed.{children}
+use Rattle.hrg.specs.ClosureRun.{guard, eachTo}
+use Rattle.hrg.proofs.Sums.{hit-self, none-left}
+use Rattle.hrg.proofs.Plans.{introduce-known, join-lower}
+use Rattle.questions.specs.Layout.{ruleCount, ruleEdges, rulePlan, edgeLabel, planKind, planFirst, planSecond}
+use Rattle.questions.specs.Checking.{checkGrammar}
+use Rattle.questions.specs.Abstract.{grammarOf}
+use Rattle.questions.proofs.WellFormedLent.{checked-grammar-ok}
+use Rattle.questions.proofs.WellFormedAccepted.{rules-length, rule-is, edge-is}
+use Rattle.joins.specs.Joins.{KnownNode}
+use Rattle.joins.proofs.Known.{plan-ok, plan-size, plan-few, rule-few}
+use Rattle.joins.proofs.PlanMasks.{node-is, introduced-is, joined-is}
+use Rattle.rules.specs.declared.Place.{Place}
+use Rattle.rules.specs.Rules.{Above}
+use Rattle.rules.specs.Wants.{wantsAt, wantOf, wantIn, WantTable}
+use Rattle.rules.proofs.Parents.{child-lower}
+use Rattle.rules.proofs.RuleItems.{each-none, each-only}
+
+-- ---- a plan node that has no child p wants nothing of an item at p
+not-in : (p c : ℕ) (l : List ℕ) → occurs p (c ∷ l) ≡ 0 → (eqb c p ≡ false) × (occurs p l ≡ 0)
+unfolding occurs
+not-in p c l h = (ne-eqb c p (λ e. omega (arith, hit-self p, ap (λ y. hit p y) e)), omega arith)
+
+wants-none : (G : Grammar) (r p : ℕ) (n : PlanNode) → occurs p (children n) ≡ 0 → wantsAt G r p n ≡ []
+unfolding wantsAt
+wants-none G r p leaf h = refl
+wants-none G r p (introduce c i) h = rw (not-in p c [] h .0)
+wants-none G r p (join a b) h = rw (not-in p a (b ∷ []) h .0, not-in p b [] (not-in p a (b ∷ []) h .1) .0)
+
+module _ (G : Grammar) (r p : ℕ) where
+  abbrev pl : List PlanNode
+  pl = planOf G r
+
+  pub want-at : (q : ℕ) → q < length pl → ((q′ : ℕ) → q′ < length pl → (q′ ≡ q → ⊥) → occurs p (children (planNode pl q′)) ≡ 0)
+      → wantOf G r p ≡ getD (wantsAt G r p (planNode pl q)) 0 80
+  unfolding wantOf
+  want-at q l only =
+      ap (λ (ws : List ℕ). getD ws 0 80)
+      (each-only (length pl) q (λ q. wantsAt G r p (planNode pl q)) l (λ q′ k n. wants-none G r p (planNode pl q′) (only q′ k n)))
+
+  pub want-nowhere : ((q : ℕ) → q < length pl → occurs p (children (planNode pl q)) ≡ 0) → wantOf G r p ≡ 80
+  unfolding wantOf
+  want-nowhere none =
+      ap (λ (ws : List ℕ). getD ws 0 80) (each-none (length pl) (λ q. wantsAt G r p (planNode pl q)) (λ q l. wants-none G r p (planNode pl q) (none q l)))
+
+-- ---- what the functions answer
+module _ (g : List ℕ) (r p : ℕ) (x : Place) (above : Above g r p x) where
+  pub want-missing : x .found ≡ false → 80 ≡ wantOf (grammarOf g) r p
+  want-missing found = sym (want-nowhere (grammarOf g) r p (above .nowhere found .none))
+
+  pub want-found : x .found ≡ true → (w : ℕ) → w ≡ getD (wantsAt (grammarOf g) r p (planNode (planOf (grammarOf g) r) (x .node))) 0 80 → w ≡ wantOf (grammarOf g) r p
+  want-found found w q =
+      let k = above .known found in
+      let size = plan-size g r (k .grammar) (k .rule) in
+      q
+      ∙ sym (want-at (grammarOf g) r p (x .node) (omega (arith, k .node, size))
+      (λ q′ l n. none-left _ (λ o. n (above .parent found .only q′ (omega (arith, l, size)) o))))
+
+module _ (g : List ℕ) (r p q : ℕ) (known : KnownNode g r q) (kind first second : ℕ) (a : kind ≡ planKind g r q) (b : first ≡ planFirst g r q) (c : second ≡ planSecond g r q) where
+  abbrev told : ℕ
+  told = getD (wantsAt (grammarOf g) r p (planNode (planOf (grammarOf g) r) q)) 0 80
+
+  told-is : (n : PlanNode) → planNode (planOf (grammarOf g) r) q ≡ n → getD (wantsAt (grammarOf g) r p n) 0 80 ≡ told
+  told-is n e = ap (λ (n : PlanNode). getD (wantsAt (grammarOf g) r p n) 0 80) (sym e)
+
+  pub told-leaf : kind ≡ 0 → 80 ≡ told
+  unfolding wantsAt
+  told-leaf e = told-is leaf (node-is g r q known kind a ∙ rw e)
+
+  -- an edge
+  module _ (one : kind ≡ 1) where
+    introduced : planNode (planOf (grammarOf g) r) q ≡ introduce first second
+    introduced = introduced-is g r q known kind first second a b c one
+
+    label-is : edgeAt (rightOf (grammarOf g) r .edges) second .label ≡ edgeLabel g r second
+    label-is =
+        ap (λ (R : Rule). edgeAt (R .production .right .edges) second .label) (rule-is g r (known .rule))
+        ∙ ap (λ (e : Edge). e .label) (edge-is g r second (introduce-known (ruleEdges g r) (planOf (grammarOf g) r) (plan-ok g r (known .grammar) (known .rule)) q first second introduced))
+
+    pub told-edge : (w : ℕ) → first ≡ p → w ≡ edgeLabel g r second → w ≡ told
+    unfolding wantsAt
+    told-edge w e l =
+        l ∙ sym label-is
+        ∙ ap (λ (t : Bool). getD (guard t (edgeAt (rightOf (grammarOf g) r .edges) second .label ∷ [])) 0 80) (sym (eq-eqb first p e))
+        ∙ told-is (introduce first second) introduced
+
+    pub told-no-edge : (first ≡ p → ⊥) → 80 ≡ told
+    unfolding wantsAt
+    told-no-edge e =
+        ap (λ (t : Bool). getD (guard t (edgeAt (rightOf (grammarOf g) r .edges) second .label ∷ [])) 0 80) (sym (ne-eqb first p e))
+        ∙ told-is (introduce first second) introduced
+
+  -- two children
+  module _ (x : kind ≡ 0 → ⊥) (y : kind ≡ 1 → ⊥) where
+    joined : planNode (planOf (grammarOf g) r) q ≡ join first second
+    joined = joined-is g r q known kind first second a b c x y
+
+    pub children-few : (first < 16) × (second < 16)
+    children-few =
+        let l = join-lower (ruleEdges g r) (planOf (grammarOf g) r) (plan-ok g r (known .grammar) (known .rule)) q first second joined in
+        let few = plan-few g r (known .grammar) (known .rule) in
+        (omega (arith, l .0, few, known .node), omega (arith, l .1, few, known .node))
+
+    abbrev either : Bool → Bool → ℕ
+    either s t = getD (guard s ((64 + second) ∷ []) ++ guard t ((64 + first) ∷ [])) 0 80
+
+    pub told-second : first ≡ p → 64 + second ≡ told
+    unfolding wantsAt
+    told-second e = ap (λ (s : Bool). either s (eqb second p)) (sym (eq-eqb first p e)) ∙ told-is (join first second) joined
+
+    pub told-first : (first ≡ p → ⊥) → second ≡ p → 64 + first ≡ told
+    unfolding wantsAt
+    told-first e d = ap₂ either (sym (ne-eqb first p e)) (sym (eq-eqb second p d)) ∙ told-is (join first second) joined
+
+    pub told-neither : (first ≡ p → ⊥) → (second ≡ p → ⊥) → 80 ≡ told
+    unfolding wantsAt
+    told-neither e d = ap₂ either (sym (ne-eqb first p e)) (sym (ne-eqb second p d)) ∙ told-is (join first second) joined
+
+-- ---- the table
+-- the words before i are told, the others are as they were made
+pub record Filled (g : List ℕ) (t : List ℕ) (i : ℕ) : Type 0 where
+  pub size : length t ≡ 1024
+  pub before : (k : ℕ) → k < i → k < 1024 → getD t k 0 ≡ wantOf (grammarOf g) (k / 16) (k % 16)
+  pub after : (k : ℕ) → i ≤ k → k < 1024 → getD t k 0 ≡ 80
+
+pub filled-none : (g : List ℕ) → Filled g (replicate 1024 80) 0
+filled-none g = record { size = refl; before = λ k l. absurd (omega arith); after = λ k l m. getD-replicate 1024 k 80 0 m }
+
+module _ (g t : List ℕ) (i w : ℕ) (f : Filled g t i) (l : i < 1024) (is : w ≡ wantOf (grammarOf g) (i / 16) (i % 16)) where
+  pub filled-more : (m : ℕ) → m ≡ i + 1 → length (set t i w) ≡ 1024 → Filled g (set t i w) m
+  filled-more m e size = record { size = size; before = λ k d b. go k d b (decLt k i); after = λ k d b. getD-set-other t i k w 0 (λ q. omega arith) ∙ f .after k (omega arith) b }
+    where
+      go : (k : ℕ) → k < m → k < 1024 → Dec (k < i) → getD (set t i w) k 0 ≡ wantOf (grammarOf g) (k / 16) (k % 16)
+      go k d b (no n) =
+          let q : k ≡ i = omega arith in
+          ap (λ n. getD (set t i w) n 0) q ∙ getD-set-same t i w 0 (omega (arith, f .size)) ∙ is ∙ ap (λ n. wantOf (grammarOf g) (n / 16) (n % 16)) (sym q)
+      go k d b (yes q) = getD-set-other t i k w 0 (λ e. omega arith) ∙ f .before k q b
+
+-- no such rule or plan node
+unknown-rule : (g : List ℕ) (r p : ℕ) → ruleCount g ≤ r → wantOf (grammarOf g) r p ≡ 80
+unknown-rule g r p h =
+    want-nowhere (grammarOf g) r p
+    (λ q l. absurd (omega (arith, ap (λ (R : Rule). length (R .plan)) (List·getD-eq-default (grammarOf g .rules) noRule {n = r} (omega (arith, rules-length g))))))
+
+module _ (g : List ℕ) (checked : checkGrammar g ≡ true) where
+  pub rules-few : ruleCount g ≤ 64
+  rules-few = omega (arith, checked-grammar-ok g checked .rule-count .upper, rules-length g)
+
+  unknown-node : (r p : ℕ) → r < ruleCount g → rulePlan g r ≤ p → wantOf (grammarOf g) r p ≡ 80
+  unknown-node r p d h =
+      want-nowhere (grammarOf g) r p
+      (λ q l. none-left _ (λ o. omega (arith, child-lower g r p checked d q (omega (arith, plan-size g r checked d)) o, plan-size g r checked d)))
+
+  past : (r p : ℕ) → 16 ≤ p → Dec (r < ruleCount g) → wantOf (grammarOf g) r p ≡ 80
+  past r p h (yes d) = unknown-node r p d (omega (arith, plan-few g r checked d))
+  past r p h (no d) = unknown-rule g r p (omega arith)
+
+  far : (r p : ℕ) → 64 ≤ r → Dec (r < ruleCount g) → wantOf (grammarOf g) r p ≡ 80
+  far r p h (yes d) = absurd (omega (arith, rule-few g r checked d))
+  far r p h (no d) = unknown-rule g r p (omega arith)
+
+  pub filled-all : (t : List ℕ) (n i : ℕ) → n ≡ 16 * ruleCount g → n ≤ i → Filled g t i → WantTable g t
+  unfolding wantIn
+  filled-all t n i e l f = record { each = λ r p. at r p (decLt r 64) (decLt p 16) }
+    where
+      word : (r p : ℕ) → r < 64 → p < 16 → Dec (16 * r + p < i) → Dec (r < ruleCount g) → getD t (16 * r + p) 0 ≡ wantOf (grammarOf g) r p
+      word r p a b (yes d) k =
+          let q : (16 * r + p) / 16 ≡ r = omega arith in
+          let s : (16 * r + p) % 16 ≡ p = omega arith in
+          f .before (16 * r + p) d (omega arith) ∙ ap₂ (λ r p. wantOf (grammarOf g) r p) q s
+      word r p a b (no d) (yes k) = absurd (omega arith)
+      word r p a b (no d) (no k) = f .after (16 * r + p) (omega arith) (omega arith) ∙ sym (unknown-rule g r p (omega arith))
+
+      at : (r p : ℕ) → Dec (r < 64) → Dec (p < 16) → cond (ltb r 64 && ltb p 16) (getD t (16 * r + p) 0) 80 ≡ wantOf (grammarOf g) r p
+      at r p (yes a) (yes b) = rw (lt-ltb r 64 a, lt-ltb p 16 b) (word r p a b (decLt (16 * r + p) i) (decLt r (ruleCount g)))
+      at r p (yes a) (no b) = rw (lt-ltb r 64 a, le-ltb p 16 (omega arith)) (sym (past r p (omega arith) (decLt r (ruleCount g))))
+      at r p (no a) b = rw (le-ltb r 64 (omega arith)) (sym (far r p (omega arith) (decLt r (ruleCount g))))
+
+-- ---- a word of it
+module _ (t : List ℕ) (r p : ℕ) where
+  pub word-far : 64 ≤ r → 80 ≡ wantIn t r p
+  unfolding wantIn
+  word-far h = rw (le-ltb r 64 h)
+
+  pub word-past : r < 64 → 16 ≤ p → 80 ≡ wantIn t r p
+  unfolding wantIn
+  word-past a h = rw (lt-ltb r 64 a, le-ltb p 16 h)
+
+  pub word-there : r < 64 → p < 16 → getD t (16 * r + p) 0 ≡ wantIn t r p
+  unfolding wantIn
+  word-there a b = rw (lt-ltb r 64 a, lt-ltb p 16 b)

@@ -1,0 +1,39 @@
+-- What an active item at a plan node can be joined with above it, as one number, and which records meet at a plan node.
+use mathlib.Core.Path.{_≡_}
+use mathlib.Core.Bool.{Bool, true, false, _&&_, cond}
+use mathlib.Core.List.{List, [], _∷_, _++_}
+use Prim.Native.Nat.{ℕ, _+_, _*_}
+use lib.ListN.{length, getD}
+use lib.Dec.{eqb, ltb}
+use Rattle.hrg.specs.Grammars.{Grammar, PlanNode, leaf, introduce, join, rightOf, planOf, planNode, edgeAt}
+use Rattle.hrg.specs.ClosureRun.{guard, eachTo}
+use Rattle.questions.specs.Abstract.{grammarOf}
+
+-- where nothing can be joined: no symbol and no plan node has this number
+abbrev pub nothing : ℕ
+nothing = 80
+
+-- what plan node n wants of an item at p: a passive item of its edge's symbol, or an active one at its other child
+unfoldable pub wantsAt : Grammar → ℕ → ℕ → PlanNode → List ℕ
+wantsAt G r p leaf = []
+wantsAt G r p (introduce c i) = guard (eqb c p) (edgeAt (rightOf G r .edges) i .label ∷ [])
+wantsAt G r p (join a b) = guard (eqb a p) ((64 + b) ∷ []) ++ guard (eqb b p) ((64 + a) ∷ [])
+
+-- Below 64 a symbol: of the edge that the plan node above introduces. 64 and more: the other child of a join. `nothing` at a root, and where there is no such rule or plan node. Terminal symbols count: the rules join a passive item of any symbol.
+unfoldable pub wantOf : Grammar → ℕ → ℕ → ℕ
+unfolding wantsAt
+wantOf G r p = getD (eachTo (length (planOf G r)) (λ q. wantsAt G r p (planNode (planOf G r) q))) 0 nothing
+
+-- the word of a table for rule r and plan node p
+unfoldable pub wantIn : List ℕ → ℕ → ℕ → ℕ
+wantIn t r p = cond (ltb r 64 && ltb p 16) (getD t (16 * r + p) 0) nothing
+
+-- t is the table of g
+pub record WantTable (g t : List ℕ) : Type 0 where
+  pub each : (r p : ℕ) → wantIn t r p ≡ wantOf (grammarOf g) r p
+
+-- Whether an item of a kind and a rule or symbol, which wants `want` if it is active, can meet another at a plan node: an active item what it wants, and a passive one what wants its symbol.
+unfoldable pub meets : List ℕ → ℕ → ℕ → ℕ → ℕ → ℕ → ℕ → Bool
+unfolding wantIn
+meets t kind of want kind′ of′ plan′ =
+    cond (eqb kind 0) (cond (eqb kind′ 0) (eqb of of′ && (ltb plan′ 16 && eqb want (64 + plan′))) (eqb want of′)) (eqb kind′ 0 && eqb (wantIn t of′ plan′) of)
