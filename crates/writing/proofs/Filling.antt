@@ -4,7 +4,6 @@ use mathlib.Core.Logic.{_≢_}
 use mathlib.Core.Bool.{Bool, true, false, cond}
 use mathlib.Core.List.{List, [], _∷_, _++_, map, map-append}
 use Prim.Native.Nat.{ℕ, suc, _+_, _-_, _≤_, _<_}
-use native.Mathlib.Nat.{add-assoc, add-comm}
 use native.Mathlib.Omega.{arith}
 use lib.ListN.{length, take, drop, getD, replicate, length-append}
 use lib.Seq.{take-append-seam, take-append-add, take-at, drop-at}
@@ -163,13 +162,6 @@ module _ (G : Grammar) (H : Graph) (ok : GrammarOk G) (hok : GraphOk G H) where
   text-records t g l = ap (recordsBy G) (derivation-rows G H ok hok t g l) ∙ tree-records (G .start) (H .externals) 0 t (g .fits)
 
 -- ---- what is chosen, whatever the chart
-not-refuses : (a : Answer) (text : List ℕ) → refuses a ≡ chooses text → ⊥
-not-refuses a text e = let z : _≡_ {A = ℕ} 0 1 = ap tag e in omega (arith, z)
-  where
-    tag : Choice → ℕ
-    tag (refuses a) = 0
-    tag (chooses text) = 1
-
 module _ (g h w : List ℕ) where
   abbrev G : Grammar
   G = grammarOf g
