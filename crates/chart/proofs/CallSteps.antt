@@ -21,7 +21,7 @@ use Rattle.chart.specs.Facts.{RunRight, StartChoices, RunChoices}
 use Rattle.chart.specs.declared.Outcome.{Outcome}
 use Rattle.chart.specs.declared.Outcome.the-variants.{Unfit, TooSmall, Unfinished, Done}
 use Rattle.hrg.proofs.Degrees.{and-true as both}
-use Rattle.validity.proofs.KnownCharts.{holds-header, known-fits}
+use Rattle.validity.proofs.KnownCharts.{holds-header, holds-most, known-fits}
 use Rattle.chart.proofs.Calls.{and-both, start-is, start-not, run-is, run-not, run-chart}
 use Rattle.chart.proofs.Demand.{runs-right, start-right}
 
@@ -55,6 +55,9 @@ module _ (g h w : List ℕ) (b : Bool) (is : b ≡ fit g h w) (y : b ≡ true) w
 
   pub fit-header : 2 ≤ length w
   fit-header = holds-header w (parts .0)
+
+  pub fit-small : capacity w ≤ 4096
+  fit-small = holds-most w (parts .0)
 
   pub fit-known : (k : Bool) → k ≡ knownChart (grammarOf g) (graphOf g h) w → k ≡ true → Fits w
   fit-known k q z = known-fits (grammarOf g) (graphOf g h) w fit-header (sym q ∙ z)

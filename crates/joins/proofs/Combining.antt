@@ -9,7 +9,7 @@ use lib.ListN.{length, take}
 use lib.Seq.{getD-take}
 use lib.Bits.{bitAnd}
 use lib.Dec.{eqb, leb, ltb}
-use borrow.Author.Tests.{ltb-true}
+use borrow.Author.Tests.{ltb-true, lt-leb, ne-eqb}
 use Rattle.masks.specs.Masks.{bit, member, _∪_, disjoint, within, Subset}
 use Rattle.masks.specs.Laws.{bit-le, member-true, member-false, true-member, lt-bits, within-holds, holds-within}
 use Rattle.hrg.specs.Counts.{hit, occurs, tabulate}
@@ -20,6 +20,7 @@ use Rattle.hrg.specs.WellFormedTest.{every}
 use Rattle.hrg.specs.ClosureRun.{guard, agree, oneToOne, covering, combine}
 use Rattle.hrg.proofs.Sums.{hit-ne, length-tabulate, tabulate-ext}
 use Rattle.hrg.proofs.Degrees.{test-T, T-test, and-true}
+use Rattle.hrg.proofs.WellFormedTest.{every-false}
 use Rattle.questions.specs.Layout.{ruleNodes, graphNodes}
 use Rattle.questions.specs.Abstract.{grammarOf, graphOf}
 use Rattle.joins.specs.declared.Joined.{Joined}
@@ -328,3 +329,14 @@ open-rule-known g r p x known o =
       right-nodes g r (known .grammar) (known .rule),
       boundary-inside (λ i. ltb 0 (occurs i (below (ruleOf (grammarOf g) r .plan) p))) right x (λ i l. rule-ok g r (known .grammar) (known .rule) .right .edge i l .listed .inside x) o,
     )
+
+-- two maps that differ at a rule node where both have an image make nothing
+pub combine-differ : (H : Graph) (R : Rule) (r q m₁ m₂ : ℕ) (f k : List ℕ) (x : ℕ) → x < R .production .right .nodes → at f x < unplaced → at k x < unplaced → (at f x ≡ at k x → ⊥)
+    → combine H R r q m₁ m₂ f k ≡ []
+unfolding combine agree
+combine-differ H R r q m₁ m₂ f k x l a b n =
+    rw (sym (every-false (R .production .right .nodes) (agreeAt f k) x l (rw (lt-leb unplaced (at f x) a, lt-leb unplaced (at k x) b) (ne-eqb (at f x) (at k x) n)))) (go (disjoint m₁ m₂))
+  where
+    go : (d : Bool) → guard {A = Item} d [] ≡ []
+    go true = refl
+    go false = refl

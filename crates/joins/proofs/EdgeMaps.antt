@@ -111,17 +111,26 @@ module _ (g : List ℕ) (r i : ℕ) (known : KnownEdge g r i) where
   edge-nodes =
       ap (λ (R : Rule). edgeAt (R .production .right .edges) i .attachment) (rule-is g r (known .rule)) ∙ ap (λ (e : Edge). e .attachment) (edge-is g r i (known .edge))
 
+  pub edge-label : edgeAt (ruleOf (grammarOf g) r .production .right .edges) i .label ≡ edgeLabel g r i
+  edge-label =
+      ap (λ (R : Rule). edgeAt (R .production .right .edges) i .label) (rule-is g r (known .rule)) ∙ ap (λ (e : Edge). e .label) (edge-is g r i (known .edge))
+
   pub edge-rank : length (edgeNodes g r i) ≡ rank
   edge-rank = ap length edge-nodes ∙ length-tabulate rank (λ k. edgeNode g r i k)
 
   edge-node : (k : ℕ) → k < rank → getD (edgeNodes g r i) k 0 ≡ edgeNode g r i k
   edge-node k h = ap (λ (l : List ℕ). getD l k 0) edge-nodes ∙ getD-tabulate rank (λ k. edgeNode g r i k) k 0 h
 
+  pub node-there : (k : ℕ) → k < rank → at (edgeNodes g r i) k ≡ edgeNode g r i k
+  node-there k h = ap (λ (l : List ℕ). at l k) edge-nodes ∙ at-tabulate rank (λ k. edgeNode g r i k) k h
+
+  pub edge-node-known : (k x : ℕ) → k < rank → x ≡ edgeNode g r i k → x < ruleNodes g r
+  edge-node-known k x h e =
+      let found = rw (node-there k h) at (occurs-at (edgeNodes g r i) k (omega (arith, edge-rank))) in
+      omega (arith, edge-ok .listed .inside (edgeNode g r i k) found)
+
   pub edge-node-few : (k x : ℕ) → k < rank → x ≡ edgeNode g r i k → x < 8
-  edge-node-few k x h e =
-      let there : at (edgeNodes g r i) k ≡ edgeNode g r i k = ap (λ (l : List ℕ). at l k) edge-nodes ∙ at-tabulate rank (λ k. edgeNode g r i k) k h in
-      let found = rw there at (occurs-at (edgeNodes g r i) k (omega (arith, edge-rank))) in
-      omega (arith, nodes-few g r (known .grammar) (known .rule), edge-ok .listed .inside (edgeNode g r i k) found)
+  edge-node-few k x h e = omega (arith, nodes-few g r (known .grammar) (known .rule), edge-node-known k x h e)
 
   -- the loop
   module _ (l : List ℕ) (eight : length l ≡ 8) where
@@ -157,3 +166,17 @@ take-padded n F size few =
 pub length-attach : (n : ℕ) (A L : List ℕ) → length (attach n A L) ≡ n
 unfolding attach
 length-attach n A L = length-tabulate n (λ x. nodeFor x A L)
+
+-- an edge's map has at the node of each place the node of the list there
+node-place : (A L : List ℕ) (k : ℕ) → ((x : ℕ) → occurs x A ≤ 1) → k < length A → k < length L → nodeFor (at A k) A L ≡ at L k
+unfolding occurs
+node-place [] L k once p q = absurd (omega arith)
+node-place (a ∷ A) [] k once p q = absurd (omega arith)
+node-place (a ∷ A) (b ∷ L) zero once p q = node-first a a b A L refl
+node-place (a ∷ A) (b ∷ L) (suc k) once p q =
+    node-later (at A k) a b A L (λ e. omega (arith, once a, hit-self a, ap (λ x. occurs x A) e, occurs-at A k (omega arith)))
+    ∙ node-place A L k (λ x. omega (arith, once x)) (omega arith) (omega arith)
+
+pub attach-place : (n : ℕ) (A L : List ℕ) (k x : ℕ) → ((x : ℕ) → occurs x A ≤ 1) → k < length A → k < length L → x ≡ at A k → x < n → at (attach n A L) x ≡ at L k
+unfolding attach
+attach-place n A L k x once p q e h = at-tabulate n (λ x. nodeFor x A L) x h ∙ ap (λ x. nodeFor x A L) e ∙ node-place A L k once p q

@@ -11,16 +11,15 @@ use lib.Dec.{ltb}
 use Rattle.masks.specs.Masks.{bit, member, _∪_, Added}
 use Rattle.masks.specs.Laws.{member-union, member-true, member-false, true-member, false-member}
 use Rattle.hrg.specs.Counts.{hit, occurs, tabulate}
-use Rattle.hrg.specs.Grammars.{Edge, noEdge, Graph, Rule, touches, ruleOf, edgeAt}
-use Rattle.hrg.specs.Items.{below, isBoundary, isOpen, isOpenAt}
+use Rattle.hrg.specs.Grammars.{Edge, Graph, Rule, touches, ruleOf, edgeAt}
+use Rattle.hrg.specs.Items.{below, isBoundary, isOpenAt}
 use Rattle.hrg.proofs.Sums.{sum-last, occurs-tabulate}
-use Rattle.questions.specs.Layout.{word, rankAt, ruleSymbol, ruleEdges, ruleExternal, startSymbol, graphEdges, graphExternal, graphLabel, graphNode}
-use Rattle.questions.specs.Abstract.{ruleFrom, grammarOf, graphOf}
+use Rattle.questions.specs.Layout.{word, rankAt, ruleSymbol, ruleEdges, ruleExternal}
+use Rattle.questions.specs.Abstract.{ruleFrom, grammarOf}
 use Rattle.questions.proofs.WellFormedAccepted.{rule-is, edge-is}
-use Rattle.questions.proofs.WellFormedLists.{getD-build}
 use Rattle.joins.specs.declared.Sides.{Sides}
-use Rattle.joins.specs.Joins.{KnownNode, EdgesBelow, NodesIn, lineNodes, someBoth, sideWith, SidesOf, Boundary, OpenAt, OpenIn}
-use Rattle.joins.proofs.Known.{right-edges, graph-size}
+use Rattle.joins.specs.Joins.{KnownNode, EdgesBelow, NodesIn, lineNodes, someBoth, sideWith, SidesOf, Boundary, OpenAt}
+use Rattle.joins.proofs.Known.{right-edges}
 use Rattle.joins.proofs.PlanMasks.{member-none, some-sum, some-hit}
 
 -- ---- a common member
@@ -88,7 +87,7 @@ boundary-is s externals = record {
 }
 
 -- ---- touched nodes, by the numbers of the edges
-some-same : (t u a b : ℕ → Bool) (n : ℕ) → ((i : ℕ) → i < n → t i ≡ u i) → ((i : ℕ) → i < n → a i ≡ b i) → someBoth t a n ≡ someBoth u b n
+pub some-same : (t u a b : ℕ → Bool) (n : ℕ) → ((i : ℕ) → i < n → t i ≡ u i) → ((i : ℕ) → i < n → a i ≡ b i) → someBoth t a n ≡ someBoth u b n
 unfolding someBoth
 some-same t u a b zero p q = refl
 some-same t u a b (suc n) p q =
@@ -141,16 +140,6 @@ open-rule g r p n m ext o s known size edges sides externals made =
           (rw from externals)
           made x h;
     }
-
-pub open-graph : (g h : List ℕ) (n m ext o : ℕ) (s : Sides) → n ≡ graphEdges h → SidesOf g h 1 n m s
-    → NodesIn ext (tabulate (rankAt g (startSymbol g)) (λ k. graphExternal h k)) → Boundary s ext o → OpenIn g h m o
-unfolding isOpen lineNodes graphOf
-open-graph g h n m ext o s size sides externals made = record {
-  members = λ x l.
-      boundary-members g h 1 n m ext o s (graphOf g h) (λ e. member m e) (size ∙ sym (graph-size g h)) (λ i. refl)
-      (λ i b. ap (λ (e : Edge). e .attachment) (getD-build (graphEdges h) (λ e. record { label = graphLabel h e; attachment = tabulate (rankAt g (graphLabel h e)) (λ k. graphNode h e k) }) i noEdge (omega (arith, size))))
-      sides externals made x l;
-}
 
 pub listed-rank : (g : List ℕ) (f : ℕ → ℕ) (s v rank m : ℕ) → v ≡ s → rank ≡ rankAt g v → NodesIn m (tabulate rank f) → NodesIn m (tabulate (rankAt g s) f)
 listed-rank g f s v rank m a b nodes = rw (b, a) at nodes

@@ -10,7 +10,9 @@ ghost use Rattle.hrg.specs.ClosureRun.{covering, combine};
 ghost use Rattle.questions.specs.Layout.{word, rankAt, startSymbol, ruleSymbol, ruleNodes, ruleExternal, edgeLabel, graphNodes, graphExternal};
 ghost use Rattle.questions.specs.Abstract.{grammarOf, graphOf};
 ghost use Rattle.joins.specs.Joins.{KnownNode, KnownEdge, Accepted, EdgesBelow, MasksBelow, NodesIn, sideWith, SidesOf, Boundary, OpenAt, OpenIn, edgeNodes, Merges, joinedOf};
+ghost use Rattle.joins.specs.Graphs.{GraphTable, Touched};
 
+pub mod graphs;
 pub mod maps;
 
 // The nodes on edges of a set, and on the other edges.
@@ -133,13 +135,33 @@ fn graph_externals(g: &[u64], h: &[u64]) -> u64
     listed(h, 0, 2, rank)
 }
 
+// The nodes on the edges of the set m, and on the others, by sets of four edges.
+fn touched(g: &[u64], h: &[u64], graph: &[u64; 577], m: u64) -> Sides
+    requires { ⌜ Accepted (now g) (now h) × GraphTable (now g) (now h) (now graph) ⌝ }
+    ensures { λ s. ⌜ Touched (now (g .entry)) (now (h .entry)) m s ⌝ }
+{
+    let n = layout::graph_edges(h);
+    let mut inside: u64 = 0;
+    let mut outside: u64 = 0;
+    let mut rest = m;
+    let mut b: u64 = 0;
+    while 4 * b < n {
+        let v = rest % 16;
+        inside |= graph[(16 * b + v) as usize];
+        outside |= graph[(16 * b + (15 - v)) as usize];
+        rest /= 16;
+        b += 1;
+    }
+    Sides { inside, outside }
+}
+
 // The open graph nodes of the edge set m.
-pub fn open_in(g: &[u64], h: &[u64], m: u64) -> u64
-    requires { ⌜ Accepted (now g) (now h) ⌝ }
+pub fn open_in(g: &[u64], h: &[u64], graph: &[u64; 577], m: u64) -> u64
+    requires { ⌜ Accepted (now g) (now h) × GraphTable (now g) (now h) (now graph) ⌝ }
     ensures { λ x. ⌜ OpenIn (now (g .entry)) (now (h .entry)) m x ⌝ }
 {
-    let s = nodes_by(g, h, 1, layout::graph_edges(h), m);
-    boundary(s, graph_externals(g, h))
+    let s = touched(g, h, graph, m);
+    boundary(s, graph[256])
 }
 
 // ---- maps of rule nodes: eight places, 64 where a node has no image
@@ -180,20 +202,20 @@ fn merge_maps(g: &[u64], h: &[u64], r: u64, f: [u64; 8], k: [u64; 8]) -> Merged
     Merged { ok, nodes: j }
 }
 
-// A map without the rule nodes that are closed at plan node q.
-fn close(g: &[u64], r: u64, q: u64, j: [u64; 8]) -> [u64; 8]
-    requires { ⌜ KnownNode (now g) r q ⌝ }
+// A map without the rule nodes that are closed at plan node q: those in `stays` are open there.
+fn close(g: &[u64], r: u64, q: u64, stays: u64, j: [u64; 8]) -> [u64; 8]
+    requires { ⌜ KnownNode (now g) r q × OpenAt (now g) r q stays ⌝ }
     ensures { λ t. ⌜ t ≡ padded (restrict (ruleOf (grammarOf (now (g .entry))) r) q j) ⌝ }
 {
-    maps::restrict(layout::rule_nodes(g, r), open_at(g, r, q), j)
+    maps::restrict(layout::rule_nodes(g, r), stays, j)
 }
 
 // Whether every open graph node of the edge set m is an image.
-fn covered(g: &[u64], h: &[u64], m: u64, t: [u64; 8]) -> bool
-    requires { ⌜ Accepted (now g) (now h) ⌝ }
+fn covered(g: &[u64], h: &[u64], graph: &[u64; 577], m: u64, t: [u64; 8]) -> bool
+    requires { ⌜ Accepted (now g) (now h) × GraphTable (now g) (now h) (now graph) ⌝ }
     ensures { λ x. ⌜ x ≡ covering (graphOf (now (g .entry)) (now (h .entry))) m t ⌝ }
 {
-    let nodes = open_in(g, h, m);
+    let nodes = open_in(g, h, graph, m);
     let seen = maps::images(t);
     nodes & seen == nodes
 }
@@ -205,18 +227,20 @@ pub struct Joined {
     pub nodes: [u64; 8],
 }
 
-// The item of rule r at plan node q that two sets and maps of rule nodes make, if they do.
+// The item of rule r at plan node q that two sets and maps of rule nodes make, if they do: the rule nodes in `stays` are open there.
 pub fn combine(
     g: &[u64],
     h: &[u64],
+    graph: &[u64; 577],
     r: u64,
     q: u64,
+    stays: u64,
     m1: u64,
     m2: u64,
     f: [u64; 8],
     k: [u64; 8],
 ) -> Joined
-    requires { ⌜ Accepted (now g) (now h) × KnownNode (now g) r q ⌝ }
+    requires { ⌜ Accepted (now g) (now h) × KnownNode (now g) r q × GraphTable (now g) (now h) (now graph) × OpenAt (now g) r q stays ⌝ }
     ensures { λ x. ⌜ x ≡ joinedOf (combine (graphOf (now (g .entry)) (now (h .entry))) (ruleOf (grammarOf (now (g .entry))) r) r q m1 m2 (take (ruleNodes (now (g .entry)) r) f) (take (ruleNodes (now (g .entry)) r) k)) ⌝ }
 {
     let none = Joined {
@@ -232,9 +256,9 @@ pub fn combine(
         return none;
     }
     let j = merged.nodes;
-    let t = close(g, r, q, j);
+    let t = close(g, r, q, stays, j);
     let m = masks::union(m1, m2);
-    if !covered(g, h, m, t) {
+    if !covered(g, h, graph, m, t) {
         return none;
     }
     Joined {

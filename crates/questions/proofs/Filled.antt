@@ -32,7 +32,7 @@ use Rattle.questions.specs.declared.Answer.the-variants.{Done, Refused}
 use Rattle.questions.specs.declared.Due.{Due}
 use Rattle.questions.specs.declared.Due.the-variants.{Grammar, Symbol, Rule, RuleEdge, PlanLine, Graph, GraphEdge, Nothing}
 
-when-line : (due : Due) → IsLine due → (a b : Verdict) → whenDone due a b ≡ b
+pub when-line : (due : Due) → IsLine due → (a b : Verdict) → whenDone due a b ≡ b
 when-line Grammar l a b = refl
 when-line (Symbol s) l a b = refl
 when-line (Rule r) l a b = refl
@@ -150,13 +150,13 @@ any : (b : Bool) → Decides b (b ≡ true)
 any b = record { sound = λ t. T-test b t; complete = λ q. test-T b q }
 
 -- a check that passes gives the accepted table, and that it is the table's own words
-filled-by : (size : ℕ) (t : List ℕ) (v : Verdict) → filledBy size t v ≡ true → (c : List ℕ) × (v ≡ accepted c) × (size ≤ length t) × (c ≡ take size t)
+pub filled-by : (size : ℕ) (t : List ℕ) (v : Verdict) → filledBy size t v ≡ true → (c : List ℕ) × (v ≡ accepted c) × (size ≤ length t) × (c ≡ take size t)
 filled-by size t (refused k) q = absurd (test-T false q)
 filled-by size t (accepted c) q =
     let d = passed (decides-le size (length t) and any (sameList c (take size t))) q in
     (c, refl, d .0, list-eq c (take size t) (test-T (sameList c (take size t)) (d .1)))
 
-by-filled : (size : ℕ) (t c : List ℕ) → size ≤ length t → c ≡ take size t → filledBy size t (accepted c) ≡ true
+pub by-filled : (size : ℕ) (t c : List ℕ) → size ≤ length t → c ≡ take size t → filledBy size t (accepted c) ≡ true
 by-filled size t c l e =
     T-test _ ((decides-le size (length t) and any (sameList c (take size t))) .complete (l, ap (λ (x : List ℕ). sameList x (take size t)) e ∙ list-same (take size t)))
 
@@ -179,7 +179,7 @@ delivered-done size (accepted c) former t q = go (leb size (length former)) refl
     go false e q = let d : Refused 8 ≡ Done = ap (λ (o : Outcome). o .answer) q in let z : _≡_ {A = ℕ} 0 1 = cc in absurd (omega arith)
 
 -- the words of a table are those of its beginning
-word-take : (size : ℕ) (t : List ℕ) (p j : ℕ) → 9 * p + j < size → word (take size t) p j ≡ word t p j
+pub word-take : (size : ℕ) (t : List ℕ) (p j : ℕ) → 9 * p + j < size → word (take size t) p j ≡ word t p j
 unfolding word
 word-take size t p j l = getD-take size t (9 * p + j) 0 l
 

@@ -56,6 +56,18 @@ pub length-block : (w : List ℕ) (j : ℕ) → length (blockAt w j) ≡ 16
 unfolding blockAt
 length-block w j = length-tabulate 16 (λ k. getD w (2 + 16 * j + k) 0)
 
+-- sixteen words that are read
+pub first-word : (w : List ℕ) (j : ℕ) → getD w (2 + 16 * j) 0 ≡ fieldAt w j 0
+unfolding fieldAt
+first-word w j = ap (λ i. getD w i 0) (let e : 2 + 16 * j ≡ 2 + 16 * j + 0 = omega arith in e)
+
+pub whole-block : (w : List ℕ) (j h : ℕ) → h ≡ fieldAt w j 0
+    → h ∷ getD w (2 + 16 * j + 1) 0 ∷ getD w (2 + 16 * j + 2) 0 ∷ getD w (2 + 16 * j + 3) 0 ∷ getD w (2 + 16 * j + 4) 0 ∷ getD w (2 + 16 * j + 5) 0 ∷ getD w (2 + 16 * j + 6) 0 ∷ getD w (2 + 16 * j + 7) 0
+    ∷ getD w (2 + 16 * j + 8) 0 ∷ getD w (2 + 16 * j + 9) 0 ∷ getD w (2 + 16 * j + 10) 0 ∷ getD w (2 + 16 * j + 11) 0 ∷ getD w (2 + 16 * j + 12) 0 ∷ getD w (2 + 16 * j + 13) 0
+    ∷ getD w (2 + 16 * j + 14) 0 ∷ getD w (2 + 16 * j + 15) 0 ∷ [] ≡ blockAt w j
+unfolding blockAt fieldAt tabulate
+whole-block w j h e = rw e
+
 pub copied-all : (ws w : List ℕ) (j k : ℕ) → length ws ≡ 16 → 16 ≤ k → ((i : ℕ) → i < k → getD ws i 0 ≡ fieldAt w j i) → ws ≡ blockAt w j
 unfolding blockAt fieldAt
 copied-all ws w j k e h p =
@@ -179,9 +191,55 @@ handled-of w j = refl
 pub same-loaded : (x y : Record) (w : List ℕ) (j : ℕ) (b : Bool) → y ≡ recordAt w j → b ≡ sameRecord x y → b ≡ sameRecord x (recordAt w j)
 same-loaded x y w j b e h = rw e at h
 
-pub other-edges : (x : Record) (w : List ℕ) (j : ℕ) (r : ℕ) → r ≡ fieldAt w j 3 → (r ≡ x .edges → ⊥) → false ≡ sameRecord x (recordAt w j)
-unfolding sameRecord
-other-edges x w j r e h = rw (ne-eqb (x .edges) (recordAt w j .edges) (λ q. h (e ∙ sym (edges-of w j) ∙ sym q)))
+-- word by word, where the record lies inside
+pub same-inside : (ms w : List ℕ) (j : ℕ) → length ms ≡ 8
+    → eqb (getD ms 0 0) (getD w (2 + 16 * j + 6) 0) && eqb (getD ms 1 0) (getD w (2 + 16 * j + 7) 0) && eqb (getD ms 2 0) (getD w (2 + 16 * j + 8) 0) && eqb (getD ms 3 0) (getD w (2 + 16 * j + 9) 0)
+    && (eqb (getD ms 4 0) (getD w (2 + 16 * j + 10) 0) && eqb (getD ms 5 0) (getD w (2 + 16 * j + 11) 0) && eqb (getD ms 6 0) (getD w (2 + 16 * j + 12) 0) && eqb (getD ms 7 0) (getD w (2 + 16 * j + 13) 0))
+    ≡ sameList ms (recordAt w j .nodes)
+unfolding recordAt ofWords blockAt fieldAt tabulate
+same-inside ms w j e = same-places ms (recordAt w j .nodes) e refl
+
+module _ (x : Record) (w : List ℕ) (j : ℕ) where
+  word-is : (k n m : ℕ) → n ≡ fieldAt w j k → (getD w (2 + 16 * j + k) 0 ≡ m → ⊥) → eqb m n ≡ false
+  unfolding fieldAt
+  word-is k n m e h = ne-eqb m n (λ q. h (sym e ∙ sym q))
+
+  pub other-edges : (getD w (2 + 16 * j + 3) 0 ≡ x .edges → ⊥) → false ≡ sameRecord x (recordAt w j)
+  unfolding sameRecord
+  other-edges h = rw (word-is 3 _ (x .edges) (edges-of w j) h)
+
+  pub other-of : (getD w (2 + 16 * j + 1) 0 ≡ x .of → ⊥) → false ≡ sameRecord x (recordAt w j)
+  unfolding sameRecord
+  other-of h = rw (word-is 1 _ (x .of) (rule-of w j) h) (go (eqb (x .edges) (recordAt w j .edges)) (eqb (x .kind) (recordAt w j .kind)))
+    where
+      go : (a b : Bool) → false ≡ a && b && false && eqb (x .plan) (recordAt w j .plan) && sameList (x .nodes) (recordAt w j .nodes)
+      go true true = refl
+      go true false = refl
+      go false b = refl
+
+  pub other-plan : (getD w (2 + 16 * j + 2) 0 ≡ x .plan → ⊥) → false ≡ sameRecord x (recordAt w j)
+  unfolding sameRecord
+  other-plan h = rw (word-is 2 _ (x .plan) (plan-of w j) h) (go (eqb (x .edges) (recordAt w j .edges)) (eqb (x .kind) (recordAt w j .kind)) (eqb (x .of) (recordAt w j .of)))
+    where
+      go : (a b d : Bool) → false ≡ a && b && d && false && sameList (x .nodes) (recordAt w j .nodes)
+      go true true true = refl
+      go true true false = refl
+      go true false d = refl
+      go false b d = refl
+
+  pub other-kind : (getD w (2 + 16 * j) 0 ≡ x .kind → ⊥) → false ≡ sameRecord x (recordAt w j)
+  unfolding sameRecord fieldAt
+  other-kind h = rw (word-is 0 _ (x .kind) (kind-of w j) (λ q. h (first-word w j ∙ q))) (go (eqb (x .edges) (recordAt w j .edges)))
+    where
+      go : (a : Bool) → false ≡ a && false && eqb (x .of) (recordAt w j .of) && eqb (x .plan) (recordAt w j .plan) && sameList (x .nodes) (recordAt w j .nodes)
+      go true = refl
+      go false = refl
+
+  pub same-rest : getD w (2 + 16 * j + 3) 0 ≡ x .edges → getD w (2 + 16 * j + 1) 0 ≡ x .of → getD w (2 + 16 * j + 2) 0 ≡ x .plan → getD w (2 + 16 * j) 0 ≡ x .kind
+      → (t : Bool) → t ≡ sameList (x .nodes) (recordAt w j .nodes) → t ≡ sameRecord x (recordAt w j)
+  unfolding sameRecord fieldAt
+  same-rest a b d e t p =
+      rw (eq-eqb (x .edges) (recordAt w j .edges) (sym (edges-of w j ∙ a)), eq-eqb (x .kind) (recordAt w j .kind) (sym (kind-of w j ∙ sym (first-word w j) ∙ e)), eq-eqb (x .of) (recordAt w j .of) (sym (rule-of w j ∙ b)), eq-eqb (x .plan) (recordAt w j .plan) (sym (plan-of w j ∙ d))) p
 
 -- ---- records of the words
 pub length-records : (w : List ℕ) (n : ℕ) → length (recordsAt w n) ≡ n
@@ -307,18 +365,19 @@ pub handled-same : (w : List ℕ) (i r d : ℕ) → r ≡ fieldAt w i 5 → r �
 handled-same w i r d e h p = let q : flag (isHandled (recordAt w i)) ≡ 0 = rw (handled-no w i r e h) in omega (arith, handled-turn w i)
 
 -- ---- one record more
-module _ (w : List ℕ) (j : ℕ) (x y : Record) (e : y ≡ recordAt w j) where
-  pub improve-handled : (y .handled ≡ 0 → ⊥) → w ≡ improvedAt w j x
+module _ (w : List ℕ) (j : ℕ) (x : Record) (r : ℕ) (e : r ≡ fieldAt w j 5) where
+  pub improve-handled : (r ≡ 0 → ⊥) → w ≡ improvedAt w j x
   unfolding improvedAt
-  improve-handled h = rw (← e) (rw (ne-eqb (y .handled) 0 h))
+  improve-handled h = rw (handled-yes w j r e h)
 
-  pub improve-less : y .handled ≡ 0 → y .count ≤ x .count → w ≡ improvedAt w j x
-  unfolding improvedAt
-  improve-less h l = rw (← e) (rw (eq-eqb (y .handled) 0 h, le-leb (y .count) (x .count) l))
+  module _ (z : r ≡ 0) (n : ℕ) (p : n ≡ fieldAt w j 4) where
+    pub improve-less : n ≤ x .count → w ≡ improvedAt w j x
+    unfolding improvedAt
+    improve-less l = rw (handled-no w j r e z, le-leb (recordAt w j .count) (x .count) (omega (arith, count-of w j)))
 
-  pub improve-more : (v : List ℕ) → y .handled ≡ 0 → x .count < y .count → v ≡ saved w j (improved y x) → v ≡ improvedAt w j x
-  unfolding improvedAt
-  improve-more v h l p = rw (← e) (rw (eq-eqb (y .handled) 0 h, lt-leb (y .count) (x .count) l) p)
+    pub improve-more : (v : List ℕ) (y : Record) → x .count < n → y ≡ recordAt w j → v ≡ saved w j (improved y x) → v ≡ improvedAt w j x
+    unfolding improvedAt
+    improve-more v y l q s = rw (handled-no w j r e z, lt-leb (recordAt w j .count) (x .count) (omega (arith, count-of w j))) (rw q at s)
 
 short-capacity : (w : List ℕ) → length w < 2 → capacity w ≡ 0
 unfolding capacity

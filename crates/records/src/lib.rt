@@ -1,8 +1,9 @@
 // A chart's words: the header, and records of sixteen words that are read, compared and written.
 ghost use mathlib.Core.Path.{_≡_};
-ghost use Prim.Native.Nat.{_≤_, _<_, _+_};
+ghost use Prim.Native.Nat.{_≤_, _<_, _+_, _*_};
 ghost use lib.ListN.{length, getD};
 ghost use Rattle.records.specs.Words.{capacity, itemCount, fieldAt, blockAt, ofWords, recordAt, recordsAt, wordsOf, pasted, saved, lesserAt, improvedAt, appendedTo, addedTo, markedAt};
+ghost use Rattle.hrg.specs.ClosureRun.{sameList};
 ghost use Rattle.agenda.specs.Records.{sameRecord, isHandled};
 ghost use Rattle.agenda.specs.Steps.{lastSame, leastWaiting, handledCount};
 use agenda::Found;
@@ -59,8 +60,34 @@ pub fn field(chart: &[u64], j: u64, k: u64) -> u64
     word(chart, 2 + 16 * j + k)
 }
 
-// The sixteen words of the record at place j.
-fn block(chart: &[u64], j: u64) -> [u64; 16]
+// The sixteen words of the record at place j, which lies inside the chart.
+fn whole_block(chart: &[u64], j: u64) -> [u64; 16]
+    requires { ⌜ 2 + 16 * j + 16 ≤ length (now chart) ⌝ }
+    ensures { λ r. ⌜ r ≡ blockAt (now (chart .entry)) j ⌝ }
+{
+    let at = (2 + 16 * j) as usize;
+    [
+        chart[at],
+        chart[at + 1],
+        chart[at + 2],
+        chart[at + 3],
+        chart[at + 4],
+        chart[at + 5],
+        chart[at + 6],
+        chart[at + 7],
+        chart[at + 8],
+        chart[at + 9],
+        chart[at + 10],
+        chart[at + 11],
+        chart[at + 12],
+        chart[at + 13],
+        chart[at + 14],
+        chart[at + 15],
+    ]
+}
+
+// The same where the chart may end before or inside the record.
+fn cut_block(chart: &[u64], j: u64) -> [u64; 16]
     ensures { λ r. ⌜ r ≡ blockAt (now (chart .entry)) j ⌝ }
 {
     let mut ws = [0u64; 16];
@@ -70,6 +97,16 @@ fn block(chart: &[u64], j: u64) -> [u64; 16]
         k += 1;
     }
     ws
+}
+
+// The sixteen words of the record at place j.
+fn block(chart: &[u64], j: u64) -> [u64; 16]
+    ensures { λ r. ⌜ r ≡ blockAt (now (chart .entry)) j ⌝ }
+{
+    if j < capacity_of(chart) {
+        return whole_block(chart, j);
+    }
+    cut_block(chart, j)
 }
 
 // A record of its words.
@@ -167,12 +204,51 @@ pub fn is_handled(x: Record) -> bool
     x.handled != 0
 }
 
-// Whether the record at place j is of the same item as x. The edges, which differ most, come first.
-fn same_at(chart: &[u64], j: u64, x: Record) -> bool
+// Whether the nodes of the record at place j, which lies inside the chart, are these.
+fn same_nodes(chart: &[u64], j: u64, nodes: [u64; 8]) -> bool
+    requires { ⌜ 2 + 16 * j + 16 ≤ length (now chart) ⌝ }
+    ensures { λ r. ⌜ r ≡ sameList nodes (recordAt (now (chart .entry)) j .nodes) ⌝ }
+{
+    let at = (2 + 16 * j) as usize;
+    let low = (nodes[0] == chart[at + 6])
+        & (nodes[1] == chart[at + 7])
+        & (nodes[2] == chart[at + 8])
+        & (nodes[3] == chart[at + 9]);
+    let high = (nodes[4] == chart[at + 10])
+        & (nodes[5] == chart[at + 11])
+        & (nodes[6] == chart[at + 12])
+        & (nodes[7] == chart[at + 13]);
+    low & high
+}
+
+// Whether the record at place j, which lies inside the chart, is of the same item as x. The edges, which differ most, come first.
+fn same_inside(chart: &[u64], j: u64, x: Record) -> bool
+    requires { ⌜ 2 + 16 * j + 16 ≤ length (now chart) ⌝ }
     ensures { λ r. ⌜ r ≡ sameRecord x (recordAt (now (chart .entry)) j) ⌝ }
 {
-    if field(chart, j, 3) != x.edges {
+    let at = (2 + 16 * j) as usize;
+    if chart[at + 3] != x.edges {
         return false;
+    }
+    if chart[at + 1] != x.of {
+        return false;
+    }
+    if chart[at + 2] != x.plan {
+        return false;
+    }
+    if chart[at] != x.kind {
+        return false;
+    }
+    let nodes = x.nodes;
+    same_nodes(chart, j, nodes)
+}
+
+// Whether the record at place j is of the same item as x.
+pub fn same_at(chart: &[u64], j: u64, x: Record) -> bool
+    ensures { λ r. ⌜ r ≡ sameRecord x (recordAt (now (chart .entry)) j) ⌝ }
+{
+    if j < capacity_of(chart) {
+        return same_inside(chart, j, x);
     }
     same(x, load(chart, j))
 }
@@ -238,16 +314,16 @@ pub fn handled_steps(chart: &[u64], n: u64) -> u64
 }
 
 // The record at place j takes the count and the partners of x, unless it is handled or its count is no greater.
-fn improve(chart: &mut [u64], j: u64, x: Record)
+pub fn improve(chart: &mut [u64], j: u64, x: Record)
     ensures { λ r. ⌜ now (chart .exit) ≡ improvedAt (now (chart .entry)) j x ⌝ }
 {
+    if field(chart, j, 5) != 0 {
+        return;
+    }
+    if field(chart, j, 4) <= x.count {
+        return;
+    }
     let y = load(chart, j);
-    if y.handled != 0 {
-        return;
-    }
-    if y.count <= x.count {
-        return;
-    }
     let nodes = y.nodes;
     let z = Record {
         kind: y.kind,
@@ -264,7 +340,7 @@ fn improve(chart: &mut [u64], j: u64, x: Record)
 }
 
 // The record x behind the n that there are; where no place is left the chart is marked.
-fn append(chart: &mut [u64], n: u64, x: Record)
+pub fn append(chart: &mut [u64], n: u64, x: Record)
     ensures { λ r. ⌜ now (chart .exit) ≡ appendedTo (now (chart .entry)) n x ⌝ }
 {
     if chart.len() < 2 {

@@ -8,3 +8,7 @@ pub mod RuleAnswers
 -- what an item wants, and what meets at no plan node
 pub mod WantLaws
 pub mod Meeting
+-- the plan nodes above, in a table
+pub mod PlanLaws
+-- graph edges that make nothing with a record
+pub mod CandidateLaws

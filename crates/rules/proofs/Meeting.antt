@@ -66,7 +66,7 @@ both-or-none true true l h = absurd (h refl refl)
 both-or-none true false l h = refl
 both-or-none false t l h = refl
 
-rule-or-none : {A : Type 0} (s : Bool) (l : List A) → (s ≡ true → l ≡ []) → guard s l ≡ []
+pub rule-or-none : {A : Type 0} (s : Bool) (l : List A) → (s ≡ true → l ≡ []) → guard s l ≡ []
 rule-or-none true l h = h refl
 rule-or-none false l h = refl
 
@@ -80,7 +80,7 @@ module _ (g : List ℕ) (checked : checkGrammar g ≡ true) where
   there r q l (no d) = absurd (omega (arith, ap (λ (R : Rule). length (R .plan)) (List·getD-eq-default (G .rules) noRule {n = r} (omega (arith, rules-length g)))))
 
   module _ (r q : ℕ) (l : q < length (planOf G r)) where
-    rule : r < ruleCount g
+    pub rule : r < ruleCount g
     rule = there r q l (decLt r (ruleCount g))
 
     inside : q < rulePlan g r
@@ -93,12 +93,12 @@ module _ (g : List ℕ) (checked : checkGrammar g ≡ true) where
 
     -- the symbol of the edge that q introduces
     module _ (c i : ℕ) (node : planNode (planOf G r) q ≡ introduce c i) where
-      label-few : edgeAt (rightOf G r .edges) i .label < 64
+      pub label-few : edgeAt (rightOf G r .edges) i .label < 64
       label-few =
           let known : KnownEdge g r i = record { grammar = checked; rule = rule; edge = introduce-known (ruleEdges g r) (planOf G r) (plan-ok g r checked rule) q c i node } in
           omega (arith, edge-ok g r i known .known, checked-grammar-ok g checked .symbol-count .upper)
 
-      want-label : wantOf G r c ≡ edgeAt (rightOf G r .edges) i .label
+      pub want-label : wantOf G r c ≡ edgeAt (rightOf G r .edges) i .label
       unfolding wantsAt occurs
       want-label =
           want-is c (omega (arith, ap (λ (n : PlanNode). occurs c (children n)) node, hit-self c))
@@ -107,20 +107,20 @@ module _ (g : List ℕ) (checked : checkGrammar g ≡ true) where
 
     -- the children of a join
     module _ (a b : ℕ) (node : planNode (planOf G r) q ≡ join a b) where
-      few : (a < 16) × (b < 16)
+      pub few : (a < 16) × (b < 16)
       few =
           let l = join-lower (ruleEdges g r) (planOf G r) (plan-ok g r checked rule) q a b node in
           let n = plan-few g r checked rule in
           (omega (arith, l .0, n, inside), omega (arith, l .1, n, inside))
 
-      want-second : wantOf G r a ≡ 64 + b
+      pub want-second : wantOf G r a ≡ 64 + b
       unfolding wantsAt occurs
       want-second =
           want-is a (omega (arith, ap (λ (n : PlanNode). occurs a (children n)) node, hit-self a))
           ∙ ap (λ (n : PlanNode). getD (wantsAt G r a n) 0 80) node
           ∙ rw (eq-eqb a a refl)
 
-      want-first : wantOf G r b ≡ 64 + a
+      pub want-first : wantOf G r b ≡ 64 + a
       unfolding wantsAt occurs
       want-first =
           want-is b (omega (arith, ap (λ (n : PlanNode). occurs b (children n)) node, hit-self b))

@@ -7,16 +7,16 @@ use native.Mathlib.Omega.{arith}
 use lib.ListN.{length, getD, set, take}
 use lib.Seq.{getD-take}
 use Rattle.hrg.specs.Counts.{tabulate}
-use Rattle.hrg.specs.Grammars.{Edge, Rule, noEdge, rightOf, edgeAt}
+use Rattle.hrg.specs.Grammars.{Edge, Rule, rightOf, edgeAt}
 use Rattle.hrg.specs.Trees.{unplaced, at, padded, images}
 use Rattle.hrg.proofs.Sums.{occurs-at, length-tabulate, at-tabulate}
 use Rattle.questions.specs.Layout.{rankAt, ruleCount, ruleNodes, ruleSymbol, ruleExternal, graphEdges, graphLabel, graphNode}
 use Rattle.questions.specs.Checking.{checkGrammar}
 use Rattle.questions.specs.Abstract.{ruleFrom, grammarOf, graphOf}
-use Rattle.questions.proofs.WellFormedLists.{getD-build}
 use Rattle.questions.proofs.WellFormedAccepted.{rule-is}
 use Rattle.joins.proofs.Known.{rule-ok, right-nodes, nodes-few}
 use Rattle.joins.proofs.MapLaws.{getD-any, Placed, placed-next, placed-all}
+use Rattle.joins.proofs.GraphLaws.{graph-edge, edge-nodes}
 
 map-tabulate : (n : ℕ) (t f : ℕ → ℕ) → map t (tabulate n f) ≡ tabulate n (λ k. t (f k))
 unfolding tabulate
@@ -60,20 +60,12 @@ module _ (g : List ℕ) (r : ℕ) (checked : checkGrammar g ≡ true) (known : r
 
 -- ---- a graph edge
 module _ (g h : List ℕ) (e : ℕ) (known : e < graphEdges h) where
-  edge-is : edgeAt (graphOf g h .edges) e ≡ record { label = graphLabel h e; attachment = tabulate (rankAt g (graphLabel h e)) (λ k. graphNode h e k) }
-  unfolding graphOf
-  edge-is =
-      getD-build (graphEdges h) (λ e. record { label = graphLabel h e; attachment = tabulate (rankAt g (graphLabel h e)) (λ k. graphNode h e k) }) e noEdge known
-
   pub label-is : edgeAt (graphOf g h .edges) e .label ≡ graphLabel h e
-  label-is = ap (λ (d : Edge). d .label) edge-is
-
-  nodes-are : edgeAt (graphOf g h .edges) e .attachment ≡ tabulate (rankAt g (graphLabel h e)) (λ k. graphNode h e k)
-  nodes-are = ap (λ (d : Edge). d .attachment) edge-is
+  label-is = ap (λ (d : Edge). d .label) (graph-edge g h e known)
 
   pub edge-ranked : length (edgeAt (graphOf g h .edges) e .attachment) ≡ rankAt g (graphLabel h e)
-  edge-ranked = ap length nodes-are ∙ length-tabulate (rankAt g (graphLabel h e)) (λ k. graphNode h e k)
+  edge-ranked = ap length (edge-nodes g h e known) ∙ length-tabulate (rankAt g (graphLabel h e)) (λ k. graphNode h e k)
 
   pub edge-all : (k : ℕ) (l : List ℕ) → k ≤ rankAt g (graphLabel h e) → rankAt g (graphLabel h e) ≤ k → Placed (λ k. graphNode h e k) k l
       → l ≡ padded (edgeAt (graphOf g h .edges) e .attachment)
-  edge-all k l a b p = placed-all (λ k. graphNode h e k) (rankAt g (graphLabel h e)) k l a b p ∙ ap padded (sym nodes-are)
+  edge-all k l a b p = placed-all (λ k. graphNode h e k) (rankAt g (graphLabel h e)) k l a b p ∙ ap padded (sym (edge-nodes g h e known))

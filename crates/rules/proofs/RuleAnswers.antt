@@ -23,7 +23,6 @@ use Rattle.agenda.specs.declared.Record.{Record}
 use Rattle.questions.specs.Layout.{rankAt, ruleNodes, ruleEdges, edgeLabel, planKind, planFirst, planSecond, graphEdges, graphLabel}
 use Rattle.questions.specs.Abstract.{grammarOf, graphOf}
 use Rattle.questions.proofs.WellFormedLent.{checked-grammar-ok}
-use Rattle.questions.proofs.WellFormedAccepted.{rule-is, edge-is}
 use Rattle.joins.specs.declared.Joined.{Joined}
 use Rattle.rules.specs.declared.Made.{Made}
 use Rattle.rules.specs.declared.Place.{Place}
@@ -31,7 +30,7 @@ use Rattle.joins.specs.Joins.{Accepted, KnownEdge, edgeNodes, joinedOf}
 use Rattle.rules.specs.Rules.{noItem, madeOf, madeAt, madeRecords, terminalItems, binaryAt, Above, ActiveAt}
 use Rattle.joins.proofs.Known.{right-nodes, nodes-few, plan-ok, plan-size, graph-size, graph-ok, graph-edges-few}
 use Rattle.joins.proofs.PlanMasks.{node-is, introduced-is, joined-is}
-use Rattle.joins.proofs.EdgeMaps.{edge-ok, edge-rank, take-padded, length-attach}
+use Rattle.joins.proofs.EdgeMaps.{edge-ok, edge-label as rule-label, edge-rank, take-padded, length-attach}
 use Rattle.rules.proofs.NodeLists.{label-is}
 use Rattle.rules.proofs.Parents.{place-exists}
 use Rattle.rules.proofs.RuleItems.{guard-none, AtMostOne, none, binary-nowhere, binary-place, terminal-nowhere, terminal-place, place-none, at-place-one, terminal-place-one, one-records, nothing-made, made-combined, item-active, item-passive, item-edges, binary-apart, pair-apart, pair-rules, pair-passive, edge-pair}
@@ -61,7 +60,7 @@ module _ (g : List ℕ) (H : Graph) (r p m : ℕ) (f : List ℕ) (x : Place) (ab
       subst (AtMostOne r) (sym (terminal-place (grammarOf g) H r p m f (x .node) (inside found) (only found) e)) (terminal-place-one (grammarOf g) H r p m f e (x .node))
   terminal-by e false found = subst (AtMostOne r) (sym (terminal-nowhere (grammarOf g) H r p m f (above .nowhere found .none) e)) none
 
-terminal-passive : (G : Grammar) (H : Graph) (x : Record) (e : ℕ) → eqb (x .kind) 0 ≡ false → terminalItems G H (itemOf G x) e ≡ []
+pub terminal-passive : (G : Grammar) (H : Graph) (x : Record) (e : ℕ) → eqb (x .kind) 0 ≡ false → terminalItems G H (itemOf G x) e ≡ []
 unfolding terminalItems
 terminal-passive G H x e h = ap (λ (i : Item). terminalItems G H i e) (item-passive G x h)
 
@@ -170,8 +169,7 @@ module _ (g h : List ℕ) where
       edge = edgeAt (R .production .right .edges) i
 
       edge-label : edge .label ≡ edgeLabel g (x .of) i
-      edge-label =
-          ap (λ (R : Rule). edgeAt (R .production .right .edges) i .label) (rule-is g (x .of) (here .node .rule)) ∙ ap (λ (e : Edge). e .label) (edge-is g (x .of) i (filled-known .edge))
+      edge-label = rule-label g (x .of) i filled-known
 
       pub filled-active : y .kind ≡ 0 → noItem ≡ madeOf items
       unfolding joinAt

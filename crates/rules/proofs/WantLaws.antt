@@ -10,7 +10,7 @@ use lib.Seq.{getD-set-same, getD-set-other}
 use lib.Dec.{eqb, ltb}
 use borrow.Author.Tests.{eq-eqb, ne-eqb, lt-ltb, le-ltb}
 use Rattle.hrg.specs.Counts.{hit, occurs}
-use Rattle.hrg.specs.Grammars.{Edge, Rule, Grammar, noRule, PlanNode, leaf, introduce, join, ruleOf, rightOf, planOf, planNode, edgeAt}
+use Rattle.hrg.specs.Grammars.{Rule, Grammar, noRule, PlanNode, leaf, introduce, join, ruleOf, rightOf, planOf, planNode, edgeAt}
 use Rattle.hrg.specs.WellFormed.{children}
 use Rattle.hrg.specs.ClosureRun.{guard, eachTo}
 use Rattle.hrg.proofs.Sums.{hit-self, none-left}
@@ -19,10 +19,11 @@ use Rattle.questions.specs.Layout.{ruleCount, ruleEdges, rulePlan, edgeLabel, p
 use Rattle.questions.specs.Checking.{checkGrammar}
 use Rattle.questions.specs.Abstract.{grammarOf}
 use Rattle.questions.proofs.WellFormedLent.{checked-grammar-ok}
-use Rattle.questions.proofs.WellFormedAccepted.{rules-length, rule-is, edge-is}
+use Rattle.questions.proofs.WellFormedAccepted.{rules-length}
 use Rattle.joins.specs.Joins.{KnownNode}
 use Rattle.joins.proofs.Known.{plan-ok, plan-size, plan-few, rule-few}
 use Rattle.joins.proofs.PlanMasks.{node-is, introduced-is, joined-is}
+use Rattle.joins.proofs.EdgeMaps.{edge-label}
 use Rattle.rules.specs.declared.Place.{Place}
 use Rattle.rules.specs.Rules.{Above}
 use Rattle.rules.specs.Wants.{wantsAt, wantOf, wantIn, WantTable}
@@ -87,8 +88,8 @@ module _ (g : List ℕ) (r p q : ℕ) (known : KnownNode g r q) (kind first seco
 
     label-is : edgeAt (rightOf (grammarOf g) r .edges) second .label ≡ edgeLabel g r second
     label-is =
-        ap (λ (R : Rule). edgeAt (R .production .right .edges) second .label) (rule-is g r (known .rule))
-        ∙ ap (λ (e : Edge). e .label) (edge-is g r second (introduce-known (ruleEdges g r) (planOf (grammarOf g) r) (plan-ok g r (known .grammar) (known .rule)) q first second introduced))
+        edge-label g r second
+        (record { grammar = known .grammar; rule = known .rule; edge = introduce-known (ruleEdges g r) (planOf (grammarOf g) r) (plan-ok g r (known .grammar) (known .rule)) q first second introduced })
 
     pub told-edge : (w : ℕ) → first ≡ p → w ≡ edgeLabel g r second → w ≡ told
     unfolding wantsAt

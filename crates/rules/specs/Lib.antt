@@ -1,3 +1,5 @@
 -- The root of the definitions.
 pub mod Rules
 pub mod Wants
+pub mod Plans
+pub mod Candidates

@@ -1,8 +1,9 @@
 // What one rule of the closure makes of one or two records of a chart: at most one new active item.
 ghost use mathlib.Core.Path.{_≡_};
-ghost use mathlib.Core.Bool.{true};
-ghost use Prim.Native.Nat.{_≤_, _<_};
-ghost use lib.ListN.{take};
+ghost use mathlib.Core.Bool.{true, cond};
+ghost use Prim.Native.Nat.{_+_, _*_, _≤_, _<_};
+ghost use lib.ListN.{getD, take};
+ghost use lib.Bits.{bitAnd};
 ghost use lib.Dec.{ltb};
 ghost use Rattle.hrg.specs.Counts.{occurs};
 ghost use Rattle.hrg.specs.Grammars.{rightOf, planOf, planNode, edgeAt};
@@ -13,11 +14,16 @@ ghost use Rattle.agenda.specs.Records.{itemOf};
 ghost use Rattle.questions.specs.Layout.{ruleCount, ruleNodes, planKind, graphEdges};
 ghost use Rattle.questions.specs.Checking.{checkGrammar};
 ghost use Rattle.questions.specs.Abstract.{grammarOf, graphOf};
-ghost use Rattle.joins.specs.Joins.{KnownNode, Accepted};
+ghost use Rattle.joins.specs.Joins.{KnownNode, Accepted, OpenAt};
+ghost use Rattle.joins.specs.Graphs.{GraphTable};
 ghost use Rattle.rules.specs.Rules.{madeOf, madeAt, terminalItems, binaryAt, ParentOf, Above, ActiveAt};
+ghost use Rattle.rules.specs.Wants.{wantOf};
+ghost use Rattle.rules.specs.Plans.{PlanTable};
+ghost use Rattle.rules.specs.Candidates.{Introduces, Candidates};
 use agenda::Record;
 use joins::Joined;
 
+pub mod plans;
 pub mod wants;
 
 // The active item that a rule makes: nothing where found is false.
@@ -29,9 +35,9 @@ pub struct Made {
 }
 
 // A plan node: none where found is false.
-struct Place {
-    found: bool,
-    node: u64,
+pub struct Place {
+    pub found: bool,
+    pub node: u64,
 }
 
 // ---- the plan
@@ -67,7 +73,7 @@ fn parent(g: &[u64], r: u64, p: u64) -> u64
 }
 
 // The same for a rule and a plan node that may not be there.
-fn place_above(g: &[u64], r: u64, p: u64) -> Place
+pub fn place_above(g: &[u64], r: u64, p: u64) -> Place
     requires { ⌜ checkGrammar (now g) ≡ true ⌝ }
     ensures { λ x. ⌜ Above (now (g .entry)) r p x ⌝ }
 {
@@ -147,8 +153,16 @@ fn made_at(q: u64, j: Joined) -> Made
 }
 
 // The nonterminal rule: plan node q introduces an edge above x's, and y is passive and has the edge's symbol.
-fn filled_edge(g: &[u64], h: &[u64], x: Record, y: Record, q: u64) -> Made
-    requires { ⌜ ActiveAt (now g) (now h) x q × (planKind (now g) (x .of) q ≡ 1) ⌝ }
+fn filled_edge(
+    g: &[u64],
+    h: &[u64],
+    graph: &[u64; 577],
+    x: Record,
+    y: Record,
+    q: u64,
+    stays: u64,
+) -> Made
+    requires { ⌜ ActiveAt (now g) (now h) x q × (planKind (now g) (x .of) q ≡ 1) × GraphTable (now g) (now h) (now graph) × OpenAt (now g) (x .of) q stays ⌝ }
     ensures { λ z. ⌜ z ≡ madeOf (binaryAt (grammarOf (now (g .entry))) (graphOf (now (g .entry)) (now (h .entry))) (itemOf (grammarOf (now (g .entry))) x) (itemOf (grammarOf (now (g .entry))) y) q) ⌝ }
 {
     let none = Made {
@@ -170,13 +184,21 @@ fn filled_edge(g: &[u64], h: &[u64], x: Record, y: Record, q: u64) -> Made
     let l = y.nodes;
     let k = joins::attach(g, x.of, i, l);
     let f = x.nodes;
-    let j = joins::combine(g, h, x.of, q, x.edges, y.edges, f, k);
+    let j = joins::combine(g, h, graph, x.of, q, stays, x.edges, y.edges, f, k);
     made_at(q, j)
 }
 
 // The join rule: plan node q has two children, x's first and y's second.
-fn joined_pair(g: &[u64], h: &[u64], x: Record, y: Record, q: u64) -> Made
-    requires { ⌜ ActiveAt (now g) (now h) x q × (2 ≤ planKind (now g) (x .of) q) × (y .kind ≡ 0 → x .of ≡ y .of) ⌝ }
+fn joined_pair(
+    g: &[u64],
+    h: &[u64],
+    graph: &[u64; 577],
+    x: Record,
+    y: Record,
+    q: u64,
+    stays: u64,
+) -> Made
+    requires { ⌜ ActiveAt (now g) (now h) x q × (2 ≤ planKind (now g) (x .of) q) × (y .kind ≡ 0 → x .of ≡ y .of) × GraphTable (now g) (now h) (now graph) × OpenAt (now g) (x .of) q stays ⌝ }
     ensures { λ z. ⌜ z ≡ madeOf (binaryAt (grammarOf (now (g .entry))) (graphOf (now (g .entry)) (now (h .entry))) (itemOf (grammarOf (now (g .entry))) x) (itemOf (grammarOf (now (g .entry))) y) q) ⌝ }
 {
     let none = Made {
@@ -196,13 +218,20 @@ fn joined_pair(g: &[u64], h: &[u64], x: Record, y: Record, q: u64) -> Made
     }
     let f = x.nodes;
     let k = y.nodes;
-    let j = joins::combine(g, h, x.of, q, x.edges, y.edges, f, k);
+    let j = joins::combine(g, h, graph, x.of, q, stays, x.edges, y.edges, f, k);
     made_at(q, j)
 }
 
 // What x first and y second make. Records may hold any words: an unknown rule or plan node makes nothing.
-pub fn pair(g: &[u64], h: &[u64], x: Record, y: Record) -> Made
-    requires { ⌜ Accepted (now g) (now h) ⌝ }
+pub fn pair(
+    g: &[u64],
+    h: &[u64],
+    plans: &[u64; 2048],
+    graph: &[u64; 577],
+    x: Record,
+    y: Record,
+) -> Made
+    requires { ⌜ Accepted (now g) (now h) × PlanTable (now g) (now plans) × GraphTable (now g) (now h) (now graph) ⌝ }
     ensures { λ z. ⌜ z ≡ madeOf (binaryOf (grammarOf (now (g .entry))) (graphOf (now (g .entry)) (now (h .entry))) (itemOf (grammarOf (now (g .entry))) x) (itemOf (grammarOf (now (g .entry))) y)) ⌝ }
 {
     let none = Made {
@@ -220,22 +249,29 @@ pub fn pair(g: &[u64], h: &[u64], x: Record, y: Record) -> Made
     if !masks::disjoint(x.edges, y.edges) {
         return none;
     }
-    let above = place_above(g, x.of, x.plan);
-    if !above.found {
+    let above = plans::parent_in(g, plans, x.of, x.plan);
+    if above.node >= 16 {
         return none;
     }
     let q = above.node;
     let kind = layout::plan_kind(g, x.of, q);
     match kind {
         0 => none,
-        1 => filled_edge(g, h, x, y, q),
-        _ => joined_pair(g, h, x, y, q),
+        1 => filled_edge(g, h, graph, x, y, q, above.stays),
+        _ => joined_pair(g, h, graph, x, y, q, above.stays),
     }
 }
 
 // What x and graph edge e make: the same as with a passive item of the edge's symbol, set and nodes.
-pub fn terminal(g: &[u64], h: &[u64], x: Record, e: u64) -> Made
-    requires { ⌜ Accepted (now g) (now h) × (e < graphEdges (now h)) ⌝ }
+pub fn terminal(
+    g: &[u64],
+    h: &[u64],
+    plans: &[u64; 2048],
+    graph: &[u64; 577],
+    x: Record,
+    e: u64,
+) -> Made
+    requires { ⌜ Accepted (now g) (now h) × (e < graphEdges (now h)) × PlanTable (now g) (now plans) × GraphTable (now g) (now h) (now graph) ⌝ }
     ensures { λ z. ⌜ z ≡ madeOf (terminalItems (grammarOf (now (g .entry))) (graphOf (now (g .entry)) (now (h .entry))) (itemOf (grammarOf (now (g .entry))) x) e) ⌝ }
 {
     let none = Made {
@@ -264,5 +300,60 @@ pub fn terminal(g: &[u64], h: &[u64], x: Record, e: u64) -> Made
         first: 0,
         second: 0,
     };
-    pair(g, h, x, y)
+    pair(g, h, plans, graph, x, y)
+}
+
+// Those of the edges m whose node at place k is a, if that is one.
+fn with_node(graph: &[u64; 577], k: u64, a: u64, m: u64) -> u64
+    requires { ⌜ k < 4 ⌝ }
+    ensures { λ r. ⌜ r ≡ cond (ltb a 64) (bitAnd m (getD (now (graph .entry)) (321 + 64 * k + a) 0)) m ⌝ }
+{
+    if a >= 64 {
+        return m;
+    }
+    m & graph[(321 + 64 * k + a) as usize]
+}
+
+// Those of the candidates m whose nodes are the images that x has for the nodes of rule edge i, place by place.
+fn fitting(g: &[u64], h: &[u64], graph: &[u64; 577], want: u64, x: Record, i: u64, m: u64) -> u64
+    requires { ⌜ Introduces (now g) (now h) x want i × GraphTable (now g) (now h) (now graph) × Candidates (now g) (now h) x m ⌝ }
+    ensures { λ r. ⌜ Candidates (now (g .entry)) (now (h .entry)) x r ⌝ }
+{
+    let f = x.nodes;
+    let rank = layout::rank_at(g, want);
+    let mut rest = m;
+    let mut k: u64 = 0;
+    while k < rank {
+        let y = layout::edge_node(g, x.of, i, k);
+        rest = with_node(graph, k, f[y as usize], rest);
+        k += 1;
+    }
+    rest
+}
+
+// The graph edges that x may make something with, where x wants `want` if it is active: with any other edge it makes nothing.
+pub fn candidates(
+    g: &[u64],
+    h: &[u64],
+    plans: &[u64; 2048],
+    graph: &[u64; 577],
+    want: u64,
+    x: Record,
+) -> u64
+    requires { ⌜ Accepted (now g) (now h) × PlanTable (now g) (now plans) × GraphTable (now g) (now h) (now graph) × (want ≡ wantOf (grammarOf (now g)) (x .of) (x .plan)) ⌝ }
+    ensures { λ m. ⌜ Candidates (now (g .entry)) (now (h .entry)) x m ⌝ }
+{
+    if x.kind != 0 {
+        return 0;
+    }
+    if want >= 64 {
+        return 0;
+    }
+    let above = plans::parent_in(g, plans, x.of, x.plan);
+    if above.node >= 16 {
+        return 0;
+    }
+    let i = layout::plan_second(g, x.of, above.node);
+    let m = graph[(257 + want) as usize] & !x.edges;
+    fitting(g, h, graph, want, x, i, m)
 }

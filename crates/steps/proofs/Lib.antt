@@ -2,5 +2,8 @@
 pub mod LeafLoops
 pub mod RootLaws
 pub mod PartnerLaws
+pub mod ReadyLaws
 pub mod StepLaws
+pub mod CandidateSteps
+pub mod ListedLaws
 pub mod RunLaws

@@ -95,6 +95,11 @@ guard-empty : (b : Bool) (l : List Record) → l ≡ [] → guard b l ≡ []
 guard-empty true l e = e
 guard-empty false l e = refl
 
+-- two records of which no rule makes anything
+pub unjoined-none : (G : Grammar) (H : Graph) (x y : Record) (j k : ℕ) → binaryOf G H (itemOf G x) (itemOf G y) ≡ [] → binaryOf G H (itemOf G y) (itemOf G x) ≡ [] → withRecord G H x j y k ≡ []
+unfolding withRecord
+unjoined-none G H x y j k p q = guard-empty (isHandled y) _ (none G H x y j k p q)
+
 module _ (g : List ℕ) (checked : checkGrammar g ≡ true) (H : Graph) (t : List ℕ) (table : WantTable g t) (x y : Record) (want : ℕ) (is : want ≡ wantIn t (x .of) (x .plan)) (j k : ℕ) where
   abbrev G : Grammar
   G = grammarOf g
@@ -114,8 +119,7 @@ module _ (g : List ℕ) (checked : checkGrammar g ≡ true) (H : Graph) (t : Lis
       (sym (by-tests (meets t (x .kind) (x .of) want (y .kind) (y .of) (y .plan)) (isHandled y) (disjoint (x .edges) (y .edges)) refl refl refl (sym q ∙ h)))
 
   pub unwanting-none : x .kind ≡ 0 → want ≡ 80 → withRecord G H x j y k ≡ []
-  unfolding withRecord
-  unwanting-none a e = let n = unwanting g checked H t table x y want is a e in guard-empty (isHandled y) _ (none G H x y j k (n .forth) (n .back))
+  unwanting-none a e = let n = unwanting g checked H t table x y want is a e in unjoined-none G H x y j k (n .forth) (n .back)
 
 -- ---- by the words that the test reads
 module _ (t w : List ℕ) (want : ℕ) (x : Record) (k kind of plan : ℕ) (a : kind ≡ fieldAt w k 0) (b : of ≡ fieldAt w k 1) (c : plan ≡ fieldAt w k 2) (m : Bool) (is : m ≡ meets t (x .kind) (x .of) want kind of plan) where

@@ -30,14 +30,9 @@ module _ (w : List ℕ) (m : ℕ) (is : m ≡ getD w 1 0) where
   unfolding nextIn chartOf
   next-marked h = rw (ne-eqb (getD w 1 0) 0 (λ q. h (is ∙ q))) refl
 
-  counted : length (recordsAt w (itemCount w)) ≡ itemCount w
-  counted = length-records w (itemCount w)
-
-  pub next-least : (n : ℕ) (f : Found) → m ≡ 0 → n ≡ itemCount w → f ≡ leastWaiting (recordsAt w n) n → f ≡ nextIn (chartOf w)
+  pub next-least : (f : Found) → m ≡ 0 → f ≡ leastWaiting (chartOf w .records) (length (chartOf w .records)) → f ≡ nextIn (chartOf w)
   unfolding nextIn chartOf
-  next-least n f z q p =
-      rw (eq-eqb (getD w 1 0) 0 (sym is ∙ z))
-      (p ∙ ap (λ k. leastWaiting (recordsAt w k) k) q ∙ ap (leastWaiting (recordsAt w (itemCount w))) (sym counted))
+  next-least f z p = rw (eq-eqb (getD w 1 0) 0 (sym is ∙ z)) p
 
 below-at : {n j : ℕ} → Below n (At j) → j < n
 below-at (one h) = h

@@ -4,7 +4,7 @@ use mathlib.Core.Path.{_≡_, refl, sym, ap, ap₂, _∙_, subst}
 use mathlib.Core.Bool.{Bool, true, false, _&&_, cond}
 use mathlib.Core.List.{List, [], _∷_, _++_, List·Memᴰ as In, map}
 use native.Mathlib.Omega.{arith}
-use native.Mathlib.Numerals.{add-one}
+use native.Mathlib.Decide.{decLt}
 use lib.Dec.{eqb}
 use lib.ListN.{length, getD, set, length-set}
 use Rattle.hrg.specs.Grammars.{Graph, Grammar, ruleOf, planOf, planNode}
@@ -24,6 +24,10 @@ use Rattle.records.proofs.Rewritten.{Grown, handledIn, grown-handled, count-on,
 use Rattle.records.proofs.Grown.{Whole, whole-none, whole-guard, whole-append, whole-map, whole-items, whole-gather, holds-own, grown-all, grown-none, grown-fits, grown-more, grown-longer, grown-flag, grown-record}
 use Rattle.steps.specs.Partners.{withRecord, mayMeet}
 use Rattle.steps.proofs.PartnerLaws.{partner-both}
+
+append-nil : (xs : List Record) → xs ++ [] ≡ xs
+append-nil [] = refl
+append-nil (x ∷ xs) = ap (λ (l : List Record). x ∷ l) (append-nil xs)
 
 -- ---- a loop from 0 on
 -- the words v are w with what f gives for the numbers below i
@@ -51,6 +55,22 @@ module _ (w : List ℕ) (o : Fits w) (f : ℕ → List Record) (e : (k : ℕ) �
 
   pub gathered-all : (v : List ℕ) (i n : ℕ) → i ≡ n → Gathered w f v i → v ≡ grownBy w (gather n f)
   gathered-all v i n q g = g .is ∙ ap (λ k. grownBy w (gather k f)) q
+
+  -- numbers for which f gives nothing
+  skip-by : (i n : ℕ) → f n ≡ [] → gather n f ≡ gather i f → gather n f ++ f n ≡ gather i f
+  skip-by i n e q = ap (λ (a : List Record). gather n f ++ a) e ∙ append-nil (gather n f) ∙ q
+
+  gather-skip : (i n : ℕ) → ((k : ℕ) → i ≤ k → k < n → f k ≡ []) → i ≤ n → gather n f ≡ gather i f
+  unfolding gather
+  gather-skip i zero none l = ap (λ k. gather k f) (let e : 0 ≡ i = omega arith in e)
+  gather-skip i (suc n) none l = go (λ d. gather-skip i n (λ k a b. none k a (omega arith)) d) (decLt i (suc n))
+    where
+      go : (i ≤ n → gather n f ≡ gather i f) → Dec (i < suc n) → gather n f ++ f n ≡ gather i f
+      go q (yes d) = skip-by i n (none n (omega arith) (omega arith)) (q (omega arith))
+      go q (no d) = ap (λ k. gather k f) (let e : suc n ≡ i = omega arith in e)
+
+  pub gathered-skip : (v : List ℕ) (i n : ℕ) → ((k : ℕ) → i ≤ k → k < n → f k ≡ []) → i ≤ n → Gathered w f v i → Gathered w f v n
+  gathered-skip v i n none l g = record { is = g .is ∙ ap (grownBy w) (sym (gather-skip i n none l)) }
 
 -- nothing to add
 pub nothing-added : (w : List ℕ) (xs : List Record) → Fits w → xs ≡ [] → w ≡ grownBy w xs

@@ -1,4 +1,5 @@
 -- The root of the definitions.
 pub mod Leaves
 pub mod Partners
+pub mod Ready
 pub mod Runs

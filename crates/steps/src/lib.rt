@@ -7,9 +7,11 @@ ghost use Rattle.agenda.specs.Steps.{startChart, handledAt, runChart};
 ghost use Rattle.questions.specs.Checking.{checkGrammar};
 ghost use Rattle.questions.specs.Abstract.{grammarOf, graphOf};
 ghost use Rattle.joins.specs.Joins.{Accepted};
-ghost use Rattle.rules.specs.Wants.{WantTable};
 ghost use Rattle.records.specs.Words.{Fits, capacity, itemCount, chartOf, written};
 ghost use Rattle.steps.specs.Runs.{nextIn};
+ghost use Rattle.ranking.specs.Ranking.{Ranked};
+ghost use Rattle.index.specs.Index.{indexWords, ranksOf};
+ghost use Rattle.steps.specs.Ready.{Tables, Ready};
 use agenda::Found;
 
 mod consequences;
@@ -26,40 +28,84 @@ pub fn restart(g: &[u64], chart: &mut [u64])
 }
 
 // The record that the next step takes: none where nothing waits or the chart is marked.
-pub fn next(chart: &[u64]) -> Found
+fn next(chart: &[u64], index: &[u64]) -> Found
+    requires { ⌜ (length (now index) ≡ indexWords) × Ranked (ranksOf (now index)) (chartOf (now chart) .records) × (length (chartOf (now chart) .records) ≤ 4096) ⌝ }
     ensures { λ r. ⌜ r ≡ nextIn (chartOf (now (chart .entry))) ⌝ }
 {
     if records::mark_of(chart) != 0 {
         return Found::Nowhere;
     }
-    records::least(chart, records::item_count(chart))
+    index::next(chart, index)
 }
 
 // One step: the record at place j is handled, and what it makes with graph edges and handled records is added.
-fn step(g: &[u64], h: &[u64], wants: &[u64; 1024], chart: &mut [u64], j: u64)
-    requires { ⌜ Accepted (now g) (now h) × Fits (now chart) × (j < itemCount (now chart)) × WantTable (now g) (now wants) ⌝ }
-    ensures { λ r. ⌜ now (chart .exit) ≡ written (now (chart .entry)) (handledAt (grammarOf (now (g .entry))) (graphOf (now (g .entry)) (now (h .entry))) (capacity (now (chart .entry))) j (chartOf (now (chart .entry)))) ⌝ }
+fn step(
+    g: &[u64],
+    h: &[u64],
+    wants: &[u64; 1024],
+    plans: &[u64; 2048],
+    pivots: &[u64; 1024],
+    graph: &[u64; 577],
+    chart: &mut [u64],
+    index: &mut [u64],
+    j: u64,
+)
+    requires { ⌜ Tables (now g) (now h) (now wants) (now plans) (now pivots) (now graph) × Ready (now g) (now wants) (now pivots) (now chart) (now index) × (j < itemCount (now chart)) ⌝ }
+    ensures { λ r. ⌜ (now (chart .exit) ≡ written (now (chart .entry)) (handledAt (grammarOf (now (g .entry))) (graphOf (now (g .entry)) (now (h .entry))) (capacity (now (chart .entry))) j (chartOf (now (chart .entry))))) × Ready (now (g .entry)) (now (wants .entry)) (now (pivots .entry)) (now (chart .exit)) (now (index .exit)) ⌝ }
 {
-    records::mark_handled(chart, j);
+    index::handle(chart, index, j);
     let n = records::item_count(chart);
     let x = records::load(chart, j);
-    consequences::add_root(g, chart, x, j);
-    consequences::add_terminals(g, h, chart, x, j);
-    consequences::add_partners(g, h, wants, chart, x, j, n);
+    consequences::add_root(g, wants, pivots, chart, index, x, j);
+    consequences::add_terminals(g, h, wants, plans, pivots, graph, chart, index, x, j);
+    consequences::add_partners(g, h, wants, plans, pivots, graph, chart, index, x, j, n);
 }
 
-// So many steps, or as many as are left. What active items want is worked out once for all of them.
-pub fn advance(g: &[u64], h: &[u64], chart: &mut [u64], steps: u64)
-    requires { ⌜ Accepted (now g) (now h) × Fits (now chart) ⌝ }
+// So many steps, or as many as are left, with an index of the chart's records.
+fn advance_by(
+    g: &[u64],
+    h: &[u64],
+    wants: &[u64; 1024],
+    plans: &[u64; 2048],
+    pivots: &[u64; 1024],
+    graph: &[u64; 577],
+    chart: &mut [u64],
+    index: &mut [u64],
+    steps: u64,
+)
+    requires { ⌜ Tables (now g) (now h) (now wants) (now plans) (now pivots) (now graph) × Ready (now g) (now wants) (now pivots) (now chart) (now index) ⌝ }
     ensures { λ r. ⌜ now (chart .exit) ≡ written (now (chart .entry)) (runChart (grammarOf (now (g .entry))) (graphOf (now (g .entry)) (now (h .entry))) (capacity (now (chart .entry))) steps (chartOf (now (chart .entry)))) ⌝ }
 {
-    let wants = rules::wants::table(g);
     let mut i: u64 = 0;
     while i < steps {
-        match next(chart) {
+        match next(chart, index) {
             Found::Nowhere => return,
-            Found::At(j) => step(g, h, &wants, chart, j),
+            Found::At(j) => step(g, h, wants, plans, pivots, graph, chart, index, j),
         }
         i += 1;
     }
+}
+
+// So many steps, or as many as are left. What hangs on the tables alone and the index are made once for all of them.
+pub fn advance(g: &[u64], h: &[u64], chart: &mut [u64], steps: u64)
+    requires { ⌜ Accepted (now g) (now h) × Fits (now chart) × (capacity (now chart) ≤ 4096) ⌝ }
+    ensures { λ r. ⌜ now (chart .exit) ≡ written (now (chart .entry)) (runChart (grammarOf (now (g .entry))) (graphOf (now (g .entry)) (now (h .entry))) (capacity (now (chart .entry))) steps (chartOf (now (chart .entry)))) ⌝ }
+{
+    let wants = rules::wants::table(g);
+    let plans = rules::plans::table(g);
+    let pivots = pivots::table(g);
+    let graph = joins::graphs::table(g, h);
+    let mut index = [0u64; 49155];
+    index::build(g, &wants, &pivots, chart, &mut index);
+    advance_by(
+        g,
+        h,
+        &wants,
+        &plans,
+        &pivots,
+        &graph,
+        chart,
+        &mut index,
+        steps,
+    );
 }

@@ -3,6 +3,6 @@ pub mod Asking
 pub mod Listing
 pub mod Covering
 pub mod Planning
-pub mod CheckRun
-pub mod CheckEnds
+pub mod LineFields
+pub mod OnePass
 pub mod LineAnswers

@@ -2,14 +2,10 @@
 use mathlib.Core.Path.{_≡_}
 use mathlib.Core.Bool.{Bool, true, false}
 use mathlib.Core.List.{List}
-use Prim.Native.Nat.{ℕ}
-use Rattle.questions.specs.Reading.{Verdict, refused, accepted}
+use Prim.Native.Nat.{ℕ, _≤_, _<_}
+use lib.ListN.{getD}
 use Rattle.questions.specs.declared.Due.{Due}
 use Rattle.questions.specs.declared.Due.the-variants.{Grammar, Symbol, Rule, RuleEdge, PlanLine, Graph, GraphEdge, Nothing}
-
-abbrev pub passes : Verdict → Bool
-passes (refused k) = false
-passes (accepted t) = true
 
 -- whether the lines end here
 abbrev pub nothingDue : Due → Bool
@@ -22,7 +18,22 @@ nothingDue Graph = false
 nothingDue (GraphEdge e) = false
 nothingDue Nothing = true
 
--- b says whether the verdict accepts, and then c is its table
-pub record Concluded (v : Verdict) (b : Bool) (c : List ℕ) : Type 0 where
-  pub yes : b ≡ true → v ≡ accepted c
-  pub no : b ≡ false → passes v ≡ false
+-- the first line of a file
+abbrev pub Opens : Due → Type 0
+Opens Grammar = Unit {0}
+Opens (Symbol s) = ⊥
+Opens (Rule r) = ⊥
+Opens (RuleEdge r i) = ⊥
+Opens (PlanLine r q) = ⊥
+Opens Graph = Unit {0}
+Opens (GraphEdge e) = ⊥
+Opens Nothing = ⊥
+
+-- the words from a on are 0, as far as b
+abbrev pub Zero : List ℕ → ℕ → ℕ → Type 0
+Zero t a b = (i : ℕ) → a ≤ i → i < b → getD t i 0 ≡ 0
+
+-- r says whether they are
+pub record Zeros (t : List ℕ) (a b : ℕ) (r : Bool) : Type 0 where
+  pub yes : r ≡ true → Zero t a b
+  pub no : r ≡ false → Zero t a b → ⊥

@@ -1,28 +1,27 @@
-// Question 8 for tables: the lines that a table holds are judged and stored in a cleared table, which must then be the table itself.
+// Question 8 for tables, in one pass: the lines that a table holds are judged where they stand, and the words between them must be 0.
 ghost use mathlib.Core.Path.{_≡_};
 ghost use mathlib.Core.Bool.{cond, true};
 ghost use mathlib.Core.List.{[]};
 ghost use Prim.Native.Nat.{_≤_};
-ghost use lib.ListN.{length, take};
+ghost use lib.ListN.{length, replicate};
 ghost use Rattle.hrg.specs.Counts.{tabulate};
-ghost use Rattle.hrg.specs.ClosureRun.{sameList};
 ghost use Rattle.questions.specs.Layout.{inTable, fieldsIn, word};
 ghost use Rattle.questions.specs.Walk.{Room};
-ghost use Rattle.tables.specs.Concluding.{nothingDue, Concluded};
-ghost use Rattle.questions.specs.Checking.{fieldsDue, storedFields, checkLines, checkGrammar, checkGraph};
+ghost use Rattle.tables.specs.Concluding.{nothingDue, Opens, Zeros};
+ghost use Rattle.questions.specs.Checking.{fieldsDue, storedFields, checkLines, filledBy, checkGrammar, checkGraph};
 use crate::judging;
 use questions::Due;
 use questions::Fields;
 
-// How many fields the line at a place of t has, by the ranks in c, or in the grammar g for a graph's lines.
-fn fields_due(g: &[u64], c: &[u64], t: &[u64], due: Due) -> u64
-    ensures { λ x. ⌜ (x ≡ fieldsDue (now (g .entry)) (now (c .entry)) (now (t .entry)) due) × (x ≤ 9) ⌝ }
+// How many fields the line at a place of t has, by the ranks in t, or in the grammar g for a graph's lines.
+fn fields_due(g: &[u64], t: &[u64], due: Due) -> u64
+    ensures { λ x. ⌜ (x ≡ fieldsDue (now (g .entry)) (now (t .entry)) (now (t .entry)) due) × (x ≤ 9) ⌝ }
 {
     match due {
         Due::Grammar => 3,
         Due::Symbol(_) => 3,
-        Due::Rule(r) => 5 + layout::rank_at(c, layout::rule_symbol(t, r)),
-        Due::RuleEdge(r, i) => 1 + layout::rank_at(c, layout::edge_label(t, r, i)),
+        Due::Rule(r) => 5 + layout::rank_at(t, layout::rule_symbol(t, r)),
+        Due::RuleEdge(r, i) => 1 + layout::rank_at(t, layout::edge_label(t, r, i)),
         Due::PlanLine(_, _) => 3,
         Due::Graph => 2 + layout::rank_at(g, layout::start_symbol(g)),
         Due::GraphEdge(e) => 1 + layout::rank_at(g, layout::graph_label(t, e)),
@@ -45,13 +44,13 @@ fn line_fields(t: &[u64], p: u64, n: u64) -> Fields
 }
 
 // The fields of the line at its place of t; none of a line that is in no table.
-pub fn stored_fields(g: &[u64], c: &[u64], t: &[u64], due: Due) -> Fields
-    ensures { λ x. ⌜ (fieldsIn x ≡ cond (inTable due) (storedFields (now (g .entry)) (now (c .entry)) (now (t .entry)) due) []) × (x .count ≤ 9) ⌝ }
+fn stored_fields(g: &[u64], t: &[u64], due: Due) -> Fields
+    ensures { λ x. ⌜ (fieldsIn x ≡ cond (inTable due) (storedFields (now (g .entry)) (now (t .entry)) (now (t .entry)) due) []) × (x .count ≤ 9) × (length (fieldsIn x) ≡ x .count) ⌝ }
 {
     if !layout::in_table(due) {
         return line_fields(t, 0, 0);
     }
-    line_fields(t, layout::place_of(due), fields_due(g, c, t, due))
+    line_fields(t, layout::place_of(due), fields_due(g, t, due))
 }
 
 // Whether nothing is due any more.
@@ -70,41 +69,49 @@ fn is_nothing(due: Due) -> bool
     }
 }
 
-// The lines of t from `first` on, at most `lines` of them, judged and stored in c.
-fn check_lines(g: &[u64], t: &[u64], c: &mut [u64], first: Due, lines: u64) -> bool
-    requires { ⌜ Room (length (now c)) first ⌝ }
-    ensures { λ x. ⌜ Concluded (checkLines lines (now (g .entry)) (now (t .entry)) (now (c .entry)) first) x (now (c .exit)) ⌝ }
+// Whether the words of t from a to b are 0. One word is made of all, so that nothing is tested on the way.
+fn zeros(t: &[u64], a: u64, b: u64) -> bool
+    requires { ⌜ (a ≤ b) × (b ≤ length (now t)) ⌝ }
+    ensures { λ x. ⌜ Zeros (now (t .entry)) a b x ⌝ }
+{
+    let mut any: u64 = 0;
+    let mut i = a;
+    while i < b {
+        any = any | t[i as usize];
+        i += 1;
+    }
+    any == 0
+}
+
+// The lines of t from `first` on, at most `lines` of them, judged in t itself; the words between their fields, as far as `size`, are 0.
+// Lines stand in the order of their places, so one pass is enough, and a line reads only those before it.
+fn check_lines(g: &[u64], t: &[u64], first: Due, lines: u64, size: u64) -> bool
+    requires { ⌜ Opens first × Room size first × (size ≤ length (now t)) ⌝ }
+    ensures { λ x. ⌜ x ≡ filledBy size (now (t .entry)) (checkLines lines (now (g .entry)) (now (t .entry)) (replicate size 0) first) ⌝ }
 {
     let mut due = first;
     let mut left = lines;
+    let mut from: u64 = 0;
     while 0 < left {
         if is_nothing(due) {
-            return true;
+            return zeros(t, from, size);
         }
-        let f = stored_fields(g, c, t, due);
-        if judging::judge(g, c, due, f) != 0 {
+        let at = 9 * layout::place_of(due);
+        if !zeros(t, from, at) {
             return false;
         }
-        layout::store(c, due, f);
-        due = layout::next_due(c, due);
+        let f = stored_fields(g, t, due);
+        if judging::judge(g, t, due, f) != 0 {
+            return false;
+        }
+        if !zeros(t, at + f.count, at + 9) {
+            return false;
+        }
+        due = layout::next_due(t, due);
+        from = at + 9;
         left -= 1;
     }
     false
-}
-
-// Whether c is the beginning of t.
-fn same_words(c: &[u64], t: &[u64]) -> bool
-    requires { ⌜ length (now c) ≤ length (now t) ⌝ }
-    ensures { λ x. ⌜ x ≡ sameList (now (c .entry)) (take (length (now (c .entry))) (now (t .entry))) ⌝ }
-{
-    let mut i = 0;
-    while i < c.len() {
-        if c[i] != t[i] {
-            return false;
-        }
-        i += 1;
-    }
-    true
 }
 
 // Could a grammar text have filled this table?
@@ -114,11 +121,7 @@ pub fn check_grammar(t: &[u64]) -> bool
     if t.len() < 14985 {
         return false;
     }
-    let mut c = [0u64; 14985];
-    if !check_lines(&t[..0], t, &mut c, Due::Grammar, 1666) {
-        return false;
-    }
-    same_words(&c, t)
+    check_lines(&t[..0], t, Due::Grammar, 1666, 14985)
 }
 
 // Could a graph text read with the grammar table g have filled this table?
@@ -128,9 +131,5 @@ pub fn check_graph(g: &[u64], t: &[u64]) -> bool
     if t.len() < 585 {
         return false;
     }
-    let mut c = [0u64; 585];
-    if !check_lines(g, t, &mut c, Due::Graph, 66) {
-        return false;
-    }
-    same_words(&c, t)
+    check_lines(g, t, Due::Graph, 66, 585)
 }

@@ -3,7 +3,7 @@ use Prim.Native.Nat.{_-_}
 use mathlib.Core.Path.{refl}
 use borrow.Author.Needs.{needs}
 use borrow.Author.Tests.{not-true, not-false}
-use Rattle.chart.proofs.CallSteps.{fit-accepted, fit-known, run-refuses, run-unknown, run-ran}
+use Rattle.chart.proofs.CallSteps.{fit-accepted, fit-known, fit-small, run-refuses, run-unknown, run-ran}
 use Rattle.chart.proofs.run.Statement.{statement}
 use Rattle.chart.proofs.run.Tie as tie
 
@@ -34,7 +34,7 @@ returns-2 c =
 advance-requires : tie.Need-advance-requires
 advance-requires c κs =
     let s = c .before .before .before .before .before .before .before .before .before .before .args in
-    (fit-accepted (s .grammar .now) (s .graph .now) (s .chart .now) _ (c .before .before .before .before .before .is-fit .ensures) (not-false _ (c .before .before .before .before .if1 .left)), fit-known (s .grammar .now) (s .graph .now) (s .chart .now) _ (c .before .before .before .before .before .is-fit .ensures) (not-false _ (c .before .before .before .before .if1 .left)) _ (c .before .before .known .ensures) (not-false _ (c .before .if2 .left)))
+    (fit-accepted (s .grammar .now) (s .graph .now) (s .chart .now) _ (c .before .before .before .before .before .is-fit .ensures) (not-false _ (c .before .before .before .before .if1 .left)), fit-known (s .grammar .now) (s .graph .now) (s .chart .now) _ (c .before .before .before .before .before .is-fit .ensures) (not-false _ (c .before .before .before .before .if1 .left)) _ (c .before .before .known .ensures) (not-false _ (c .before .if2 .left)), fit-small (s .grammar .now) (s .graph .now) (s .chart .now) _ (c .before .before .before .before .before .is-fit .ensures) (not-false _ (c .before .before .before .before .if1 .left)))
 
 outcome-of-requires : tie.Need-outcome-of-requires
 outcome-of-requires c κs = search needs

@@ -19,13 +19,13 @@ returns-2 : tie.Need-returns-2
 returns-2 c = combine-clash _ _ _ _ _ _ _ _ (c .before .before .before .before .before .before .before .pre .0) (c .before .before .before .before .before .before .before .pre .1) _ (c .before .before .merge-maps .ensures) (not-true _ (c .if2 .taken))
 
 close-requires : tie.Need-close-requires
-close-requires c κs = search needs
+close-requires c κs = (c .before .before .before .before .before .before .before .before .pre .1, c .before .before .before .before .before .before .before .before .pre .3)
 
 union-requires : tie.Need-union-requires
 union-requires c κs = search needs
 
 covered-requires : tie.Need-covered-requires
-covered-requires c κs = search needs
+covered-requires c κs = (c .before .before .before .before .before .before .before .before .before .before .pre .0, c .before .before .before .before .before .before .before .before .before .before .pre .2)
 
 returns-3 : tie.Need-returns-3
 returns-3 c = combine-bare _ _ _ _ _ _ _ _ (c .before .before .before .before .before .before .before .before .before .before .before .before .pre .0) (c .before .before .before .before .before .before .before .before .before .before .before .before .pre .1) _ (c .before .before .before .before .before .before .before .merge-maps .ensures) (not-false _ (c .before .before .before .before .before .if2 .left)) _ _ (c .before .before .before .close .ensures) (c .before .before .union .ensures .value) _ (c .before .covered .ensures) (not-true _ (c .if3 .taken))

@@ -12,7 +12,7 @@ images-requires : tie.Need-images-requires
 images-requires c κs = search needs
 
 returns : tie.Need-returns
-returns c = covers _ _ _ _ _ _ (c .before .before .before .before .pre) (omega arith) (c .before .open-in .ensures) (c .images .ensures)
+returns c = covers _ _ _ _ _ _ (c .before .before .before .before .pre .0) (omega arith) (c .before .open-in .ensures) (c .images .ensures)
 
 pub covered-spec : {M : Type 1} → statement M
 covered-spec = tie.close (tie.spec open-in-requires images-requires returns)

@@ -1,21 +1,23 @@
 -- Three ways, a law for each.
-use Prim.Native.Nat.{_-_}
 use borrow.Author.Needs.{needs}
 use Rattle.records.proofs.WordLaws.{improve-handled, improve-less, improve-more}
 use Rattle.records.proofs.improve.Statement.{statement}
 use Rattle.records.proofs.improve.Tie as tie
 
-load-requires : tie.Need-load-requires
-load-requires c κs = search needs
+field-requires : tie.Need-field-requires
+field-requires c κs = search needs
 
 same-length : tie.Need-same-length
 same-length c = search needs
 
 returns : tie.Need-returns
 returns c =
-    let s = c .before .before .before .before .before .args in
-    let load = c .before .before .load in
-    improve-handled (s .chart .now) (s .j) (s .x) (load .result) (load .ensures) (c .if1 .taken)
+    let s = c .before .before .before .before .args in
+    let h = c .before .field in
+    improve-handled (s .chart .now) (s .j) (s .x) (h .result) (h .ensures) (c .if1 .taken)
+
+field-requires-2 : tie.Need-field-requires-2
+field-requires-2 c κs = search needs
 
 same-length-2 : tie.Need-same-length-2
 same-length-2 c = search needs
@@ -23,8 +25,12 @@ same-length-2 c = search needs
 returns-2 : tie.Need-returns-2
 returns-2 c =
     let s = c .before .before .before .before .before .before .before .before .args in
-    let load = c .before .before .before .before .before .load in
-    improve-less (s .chart .now) (s .j) (s .x) (load .result) (load .ensures) (c .before .before .before .if1 .left) (c .if2 .taken)
+    let h = c .before .before .before .before .before .field in
+    let n = c .before .before .field2 in
+    improve-less (s .chart .now) (s .j) (s .x) (h .result) (h .ensures) (c .before .before .before .before .if1 .left) (n .result) (n .ensures) (c .if2 .taken)
+
+load-requires : tie.Need-load-requires
+load-requires c κs = search needs
 
 save-requires : tie.Need-save-requires
 save-requires c κs = search needs
@@ -34,19 +40,23 @@ same-length-3 c = search needs
 
 returns-3 : tie.Need-returns-3
 returns-3 c =
-    let s = c .before .before .before .before .before .before .before .before .before .before .before .before .before .args in
-    let load = c .before .before .before .before .before .before .before .before .before .before .load in
-    improve-more (s .chart .now) (s .j) (s .x) (load .result) (load .ensures) _ (c .before .before .before .before .before .before .before .before .if1 .left) (c .before .before .before .before .before .if2 .left) (c .before .before .save .ensures)
+    let s = c .before .before .before .before .before .before .before .before .before .before .before .before .before .before .before .args in
+    let h = c .before .before .before .before .before .before .before .before .before .before .before .before .field in
+    let n = c .before .before .before .before .before .before .before .before .before .field2 in
+    let y = c .before .before .before .before .before .load in
+    improve-more (s .chart .now) (s .j) (s .x) (h .result) (h .ensures) (c .before .before .before .before .before .before .before .before .before .before .before .if1 .left) (n .result) (n .ensures) _ (y .result) (c .before .before .before .before .before .before .before .if2 .left) (y .ensures) (c .before .before .save .ensures)
 
 pub improve-spec : {M : Type 1} → statement M
 improve-spec =
     tie.close
     (tie.spec
-    load-requires
+    field-requires
     same-length
     returns
+    field-requires-2
     same-length-2
     returns-2
+    load-requires
     save-requires
     same-length-3
     returns-3)

@@ -27,7 +27,7 @@ attach-requires : tie.Need-attach-requires
 attach-requires c κs = filled-known _ _ _ (c .before .before .before .before .before .before .before .before .before .before .before .before .args .y) _ (c .before .before .before .before .before .before .before .before .before .before .before .before .pre .0) (c .before .before .before .before .before .before .before .before .before .before .before .before .pre .1) _ _ (c .before .before .before .before .before .before .before .plan-first .ensures) (c .before .before .before .before .plan-second .ensures)
 
 combine-requires : tie.Need-combine-requires
-combine-requires c κs = (c .before .before .before .before .before .before .before .before .before .before .before .before .before .before .pre .0 .accepted, c .before .before .before .before .before .before .before .before .before .before .before .before .before .before .pre .0 .node)
+combine-requires c κs = (c .before .before .before .before .before .before .before .before .before .before .before .before .before .before .pre .0 .accepted, c .before .before .before .before .before .before .before .before .before .before .before .before .before .before .pre .0 .node, c .before .before .before .before .before .before .before .before .before .before .before .before .before .before .pre .2, c .before .before .before .before .before .before .before .before .before .before .before .before .before .before .pre .3)
 
 made-at-requires : tie.Need-made-at-requires
 made-at-requires c κs = search needs

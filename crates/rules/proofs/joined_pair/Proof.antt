@@ -21,7 +21,7 @@ returns-3 : tie.Need-returns-3
 returns-3 c = joined-second _ _ _ _ _ (c .before .before .before .before .before .before .before .before .before .before .pre .0) (c .before .before .before .before .before .before .before .before .before .before .pre .1) _ _ (c .before .before .before .before .before .plan-first .ensures) (c .before .before .plan-second .ensures) (c .before .before .before .before .before .before .if1 .left) (c .if3 .taken)
 
 combine-requires : tie.Need-combine-requires
-combine-requires c κs = (c .before .before .before .before .before .before .before .before .before .before .before .before .pre .0 .accepted, c .before .before .before .before .before .before .before .before .before .before .before .before .pre .0 .node)
+combine-requires c κs = (c .before .before .before .before .before .before .before .before .before .before .before .before .pre .0 .accepted, c .before .before .before .before .before .before .before .before .before .before .before .before .pre .0 .node, c .before .before .before .before .before .before .before .before .before .before .before .before .pre .3, c .before .before .before .before .before .before .before .before .before .before .before .before .pre .4)
 
 made-at-requires : tie.Need-made-at-requires
 made-at-requires c κs = search needs

@@ -24,7 +24,7 @@ edge-nodes-requires : tie.Need-edge-nodes-requires
 edge-nodes-requires c κs = search needs
 
 pair-requires : tie.Need-pair-requires
-pair-requires c κs = search needs
+pair-requires c κs = (c .before .before .before .before .before .before .before .before .before .pre .0, c .before .before .before .before .before .before .before .before .before .pre .2, c .before .before .before .before .before .before .before .before .before .pre .3)
 
 returns-3 : tie.Need-returns-3
 returns-3 c = edge-answer _ _ _ _ (c .before .before .before .before .before .before .before .before .before .before .pre .0) (c .before .before .before .before .before .before .before .before .before .before .pre .1) _ (c .before .before .before .before .before .with .ensures) _ _ (c .before .before .graph-label .ensures) (c .before .edge-nodes .ensures) _ (c .pair .ensures)

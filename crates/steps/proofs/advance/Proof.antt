@@ -1,95 +1,51 @@
--- Each turn is a step of the model; where none is left, the steps given beyond change nothing.
-use native.Mathlib.Omega.{arith}
-use Prim.Native.Nat.{_-_, _≤_}
-use mathlib.Core.Path.{_≡_, refl, _∙_}
-use lib.ListN.{length}
+-- What the tables give and the index are made, then the steps are done.
 use borrow.Author.Needs.{needs}
-use Rattle.questions.specs.Abstract.{grammarOf, graphOf}
-use Rattle.steps.proofs.RunLaws.{Ran, ran-none, ran-fits, next-known, ran-step, ran-idle, ran-all}
+use Rattle.index.proofs.IndexLaws.{empty-zeros}
+use Rattle.steps.proofs.ReadyLaws.{built-ready, count-small}
 use Rattle.steps.proofs.advance.Statement.{statement}
 use Rattle.steps.proofs.advance.Tie as tie
 
-abbrev Inv-loop : tie.InvT-loop
-Inv-loop g h chart₀ steps wants i₀ chart i = (i ≤ steps) × (length chart ≡ length chart₀) × Ran (grammarOf g) (graphOf g h) chart₀ i chart
-
-abbrev μ-loop : tie.MeasureT-loop
-μ-loop g h chart₀ steps wants i₀ chart i = steps - i
-
-table-requires : tie.Need-table-requires Inv-loop μ-loop
+table-requires : tie.Need-table-requires
 table-requires c κs = c .before .before .before .pre .0 .grammar
 
-loop-holds : tie.Need-loop-holds Inv-loop μ-loop
-loop-holds c =
-    let s = c .before .before .before .before .args in
-    let G = grammarOf (s .g .now) in
-    let H = graphOf (s .g .now) (s .h .now) in
-    (omega arith, refl, ran-none G H (s .chart .now) (c .before .before .before .before .pre .1))
+table-requires-2 : tie.Need-table-requires-2
+table-requires-2 c κs = c .before .before .before .before .pre .0 .grammar
 
-next-requires : tie.Need-next-requires Inv-loop μ-loop
-next-requires c κs = search needs
+table-requires-3 : tie.Need-table-requires-3
+table-requires-3 c κs = c .before .before .before .before .before .pre .0 .grammar
 
-enum-told : tie.Need-enum-told Inv-loop μ-loop
-enum-told c = search needs
+table-requires-4 : tie.Need-table-requires-4
+table-requires-4 c κs = c .before .before .before .before .before .before .pre .0
 
-same-length : tie.Need-same-length Inv-loop μ-loop
-same-length c = c .before .before .before .before .before .loop .inv .1
+slice-aggregate-build : tie.Need-slice-aggregate-build
+slice-aggregate-build c = search needs
 
-returns : tie.Need-returns Inv-loop μ-loop
-returns c =
-    let s = c .before .before .before .before .before .before .before .before .before .before .args in
-    let G = grammarOf (s .g .now) in
-    let H = graphOf (s .g .now) (s .h .now) in
-    ran-idle G H (s .chart .now) (c .before .before .before .before .before .loop .i) (c .before .before .before .before .before .loop .chart) (c .before .before .before .before .before .loop .inv .2) (s .steps) (c .before .before .next .result) (c .before .before .before .before .before .loop .inv .0) (c .enum-told .given .1) (c .before .before .next .ensures)
+build-requires : tie.Need-build-requires
+build-requires c κs = (empty-zeros, count-small _ (c .before .before .before .before .before .before .before .before .before .before .before .pre .2))
 
-enum-known-j : tie.Need-enum-known-j Inv-loop μ-loop
-enum-known-j c = search needs
+slice-aggregate-advance-by : tie.Need-slice-aggregate-advance-by
+slice-aggregate-advance-by c = search needs
 
-step-requires : tie.Need-step-requires Inv-loop μ-loop
-step-requires c κs =
-    let s = c .before .before .before .before .before .before .before .before .before .before .before .before .before .args in
-    let G = grammarOf (s .g .now) in
-    let H = graphOf (s .g .now) (s .h .now) in
-    (c .before .before .before .before .before .before .before .before .before .before .before .before .before .pre .0, ran-fits G H (s .chart .now) (c .before .before .before .before .before .before .before .before .loop .i) (c .before .before .before .before .before .before .before .before .loop .chart) (c .before .before .before .before .before .before .before .before .loop .inv .2), next-known (c .before .before .before .before .before .before .before .before .loop .chart) _ (c .before .before .before .before .before .next .result) (c .before .before .before .j .given .1) (c .before .before .before .before .before .next .ensures), c .before .before .before .before .before .before .before .before .before .table .ensures)
+advance-by-requires : tie.Need-advance-by-requires
+advance-by-requires c κs = (record { accepted = c .before .before .before .before .before .before .before .before .before .before .before .before .before .before .before .before .before .before .before .pre .0; wanted = c .before .before .before .before .before .before .before .before .before .before .before .before .before .before .before .table .ensures; planned = c .before .before .before .before .before .before .before .before .before .before .before .before .before .before .table2 .ensures; pivoted = c .before .before .before .before .before .before .before .before .before .before .before .before .before .table3 .ensures; graphed = c .before .before .before .before .before .before .before .before .before .before .before .before .table4 .ensures }, built-ready _ _ _ _ _ (c .before .before .before .before .before .before .before .before .before .before .before .before .before .before .before .before .before .before .before .pre .1) (c .before .before .before .before .before .before .before .before .before .before .before .before .before .before .before .before .before .before .before .pre .2) (c .before .before .before .before .before .before .before .build .ensures))
 
-add-i : tie.Need-add-i Inv-loop μ-loop
-add-i c = search needs
+same-length : tie.Need-same-length
+same-length c = search needs
 
-loop-less : tie.Need-loop-less Inv-loop μ-loop
-loop-less c = omega (arith, c .before .before .before .before .before .before .before .before .before .before .loop-test .taken)
-
-loop-again : tie.Need-loop-again Inv-loop μ-loop
-loop-again c =
-    let s = c .before .before .before .before .before .before .before .before .before .before .before .before .before .before .before .before .args in
-    let G = grammarOf (s .g .now) in
-    let H = graphOf (s .g .now) (s .h .now) in
-    (omega (arith, c .before .before .before .before .before .before .before .before .before .before .loop-test .taken), c .before .before .step .kept .1 .1 .1 .0 ∙ c .before .before .before .before .before .before .before .before .before .before .before .loop .inv .1, ran-step G H (s .chart .now) (c .before .before .before .before .before .before .before .before .before .before .before .loop .i) (c .before .before .before .before .before .before .before .before .before .before .before .loop .chart) (c .before .before .before .before .before .before .before .before .before .before .before .loop .inv .2) _ _ (c .before .before .before .before .before .before .before .before .next .result) _ (omega arith) (c .before .before .before .before .before .before .j .given .1) (c .before .before .before .before .before .before .before .before .next .ensures) (c .before .before .step .ensures))
-
-same-length-2 : tie.Need-same-length-2 Inv-loop μ-loop
-same-length-2 c = c .before .loop .inv .1
-
-returns-2 : tie.Need-returns-2 Inv-loop μ-loop
-returns-2 c =
-    let s = c .before .before .before .before .before .before .args in
-    let G = grammarOf (s .g .now) in
-    let H = graphOf (s .g .now) (s .h .now) in
-    ran-all G H (s .chart .now) (c .before .loop .i) (c .before .loop .chart) (c .before .loop .inv .2) (s .steps) (omega (arith, c .loop-test .left, c .before .loop .inv .0))
+returns : tie.Need-returns
+returns c = c .before .before .before .advance-by .ensures
 
 pub advance-spec : {M : Type 1} → statement M
 advance-spec =
     tie.close
     (tie.spec
-    Inv-loop
-    μ-loop
     table-requires
-    loop-holds
-    next-requires
-    enum-told
+    table-requires-2
+    table-requires-3
+    table-requires-4
+    slice-aggregate-build
+    build-requires
+    slice-aggregate-advance-by
+    advance-by-requires
     same-length
-    returns
-    enum-known-j
-    step-requires
-    add-i
-    loop-less
-    loop-again
-    same-length-2
-    returns-2)
+    returns)

@@ -9,17 +9,14 @@ mark-of-requires : tie.Need-mark-of-requires
 mark-of-requires c κs = search needs
 
 returns : tie.Need-returns
-returns c = next-marked (c .before .before .before .args .chart .now) _ (c .before .mark-of .ensures) (c .if1 .taken)
+returns c = next-marked (c .before .before .before .before .args .chart .now) _ (c .before .mark-of .ensures) (c .if1 .taken)
 
-item-count-requires : tie.Need-item-count-requires
-item-count-requires c κs = search needs
-
-least-requires : tie.Need-least-requires
-least-requires c κs = search needs
+next-requires : tie.Need-next-requires
+next-requires c κs = c .before .before .before .before .pre
 
 returns-2 : tie.Need-returns-2
-returns-2 c = next-least (c .before .before .before .before .before .args .chart .now) _ (c .before .before .before .mark-of .ensures) _ _ (c .before .before .if1 .left) (c .before .item-count .ensures) (c .least .ensures)
+returns-2 c = next-least (c .before .before .before .before .before .args .chart .now) _ (c .before .before .mark-of .ensures) _ (c .before .if1 .left) (c .next .ensures)
 
 pub next-spec : {M : Type 1} → statement M
 next-spec =
-    tie.close (tie.spec mark-of-requires returns item-count-requires least-requires returns-2)
+    tie.close (tie.spec mark-of-requires returns next-requires returns-2)

@@ -1,8 +1,8 @@
 -- An active item that wants nothing makes nothing with any record.
-use Prim.Native.Nat.{_-_}
+use mathlib.Core.Path.{sym, _∙_}
 use lib.Dec.{eqb}
 use borrow.Author.Needs.{needs}
-use borrow.Author.Tests.{eqb-true}
+use borrow.Author.Tests.{eqb-true, not-false}
 use Rattle.hrg.proofs.Degrees.{and-true}
 use Rattle.questions.specs.Abstract.{grammarOf, graphOf}
 use Rattle.records.specs.Words.{recordAt}
@@ -17,22 +17,74 @@ want-of-requires c κs = search needs
 
 returns : tie.Need-returns
 returns c =
-    let s = c .before .before .before .before .before .before .args in
+    let s = c .before .before .before .before .before .before .before .args in
     let G = grammarOf (s .g .now) in
     let H = graphOf (s .g .now) (s .h .now) in
-    let (a, b) = and-true (eqb (s .x .kind) 0) (eqb (c .before .before .want-of .result) 80) (c .if1 .taken) in
-    no-partners G H (s .chart .now) (λ k. withRecord G H (s .x) (s .j) (recordAt (s .chart .now) k) k) (s .n) (c .before .before .before .before .before .before .pre .1)
-    (λ k. unwanting-none (s .g .now) (c .before .before .before .before .before .before .pre .0 .grammar) H (s .wants .now) (c .before .before .before .before .before .before .pre .3) (s .x) (recordAt (s .chart .now) k) (c .before .before .want-of .result) (c .before .before .want-of .ensures) (s .j) k (eqb-true _ _ a) (eqb-true _ _ b))
+    let (a, b) = and-true (eqb (s .x .kind) 0) (eqb (c .before .before .want-of .result) 80) (c .if1 .taken) in (
+      no-partners G H (s .chart .now) (λ k. withRecord G H (s .x) (s .j) (recordAt (s .chart .now) k) k) (s .n) (c .before .before .before .before .before .before .before .pre .1 .fits)
+          (λ k. unwanting-none (s .g .now) (c .before .before .before .before .before .before .before .pre .0 .accepted .grammar) H (s .wants .now) (c .before .before .before .before .before .before .before .pre .0 .wanted) (s .x) (recordAt (s .chart .now) k) (c .before .before .want-of .result) (c .before .before .want-of .ensures) (s .j) k (eqb-true _ _ a) (eqb-true _ _ b)),
+      c .before .before .before .before .before .before .before .pre .1,
+    )
+
+regular-requires : tie.Need-regular-requires
+regular-requires c κs = c .before .before .before .before .before .before .before .before .pre .1 .indexed .size
 
 add-each-requires : tie.Need-add-each-requires
-add-each-requires c κs = (c .before .before .before .before .before .before .before .pre .0, c .before .before .before .before .before .before .before .pre .1, c .before .before .before .before .before .before .before .pre .2, c .before .before .before .before .before .before .before .pre .3, c .before .before .before .want-of .ensures)
+add-each-requires c κs = (c .before .before .before .before .before .before .before .before .before .before .before .before .pre .0, c .before .before .before .before .before .before .before .before .before .before .before .before .pre .1, c .before .before .before .before .before .before .before .before .before .before .before .before .pre .2, c .before .before .before .before .before .before .before .want-of .ensures)
 
 same-length : tie.Need-same-length
 same-length c = search needs
 
+same-length-2 : tie.Need-same-length-2
+same-length-2 c = search needs
+
 returns-2 : tie.Need-returns-2
-returns-2 c = search needs
+returns-2 c = c .before .before .before .before .add-each .ensures
+
+regular-requires-2 : tie.Need-regular-requires-2
+regular-requires-2 c κs = search needs
+
+add-each-requires-2 : tie.Need-add-each-requires-2
+add-each-requires-2 c κs = (c .before .before .before .before .before .before .before .before .before .before .before .before .before .before .pre .0, c .before .before .before .before .before .before .before .before .before .before .before .before .before .before .pre .1, c .before .before .before .before .before .before .before .before .before .before .before .before .before .before .pre .2, c .before .before .before .before .before .before .before .before .before .want-of .ensures)
+
+same-length-3 : tie.Need-same-length-3
+same-length-3 c = search needs
+
+same-length-4 : tie.Need-same-length-4
+same-length-4 c = search needs
+
+returns-3 : tie.Need-returns-3
+returns-3 c = c .before .before .before .before .add-each2 .ensures
+
+add-listed-requires : tie.Need-add-listed-requires
+add-listed-requires c κs = (c .before .before .before .before .before .before .before .before .before .before .before .before .before .before .pre .0, c .before .before .before .before .before .before .before .before .before .before .before .before .before .before .pre .1, c .before .before .before .before .before .before .before .before .before .before .before .before .before .before .pre .2, c .before .before .before .before .before .before .before .before .before .want-of .ensures, c .before .before .before .before .before .before .before .before .before .before .before .before .before .before .pre .1 .indexed .regular (eqb-true _ _ (sym (c .before .before .before .before .before .regular .ensures) ∙ not-false _ (c .before .before .before .before .if2 .left))), sym (c .before .before .before .regular2 .ensures) ∙ not-false _ (c .before .before .if3 .left))
+
+same-length-5 : tie.Need-same-length-5
+same-length-5 c = search needs
+
+same-length-6 : tie.Need-same-length-6
+same-length-6 c = search needs
+
+returns-4 : tie.Need-returns-4
+returns-4 c = c .before .before .before .before .add-listed .ensures
 
 pub add-partners-spec : {M : Type 1} → statement M
 add-partners-spec =
-    tie.close (tie.spec want-of-requires returns add-each-requires same-length returns-2)
+    tie.close
+    (tie.spec
+    want-of-requires
+    returns
+    regular-requires
+    add-each-requires
+    same-length
+    same-length-2
+    returns-2
+    regular-requires-2
+    add-each-requires-2
+    same-length-3
+    same-length-4
+    returns-3
+    add-listed-requires
+    same-length-5
+    same-length-6
+    returns-4)

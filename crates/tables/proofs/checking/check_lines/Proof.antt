@@ -1,31 +1,42 @@
--- The lines left, from this table and this line on, give the verdict of the whole (proofs/CheckRun).
+-- One line after the other, each judged where it stands (proofs/OnePass).
 use native.Mathlib.Omega.{arith}
-use mathlib.Core.Path.{_≡_, refl, sym}
-use lib.ListN.{length}
 use borrow.Author.Needs.{needs}
-use Rattle.questions.specs.Walk.{Room}
-use Rattle.questions.specs.Checking.{checkLines}
-use Rattle.tables.proofs.CheckRun.{none-left, turn-end, turn-no, turn-go, turn-room, conclude-yes, conclude-no}
+use mathlib.Core.Path.{sym, _∙_}
+use lib.ListN.{replicate}
+use Rattle.questions.specs.Checking.{checkLines, filledBy}
+use Rattle.tables.proofs.OnePass.{Passing, pass-start, pass-none, pass-end, turn-from, turn-fits, turn-gap, turn-no, turn-tail, turn-next}
 use Rattle.tables.proofs.checking.check_lines.Statement.{statement}
 use Rattle.tables.proofs.checking.check_lines.Tie as tie
 
 abbrev Inv-loop : tie.InvT-loop
-Inv-loop g t c₀ lines due₀ left₀ c due left = (length c ≡ length c₀) × Room (length c) due × (checkLines left g t c due ≡ checkLines lines g t c₀ due₀)
+Inv-loop g t lines size due₀ left₀ from₀ due left from = Passing size g t (filledBy size t (checkLines lines g t (replicate size 0) due₀)) left due from
 
 abbrev μ-loop : tie.MeasureT-loop
-μ-loop g t c₀ lines due₀ left₀ c due left = left
+μ-loop g t lines size due₀ left₀ from₀ due left from = left
 
 loop-holds : tie.Need-loop-holds Inv-loop μ-loop
-loop-holds c = (refl, c .before .before .before .pre, refl)
+loop-holds c = pass-start _ _ _ _ _ (c .before .before .pre .1) (c .before .before .pre .0)
 
 is-nothing-requires : tie.Need-is-nothing-requires Inv-loop μ-loop
 is-nothing-requires c κs = search needs
 
-same-length : tie.Need-same-length Inv-loop μ-loop
-same-length c = c .before .before .before .loop .inv .0
+zeros-requires : tie.Need-zeros-requires Inv-loop μ-loop
+zeros-requires c κs = (omega (arith, c .before .before .before .loop .inv .inside, c .before .before .before .loop .inv .place), (c .before .before .before .before .before .before .pre .2))
 
 returns : tie.Need-returns Inv-loop μ-loop
-returns c = conclude-yes _ _ (turn-end _ _ _ _ _ _ (c .before .before .loop-test .taken) (c .before .before .before .loop .inv .2) _ (c .before .is-nothing .ensures) (c .if1 .taken))
+returns c = pass-end _ _ _ _ (c .before .before .before .before .before .before .before .pre .2) _ _ _ (c .before .before .before .before .loop .inv) (c .before .before .before .loop-test .taken) (sym (c .before .before .is-nothing .ensures) ∙ c .before .if1 .taken) _ (c .zeros .ensures)
+
+place-of-requires : tie.Need-place-of-requires Inv-loop μ-loop
+place-of-requires c κs = search needs
+
+mul-at : tie.Need-mul-at Inv-loop μ-loop
+mul-at c = search needs
+
+zeros-requires-2 : tie.Need-zeros-requires-2 Inv-loop μ-loop
+zeros-requires-2 c κs = (turn-from _ _ _ _ (c .before .before .before .before .before .before .before .pre .2) _ _ _ (c .before .before .before .before .loop .inv) (c .before .before .before .loop-test .taken) _ (c .before .before .is-nothing .ensures) (c .before .if1 .left) _ (c .place-of .ensures .0), omega (arith, (c .before .before .before .before .before .before .before .pre .2), turn-fits _ _ _ _ (c .before .before .before .before .before .before .before .pre .2) _ _ _ (c .before .before .before .before .loop .inv) (c .before .before .before .loop-test .taken) _ (c .before .before .is-nothing .ensures) (c .before .if1 .left) _ (c .place-of .ensures .0)))
+
+returns-2 : tie.Need-returns-2 Inv-loop μ-loop
+returns-2 c = turn-gap _ _ _ _ (c .before .before .before .before .before .before .before .before .before .pre .2) _ _ _ (c .before .before .before .before .before .before .loop .inv) (c .before .before .before .before .before .loop-test .taken) _ (c .before .before .before .before .is-nothing .ensures) (c .before .before .before .if1 .left) _ (c .before .before .place-of .ensures .0) _ (c .before .zeros2 .ensures) (c .if2 .taken)
 
 stored-fields-requires : tie.Need-stored-fields-requires Inv-loop μ-loop
 stored-fields-requires c κs = search needs
@@ -33,32 +44,38 @@ stored-fields-requires c κs = search needs
 judge-requires : tie.Need-judge-requires Inv-loop μ-loop
 judge-requires c κs = search needs
 
-same-length-2 : tie.Need-same-length-2 Inv-loop μ-loop
-same-length-2 c = c .before .before .before .before .before .before .before .before .loop .inv .0
+returns-3 : tie.Need-returns-3 Inv-loop μ-loop
+returns-3 c = turn-no _ _ _ _ (c .before .before .before .before .before .before .before .before .before .before .before .before .pre .2) _ _ _ (c .before .before .before .before .before .before .before .before .before .loop .inv) (c .before .before .before .before .before .before .before .before .loop-test .taken) _ (c .before .before .before .before .before .before .before .is-nothing .ensures) (c .before .before .before .before .before .before .if1 .left) _ (c .before .before .before .before .before .place-of .ensures .0) _ (c .before .before .before .before .zeros2 .ensures) (c .before .before .before .if2 .left) _ (c .before .before .stored-fields .ensures .0) _ (c .before .judge .ensures) (c .if3 .taken)
 
-returns-2 : tie.Need-returns-2 Inv-loop μ-loop
-returns-2 c = conclude-no _ _ (turn-no _ _ _ _ _ _ (c .before .before .before .before .before .before .before .loop-test .taken) (c .before .before .before .before .before .before .before .before .loop .inv .2) _ (c .before .before .before .before .before .before .is-nothing .ensures) (c .before .before .before .before .before .if1 .left) (c .before .before .before .before .before .before .before .before .loop .inv .1) _ (c .before .before .before .stored-fields .ensures .0) _ (c .before .judge .ensures) (c .if2 .taken))
+add-zeros : tie.Need-add-zeros Inv-loop μ-loop
+add-zeros c = search needs
 
-store-requires : tie.Need-store-requires Inv-loop μ-loop
-store-requires c κs = search needs
+add-zeros-2 : tie.Need-add-zeros-2 Inv-loop μ-loop
+add-zeros-2 c = search needs
+
+zeros-requires-3 : tie.Need-zeros-requires-3 Inv-loop μ-loop
+zeros-requires-3 c κs = (omega arith, omega (arith, (c .before .before .before .before .before .before .before .before .before .before .before .before .before .pre .2), turn-fits _ _ _ _ (c .before .before .before .before .before .before .before .before .before .before .before .before .before .pre .2) _ _ _ (c .before .before .before .before .before .before .before .before .before .before .loop .inv) (c .before .before .before .before .before .before .before .before .before .loop-test .taken) _ (c .before .before .before .before .before .before .before .before .is-nothing .ensures) (c .before .before .before .before .before .before .before .if1 .left) _ (c .before .before .before .before .before .before .place-of .ensures .0)))
+
+returns-4 : tie.Need-returns-4 Inv-loop μ-loop
+returns-4 c = turn-tail _ _ _ _ (c .before .before .before .before .before .before .before .before .before .before .before .before .before .before .before .pre .2) _ _ _ (c .before .before .before .before .before .before .before .before .before .before .before .before .loop .inv) (c .before .before .before .before .before .before .before .before .before .before .before .loop-test .taken) _ (c .before .before .before .before .before .before .before .before .before .before .is-nothing .ensures) (c .before .before .before .before .before .before .before .before .before .if1 .left) _ (c .before .before .before .before .before .before .before .before .place-of .ensures .0) _ (c .before .before .before .before .before .before .before .zeros2 .ensures) (c .before .before .before .before .before .before .if2 .left) _ (c .before .before .before .before .before .stored-fields .ensures .0) _ (c .before .before .before .before .judge .ensures) (c .before .before .before .if3 .left) _ (c .before .before .before .before .before .stored-fields .ensures .2) _ (c .before .zeros3 .ensures) (c .if4 .taken)
 
 next-due-requires : tie.Need-next-due-requires Inv-loop μ-loop
 next-due-requires c κs = search needs
+
+add-from : tie.Need-add-from Inv-loop μ-loop
+add-from c = search needs
 
 sub-left : tie.Need-sub-left Inv-loop μ-loop
 sub-left c = search needs
 
 loop-less : tie.Need-loop-less Inv-loop μ-loop
-loop-less c = omega arith
+loop-less c = search needs
 
 loop-again : tie.Need-loop-again Inv-loop μ-loop
-loop-again c = (omega (arith, c .before .before .before .before .store .kept .0, c .before .before .before .before .before .before .before .before .before .before .before .before .before .before .loop .inv .0), turn-room _ _ _ _ _ _ (c .before .before .before .before .before .before .before .before .before .before .before .before .before .loop-test .taken) (c .before .before .before .before .before .before .before .before .before .before .before .before .before .before .loop .inv .2) _ (c .before .before .before .before .before .before .before .before .before .before .before .before .is-nothing .ensures) (c .before .before .before .before .before .before .before .before .before .before .before .if1 .left) (c .before .before .before .before .before .before .before .before .before .before .before .before .before .before .loop .inv .1) _ (c .before .before .before .before .before .before .before .before .before .stored-fields .ensures .0) _ (c .before .before .before .before .before .before .before .judge .ensures) (c .before .before .before .before .before .before .if2 .left) _ (c .before .before .before .before .store .ensures) _ (c .next-due .ensures) _ (sym (c .before .before .before .before .store .kept .0)), turn-go _ _ _ _ _ _ (c .before .before .before .before .before .before .before .before .before .before .before .before .before .loop-test .taken) (c .before .before .before .before .before .before .before .before .before .before .before .before .before .before .loop .inv .2) _ (c .before .before .before .before .before .before .before .before .before .before .before .before .is-nothing .ensures) (c .before .before .before .before .before .before .before .before .before .before .before .if1 .left) (c .before .before .before .before .before .before .before .before .before .before .before .before .before .before .loop .inv .1) _ (c .before .before .before .before .before .before .before .before .before .stored-fields .ensures .0) _ (c .before .before .before .before .before .before .before .judge .ensures) (c .before .before .before .before .before .before .if2 .left) _ (c .before .before .before .before .store .ensures) _ (c .next-due .ensures))
+loop-again c = turn-next _ _ _ _ (c .before .before .before .before .before .before .before .before .before .before .before .before .before .before .before .before .pre .2) _ _ _ (c .before .before .before .before .before .before .before .before .before .before .before .before .before .loop .inv) (c .before .before .before .before .before .before .before .before .before .before .before .before .loop-test .taken) _ (c .before .before .before .before .before .before .before .before .before .before .before .is-nothing .ensures) (c .before .before .before .before .before .before .before .before .before .before .if1 .left) _ (c .before .before .before .before .before .before .before .before .before .place-of .ensures .0) _ (c .before .before .before .before .before .before .before .before .zeros2 .ensures) (c .before .before .before .before .before .before .before .if2 .left) _ (c .before .before .before .before .before .before .stored-fields .ensures .0) _ (c .before .before .before .before .before .judge .ensures) (c .before .before .before .before .if3 .left) _ (c .before .before .before .before .before .before .stored-fields .ensures .2) _ (c .before .before .zeros3 .ensures) (c .before .if4 .left) _ (c .next-due .ensures)
 
-same-length-3 : tie.Need-same-length-3 Inv-loop μ-loop
-same-length-3 c = c .before .loop .inv .0
-
-returns-3 : tie.Need-returns-3 Inv-loop μ-loop
-returns-3 c = conclude-no _ _ (none-left _ _ _ _ _ _ (c .loop-test .left) (c .before .loop .inv .2))
+returns-5 : tie.Need-returns-5 Inv-loop μ-loop
+returns-5 c = pass-none _ _ _ _ (c .before .before .before .before .pre .2) _ _ _ (c .before .loop .inv) (c .loop-test .left)
 
 pub check-lines-spec : {M : Type 1} → statement M
 check-lines-spec =
@@ -68,16 +85,22 @@ check-lines-spec =
     μ-loop
     loop-holds
     is-nothing-requires
-    same-length
+    zeros-requires
     returns
+    place-of-requires
+    mul-at
+    zeros-requires-2
+    returns-2
     stored-fields-requires
     judge-requires
-    same-length-2
-    returns-2
-    store-requires
+    returns-3
+    add-zeros
+    add-zeros-2
+    zeros-requires-3
+    returns-4
     next-due-requires
+    add-from
     sub-left
     loop-less
     loop-again
-    same-length-3
-    returns-3)
+    returns-5)

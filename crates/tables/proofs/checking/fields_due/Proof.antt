@@ -70,35 +70,35 @@ enum-told-5 c = search needs
 
 returns : tie.Need-returns
 unfolding fieldsDue placeOf
-returns c = (sym (ap (fieldsDue (c .before .before .before .before .before .args .g .now) (c .before .before .before .before .before .args .c .now) (c .before .before .before .before .before .args .t .now)) (c .enum-told .given .1)), omega arith)
+returns c = (sym (ap (fieldsDue (c .before .before .before .before .args .g .now) (c .before .before .before .before .args .t .now) (c .before .before .before .before .args .t .now)) (c .enum-told .given .1)), omega arith)
 
 returns-2 : tie.Need-returns-2
 unfolding fieldsDue placeOf
-returns-2 c = (sym (ap (fieldsDue (c .before .before .before .before .before .args .g .now) (c .before .before .before .before .before .args .c .now) (c .before .before .before .before .before .args .t .now)) (c .enum-told2 .given .1)), omega arith)
+returns-2 c = (sym (ap (fieldsDue (c .before .before .before .before .args .g .now) (c .before .before .before .before .args .t .now) (c .before .before .before .before .args .t .now)) (c .enum-told2 .given .1)), omega arith)
 
 returns-3 : tie.Need-returns-3
 unfolding fieldsDue placeOf
-returns-3 c = (ap (λ k. 5 + k) (c .rank-at .ensures .0 ∙ ap (rankAt (c .before .before .before .before .before .before .before .before .args .c .now)) (c .before .rule-symbol .ensures)) ∙ sym (ap (fieldsDue (c .before .before .before .before .before .before .before .before .args .g .now) (c .before .before .before .before .before .before .before .before .args .c .now) (c .before .before .before .before .before .before .before .before .args .t .now)) (c .before .before .before .due .given .1)), omega arith)
+returns-3 c = (ap (λ k. 5 + k) (c .rank-at .ensures .0 ∙ ap (rankAt (c .before .before .before .before .before .before .before .args .t .now)) (c .before .rule-symbol .ensures)) ∙ sym (ap (fieldsDue (c .before .before .before .before .before .before .before .args .g .now) (c .before .before .before .before .before .before .before .args .t .now) (c .before .before .before .before .before .before .before .args .t .now)) (c .before .before .before .due .given .1)), omega arith)
 
 returns-4 : tie.Need-returns-4
 unfolding fieldsDue placeOf
-returns-4 c = (ap (λ k. 1 + k) (c .rank-at2 .ensures .0 ∙ ap (rankAt (c .before .before .before .before .before .before .before .before .args .c .now)) (c .before .edge-label .ensures)) ∙ sym (ap (fieldsDue (c .before .before .before .before .before .before .before .before .args .g .now) (c .before .before .before .before .before .before .before .before .args .c .now) (c .before .before .before .before .before .before .before .before .args .t .now)) (c .before .before .before .due2 .given .1)), omega arith)
+returns-4 c = (ap (λ k. 1 + k) (c .rank-at2 .ensures .0 ∙ ap (rankAt (c .before .before .before .before .before .before .before .args .t .now)) (c .before .edge-label .ensures)) ∙ sym (ap (fieldsDue (c .before .before .before .before .before .before .before .args .g .now) (c .before .before .before .before .before .before .before .args .t .now) (c .before .before .before .before .before .before .before .args .t .now)) (c .before .before .before .due2 .given .1)), omega arith)
 
 returns-5 : tie.Need-returns-5
 unfolding fieldsDue placeOf
-returns-5 c = (sym (ap (fieldsDue (c .before .before .before .before .before .args .g .now) (c .before .before .before .before .before .args .c .now) (c .before .before .before .before .before .args .t .now)) (c .enum-told3 .given .1)), omega arith)
+returns-5 c = (sym (ap (fieldsDue (c .before .before .before .before .args .g .now) (c .before .before .before .before .args .t .now) (c .before .before .before .before .args .t .now)) (c .enum-told3 .given .1)), omega arith)
 
 returns-6 : tie.Need-returns-6
 unfolding fieldsDue placeOf
-returns-6 c = (ap (λ k. 2 + k) (c .rank-at3 .ensures .0 ∙ ap (rankAt (c .before .before .before .before .before .before .before .args .g .now)) (c .before .start-symbol .ensures)) ∙ sym (ap (fieldsDue (c .before .before .before .before .before .before .before .args .g .now) (c .before .before .before .before .before .before .before .args .c .now) (c .before .before .before .before .before .before .before .args .t .now)) (c .before .before .enum-told4 .given .1)), omega arith)
+returns-6 c = (ap (λ k. 2 + k) (c .rank-at3 .ensures .0 ∙ ap (rankAt (c .before .before .before .before .before .before .args .g .now)) (c .before .start-symbol .ensures)) ∙ sym (ap (fieldsDue (c .before .before .before .before .before .before .args .g .now) (c .before .before .before .before .before .before .args .t .now) (c .before .before .before .before .before .before .args .t .now)) (c .before .before .enum-told4 .given .1)), omega arith)
 
 returns-7 : tie.Need-returns-7
 unfolding fieldsDue placeOf
-returns-7 c = (ap (λ k. 1 + k) (c .rank-at4 .ensures .0 ∙ ap (rankAt (c .before .before .before .before .before .before .before .before .args .g .now)) (c .before .graph-label .ensures)) ∙ sym (ap (fieldsDue (c .before .before .before .before .before .before .before .before .args .g .now) (c .before .before .before .before .before .before .before .before .args .c .now) (c .before .before .before .before .before .before .before .before .args .t .now)) (c .before .before .before .due3 .given .1)), omega arith)
+returns-7 c = (ap (λ k. 1 + k) (c .rank-at4 .ensures .0 ∙ ap (rankAt (c .before .before .before .before .before .before .before .args .g .now)) (c .before .graph-label .ensures)) ∙ sym (ap (fieldsDue (c .before .before .before .before .before .before .before .args .g .now) (c .before .before .before .before .before .before .before .args .t .now) (c .before .before .before .before .before .before .before .args .t .now)) (c .before .before .before .due3 .given .1)), omega arith)
 
 returns-8 : tie.Need-returns-8
 unfolding fieldsDue placeOf
-returns-8 c = (sym (ap (fieldsDue (c .before .before .before .before .before .args .g .now) (c .before .before .before .before .before .args .c .now) (c .before .before .before .before .before .args .t .now)) (c .enum-told5 .given .1)), omega arith)
+returns-8 c = (sym (ap (fieldsDue (c .before .before .before .before .args .g .now) (c .before .before .before .before .args .t .now) (c .before .before .before .before .args .t .now)) (c .enum-told5 .given .1)), omega arith)
 
 pub fields-due-spec : {M : Type 1} → statement M
 fields-due-spec =

@@ -5,7 +5,7 @@ use mathlib.Core.Path.{_≡_, refl}
 use lib.ListN.{replicate, length, length-set}
 use borrow.Author.Needs.{needs}
 use Rattle.questions.specs.Layout.{word}
-use Rattle.tables.proofs.CheckRun.{Copied, copied-none, copied-more, copied-all}
+use Rattle.tables.proofs.LineFields.{Copied, copied-none, copied-more, copied-all}
 use Rattle.tables.proofs.checking.line_fields.Statement.{statement}
 use Rattle.tables.proofs.checking.line_fields.Tie as tie
 

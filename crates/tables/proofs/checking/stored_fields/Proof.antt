@@ -2,7 +2,7 @@
 use native.Mathlib.Omega.{arith}
 use borrow.Author.Tests.{not-true, not-false}
 use borrow.Author.Needs.{needs}
-use Rattle.tables.proofs.CheckRun.{stored-out, stored-in}
+use Rattle.tables.proofs.LineFields.{stored-out, stored-in, fields-length}
 use Rattle.tables.proofs.checking.stored_fields.Statement.{statement}
 use Rattle.tables.proofs.checking.stored_fields.Tie as tie
 
@@ -13,7 +13,7 @@ line-fields-requires : tie.Need-line-fields-requires
 line-fields-requires c κs = search needs
 
 returns : tie.Need-returns
-returns c = (stored-out _ _ _ _ _ _ (c .before .before .in-table .ensures) (not-true _ (c .before .if1 .taken)) (c .line-fields .ensures .0), omega arith)
+returns c = (stored-out _ _ _ _ _ _ (c .before .before .in-table .ensures) (not-true _ (c .before .if1 .taken)) (c .line-fields .ensures .0), omega arith, fields-length _ _ _ _ (c .line-fields .ensures .0) (c .line-fields .ensures .1))
 
 place-of-requires : tie.Need-place-of-requires
 place-of-requires c κs = search needs
@@ -25,7 +25,7 @@ line-fields-requires-2 : tie.Need-line-fields-requires-2
 line-fields-requires-2 c κs = search needs
 
 returns-2 : tie.Need-returns-2
-returns-2 c = (stored-in _ _ _ _ _ _ _ _ (c .before .before .before .before .in-table .ensures) (not-false _ (c .before .before .before .if1 .left)) (c .before .before .place-of .ensures .0) (c .before .fields-due .ensures .0) (c .line-fields2 .ensures .0), omega arith)
+returns-2 c = (stored-in _ _ _ _ _ _ _ _ (c .before .before .before .before .in-table .ensures) (not-false _ (c .before .before .before .if1 .left)) (c .before .before .place-of .ensures .0) (c .before .fields-due .ensures .0) (c .line-fields2 .ensures .0), omega arith, fields-length _ _ _ _ (c .line-fields2 .ensures .0) (c .line-fields2 .ensures .1))
 
 pub stored-fields-spec : {M : Type 1} → statement M
 stored-fields-spec =

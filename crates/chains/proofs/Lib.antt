@@ -1,0 +1,3 @@
+-- The root of the laws.
+-- searching and linking
+pub mod ChainLaws

@@ -1,0 +1,46 @@
+-- Records chained by bucket: two records of the same item are of one bucket, so the last equal one lies on its chain.
+use mathlib.Core.Bool.{cond}
+use mathlib.Core.List.{List}
+use Prim.Native.Nat.{ℕ, zero, suc, _+_, _*_, _/_, _%_, _≤_, _<_}
+use mathlib.Core.Path.{_≡_}
+use lib.Dec.{eqb}
+use lib.ListN.{length, getD, set}
+use Rattle.agenda.specs.declared.Record.{Record}
+use Rattle.agenda.specs.Consequences.{recordIn}
+
+-- The words that make two records the same item, mixed: each is brought below a bound first, so that the sum stays below 2^63 whatever the words are.
+unfoldable pub mixed : Record → ℕ
+mixed x =
+    x .edges % 1000000007 * 2654435769
+    + x .of % 4096 * 2246822519
+    + x .plan % 4096 * 3266489917
+    + getD (x .nodes) 0 0 % 4096 * 668265263
+    + getD (x .nodes) 1 0 % 4096 * 374761393
+    + getD (x .nodes) 2 0 % 4096 * 1540483477
+
+-- bits 20 to 31 of the mix, on which every lower bit has an effect
+unfoldable pub bucketOf : Record → ℕ
+unfolding mixed
+bucketOf x = mixed x % 4294967296 / 1048576
+
+-- the place + 1 of the last of the first n records that is of bucket b, 0 for none
+unfoldable pub lastIn : ℕ → List Record → ℕ → ℕ
+unfolding bucketOf
+lastIn b rs zero = 0
+lastIn b rs (suc n) = cond (eqb (bucketOf (recordIn rs n)) b) (n + 1) (lastIn b rs n)
+
+-- words that chain the records: 4,096 buckets with their last record, and for each record the one before it of the same bucket
+pub record Chained (links : List ℕ) (rs : List Record) : Type 0 where
+  pub words : length links ≡ 8192
+  pub few : length rs ≤ 4096
+  pub last : (b : ℕ) → b < 4096 → getD links b 0 ≡ lastIn b rs (length rs)
+  pub previous : (j : ℕ) → j < length rs → getD links (4096 + j) 0 ≡ lastIn (bucketOf (recordIn rs j)) rs j
+
+-- the links with record j behind the last one of bucket b
+unfoldable pub linked : List ℕ → ℕ → ℕ → List ℕ
+linked links j b = set (set links (4096 + j) (getD links b 0)) b (j + 1)
+
+-- words with no record in a bucket
+pub record Cleared (links : List ℕ) : Type 0 where
+  pub words : length links ≡ 8192
+  pub empty : (b : ℕ) → b < 4096 → getD links b 0 ≡ 0

@@ -1,0 +1,132 @@
+-- The chart beside the indexes: a record is found again, comes behind the others, or becomes handled.
+use Prim.Native.Nat.{ℕ, _≤_, _<_}
+use mathlib.Core.Path.{_≡_, refl, sym, ap, _∙_, subst}
+use mathlib.Core.List.{List, [], _∷_, _++_}
+use mathlib.Core.Bool.{true, false, _||_}
+use native.Mathlib.Omega.{arith}
+use lib.Dec.{leb}
+use lib.ListN.{length, getD, set}
+use borrow.Author.Tests.{eq-eqb, lt-ltb, le-ltb, le-leb, lt-leb}
+use Rattle.agenda.specs.declared.Record.{Record}
+use Rattle.agenda.specs.declared.Found.{Found}
+use Rattle.agenda.specs.declared.Found.the-variants.{At, Nowhere}
+use Rattle.agenda.specs.Records.{isHandled}
+use Rattle.agenda.specs.Consequences.{recordIn}
+use Rattle.agenda.specs.Steps.{Chart, improved, handledNow, lastSame, placed, added}
+use Rattle.records.specs.Words.{Fits, capacity, itemCount, fieldAt, recordAt, recordsAt, chartOf, improvedAt, appendedTo, addedTo, markedAt}
+use Rattle.records.proofs.WordLaws.{Below, one, last-below, record-in, count-of, handled-yes, handled-no, improve-handled, improve-less, add-found, add-new}
+use Rattle.records.proofs.Written.{add-written, handle-written, chart-of-written}
+use Rattle.records.proofs.Rewritten.{handledIn, grown-added, grown-handled}
+use Rattle.records.proofs.Grown.{holds-own}
+use Rattle.chains.proofs.ChainLaws.{counted, same-found}
+use Rattle.index.specs.Index.{Indexed}
+
+-- ---- the records of a chart with one record more
+module _ (cap : ℕ) (x : Record) (c : Chart) where
+  placed-stays : (j : ℕ) → isHandled (recordIn (c .records) j) || leb (recordIn (c .records) j .count) (x .count) ≡ true → placed cap x c (At j) .records ≡ c .records
+  unfolding placed
+  placed-stays j e = rw e
+
+  placed-improved : (j : ℕ) → isHandled (recordIn (c .records) j) || leb (recordIn (c .records) j .count) (x .count) ≡ false
+      → placed cap x c (At j) .records ≡ set (c .records) j (improved (recordIn (c .records) j) x)
+  unfolding placed
+  placed-improved j e = rw e
+
+  placed-room : length (c .records) < cap → placed cap x c Nowhere .records ≡ c .records ++ (x ∷ [])
+  unfolding placed
+  placed-room h = rw (lt-ltb (length (c .records)) cap h)
+
+  placed-full : cap ≤ length (c .records) → placed cap x c Nowhere .records ≡ c .records
+  unfolding placed
+  placed-full h = rw (le-ltb (length (c .records)) cap h)
+
+-- ---- found again
+pub inside : (w : List ℕ) (j : ℕ) → j < itemCount w → j < length (chartOf w .records)
+inside w j l = omega (arith, counted w)
+
+pub small : (g wants pivots w ix : List ℕ) (j : ℕ) → Indexed g wants pivots ix (chartOf w .records) → j < itemCount w → j < 4096
+small g wants pivots w ix j I l = let f = I .chained .few in omega (arith, counted w)
+
+module _ (w ix : List ℕ) (j : ℕ) (x : Record) (l : j < itemCount w) (r : ℕ) (e : r ≡ fieldAt w j 5) where
+  abbrev Placed : List ℕ → Type 0
+  Placed new = (g wants pivots : List ℕ) → Indexed g wants pivots ix (chartOf w .records) → Indexed g wants pivots new (placed (capacity w) x (chartOf w) (At j) .records)
+
+  here : recordIn (chartOf w .records) j ≡ recordAt w j
+  unfolding chartOf
+  here = record-in w (itemCount w) j l
+
+  pub again-handled : (r ≡ 0 → ⊥) → (w ≡ improvedAt w j x) × Placed ix
+  again-handled h =
+      let t : isHandled (recordIn (chartOf w .records) j) ≡ true = ap isHandled here ∙ handled-yes w j r e h in
+      (improve-handled w j x r e h, λ g wants pivots I. rw (placed-stays (capacity w) x (chartOf w) j (rw t)) I)
+
+  module _ (z : r ≡ 0) (n : ℕ) (p : n ≡ fieldAt w j 4) where
+    pub waits : isHandled (recordIn (chartOf w .records) j) ≡ false
+    waits = ap isHandled here ∙ handled-no w j r e z
+
+    count-is : recordIn (chartOf w .records) j .count ≡ n
+    count-is = ap (λ (y : Record). y .count) here ∙ count-of w j ∙ sym p
+
+    pub again-less : n ≤ x .count → (w ≡ improvedAt w j x) × Placed ix
+    again-less h =
+        let q : recordIn (chartOf w .records) j .count ≤ x .count = omega (arith, count-is) in
+        let t : isHandled (recordIn (chartOf w .records) j) || leb (recordIn (chartOf w .records) j .count) (x .count) ≡ true = rw (waits, le-leb _ _ q) in
+        (improve-less w j x r e z n p h, λ g wants pivots I. rw (placed-stays (capacity w) x (chartOf w) j t) I)
+
+    pub again-more : (g wants pivots new : List ℕ) → x .count < n → Indexed g wants pivots new (set (chartOf w .records) j (improved (recordIn (chartOf w .records) j) x))
+        → Indexed g wants pivots new (placed (capacity w) x (chartOf w) (At j) .records)
+    again-more g wants pivots new h J =
+        let q : x .count < recordIn (chartOf w .records) j .count = omega (arith, count-is) in
+        let t : isHandled (recordIn (chartOf w .records) j) || leb (recordIn (chartOf w .records) j .count) (x .count) ≡ false = rw (waits, lt-leb _ _ q) in
+        rw (placed-improved (capacity w) x (chartOf w) j t) J
+
+-- ---- behind the others
+pub number : (w : List ℕ) (n : ℕ) → n ≡ itemCount w → n ≡ length (chartOf w .records)
+number w n p = p ∙ sym (counted w)
+
+module _ (g wants pivots w ix : List ℕ) (x : Record) (n cap : ℕ) (p : n ≡ itemCount w) (q : cap ≡ capacity w) where
+  pub behind-room : n < cap → Indexed g wants pivots ix (chartOf w .records ++ (x ∷ [])) → Indexed g wants pivots ix (placed (capacity w) x (chartOf w) Nowhere .records)
+  behind-room h I = rw (placed-room (capacity w) x (chartOf w) (omega (arith, number w n p))) I
+
+  pub behind-full : cap ≤ n → Indexed g wants pivots ix (chartOf w .records) → Indexed g wants pivots ix (placed (capacity w) x (chartOf w) Nowhere .records)
+  behind-full h I = rw (placed-full (capacity w) x (chartOf w) (omega (arith, number w n p))) I
+
+-- ---- either way
+at-below : (n j : ℕ) (g : Found) → g ≡ At j → Below n g → j < n
+at-below n j g e b = go (subst (Below n) e b)
+  where
+    go : Below n (At j) → j < n
+    go (one h) = h
+
+module _ (w : List ℕ) (x : Record) (o : Found) (p : o ≡ lastSame x (chartOf w .records) (length (chartOf w .records))) where
+  pub found-inside : (j : ℕ) → o ≡ At j → j < itemCount w
+  found-inside j e = let h = at-below (length (chartOf w .records)) j o e (rw p (last-below x (chartOf w .records) (length (chartOf w .records)))) in omega (arith, counted w)
+
+  module _ (g wants pivots : List ℕ) (f : Fits w) (e : length (x .nodes) ≡ 8) (m : ℕ) (is : m ≡ getD w 1 0) (z : m ≡ 0) where
+    mark-is : chartOf w .mark ≡ getD w 1 0
+    unfolding chartOf
+    mark-is = refl
+
+    chart-added : chartOf (addedTo w x) ≡ placed (capacity w) x (chartOf w) o
+    unfolding added
+    chart-added =
+        ap chartOf (add-written w x f e) ∙ chart-of-written w (added (capacity w) x (chartOf w)) (grown-added w (chartOf w) (holds-own w f) x e .holds)
+        ∙ rw (eq-eqb (chartOf w .mark) 0 (mark-is ∙ sym is ∙ z), ← p)
+
+    by : (v ix : List ℕ) → v ≡ addedTo w x → Indexed g wants pivots ix (placed (capacity w) x (chartOf w) o .records) → (v ≡ addedTo w x) × Indexed g wants pivots ix (chartOf v .records)
+    by v ix q I = (q, subst (λ (d : Chart). Indexed g wants pivots ix (d .records)) (sym (ap chartOf q ∙ chart-added)) I)
+
+    pub add-again : (v ix : List ℕ) (j : ℕ) → o ≡ At j → v ≡ improvedAt w j x → Indexed g wants pivots ix (placed (capacity w) x (chartOf w) (At j) .records)
+        → (v ≡ addedTo w x) × Indexed g wants pivots ix (chartOf v .records)
+    add-again v ix j t q I = by v ix (add-found w x m (itemCount w) o is z refl (p ∙ same-found x w) v j t q) (rw t I)
+
+    pub add-behind : (v ix : List ℕ) → o ≡ Nowhere → v ≡ appendedTo w (itemCount w) x → Indexed g wants pivots ix (placed (capacity w) x (chartOf w) Nowhere .records)
+        → (v ≡ addedTo w x) × Indexed g wants pivots ix (chartOf v .records)
+    add-behind v ix t q I = by v ix (add-new w x m (itemCount w) o is z refl (p ∙ same-found x w) v t q) (rw t I)
+
+-- ---- handled
+module _ (w v : List ℕ) (j : ℕ) (f : Fits w) (l : j < itemCount w) (q : v ≡ markedAt w j) where
+  pub handled-beside : (g wants pivots ix : List ℕ) → Indexed g wants pivots ix (set (chartOf w .records) j (handledNow (recordIn (chartOf w .records) j))) → Indexed g wants pivots ix (chartOf v .records)
+  handled-beside g wants pivots ix I =
+      subst (λ (d : Chart). Indexed g wants pivots ix (d .records))
+      (sym (ap chartOf (q ∙ handle-written w j f l) ∙ chart-of-written w (handledIn j (chartOf w)) (grown-handled w (chartOf w) (holds-own w f) j .holds))) I

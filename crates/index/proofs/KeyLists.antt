@@ -1,0 +1,99 @@
+-- The keys of a chart's records: where each stands, and that they stay as records come, are improved and handled.
+use Prim.Native.Nat.{ℕ, zero, suc, _+_, _*_, _≤_, _<_}
+use mathlib.Core.Path.{_≡_, refl, sym, ap, ap₂, _∙_, subst}
+use mathlib.Core.List.{List, [], _∷_, _++_, append-assoc}
+use mathlib.Core.Bool.{Bool, true, false, cond}
+use native.Mathlib.Omega.{arith}
+use lib.Dec.{eqb, ltb}
+use lib.ListN.{length, length-append, getD, set, List·getD-append}
+use lib.Seq.{getD-append-add}
+use Rattle.agenda.specs.declared.Record.{Record}
+use Rattle.agenda.specs.Consequences.{recordIn}
+use Rattle.agenda.specs.Steps.{Chart, addedAll}
+use Rattle.agenda.proofs.Records.{bare}
+use Rattle.agenda.proofs.Growth.{Grew, all-grown}
+use Rattle.records.specs.Words.{Fits, capacity, chartOf, grownBy}
+use Rattle.records.proofs.Grown.{Whole, grown-chart}
+use Rattle.pivots.specs.Keys.{listedKeys, keysOf}
+use Rattle.index.specs.Index.{keysFor}
+
+five-of : (b : Bool) (xs ys : List ℕ) → length xs ≡ 5 → length ys ≡ 5 → length (cond b xs ys) ≡ 5
+five-of true xs ys p q = p
+five-of false xs ys p q = q
+
+listed-five : (g : List ℕ) (tag s : ℕ) (L : List ℕ) → length (listedKeys g tag s L) ≡ 5
+unfolding listedKeys
+listed-five g tag s L = five-of (ltb s 64) _ _ refl refl
+
+module _ (g wants pivots : List ℕ) where
+  -- ---- of one record
+  pub keys-five : (x : Record) → length (keysOf g wants pivots x) ≡ 5
+  unfolding keysOf
+  keys-five x = five-of (eqb (x .kind) 0) _ (listedKeys g 1 (x .of) (x .nodes)) refl (listed-five g 1 (x .of) (x .nodes))
+
+  -- only what makes two records the same item tells
+  pub keys-bare : (x y : Record) → bare x ≡ bare y → keysOf g wants pivots x ≡ keysOf g wants pivots y
+  unfolding keysOf
+  keys-bare x y e = ap (keysOf g wants pivots) e
+
+  -- ---- of several
+  pub keys-length : (rs : List Record) → length (keysFor g wants pivots rs) ≡ 5 * length rs
+  unfolding keysFor
+  keys-length [] = refl
+  keys-length (x ∷ rs) = omega (arith, length-append (keysOf g wants pivots x) (keysFor g wants pivots rs), keys-five x, keys-length rs)
+
+  pub keys-at : (rs : List Record) (j i : ℕ) → j < length rs → i < 5 → getD (keysFor g wants pivots rs) (5 * j + i) 0 ≡ getD (keysOf g wants pivots (recordIn rs j)) i 0
+  unfolding keysFor
+  keys-at [] j i h l = absurd (omega arith)
+  keys-at (x ∷ rs) zero i h l =
+      ap (λ n. getD (keysOf g wants pivots x ++ keysFor g wants pivots rs) n 0) (let q : 5 * 0 + i ≡ i = omega arith in q)
+      ∙ List·getD-append (keysOf g wants pivots x) (keysFor g wants pivots rs) 0 i (omega (arith, keys-five x))
+  keys-at (x ∷ rs) (suc j) i h l =
+      ap (λ n. getD (keysOf g wants pivots x ++ keysFor g wants pivots rs) n 0)
+      (let q : 5 * suc j + i ≡ length (keysOf g wants pivots x) + (5 * j + i) = omega (arith, keys-five x) in q)
+      ∙ getD-append-add (keysOf g wants pivots x) (keysFor g wants pivots rs) (5 * j + i) 0
+      ∙ keys-at rs j i (omega arith) l
+
+  -- one record more
+  pub keys-more : (rs : List Record) (x : Record) → keysFor g wants pivots (rs ++ (x ∷ [])) ≡ keysFor g wants pivots rs ++ keysOf g wants pivots x
+  unfolding keysFor
+  keys-more [] x = end (keysOf g wants pivots x)
+    where
+      end : (ks : List ℕ) → ks ++ [] ≡ ks
+      end [] = refl
+      end (k ∷ ks) = ap (λ (l : List ℕ). k ∷ l) (end ks)
+  keys-more (y ∷ rs) x = ap (λ (ks : List ℕ). keysOf g wants pivots y ++ ks) (keys-more rs x) ∙ sym (append-assoc (keysOf g wants pivots y) (keysFor g wants pivots rs) (keysOf g wants pivots x))
+
+  -- a record with the keys of the one in whose place it comes
+  pub keys-set : (rs : List Record) (j : ℕ) (y : Record) → keysOf g wants pivots y ≡ keysOf g wants pivots (recordIn rs j) → keysFor g wants pivots (set rs j y) ≡ keysFor g wants pivots rs
+  unfolding keysFor
+  keys-set [] j y e = refl
+  keys-set (x ∷ rs) zero y e = ap (λ (ks : List ℕ). ks ++ keysFor g wants pivots rs) e
+  keys-set (x ∷ rs) (suc j) y e = ap (λ (ks : List ℕ). keysOf g wants pivots x ++ ks) (keys-set rs j y e)
+
+  -- ---- keys that stay, with more behind them
+  pub record KeysMore (rs ts : List Record) : Type 0 where
+    pub more : List ℕ
+    pub is : keysFor g wants pivots ts ≡ keysFor g wants pivots rs ++ more
+
+  keys-same : (rs ts : List Record) → length rs ≤ length ts → ((k : ℕ) → k < length rs → bare (recordIn ts k) ≡ bare (recordIn rs k)) → KeysMore rs ts
+  unfolding keysFor
+  keys-same [] ts l e = record { more = keysFor g wants pivots ts; is = refl }
+  keys-same (x ∷ rs) [] l e = absurd (omega arith)
+  keys-same (x ∷ rs) (y ∷ ts) l e =
+      let r = keys-same rs ts (omega arith) (λ k h. e (suc k) (omega arith)) in
+      record {
+        more = r .more;
+        is = ap₂ (λ (a b : List ℕ). a ++ b) (keys-bare y x (e 0 (omega arith))) (r .is) ∙ sym (append-assoc (keysOf g wants pivots x) (keysFor g wants pivots rs) (r .more));
+      }
+
+  pub keys-grew : (rs ts : List Record) → Grew rs ts → KeysMore rs ts
+  keys-grew rs ts w = keys-same rs ts (w .longer) (w .item)
+
+  pub keys-added : (cap : ℕ) (xs : List Record) (c : Chart) → KeysMore (c .records) (addedAll cap xs c .records)
+  keys-added cap xs c = keys-grew (c .records) (addedAll cap xs c .records) (all-grown cap xs c)
+
+  -- words that stand for a chart, with records added
+  pub keys-grown : (w v : List ℕ) (xs : List Record) → Fits w → Whole xs → v ≡ grownBy w xs → KeysMore (chartOf w .records) (chartOf v .records)
+  keys-grown w v xs f e q =
+      subst (λ (c : Chart). KeysMore (chartOf w .records) (c .records)) (sym (ap chartOf q ∙ grown-chart w f xs e)) (keys-added (capacity w) xs (chartOf w))

@@ -1,0 +1,9 @@
+-- The root of the laws.
+-- a part that is lent and comes back
+pub mod Parts
+-- the keys of the records
+pub mod KeyLists
+-- the indexes as records come, are improved and handled
+pub mod IndexLaws
+-- the chart beside them
+pub mod AddLaws

@@ -1,0 +1,80 @@
+-- Each part is built of zeros.
+use Rattle.records.specs.Words.{chartOf}
+use Rattle.index.proofs.IndexLaws.{links-empty, blank-beside, both-size, unlisted-beside, built}
+use borrow.Author.Needs.{needs}
+use Rattle.index.proofs.build.Statement.{statement}
+use Rattle.index.proofs.build.Tie as tie
+use Rattle.index.proofs.build.Reads as reads
+use Rattle.index.proofs.build.Lts as lts
+use Rattle.chains.proofs.build.Reads as build-reads
+use Rattle.index.proofs.list_all.Reads as list-all-reads
+use Rattle.ranking.proofs.build.Reads as build-reads′
+
+-- src/lib.rt:81:26
+sub-build : tie.Need-sub-build
+sub-build c = search needs
+
+-- src/lib.rt:81:26
+part-build-start : tie.Need-part-build-start
+part-build-start c = search needs
+
+-- src/lib.rt:81:26
+part-build-end : tie.Need-part-build-end
+part-build-end c = search needs
+
+-- src/lib.rt:81:5
+build-requires : tie.Need-build-requires
+build-requires c κs =
+    let s = c .before .before .before .before .args in
+    (links-empty (s .index .now) (c .before .before .before .before .pre .0), c .before .before .before .before .pre .1)
+
+-- src/lib.rt:82:27
+sub-build-2 : tie.Need-sub-build-2
+sub-build-2 c = search needs
+
+-- src/lib.rt:82:27
+part-build-start-2 : tie.Need-part-build-start-2
+part-build-start-2 c = search needs
+
+-- src/lib.rt:82:27
+part-build-end-2 : tie.Need-part-build-end-2
+part-build-end-2 c = search needs
+
+-- src/lib.rt:82:5
+build-requires-2 : tie.Need-build-requires-2
+build-requires-2 c κs =
+    let s = c .before .before .before .before .before .before .before .before .args in
+    (blank-beside (s .index .now) _ (chartOf (s .chart .now) .records) (c .before .before .before .before .before .before .before .before .pre .0) (c .before .before .before .build .ensures), c .before .before .before .before .before .before .before .before .pre .1)
+
+-- src/lib.rt:83:5
+list-all-requires : tie.Need-list-all-requires
+list-all-requires c κs =
+    let s = c .before .before .before .before .before .before .before .before .before .before .before .before .args in
+    let rs = chartOf (s .chart .now) .records in
+    (both-size (s .index .now) _ rs (c .before .before .before .before .before .before .before .before .before .before .before .before .pre .0) (c .before .before .before .before .before .before .before .build .ensures) _ (c .before .before .before .build2 .ensures), unlisted-beside (s .index .now) _ rs (c .before .before .before .before .before .before .before .before .before .before .before .before .pre .0) (c .before .before .before .before .before .before .before .build .ensures) _ (c .before .before .before .build2 .ensures), c .before .before .before .before .before .before .before .before .before .before .before .before .pre .1)
+
+-- src/lib.rt:71:1
+same-length : tie.Need-same-length
+same-length c = search needs
+
+-- src/lib.rt:71:1
+returns : tie.Need-returns
+returns c =
+    let s = c .before .before .before .before .before .before .before .before .before .before .before .before .before .before .before .args in
+    built (s .index .now) _ (chartOf (s .chart .now) .records) (c .before .before .before .before .before .before .before .before .before .before .before .before .before .before .before .pre .0) (c .before .before .before .before .before .before .before .before .before .before .build .ensures) _ (c .before .before .before .before .before .before .build2 .ensures) (s .g .now) (s .wants .now) (s .pivots .now) _ (c .before .before .list-all .ensures .0) (c .before .before .list-all .ensures .1)
+
+pub build-spec : {M : Type 1} → statement M
+build-spec =
+    tie.close
+    (tie.spec
+    sub-build
+    part-build-start
+    part-build-end
+    build-requires
+    sub-build-2
+    part-build-start-2
+    part-build-end-2
+    build-requires-2
+    list-all-requires
+    same-length
+    returns)

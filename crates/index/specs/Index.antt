@@ -1,0 +1,70 @@
+-- The indexes of a chart's records, one behind another in the words of one slice.
+use mathlib.Core.Bool.{true, cond}
+use mathlib.Core.List.{List, [], _∷_, _++_}
+use mathlib.Core.Path.{_≡_}
+use Prim.Native.Nat.{ℕ, _*_, _<_}
+use lib.ListN.{length, getD, take, drop, set}
+use Rattle.agenda.specs.declared.Record.{Record}
+use Rattle.agenda.specs.Consequences.{recordIn}
+use Rattle.chains.specs.Chains.{Chained}
+use Rattle.ranking.specs.Ranking.{Ranked}
+use Rattle.lists.specs.Lists.{Listed, enteredAll}
+use Rattle.pivots.specs.Keys.{keysOf, regularOf}
+
+-- how many words there are
+abbrev pub indexWords : ℕ
+indexWords = 49155
+
+-- ---- the parts
+abbrev pub linksOf : List ℕ → List ℕ
+linksOf ix = take 8192 (drop 0 ix)
+
+abbrev pub ranksOf : List ℕ → List ℕ
+ranksOf ix = take 16384 (drop 8192 ix)
+
+abbrev pub listsOf : List ℕ → List ℕ
+listsOf ix = take 24578 (drop 24576 ix)
+
+-- the last word, 0 where no record is irregular
+abbrev pub markOf : List ℕ → ℕ
+markOf ix = getD ix 49154 0
+
+-- the keys of records, five of each: entry 5 * j + i is key i of record j
+unfoldable pub keysFor : List ℕ → List ℕ → List ℕ → List Record → List ℕ
+unfolding keysOf
+keysFor g wants pivots [] = []
+keysFor g wants pivots (x ∷ rs) = keysOf g wants pivots x ++ keysFor g wants pivots rs
+
+-- each part is the index of the records that it is named for
+pub record Indexed (g wants pivots ix : List ℕ) (rs : List Record) : Type 0 where
+  pub size : length ix ≡ indexWords
+  pub chained : Chained (linksOf ix) rs
+  pub ranked : Ranked (ranksOf ix) rs
+  pub listed : Listed (listsOf ix) (keysFor g wants pivots rs)
+  pub regular : markOf ix ≡ 0 → (j : ℕ) → j < length rs → regularOf g pivots (recordIn rs j) ≡ true
+
+-- words that are all 0: the indexes of no records
+pub record Empty (ix : List ℕ) : Type 0 where
+  pub size : length ix ≡ indexWords
+  pub zeros : (k : ℕ) → getD ix k 0 ≡ 0
+
+-- ---- the lists and the mark on their own
+pub record Keyed (g wants pivots ix : List ℕ) (rs : List Record) : Type 0 where
+  pub size : length ix ≡ indexWords
+  pub listed : Listed (listsOf ix) (keysFor g wants pivots rs)
+  pub regular : markOf ix ≡ 0 → (j : ℕ) → j < length rs → regularOf g pivots (recordIn rs j) ≡ true
+
+-- the links and the tree are as they were
+pub record Kept (ix new : List ℕ) : Type 0 where
+  pub links : linksOf new ≡ linksOf ix
+  pub ranks : ranksOf new ≡ ranksOf ix
+
+-- record n, which is x, on the lists of its keys
+abbrev pub withKeys : List ℕ → ℕ → List ℕ → List ℕ
+withKeys ix n keys = take 24576 ix ++ (enteredAll (listsOf ix) (5 * n) keys ++ drop 24578 (drop 24576 ix))
+
+-- .. and marked where it is irregular
+unfoldable pub listedWith : List ℕ → List ℕ → List ℕ → List ℕ → ℕ → Record → List ℕ
+unfolding enteredAll keysOf regularOf
+listedWith g wants pivots ix n x =
+    cond (regularOf g pivots x) (withKeys ix n (keysOf g wants pivots x)) (set (withKeys ix n (keysOf g wants pivots x)) 49154 1)

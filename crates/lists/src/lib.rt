@@ -1,0 +1,133 @@
+// Entries listed by key in lent words, and five lists gone through at once in the order of their records.
+ghost use mathlib.Core.Path.{_≡_};
+ghost use Prim.Native.Nat.{_+_, _≤_, _<_};
+ghost use lib.ListN.{length, getD};
+ghost use Rattle.lists.specs.Lists.{Linkable, tailOf, appended, entered, Ready, enteredAll, Within};
+ghost use Rattle.lists.specs.Cursors.{startsOf, nearer, leastOf, movedOn, passedOf};
+
+// The first entry of key b: its place + 1, 0 for none.
+pub fn first(ws: &[u64], b: u64) -> u64
+    requires { ⌜ (length (now ws) ≡ 24578) × (b ≤ 2048) ⌝ }
+    ensures { λ r. ⌜ r ≡ getD (now (ws .entry)) b 0 ⌝ }
+{
+    ws[b as usize]
+}
+
+// The entry after e on its list, likewise.
+pub fn next(ws: &[u64], e: u64) -> u64
+    requires { ⌜ (length (now ws) ≡ 24578) × (e < 20480) ⌝ }
+    ensures { λ r. ⌜ r ≡ getD (now (ws .entry)) (4098 + e) 0 ⌝ }
+{
+    ws[(4098 + e) as usize]
+}
+
+// The word that is to lead to the next entry of key b.
+fn tail(ws: &[u64], b: u64) -> u64
+    requires { ⌜ (length (now ws) ≡ 24578) × (b ≤ 2048) × (getD (now ws) (2049 + b) 0 ≤ 20480) ⌝ }
+    ensures { λ r. ⌜ (r ≡ tailOf (now (ws .entry)) b) × (r < 24578) ⌝ }
+{
+    let last = ws[(2049 + b) as usize];
+    if last == 0 {
+        return b;
+    }
+    4097 + last
+}
+
+// Entry e, the number of entries so far, at the end of the list of b.
+pub fn append(ws: &mut [u64], e: u64, b: u64)
+    requires { ⌜ Linkable (now ws) e b × (0 < b) ⌝ }
+    ensures { λ r. ⌜ now (ws .exit) ≡ appended (now (ws .entry)) e b ⌝ }
+{
+    let at = tail(ws, b) as usize;
+    ws[at] = e + 1;
+    ws[(2049 + b) as usize] = e + 1;
+    ws[(4098 + e) as usize] = 0;
+}
+
+// .. an entry with key 0 is on no list.
+pub fn enter(ws: &mut [u64], e: u64, b: u64)
+    requires { ⌜ Linkable (now ws) e b ⌝ }
+    ensures { λ r. ⌜ now (ws .exit) ≡ entered (now (ws .entry)) e b ⌝ }
+{
+    if b == 0 {
+        return;
+    }
+    append(ws, e, b);
+}
+
+// The five entries of a record, from e on.
+pub fn enter_all(ws: &mut [u64], e: u64, bs: [u64; 5])
+    requires { ⌜ Ready (now ws) × (e + 5 ≤ 20480) × Within 2048 bs ⌝ }
+    ensures { λ r. ⌜ now (ws .exit) ≡ enteredAll (now (ws .entry)) e bs ⌝ }
+{
+    enter(ws, e, bs[0]);
+    enter(ws, e + 1, bs[1]);
+    enter(ws, e + 2, bs[2]);
+    enter(ws, e + 3, bs[3]);
+    enter(ws, e + 4, bs[4]);
+}
+
+// Five cursors, each at the first entry of its key; key 0 has none.
+pub fn starts(ws: &[u64], query: [u64; 5]) -> [u64; 5]
+    requires { ⌜ (length (now ws) ≡ 24578) × Within 2048 query ⌝ }
+    ensures { λ r. ⌜ r ≡ startsOf (now (ws .entry)) query ⌝ }
+{
+    [
+        first(ws, query[0]),
+        first(ws, query[1]),
+        first(ws, query[2]),
+        first(ws, query[3]),
+        first(ws, query[4]),
+    ]
+}
+
+// The nearer of a place + 1 and a cursor.
+fn nearer_of(m: u64, c: u64) -> u64
+    ensures { λ r. ⌜ (r ≡ nearer m c) × (r ≤ m) ⌝ }
+{
+    if c == 0 {
+        return m;
+    }
+    if m <= c {
+        return m;
+    }
+    c
+}
+
+// The least record at which a cursor is, 4096 where all are at the end.
+pub fn least(cs: [u64; 5]) -> u64
+    ensures { λ r. ⌜ (r ≡ leastOf cs) × (r ≤ 4096) ⌝ }
+{
+    let a = nearer_of(nearer_of(20481, cs[0]), cs[1]);
+    let m = nearer_of(nearer_of(nearer_of(a, cs[2]), cs[3]), cs[4]);
+    (m - 1) / 5
+}
+
+// A cursor at an entry below the place `to` goes on to the next entry of its list.
+fn moved(ws: &[u64], to: u64, c: u64) -> u64
+    requires { ⌜ (length (now ws) ≡ 24578) × (c ≤ 20480) ⌝ }
+    ensures { λ r. ⌜ r ≡ movedOn (now (ws .entry)) to c ⌝ }
+{
+    if c == 0 {
+        return 0;
+    }
+    if to < c {
+        return c;
+    }
+    ws[(4097 + c) as usize]
+}
+
+// Each cursor whose record is k or before goes on by one entry; it may be at another entry of record k then.
+pub fn passed(ws: &[u64], cs: [u64; 5], k: u64) -> [u64; 5]
+    requires { ⌜ (length (now ws) ≡ 24578) × Within 20480 cs × (k ≤ 4096) ⌝ }
+    ensures { λ r. ⌜ r ≡ passedOf (now (ws .entry)) cs k ⌝ }
+{
+    let to = 5 * k + 5;
+    [
+        moved(ws, to, cs[0]),
+        moved(ws, to, cs[1]),
+        moved(ws, to, cs[2]),
+        moved(ws, to, cs[3]),
+        moved(ws, to, cs[4]),
+    ]
+}

@@ -1,0 +1,66 @@
+-- The pivot of a rule and a plan node: a rule node whose image tells apart the records that an active item there can be joined with.
+use mathlib.Core.Path.{_≡_}
+use mathlib.Core.Bool.{Bool, _&&_, cond}
+use mathlib.Core.List.{List}
+use Prim.Native.Nat.{ℕ, zero, suc, _+_, _*_, _/_, _%_, _≤_, _<_}
+use lib.ListN.{length, getD}
+use lib.Dec.{ltb}
+use Rattle.hrg.specs.Grammars.{Grammar, introduce, join, ruleOf, rightOf, planOf, planNode}
+use Rattle.hrg.specs.Trees.{at}
+use Rattle.hrg.specs.Items.{isOpenAt}
+use Rattle.questions.specs.Abstract.{grammarOf}
+use Rattle.joins.specs.Joins.{edgeNodes}
+
+-- A pivot is one number: a position of the edge that the plan node above introduces (4: none, or that is a join), and a rule node (8: none).
+abbrev pub positionOf : ℕ → ℕ
+positionOf w = w / 16
+
+abbrev pub nodeOf : ℕ → ℕ
+nodeOf w = w % 16
+
+-- neither
+abbrev pub noPivot : ℕ
+noPivot = 72
+
+-- the word of a table for rule r and plan node p
+unfoldable pub pivotIn : List ℕ → ℕ → ℕ → ℕ
+pivotIn t r p = cond (ltb r 64 && ltb p 16) (getD t (16 * r + p) 0) noPivot
+
+-- ---- what a pivot has to be
+-- below a plan node that introduces an edge with the nodes A: a position of the edge and its node
+pub record EdgePivot (A : List ℕ) (w : ℕ) : Type 0 where
+  pub position : (w ≡ noPivot → ⊥) → positionOf w < length A
+  pub node : (w ≡ noPivot → ⊥) → nodeOf w ≡ at A (positionOf w)
+
+-- at the two children of a join in a rule of n nodes: one node for both
+pub record JoinPivot (n w w′ : ℕ) : Type 0 where
+  pub same : nodeOf w ≡ nodeOf w′
+  pub known : nodeOf w < 8 → nodeOf w < n
+
+-- t is a table of pivots for g; which of the nodes that would do are taken is left open
+pub record PivotTable (g t : List ℕ) : Type 0 where
+  pub small : (r p : ℕ) → pivotIn t r p ≤ noPivot
+  pub edge : (r q c i : ℕ) → q < length (planOf (grammarOf g) r) → planNode (planOf (grammarOf g) r) q ≡ introduce c i → EdgePivot (edgeNodes g r i) (pivotIn t r c)
+  pub join : (r q a b : ℕ) → q < length (planOf (grammarOf g) r) → planNode (planOf (grammarOf g) r) q ≡ join a b → JoinPivot (rightOf (grammarOf g) r .nodes) (pivotIn t r a) (pivotIn t r b)
+
+-- ---- the pivots that are taken
+-- the last number below n that passes, 8 for none
+unfoldable pub lastTo : ℕ → (ℕ → Bool) → ℕ
+lastTo zero t = 8
+lastTo (suc n) t = cond (t n) n (lastTo n t)
+
+-- the last rule node that is open at both plan nodes
+unfoldable pub sharedNode : Grammar → ℕ → ℕ → ℕ → ℕ
+unfolding lastTo isOpenAt
+sharedNode G r p p′ = lastTo (rightOf G r .nodes) (λ x. isOpenAt (ruleOf G r) p x && isOpenAt (ruleOf G r) p′ x)
+
+-- what plan node q, if p is a child of it, asks of the pivot w of p
+pub record PivotBelow (g : List ℕ) (r p q w : ℕ) : Type 0 where
+  pub edge : (i : ℕ) → planNode (planOf (grammarOf g) r) q ≡ introduce p i → EdgePivot (edgeNodes g r i) w
+  pub first : (b : ℕ) → planNode (planOf (grammarOf g) r) q ≡ join p b → nodeOf w ≡ sharedNode (grammarOf g) r p b
+  pub second : (a : ℕ) → planNode (planOf (grammarOf g) r) q ≡ join a p → nodeOf w ≡ sharedNode (grammarOf g) r p a
+
+-- the same for every plan node of the rule
+pub record PivotOf (g : List ℕ) (r p w : ℕ) : Type 0 where
+  pub small : w ≤ noPivot
+  pub each : (q : ℕ) → q < length (planOf (grammarOf g) r) → PivotBelow g r p q w

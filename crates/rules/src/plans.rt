@@ -1,0 +1,61 @@
+// The plan node above each, and the rule nodes that are open there: worked out once, for all pairs.
+ghost use mathlib.Core.Path.{_≡_};
+ghost use mathlib.Core.Bool.{true};
+ghost use Rattle.questions.specs.Checking.{checkGrammar};
+ghost use Rattle.rules.specs.Plans.{ParentAt, PlanTable};
+
+// A plan node, 16 where there is none, and the rule nodes that are open there.
+pub(crate) struct Parent {
+    pub(crate) node: u64,
+    pub(crate) stays: u64,
+}
+
+// The plan node above p in rule r.
+fn parent_of(g: &[u64], r: u64, p: u64) -> Parent
+    requires { ⌜ checkGrammar (now g) ≡ true ⌝ }
+    ensures { λ x. ⌜ ParentAt (now (g .entry)) r p x ⌝ }
+{
+    let above = crate::place_above(g, r, p);
+    if !above.found {
+        return Parent { node: 16, stays: 0 };
+    }
+    let node = above.node;
+    let stays = joins::open_at(g, r, node);
+    Parent { node, stays }
+}
+
+// The table for all rules and plan nodes, in two halves; where there are none it stays as it is made.
+pub fn table(g: &[u64]) -> [u64; 2048]
+    requires { ⌜ checkGrammar (now g) ≡ true ⌝ }
+    ensures { λ t. ⌜ PlanTable (now (g .entry)) t ⌝ }
+{
+    let mut t = [16u64; 2048];
+    let n = 16 * layout::rule_count(g);
+    let mut i: u64 = 0;
+    while i < n {
+        let x = parent_of(g, i / 16, i % 16);
+        t[i as usize] = x.node;
+        t[(1024 + i) as usize] = x.stays;
+        i += 1;
+    }
+    t
+}
+
+// The same, read off a table.
+pub(crate) fn parent_in(g: &[u64], t: &[u64; 2048], r: u64, p: u64) -> Parent
+    requires { ⌜ (checkGrammar (now g) ≡ true) × PlanTable (now g) (now t) ⌝ }
+    ensures { λ x. ⌜ ParentAt (now (g .entry)) r p x ⌝ }
+{
+    let none = Parent { node: 16, stays: 0 };
+    if r >= 64 {
+        return none;
+    }
+    if p >= 16 {
+        return none;
+    }
+    let i = (16 * r + p) as usize;
+    Parent {
+        node: t[i],
+        stays: t[1024 + i],
+    }
+}

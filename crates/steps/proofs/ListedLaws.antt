@@ -1,0 +1,161 @@
+-- The loop over the lists of a record's keys: the records that it passes over make nothing with it.
+use Prim.Native.Nat.{ℕ, zero, suc, _+_, _*_, _≤_, _<_, max}
+use mathlib.Core.Path.{_≡_, refl, sym, ap, _∙_, subst}
+use mathlib.Core.Bool.{Bool, true, false}
+use mathlib.Core.List.{List, [], _∷_, _++_}
+use native.Mathlib.Omega.{arith}
+use lib.Dec.{leb}
+use lib.ListN.{length, getD, List·getD-append}
+use borrow.Author.Tests.{leb-true, leb-false, le-leb, lt-leb}
+use Rattle.hrg.specs.Grammars.{Graph, Grammar}
+use Rattle.hrg.specs.ClosureRun.{guard}
+use Rattle.agenda.specs.declared.Record.{Record}
+use Rattle.agenda.specs.Consequences.{gather, recordIn}
+use Rattle.questions.specs.Abstract.{grammarOf}
+use Rattle.questions.specs.Checking.{checkGrammar}
+use Rattle.rules.specs.Wants.{WantTable}
+use Rattle.records.specs.Words.{Fits, itemCount, recordAt, recordsAt, chartOf, grownBy}
+use Rattle.records.proofs.WordLaws.{length-records, record-in}
+use Rattle.records.proofs.Grown.{Whole, whole-gather, whole-guard, grown-none}
+use Rattle.lists.specs.Lists.{Within, Listed}
+use Rattle.lists.specs.Cursors.{startsOf, leastOf, passedOf, leftAll, Ahead}
+use Rattle.lists.proofs.CursorLaws.{ahead-start, ahead-within, least-none, ahead-passed, ahead-grown, left-falls}
+use Rattle.pivots.specs.Keys.{keysOf, queryOf, regularOf}
+use Rattle.pivots.specs.Pivots.{PivotTable}
+use Rattle.pivots.proofs.KeyLaws.{query-few}
+use Rattle.pivots.proofs.PivotLaws.{keyless}
+use Rattle.index.specs.Index.{listsOf, keysFor}
+use Rattle.index.proofs.KeyLists.{keys-length, keys-at, keys-grown}
+use Rattle.steps.specs.Partners.{withRecord}
+use Rattle.steps.specs.Ready.{Ready, Regular}
+use Rattle.steps.proofs.PartnerLaws.{unjoined-none}
+use Rattle.steps.proofs.StepLaws.{Gathered, record-whole, gathered-none, gathered-skip, gathered-all, partners-next, added-longer}
+
+-- ---- a record that may be done already
+pub next-done : (w : List ℕ) → Fits w → (done k : ℕ) (xs : List Record) → k < done → w ≡ grownBy w (guard (leb done k) xs)
+next-done w f done k xs l = rw (lt-leb done k l) (sym (grown-none w f))
+
+pub next-dealt : (w v : List ℕ) (done k : ℕ) (xs : List Record) → done ≤ k → v ≡ grownBy w xs → v ≡ grownBy w (guard (leb done k) xs)
+next-dealt w v done k xs l p = rw (le-leb done k l) p
+
+-- ---- the keys that are asked for
+pub query-within : (g wants pivots : List ℕ) (x : Record) (q : List ℕ) → q ≡ queryOf g wants pivots x → Within 2048 q
+query-within g wants pivots x q e i h = rw e (query-few g wants pivots x i)
+
+pub query-starts : (g wants pivots : List ℕ) (x : Record) (q cs ws : List ℕ) → q ≡ queryOf g wants pivots x → cs ≡ startsOf ws q → cs ≡ startsOf ws (queryOf g wants pivots x)
+query-starts g wants pivots x q cs ws e p = p ∙ ap (startsOf ws) e
+
+-- ---- the loop
+module _ (g wants pivots : List ℕ) (H : Graph) (w : List ℕ) (x : Record) (j n : ℕ) where
+  abbrev G : Grammar
+  G = grammarOf g
+
+  abbrev partner : ℕ → List Record
+  partner i = withRecord G H x j (recordAt w i) i
+
+  abbrev keysIn : List ℕ → List ℕ
+  keysIn v = keysFor g wants pivots (chartOf v .records)
+
+  -- where the loop is: the first `done` partners are dealt with, and what is left lies at the cursors or behind them
+  pub record Going (v ix : List ℕ) (cs : List ℕ) (k done : ℕ) : Type 0 where
+    pub ready : Ready g wants pivots v ix
+    pub gathered : Gathered w partner v done
+    pub ahead : Ahead (keysIn v) (queryOf g wants pivots x) n done cs
+    pub at : k ≡ leastOf cs
+    pub few : k ≤ 4096
+    pub low : done ≤ n
+
+  counted : (v : List ℕ) → length (chartOf v .records) ≡ itemCount v
+  unfolding chartOf
+  counted v = length-records v (itemCount v)
+
+  in-chart : (v : List ℕ) (i : ℕ) → i < itemCount v → recordIn (chartOf v .records) i ≡ recordAt v i
+  unfolding chartOf
+  in-chart v i l = record-in v (itemCount v) i l
+
+  partner-whole : (i : ℕ) → Whole (partner i)
+  partner-whole i = record-whole G H x j (recordAt w i) i
+
+  module _ (f : Fits w) (all : n ≤ itemCount w) where
+    pub going-start : (ix cs : List ℕ) (k : ℕ) → Ready g wants pivots w ix → cs ≡ startsOf (listsOf ix) (queryOf g wants pivots x) → k ≡ leastOf cs → k ≤ 4096 → Going w ix cs k 0
+    going-start ix cs k R e q l = record {
+      ready = R;
+      gathered = gathered-none w f partner partner-whole;
+      ahead =
+          ahead-start (listsOf ix) (keysIn w) (queryOf g wants pivots x) n cs (R .indexed .listed) (λ i h. query-few g wants pivots x i)
+          (omega (arith, keys-length g wants pivots (chartOf w .records), counted w)) e;
+      at = q;
+      few = l;
+      low = omega arith;
+    }
+
+    module _ (v ix cs : List ℕ) (k done : ℕ) (S : Going v ix cs k done) where
+      grown : v ≡ grownBy w (gather done partner)
+      grown = S .gathered .is
+
+      few-keys : length (keysIn v) ≤ 20480
+      few-keys = S .ready .indexed .listed .few
+
+      pub going-within : Within 20480 cs
+      going-within = ahead-within (keysIn v) (queryOf g wants pivots x) n done cs (S .ahead) few-keys
+
+      pub going-known : k < n → k < itemCount v
+      going-known l = omega (arith, added-longer w v (gather done partner) f (whole-gather done partner partner-whole) grown)
+
+      -- the key of a record of w is where it was
+      key-there : (i e : ℕ) → i < itemCount w → e < 5 → getD (keysIn v) (5 * i + e) 0 ≡ getD (keysOf g wants pivots (recordAt w i)) e 0
+      key-there i e l h =
+          let m = keys-grown g wants pivots w v (gather done partner) f (whole-gather done partner partner-whole) grown in
+          let size = keys-length g wants pivots (chartOf w .records) in
+          ap (λ (ks : List ℕ). getD ks (5 * i + e) 0) (m .is)
+          ∙ List·getD-append (keysIn w) (m .more) 0 (5 * i + e) (omega (arith, size, counted w))
+          ∙ keys-at g wants pivots (chartOf w .records) i e (omega (arith, counted w)) h
+          ∙ ap (λ (y : Record). getD (keysOf g wants pivots y) e 0) (in-chart w i l)
+
+      module _ (checked : checkGrammar g ≡ true) (wanted : WantTable g wants) (pivoted : PivotTable g pivots) (own : regularOf g pivots x ≡ true) (others : Regular g pivots (chartOf w .records)) where
+        -- the records that are passed over
+        passed-over : (i : ℕ) → done ≤ i → i < k → i < n → partner i ≡ []
+        passed-over i a b c =
+            let u = keyless g wants pivots checked wanted pivoted H x (recordAt w i) own
+            (subst (λ (y : Record). regularOf g pivots y ≡ true) (in-chart w i (omega arith)) (others i (omega (arith, counted w))))
+            (λ q e p r pos eq. least-none (keysIn v) (queryOf g wants pivots x) n done cs (S .ahead) i a (omega (arith, S .at)) c (5 * i + e) (omega arith) (omega arith) q p pos
+            (key-there i e (omega arith) r ∙ sym eq))
+            in
+            unjoined-none G H x (recordAt w i) j i (u .forth) (u .back)
+
+        -- one turn: record k is dealt with unless it was, and the cursors at it go on
+        module _ (u jx : List ℕ) (later : ℕ) (l : k < n) (p : u ≡ grownBy v (guard (leb done k) (withRecord G H x j (recordAt v k) k))) (R : Ready g wants pivots u jx) (q : later ≡ max done (k + 1)) where
+          dealt : (b : Bool) → leb done k ≡ b → u ≡ grownBy v (guard b (withRecord G H x j (recordAt v k) k)) → Gathered w partner u later
+          dealt true e h =
+              let skip = gathered-skip w f partner partner-whole v done k (λ i a b. passed-over i a b (omega arith)) (leb-true done k e) (S .gathered) in
+              partners-next G H w f x j v u k later (omega (arith, leb-true done k e)) (omega arith) skip h
+          dealt false e h =
+              let same : u ≡ v = h ∙ grown-none v (S .ready .fits) in
+              subst (λ (t : List ℕ). Gathered w partner t later) (sym same) (subst (Gathered w partner v) (let o : done ≡ later = omega (arith, leb-false done k e) in o) (S .gathered))
+
+          grown-ahead : Ahead (keysIn u) (queryOf g wants pivots x) n done cs
+          grown-ahead =
+              let ys = guard (leb done k) (withRecord G H x j (recordAt v k) k) in
+              let m = keys-grown g wants pivots v u ys (S .ready .fits) (whole-guard (leb done k) (withRecord G H x j (recordAt v k) k) (record-whole G H x j (recordAt v k) k)) p in
+              subst (λ (ks : List ℕ). Ahead ks (queryOf g wants pivots x) n done cs) (sym (m .is)) (ahead-grown (keysIn v) (m .more) (queryOf g wants pivots x) n done cs (S .ahead))
+
+          pub going-next : (ds : List ℕ) (i : ℕ) → ds ≡ passedOf (listsOf jx) cs k → i ≡ leastOf ds → i ≤ 4096 → Going u jx ds i later
+          going-next ds i e a b = record {
+            ready = R;
+            gathered = dealt (leb done k) refl p;
+            ahead = ahead-passed (listsOf jx) (keysIn u) (queryOf g wants pivots x) n done later k cs ds (R .indexed .listed) grown-ahead (omega arith) (omega arith) e;
+            at = a;
+            few = b;
+            low = omega (arith, S .low);
+          }
+
+          pub going-less : (ds : List ℕ) → ds ≡ passedOf (listsOf jx) cs k → leftAll ds < leftAll cs
+          going-less ds e = left-falls (listsOf jx) (keysIn u) (queryOf g wants pivots x) n done k cs ds (R .indexed .listed) grown-ahead (S .at) l e
+
+          pub next-within : Within 20480 cs
+          next-within = ahead-within (keysIn u) (queryOf g wants pivots x) n done cs grown-ahead (R .indexed .listed .few)
+
+        pub going-end : n ≤ k → v ≡ grownBy w (gather n partner)
+        going-end l =
+            gathered-all w f partner partner-whole v n n refl
+            (gathered-skip w f partner partner-whole v done n (λ i a b. passed-over i a (omega arith) b) (S .low) (S .gathered))

@@ -1,0 +1,97 @@
+-- Each turn is a step of the model; where none is left, the steps given beyond change nothing.
+use native.Mathlib.Omega.{arith}
+use Prim.Native.Nat.{_-_, _≤_}
+use mathlib.Core.Path.{_≡_, refl, _∙_}
+use lib.ListN.{length}
+use borrow.Author.Needs.{needs}
+use Rattle.questions.specs.Abstract.{grammarOf, graphOf}
+use Rattle.steps.specs.Ready.{Ready}
+use Rattle.steps.proofs.ReadyLaws.{records-small}
+use Rattle.steps.proofs.RunLaws.{Ran, ran-none, next-known, ran-step, ran-idle, ran-all}
+use Rattle.steps.proofs.advance_by.Statement.{statement}
+use Rattle.steps.proofs.advance_by.Tie as tie
+
+abbrev Inv-loop : tie.InvT-loop
+Inv-loop g h wants plans pivots graph chart₀ index₀ steps i₀ chart index i = (i ≤ steps) × (length chart ≡ length chart₀) × Ran (grammarOf g) (graphOf g h) chart₀ i chart × (length index ≡ length index₀) × Ready g wants pivots chart index
+
+abbrev μ-loop : tie.MeasureT-loop
+μ-loop g h wants plans pivots graph chart₀ index₀ steps i₀ chart index i = steps - i
+
+loop-holds : tie.Need-loop-holds Inv-loop μ-loop
+loop-holds c =
+    let s = c .before .before .before .before .args in
+    let G = grammarOf (s .g .now) in
+    let H = graphOf (s .g .now) (s .h .now) in
+    (omega arith, refl, ran-none G H (s .chart .now) (c .before .before .before .before .pre .1 .fits), refl, c .before .before .before .before .pre .1)
+
+next-requires : tie.Need-next-requires Inv-loop μ-loop
+next-requires c κs = (c .before .before .before .loop .inv .4 .indexed .size, c .before .before .before .loop .inv .4 .indexed .ranked, records-small _ (c .before .before .before .loop .inv .4 .small))
+
+enum-told : tie.Need-enum-told Inv-loop μ-loop
+enum-told c = search needs
+
+same-length : tie.Need-same-length Inv-loop μ-loop
+same-length c = c .before .before .before .before .before .before .loop .inv .1
+
+same-length-2 : tie.Need-same-length-2 Inv-loop μ-loop
+same-length-2 c = c .before .before .before .before .before .before .loop .inv .3
+
+returns : tie.Need-returns Inv-loop μ-loop
+returns c =
+    let s = c .before .before .before .before .before .before .before .before .before .before .before .args in
+    let G = grammarOf (s .g .now) in
+    let H = graphOf (s .g .now) (s .h .now) in
+    ran-idle G H (s .chart .now) (c .before .before .before .before .before .before .loop .i) (c .before .before .before .before .before .before .loop .chart) (c .before .before .before .before .before .before .loop .inv .2) (s .steps) (c .before .before .next .result) (c .before .before .before .before .before .before .loop .inv .0) (c .enum-told .given .1) (c .before .before .next .ensures)
+
+enum-known-j : tie.Need-enum-known-j Inv-loop μ-loop
+enum-known-j c = search needs
+
+step-requires : tie.Need-step-requires Inv-loop μ-loop
+step-requires c κs = (c .before .before .before .before .before .before .before .before .before .before .before .before .before .before .pre .0, c .before .before .before .before .before .before .before .before .before .loop .inv .4, next-known (c .before .before .before .before .before .before .before .before .before .loop .chart) _ (c .before .before .before .before .before .next .result) (c .before .before .before .j .given .1) (c .before .before .before .before .before .next .ensures))
+
+add-i : tie.Need-add-i Inv-loop μ-loop
+add-i c = search needs
+
+loop-less : tie.Need-loop-less Inv-loop μ-loop
+loop-less c = omega (arith, c .before .before .before .before .before .before .before .before .before .before .before .before .before .loop-test .taken)
+
+loop-again : tie.Need-loop-again Inv-loop μ-loop
+loop-again c =
+    let s = c .before .before .before .before .before .before .before .before .before .before .before .before .before .before .before .before .before .before .before .args in
+    let G = grammarOf (s .g .now) in
+    let H = graphOf (s .g .now) (s .h .now) in
+    (omega (arith, c .before .before .before .before .before .before .before .before .before .before .before .before .before .loop-test .taken), c .before .before .before .before .step .kept .1 .1 .1 .1 .1 .1 .0 ∙ c .before .before .before .before .before .before .before .before .before .before .before .before .before .before .loop .inv .1, ran-step G H (s .chart .now) (c .before .before .before .before .before .before .before .before .before .before .before .before .before .before .loop .i) (c .before .before .before .before .before .before .before .before .before .before .before .before .before .before .loop .chart) (c .before .before .before .before .before .before .before .before .before .before .before .before .before .before .loop .inv .2) _ _ (c .before .before .before .before .before .before .before .before .before .before .next .result) _ (omega arith) (c .before .before .before .before .before .before .before .before .j .given .1) (c .before .before .before .before .before .before .before .before .before .before .next .ensures) (c .before .before .before .before .step .ensures .0), c .before .before .before .before .step .kept .1 .1 .1 .1 .1 .1 .1 .0 ∙ c .before .before .before .before .before .before .before .before .before .before .before .before .before .before .loop .inv .3, c .before .before .before .before .step .ensures .1)
+
+same-length-3 : tie.Need-same-length-3 Inv-loop μ-loop
+same-length-3 c = c .before .loop .inv .1
+
+same-length-4 : tie.Need-same-length-4 Inv-loop μ-loop
+same-length-4 c = c .before .loop .inv .3
+
+returns-2 : tie.Need-returns-2 Inv-loop μ-loop
+returns-2 c =
+    let s = c .before .before .before .before .before .before .args in
+    let G = grammarOf (s .g .now) in
+    let H = graphOf (s .g .now) (s .h .now) in
+    ran-all G H (s .chart .now) (c .before .loop .i) (c .before .loop .chart) (c .before .loop .inv .2) (s .steps) (omega (arith, c .loop-test .left, c .before .loop .inv .0))
+
+pub advance-by-spec : {M : Type 1} → statement M
+advance-by-spec =
+    tie.close
+    (tie.spec
+    Inv-loop
+    μ-loop
+    loop-holds
+    next-requires
+    enum-told
+    same-length
+    same-length-2
+    returns
+    enum-known-j
+    step-requires
+    add-i
+    loop-less
+    loop-again
+    same-length-3
+    same-length-4
+    returns-2)

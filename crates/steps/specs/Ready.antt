@@ -1,0 +1,34 @@
+-- What the functions of a step know of the tables, of what was worked out from them, and of a chart's words and their index.
+use mathlib.Core.List.{List}
+use mathlib.Core.Bool.{true}
+use mathlib.Core.Path.{_≡_}
+use Prim.Native.Nat.{ℕ, _≤_, _<_}
+use lib.ListN.{length}
+use Rattle.agenda.specs.declared.Record.{Record}
+use Rattle.agenda.specs.Consequences.{recordIn}
+use Rattle.joins.specs.Joins.{Accepted}
+use Rattle.joins.specs.Graphs.{GraphTable}
+use Rattle.rules.specs.Wants.{WantTable}
+use Rattle.rules.specs.Plans.{PlanTable}
+use Rattle.pivots.specs.Pivots.{PivotTable}
+use Rattle.pivots.specs.Keys.{regularOf}
+use Rattle.records.specs.Words.{Fits, capacity, chartOf}
+use Rattle.index.specs.Index.{Indexed}
+
+-- accepted tables, and what a run works out from them once
+pub record Tables (g h wants plans pivots graph : List ℕ) : Type 0 where
+  pub accepted : Accepted g h
+  pub wanted : WantTable g wants
+  pub planned : PlanTable g plans
+  pub pivoted : PivotTable g pivots
+  pub graphed : GraphTable g h graph
+
+-- words of a chart that question 8 passed, and the index of its records
+pub record Ready (g wants pivots w ix : List ℕ) : Type 0 where
+  pub fits : Fits w
+  pub small : capacity w ≤ 4096
+  pub indexed : Indexed g wants pivots ix (chartOf w .records)
+
+-- records whose keys tell what they can be joined with
+abbrev pub Regular : List ℕ → List ℕ → List Record → Type 0
+Regular g pivots rs = (j : ℕ) → j < length rs → regularOf g pivots (recordIn rs j) ≡ true

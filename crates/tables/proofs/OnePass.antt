@@ -1,0 +1,457 @@
+-- Question 8's pass: the lines judged where they stand give the verdict of the lines judged and stored in a cleared table.
+use Prim.Native.Nat.{ℕ, zero, suc, _+_, _-_, _*_, _/_, _%_, _≤_, _<_}
+use native.Mathlib.Omega.{arith}
+use native.Mathlib.Decide.{decLt}
+use mathlib.Core.Path.{_≡_, refl, sym, ap, ap₂, _∙_, subst}
+use mathlib.Core.Logic.{_⊎_, inl, inr}
+use mathlib.Core.Bool.{Bool, true, false, not, cond, false≢true}
+use mathlib.Core.List.{List, []}
+use lib.Bits.{bitOr, or-add-and, and-le-l, and-le-r}
+use lib.Dec.{eqb}
+use lib.ListN.{length, getD, take, replicate, length-take, length-replicate, List·getD-eq-default}
+use borrow.Author.Tests.{eqb-true, eqb-false, lt-leb, not-true, not-false}
+use Rattle.hrg.specs.Counts.{tabulate}
+use Rattle.hrg.proofs.Sums.{length-tabulate}
+use Rattle.questions.specs.declared.Due.{Due}
+use Rattle.questions.specs.declared.Due.the-variants.{Grammar, Symbol, Rule, RuleEdge, PlanLine, Graph, GraphEdge, Nothing}
+use Rattle.questions.specs.Layout.{placeOf, inTable, word, stored, symbolCount, rankAt}
+use Rattle.questions.specs.Questions.{judgeRule, judgeRuleEdge, judge}
+use Rattle.questions.specs.Reading.{Verdict, refused, accepted, whenDone, goOn, next}
+use Rattle.questions.specs.Checking.{fieldsDue, storedFields, checkLines, filledBy, checkGrammar, checkGraph}
+use Rattle.questions.specs.Walk.{Room}
+use Rattle.questions.proofs.StoredLaws.{getD-tabulate, length-stored, word-stored-same, word-stored-other, word-cleared, table-ext}
+use Rattle.questions.proofs.WellFormedQuestions.{passes-rule, passes-edge}
+use Rattle.questions.proofs.WellFormedWalk.{IsLine, reach, reach-line, room-in, room-place, room-next, next-forward, Agree, Before, next-agree, judge-agree, before-next, walk-onward}
+use Rattle.questions.proofs.WellFormedReading.{check-walk}
+use Rattle.questions.proofs.Filled.{when-line, filled-by, by-filled, word-take}
+use Rattle.tables.specs.Concluding.{nothingDue, Opens, Zero, Zeros}
+
+-- ---- words that are 0
+or-none : (a b : ℕ) → bitOr a b ≡ 0 → (a ≡ 0) × (b ≡ 0)
+or-none a b h = (omega (arith, or-add-and a b, and-le-r a b), omega (arith, or-add-and a b, and-le-l a b))
+
+-- one word made of those from a to i
+pub record Gathered (t : List ℕ) (a i any : ℕ) : Type 0 where
+  pub yes : any ≡ 0 → Zero t a i
+  pub no : Zero t a i → any ≡ 0
+
+pub gathered-none : (t : List ℕ) (a : ℕ) → Gathered t a a 0
+gathered-none t a = record { yes = λ h i k l. absurd (omega arith); no = λ z. refl }
+
+pub gathered-more : (t : List ℕ) (a i any : ℕ) → Gathered t a i any → a ≤ i → Gathered t a (i + 1) (bitOr any (getD t i 0))
+gathered-more t a i any G l = record {
+  yes = λ h k b e. go k b e (or-none any (getD t i 0) h) (decLt k i);
+  no = λ z.
+      let x : any ≡ 0 = G .no (λ k b e. z k b (omega arith)) in
+      let y : getD t i 0 ≡ 0 = z i l (omega arith) in
+      rw (x, y);
+}
+  where
+    go : (k : ℕ) → a ≤ k → k < i + 1 → (any ≡ 0) × (getD t i 0 ≡ 0) → Dec (k < i) → getD t k 0 ≡ 0
+    go k b e h (yes d) = G .yes (h .0) k b d
+    go k b e h (no d) = let same : k ≡ i = omega arith in rw same (h .1)
+
+pub gathered-all : (t : List ℕ) (a b i any : ℕ) → Gathered t a i any → i ≡ b → Zeros t a b (eqb any 0)
+gathered-all t a b i any G e = record {
+  yes = λ h. subst (Zero t a) e (G .yes (eqb-true any 0 h));
+  no = λ h z. eqb-false any 0 h (G .no (subst (Zero t a) (sym e) z));
+}
+
+-- a table that is too short
+short-filled : (size : ℕ) (t : List ℕ) (v : Verdict) → length t < size → false ≡ filledBy size t v
+short-filled size t (refused k) h = refl
+short-filled size t (accepted c) h = rw (lt-leb size (length t) h)
+
+-- ---- the lines passed
+line-due : (d : Due) → nothingDue d ≡ false → IsLine d
+line-due Grammar h = tt
+line-due (Symbol s) h = tt
+line-due (Rule r) h = tt
+line-due (RuleEdge r i) h = tt
+line-due (PlanLine r q) h = tt
+line-due Graph h = tt
+line-due (GraphEdge e) h = tt
+line-due Nothing h = absurd (false≢true (sym h))
+
+when-nothing : (d : Due) (v w : Verdict) → nothingDue d ≡ true → whenDone d v w ≡ v
+when-nothing Grammar v w h = absurd (false≢true h)
+when-nothing (Symbol s) v w h = absurd (false≢true h)
+when-nothing (Rule r) v w h = absurd (false≢true h)
+when-nothing (RuleEdge r i) v w h = absurd (false≢true h)
+when-nothing (PlanLine r q) v w h = absurd (false≢true h)
+when-nothing Graph v w h = absurd (false≢true h)
+when-nothing (GraphEdge e) v w h = absurd (false≢true h)
+when-nothing Nothing v w h = refl
+
+-- The lines before `due` stand in t as in the table c of the definition, whose other words are 0; `from` is the first word behind them.
+pub record Passing (size : ℕ) (g t : List ℕ) (goal : Bool) (left : ℕ) (due : Due) (from : ℕ) : Type 0 where
+  pub c : List ℕ
+  pub p : ℕ
+  pub place : from ≡ 9 * p
+  pub inside : 9 * p ≤ size
+  pub long : length c ≡ size
+  pub room : Room size due
+  pub before : Before c due
+  pub agree : Agree c t p
+  pub clear : (q j : ℕ) → p ≤ q → j < 9 → word c q j ≡ 0
+  pub low : p ≤ reach due
+  pub verdict : filledBy size t (checkLines left g t c due) ≡ goal
+
+none-before : (size : ℕ) (d : Due) → Opens d → Before (replicate size 0) d
+none-before size Grammar o = tt
+none-before size (Symbol s) o = absurd o
+none-before size (Rule r) o = absurd o
+none-before size (RuleEdge r i) o = absurd o
+none-before size (PlanLine r q) o = absurd o
+none-before size Graph o = tt
+none-before size (GraphEdge e) o = absurd o
+none-before size Nothing o = absurd o
+
+pub pass-start : (size : ℕ) (g t : List ℕ) (left : ℕ) (first : Due) → Room size first → Opens first
+    → Passing size g t (filledBy size t (checkLines left g t (replicate size 0) first)) left first 0
+pass-start size g t left first room e = record {
+  c = replicate size 0;
+  p = 0;
+  place = refl;
+  inside = omega arith;
+  long = length-replicate {A = ℕ} size 0;
+  room = room;
+  before = none-before size first e;
+  agree = λ q j l b. absurd (omega arith);
+  clear = λ q j l b. word-cleared size q j;
+  low = omega arith;
+  verdict = refl;
+}
+
+not-goal : (goal : Bool) → (goal ≡ true → ⊥) → false ≡ goal
+not-goal true h = absurd (h refl)
+not-goal false h = refl
+
+-- word i of t is word i % 9 of its line
+word-at : (t : List ℕ) (i n : ℕ) → word t (i / 9) (i % 9) ≡ n → getD t i 0 ≡ n
+unfolding word
+word-at t i n h = ap (λ k. getD t k 0) (let e : i ≡ 9 * (i / 9) + i % 9 = omega arith in e) ∙ h
+
+at-word : (t : List ℕ) (q j n : ℕ) → getD t (9 * q + j) 0 ≡ n → word t q j ≡ n
+unfolding word
+at-word t q j n h = h
+
+-- the lines left, by a number that is not 0
+one-turn : (k : ℕ) (g t c : List ℕ) (due : Due) → 0 < k
+    → checkLines k g t c due
+    ≡ whenDone due (accepted c) (goOn (judge g c due (storedFields g c t due))
+    (checkLines (k - 1) g t (stored c (placeOf due) (storedFields g c t due)) (next (stored c (placeOf due) (storedFields g c t due)) due)))
+one-turn k g t c due h =
+    ap (λ n. checkLines n g t c due) (let e : k ≡ suc (k - 1) = omega arith in e) ∙ step (k - 1) g t c due
+  where
+    step : (n : ℕ) (g′ t′ c′ : List ℕ) (d : Due) → checkLines (suc n) g′ t′ c′ d
+        ≡ whenDone d (accepted c′) (goOn (judge g′ c′ d (storedFields g′ c′ t′ d))
+        (checkLines n g′ t′ (stored c′ (placeOf d) (storedFields g′ c′ t′ d)) (next (stored c′ (placeOf d) (storedFields g′ c′ t′ d)) d)))
+    step n g′ t′ c′ d = unfold checkLines in refl
+
+filled-refused : (size : ℕ) (t : List ℕ) (k : ℕ) (v : Verdict) → (k ≡ 0 → ⊥) → filledBy size t (goOn k v) ≡ false
+filled-refused size t zero v h = absurd (h refl)
+filled-refused size t (suc k) v h = refl
+
+none-lines : (g t c : List ℕ) (due : Due) → checkLines 0 g t c due ≡ refused 8
+unfolding checkLines
+none-lines g t c due = refl
+
+-- ---- the fields of a line, by the ranks of c or by those of t: alike, or the line is refused by both
+rule-far : (k : List ℕ) (r n : ℕ) (f : ℕ → ℕ) → symbolCount k ≤ 64 → 64 ≤ f 1 → judgeRule k r (tabulate (5 + n) f) ≡ 0 → ⊥
+rule-far k r n f m l h = omega (arith, passes-rule k r (tabulate (5 + n) f) .sound h .symbol, getD-tabulate (5 + n) f 1 0 (omega arith))
+
+edge-far : (k : List ℕ) (r i n : ℕ) (f : ℕ → ℕ) → symbolCount k ≤ 64 → 64 ≤ f 0 → judgeRuleEdge k r i (tabulate (1 + n) f) ≡ 0 → ⊥
+edge-far k r i n f m l h = omega (arith, passes-edge k r i (tabulate (1 + n) f) .sound h .symbol, getD-tabulate (1 + n) f 0 0 (omega arith))
+
+module _ (g c t : List ℕ) where
+  abbrev Alike : Due → Type 0
+  Alike d = (storedFields g c t d ≡ storedFields g t t d) ⊎ ((judge g c d (storedFields g c t d) ≡ 0 → ⊥) × (judge g t d (storedFields g t t d) ≡ 0 → ⊥))
+
+  rank-alike : (x p : ℕ) → x < 64 → 65 ≤ p → Agree c t p → rankAt c x ≡ rankAt t x
+  rank-alike x p l h a = rw (a (1 + x) 2 (omega arith) (omega arith))
+
+  rule-alike : (r : ℕ) → symbolCount c ≤ 64 → Agree c t (65 + 25 * r) → Dec (word t (65 + 25 * r) 1 < 64) → Alike (Rule r)
+  unfolding storedFields fieldsDue placeOf judge
+  rule-alike r b a (yes l) = inl (ap (λ n. tabulate (5 + n) (λ j. word t (65 + 25 * r) j)) (rank-alike (word t (65 + 25 * r) 1) (65 + 25 * r) l (omega arith) a))
+  rule-alike r b a (no l) =
+      inr (
+        rule-far c r (rankAt c (word t (65 + 25 * r) 1)) (λ j. word t (65 + 25 * r) j) b (omega arith),
+        rule-far t r (rankAt t (word t (65 + 25 * r) 1)) (λ j. word t (65 + 25 * r) j) (omega (arith, a 0 0 (omega arith) (omega arith))) (omega arith),
+      )
+
+  edge-alike : (r i : ℕ) → symbolCount c ≤ 64 → Agree c t (66 + 25 * r + i) → Dec (word t (66 + 25 * r + i) 0 < 64) → Alike (RuleEdge r i)
+  unfolding storedFields fieldsDue placeOf judge
+  edge-alike r i b a (yes l) = inl (ap (λ n. tabulate (1 + n) (λ j. word t (66 + 25 * r + i) j)) (rank-alike (word t (66 + 25 * r + i) 0) (66 + 25 * r + i) l (omega arith) a))
+  edge-alike r i b a (no l) =
+      inr (
+        edge-far c r i (rankAt c (word t (66 + 25 * r + i) 0)) (λ j. word t (66 + 25 * r + i) j) b (omega arith),
+        edge-far t r i (rankAt t (word t (66 + 25 * r + i) 0)) (λ j. word t (66 + 25 * r + i) j) (omega (arith, a 0 0 (omega arith) (omega arith))) (omega arith),
+      )
+
+  fields-alike : (d : Due) → Before c d → Agree c t (placeOf d) → Alike d
+  unfolding storedFields fieldsDue placeOf
+  fields-alike Grammar b a = inl refl
+  fields-alike (Symbol s) b a = inl refl
+  fields-alike (Rule r) b a = rule-alike r b a (decLt (word t (65 + 25 * r) 1) 64)
+  fields-alike (RuleEdge r i) b a = edge-alike r i (b .0) a (decLt (word t (66 + 25 * r + i) 0) 64)
+  fields-alike (PlanLine r q) b a = inl refl
+  fields-alike Graph b a = inl refl
+  fields-alike (GraphEdge e) b a = inl refl
+  fields-alike Nothing b a = inl refl
+
+-- ---- one turn
+module _ (size : ℕ) (g t : List ℕ) (goal : Bool) (fits : size ≤ length t) (left : ℕ) (due : Due) (from : ℕ) (P : Passing size g t goal left due from) where
+  abbrev c : List ℕ
+  c = P .c
+
+  pub pass-none : left ≤ 0 → false ≡ goal
+  pass-none h = sym (ap (λ n. filledBy size t (checkLines n g t c due)) (let e : left ≡ 0 = omega arith in e) ∙ ap (filledBy size t) (none-lines g t c due)) ∙ P .verdict
+
+  -- where the table is one that a text filled, the words of t are those of c before the line that is due
+  module _ (yes : goal ≡ true) where
+    final : (u : List ℕ) × (checkLines left g t c due ≡ accepted u) × (size ≤ length t) × (u ≡ take size t)
+    final = filled-by size t (checkLines left g t c due) (P .verdict ∙ yes)
+
+    as-before : (q j : ℕ) → q < reach due → 9 * q + j < size → j < 9 → word t q j ≡ word c q j
+    as-before q j l f b =
+        sym (word-take size t q j f) ∙ ap (λ (u : List ℕ). word u q j) (sym (final .3))
+        ∙ sym (walk-onward (check-walk left g t c (final .0) due (final .1) .1) (subst (λ n. Room n due) (sym (P .long)) (P .room)) .same-words q j l b)
+
+  -- t is 0 where c is
+  clear-before : goal ≡ true → (i : ℕ) → from ≤ i → i < 9 * reach due → i < size → getD t i 0 ≡ 0
+  clear-before y i a b f =
+      word-at t i 0 (as-before y (i / 9) (i % 9) (omega arith) (omega arith) (omega arith) ∙ P .clear (i / 9) (i % 9) (omega (arith, P .place)) (omega arith))
+
+  -- nothing is due
+  module _ (l : 0 < left) (n : nothingDue due ≡ true) where
+    ended : filledBy size t (accepted c) ≡ goal
+    ended = sym (ap (filledBy size t) (one-turn left g t c due l ∙ when-nothing due _ _ n)) ∙ P .verdict
+
+    same-word : Zero t from size → (q j : ℕ) → 9 * q + j < size → j < 9 → Dec (q < P .p) → word c q j ≡ word t q j
+    same-word z q j f b (yes d) = P .agree q j d b
+    same-word z q j f b (no d) = P .clear q j (omega arith) b ∙ sym (at-word t q j 0 (z (9 * q + j) (omega (arith, P .place)) f))
+
+    whole : Zero t from size → c ≡ take size t
+    whole z =
+        table-ext c (take size t) (P .long ∙ sym (length-take size t ∙ omega arith))
+        (λ q j f b. same-word z q j (omega (arith, P .long)) b (decLt q (P .p)) ∙ sym (word-take size t q j (omega (arith, P .long))))
+
+    cleared : c ≡ take size t → (i : ℕ) → from ≤ i → i < size → getD t i 0 ≡ 0
+    cleared e i a b =
+        word-at t i 0 (sym (word-take size t (i / 9) (i % 9) (omega arith)) ∙ ap (λ (u : List ℕ). word u (i / 9) (i % 9)) (sym e) ∙ P .clear (i / 9) (i % 9) (omega (arith, P .place)) (omega arith))
+
+    own : goal ≡ true → c ≡ take size t
+    own y = let f = filled-by size t (accepted c) (ended ∙ y) in same (f .0) (f .1) ∙ f .3
+      where
+        same : (u : List ℕ) → accepted c ≡ accepted u → c ≡ u
+        same u e = cc
+
+    pub pass-end : (b : Bool) → Zeros t from size b → b ≡ goal
+    pass-end true z = sym (by-filled size t c fits (whole (z .yes refl))) ∙ ended
+    pass-end false z = not-goal goal (λ y. z .no refl (cleared (own y)))
+
+  -- a line is due
+  module _ (l : 0 < left) (n : nothingDue due ≡ false) where
+    isLine : IsLine due
+    isLine = line-due due n
+
+    pub pass-at : 9 * placeOf due + 9 ≤ size
+    pass-at = room-place size due (P .room)
+
+    pub pass-from : from ≤ 9 * placeOf due
+    pass-from = omega (arith, P .place, P .low, reach-line due isLine)
+
+    pub pass-in : inTable due ≡ true
+    pass-in = room-in size due (P .room)
+
+    -- words before the line that are not 0
+    pub pass-gap : (b : Bool) → b ≡ false → Zeros t from (9 * placeOf due) b → false ≡ goal
+    pass-gap b e z = not-goal goal (λ y. z .no e (λ i a k. clear-before y i a (omega (arith, reach-line due isLine)) (omega (arith, pass-at))))
+
+    module _ (z : Zero t from (9 * placeOf due)) where
+      agree : Agree c t (placeOf due)
+      agree q j k b = go (decLt q (P .p))
+        where
+          go : Dec (q < P .p) → word c q j ≡ word t q j
+          go (yes d) = P .agree q j d b
+          go (no d) = P .clear q j (omega arith) b ∙ sym (at-word t q j 0 (z (9 * q + j) (omega (arith, P .place)) (omega arith)))
+
+      -- the fields by the ranks of c, and by those of t
+      abbrev fsc : List ℕ
+      fsc = storedFields g c t due
+
+      abbrev fs : List ℕ
+      fs = storedFields g t t due
+
+      judged-c : (gs : List ℕ) → judge g c due gs ≡ judge g t due gs
+      judged-c gs = judge-agree g c t due gs (P .before) agree
+
+      turned : filledBy size t (goOn (judge g c due fsc) (checkLines (left - 1) g t (stored c (placeOf due) fsc) (next (stored c (placeOf due) fsc) due))) ≡ goal
+      turned = sym (ap (filledBy size t) (one-turn left g t c due l ∙ when-line due isLine _ _)) ∙ P .verdict
+
+      refused-c : (judge g c due fsc ≡ 0 → ⊥) → false ≡ goal
+      refused-c h = sym (filled-refused size t (judge g c due fsc) _ h) ∙ turned
+
+      pub pass-no : (gs : List ℕ) (k : ℕ) → gs ≡ storedFields g t t due → k ≡ judge g t due gs → (k ≡ 0 → ⊥) → false ≡ goal
+      pass-no gs k e q h = go (fields-alike g c t due (P .before) agree)
+        where
+          go : Alike g c t due → false ≡ goal
+          go (inl a) = refused-c (λ y. h (q ∙ ap (judge g t due) e ∙ sym (judged-c (storedFields g t t due)) ∙ ap (judge g c due) (sym a) ∙ y))
+          go (inr a) = refused-c (a .0)
+
+      -- a line that passes
+      module _ (gs : List ℕ) (e : gs ≡ storedFields g t t due) (k : ℕ) (q : k ≡ judge g t due gs) (y : k ≡ 0) where
+        passed : judge g t due fs ≡ 0
+        passed = ap (judge g t due) (sym e) ∙ sym q ∙ y
+
+        same-fields : fsc ≡ fs
+        same-fields = go (fields-alike g c t due (P .before) agree)
+          where
+            go : Alike g c t due → fsc ≡ fs
+            go (inl a) = a
+            go (inr a) = absurd (a .1 passed)
+
+        passed-c : judge g c due fs ≡ 0
+        passed-c = judged-c fs ∙ passed
+
+        -- the line stored
+        abbrev c′ : List ℕ
+        c′ = stored c (placeOf due) fs
+
+        fits-c : 9 * placeOf due + 9 ≤ length c
+        fits-c = omega (arith, pass-at, P .long)
+
+        long-c : length c′ ≡ size
+        long-c = length-stored c (placeOf due) fs fits-c ∙ P .long
+
+        onward : filledBy size t (checkLines (left - 1) g t c′ (next c′ due)) ≡ goal
+        onward =
+            sym (ap (λ (hs : List ℕ). filledBy size t (goOn (judge g c due hs) (checkLines (left - 1) g t (stored c (placeOf due) hs) (next (stored c (placeOf due) hs) due)))) same-fields
+            ∙ ap (λ (m : ℕ). filledBy size t (goOn m (checkLines (left - 1) g t c′ (next c′ due)))) passed-c)
+            ∙ turned
+
+        room-c : (u : List ℕ) → Room size (next u due)
+        room-c u = room-next size u due (P .room)
+
+        forward : (u : List ℕ) → placeOf due < reach (next u due)
+        forward u = next-forward size u due isLine (P .room)
+
+        length-fs : length fs ≡ fieldsDue g t t due
+        unfolding storedFields
+        length-fs = length-tabulate (fieldsDue g t t due) (λ j. word t (placeOf due) j)
+
+        -- behind the fields of the line c has zeros
+        behind : goal ≡ true → (j : ℕ) → length fs ≤ j → j < 9 → word t (placeOf due) j ≡ 0
+        behind y j a b =
+            let f = filled-by size t (checkLines (left - 1) g t c′ (next c′ due)) (onward ∙ y) in
+            let w = check-walk (left - 1) g t c′ (f .0) (next c′ due) (f .1) .1 in
+            sym (word-take size t (placeOf due) j (omega (arith, pass-at))) ∙ ap (λ (u : List ℕ). word u (placeOf due) j) (sym (f .3))
+            ∙ sym (walk-onward w (subst (λ m. Room m (next c′ due)) (sym long-c) (room-c c′)) .same-words (placeOf due) j (forward c′) b)
+            ∙ word-stored-same c (placeOf due) fs fits-c j b
+            ∙ List·getD-eq-default fs 0 {n = j} a
+
+        module _ (m : ℕ) (count : length gs ≡ m) where
+          length-gs : length fs ≡ m
+          length-gs = ap length (sym e) ∙ count
+
+          pub pass-tail : (b : Bool) → b ≡ false → Zeros t (9 * placeOf due + m) (9 * placeOf due + 9) b → false ≡ goal
+          pass-tail b h z = not-goal goal (λ y. z .no h (λ i a f.
+              word-at t i 0 (ap₂ (word t) (let e : i / 9 ≡ placeOf due = omega arith in e) (let e : i % 9 ≡ i - 9 * placeOf due = omega arith in e)
+              ∙ behind y (i - 9 * placeOf due) (omega (arith, length-gs)) (omega arith))))
+
+          module _ (tail : Zero t (9 * placeOf due + m) (9 * placeOf due + 9)) where
+            own-line : (j : ℕ) → j < 9 → Dec (j < m) → getD fs j 0 ≡ word t (placeOf due) j
+            unfolding storedFields
+            own-line j b (yes d) = getD-tabulate (fieldsDue g t t due) (λ i. word t (placeOf due) i) j 0 (omega (arith, length-fs, length-gs))
+            own-line j b (no d) = List·getD-eq-default fs 0 {n = j} (omega (arith, length-gs)) ∙ sym (at-word t (placeOf due) j 0 (tail (9 * placeOf due + j) (omega arith) (omega arith)))
+
+            agree-c : Agree c′ t (suc (placeOf due))
+            agree-c o j a b = go (decLt o (placeOf due))
+              where
+                go : Dec (o < placeOf due) → word c′ o j ≡ word t o j
+                go (yes d) = word-stored-other c (placeOf due) fs fits-c o j (λ x. omega arith) b ∙ agree o j d b
+                go (no d) =
+                    let same : o ≡ placeOf due = omega arith in
+                    ap (λ r. word c′ r j) same ∙ word-stored-same c (placeOf due) fs fits-c j b ∙ own-line j b (decLt j m) ∙ ap (λ r. word t r j) (sym same)
+
+            next-c : next c′ due ≡ next t due
+            next-c = next-agree c′ t due agree-c
+
+            pub pass-next : (d : Due) → d ≡ next t due → Passing size g t goal (left - 1) d (9 * placeOf due + 9)
+            pass-next d x = subst (λ (d : Due). Passing size g t goal (left - 1) d (9 * placeOf due + 9)) (next-c ∙ sym x) (record {
+              c = c′;
+              p = suc (placeOf due);
+              place = omega arith;
+              inside = omega (arith, pass-at);
+              long = long-c;
+              room = room-c c′;
+              before = before-next g c due fs (subst (λ m. Room m due) (sym (P .long)) (P .room)) (P .before) passed-c;
+              agree = agree-c;
+              clear = λ o j a b. word-stored-other c (placeOf due) fs fits-c o j (λ x. omega arith) b ∙ P .clear o j (omega (arith, P .low, reach-line due isLine)) b;
+              low = forward c′;
+              verdict = onward;
+            })
+
+-- ---- one turn, by what the functions answer
+module _ (size : ℕ) (g t : List ℕ) (goal : Bool) (fits : size ≤ length t) (left : ℕ) (due : Due) (from : ℕ) (P : Passing size g t goal left due from)
+    (l : 0 < left) (b : Bool) (is : b ≡ nothingDue due) (no : b ≡ false) (pl : ℕ) (ep : pl ≡ cond (inTable due) (placeOf due) 0) where
+  line : nothingDue due ≡ false
+  line = sym is ∙ no
+
+  inside : inTable due ≡ true
+  inside = pass-in size g t goal fits left due from P l line
+
+  here : placeOf due ≡ pl
+  here = sym (ep ∙ ap (λ a. cond a (placeOf due) 0) inside)
+
+  pub turn-from : from ≤ 9 * pl
+  turn-from = omega (arith, here, pass-from size g t goal fits left due from P l line)
+
+  pub turn-fits : 9 * pl + 9 ≤ size
+  turn-fits = omega (arith, here, pass-at size g t goal fits left due from P l line)
+
+  pub turn-gap : (z : Bool) → Zeros t from (9 * pl) z → not z ≡ true → false ≡ goal
+  turn-gap z zs h = pass-gap size g t goal fits left due from P l line z (not-true z h) (subst (λ n. Zeros t from (9 * n) z) (sym here) zs)
+
+  module _ (z : Bool) (zs : Zeros t from (9 * pl) z) (ok : not z ≡ false) (gs : List ℕ) (eg : gs ≡ cond (inTable due) (storedFields g t t due) []) (k : ℕ) (ek : k ≡ cond (inTable due) (judge g t due gs) 2) where
+    gap : Zero t from (9 * placeOf due)
+    gap = subst (λ n. Zero t from (9 * n)) (sym here) (zs .yes (not-false z ok))
+
+    fields : gs ≡ storedFields g t t due
+    fields = eg ∙ ap (λ a. cond a (storedFields g t t due) []) inside
+
+    judged : k ≡ judge g t due gs
+    judged = ek ∙ ap (λ a. cond a (judge g t due gs) 2) inside
+
+    pub turn-no : (k ≡ 0 → ⊥) → false ≡ goal
+    turn-no h = pass-no size g t goal fits left due from P l line gap gs k fields judged h
+
+    module _ (y : k ≡ 0) (m : ℕ) (count : length gs ≡ m) (v : Bool) (vs : Zeros t (9 * pl + m) (9 * pl + 9) v) where
+      tail : Zeros t (9 * placeOf due + m) (9 * placeOf due + 9) v
+      tail = subst (λ n. Zeros t (9 * n + m) (9 * n + 9) v) (sym here) vs
+
+      pub turn-tail : not v ≡ true → false ≡ goal
+      turn-tail h = pass-tail size g t goal fits left due from P l line gap gs fields k judged y m count v (not-true v h) tail
+
+      pub turn-next : not v ≡ false → (d : Due) → d ≡ cond (inTable due) (next t due) Nothing → Passing size g t goal (left - 1) d (9 * pl + 9)
+      turn-next h d e =
+          subst (λ n. Passing size g t goal (left - 1) d (9 * n + 9)) here
+          (pass-next size g t goal fits left due from P l line gap gs fields k judged y m count (tail .yes (not-false v h)) d (e ∙ ap (λ a. cond a (next t due) Nothing) inside))
+
+-- ---- the two tables
+pub grammar-short : (t : List ℕ) → length t < 14985 → false ≡ checkGrammar t
+unfolding checkGrammar
+grammar-short t h = short-filled 14985 t (checkLines 1666 [] t (replicate 14985 0) Grammar) h
+
+pub grammar-is : (t : List ℕ) (b : Bool) → b ≡ filledBy 14985 t (checkLines 1666 [] t (replicate 14985 0) Grammar) → b ≡ checkGrammar t
+unfolding checkGrammar
+grammar-is t b e = e
+
+pub graph-short : (g t : List ℕ) → length t < 585 → false ≡ checkGraph g t
+unfolding checkGraph
+graph-short g t h = short-filled 585 t (checkLines 66 g t (replicate 585 0) Graph) h
+
+pub graph-is : (g t : List ℕ) (b : Bool) → b ≡ filledBy 585 t (checkLines 66 g t (replicate 585 0) Graph) → b ≡ checkGraph g t
+unfolding checkGraph
+graph-is g t b e = e
