@@ -2,7 +2,7 @@
 //! what is read, and an answer is an enum. Nothing is allocated or kept.
 //!
 //! [`write()`], [`fill`] and [`replay`] may take up to [`STACK_BYTES`](crate::STACK_BYTES) of stack, more than a thread of Rust has by default;
-//! the others take less than 256 KiB. Where the stack ends too early the process ends, as with any function of Rust.
+//! the others take less than 512 KiB, nearly all of it for [`run`]. Where the stack ends too early the process ends, as with any function of Rust.
 
 use std::mem::{align_of, size_of};
 

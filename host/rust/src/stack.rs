@@ -9,7 +9,7 @@ use std::thread;
 /// [`Chart::write`](crate::Chart::write), [`Chart::derivation`](crate::Chart::derivation), [`Chart::fill`](crate::Chart::fill),
 /// [`Chart::applications`](crate::Chart::applications) and [`parse`](crate::parse) therefore work on a thread of their own with
 /// this stack; of [`calls`](crate::calls), see to it for [`write`](crate::calls::write), [`fill`](crate::calls::fill) and
-/// [`replay`](crate::calls::replay). All other calls take less than 256 KiB.
+/// [`replay`](crate::calls::replay). All other calls take less than 512 KiB.
 pub const STACK_BYTES: usize = 8 << 20;
 
 /// Does the work on a thread of its own with [`STACK_BYTES`] of stack, and waits for it. A panic of the work goes on here.

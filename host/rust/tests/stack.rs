@@ -80,10 +80,10 @@ fn nested_renamings_replay_over_slices() {
     assert_eq!(verdict, Verdict::Passed);
 }
 
-/// Text and records take buffers of some 300 KiB each on the stack: the owning types take them elsewhere than on the caller's.
+/// A run takes less than 512 KiB. Text and records take buffers of some 300 KiB each besides: the owning types take them elsewhere than on the caller's stack.
 #[test]
 fn owned_charts_need_little_stack() {
-    on_stack(256 << 10, || {
+    on_stack(512 << 10, || {
         let grammar = Grammar::read(&example("k2", "grammar.txt")).unwrap();
         let graph = Graph::read(&grammar, &example("k2", "graph.txt")).unwrap();
         let mut chart = Chart::start(&graph, 10).unwrap();
