@@ -7,8 +7,7 @@ use native.Mathlib.Omega.{arith}
 use lib.Dec.{eqb}
 use lib.ListN.{length, getD}
 use borrow.Author.Tests.{eq-eqb, ne-eqb}
-use Rattle.agenda.specs.declared.Found.{Found}
-use Rattle.agenda.specs.declared.Found.the-variants.{At, Nowhere}
+use Rattle.agenda.specs.declared.Record.{Record}
 use Rattle.agenda.specs.Steps.{Chart, leastWaiting, handledCount, runChart, startChart, sumOf}
 use Rattle.questions.specs.Checking.{checkGrammar, checkGraph}
 use Rattle.questions.specs.Abstract.{grammarOf, graphOf}
@@ -22,6 +21,7 @@ use Rattle.chart.specs.declared.Outcome.{Outcome}
 use Rattle.chart.specs.declared.Outcome.the-variants.{Unfit, TooSmall, Unfinished, Done}
 use Rattle.hrg.proofs.Degrees.{and-true as both}
 use Rattle.validity.proofs.KnownCharts.{holds-header, holds-most, known-fits}
+use Rattle.chart.proofs.Waiting.{none-waits, some-waits}
 use Rattle.chart.proofs.Calls.{and-both, start-is, start-not, run-is, run-not, run-chart}
 use Rattle.chart.proofs.Demand.{runs-right, start-right}
 
@@ -100,13 +100,29 @@ module _ (w : List ℕ) (m : ℕ) (mark : m ≡ getD w 1 0) where
   unfolding answerOf chartOf
   outcome-small n = rw (ne-eqb (getD w 1 0) 0 (λ z. n (mark ∙ z))) refl
 
-  pub outcome-by : (n d : ℕ) (f : Found) (a : Outcome) → m ≡ 0 → n ≡ itemCount w → d ≡ handledCount (recordsAt w n) → f ≡ leastWaiting (recordsAt w n) n → a ≡ whenWaiting d f → a ≡ answerOf (chartOf w)
-  unfolding answerOf chartOf
-  outcome-by n d f a z qn qd qf e =
-      let rs = recordsAt w (itemCount w) in
-      let steps : d ≡ handledCount rs = qd ∙ ap (λ k. handledCount (recordsAt w k)) qn in
-      let next : f ≡ leastWaiting rs (length rs) = qf ∙ ap (λ k. leastWaiting (recordsAt w k) k) qn ∙ ap (leastWaiting rs) (sym (length-records w (itemCount w))) in
-      rw (eq-eqb (getD w 1 0) 0 (sym mark ∙ z)) (e ∙ ap (λ k. whenWaiting k f) steps ∙ ap (whenWaiting (handledCount rs)) next)
+  module _ (n d : ℕ) (clear : m ≡ 0) (number : n ≡ itemCount w) (steps : d ≡ handledCount (recordsAt w n)) where
+    abbrev rs : List Record
+    rs = recordsAt w (itemCount w)
+
+    count-here : d ≡ handledCount rs
+    count-here = steps ∙ ap (λ k. handledCount (recordsAt w k)) number
+
+    length-here : length rs ≡ n
+    length-here = length-records w (itemCount w) ∙ sym number
+
+    outcome-by : (a : Outcome) → a ≡ whenWaiting (handledCount rs) (leastWaiting rs (length rs)) → a ≡ answerOf (chartOf w)
+    unfolding answerOf chartOf
+    outcome-by a e = rw (eq-eqb (getD w 1 0) 0 (sym mark ∙ clear)) e
+
+    pub outcome-done : d ≡ n → Done d ≡ answerOf (chartOf w)
+    outcome-done e =
+        outcome-by (Done d)
+        (ap Done count-here ∙ ap (whenWaiting (handledCount rs)) (sym (none-waits rs (sym count-here ∙ e ∙ sym length-here))))
+
+    pub outcome-waits : (d ≡ n → ⊥) → Unfinished d ≡ answerOf (chartOf w)
+    outcome-waits f =
+        let (j, at) = some-waits rs (λ e. f (count-here ∙ e ∙ length-here)) in
+        outcome-by (Unfinished d) (ap Unfinished count-here ∙ ap (whenWaiting (handledCount rs)) (sym at))
 
 -- ---- run
 not-by : (g h w : List ℕ) → fit g h w ≡ false → fitChart g h w ≡ false

@@ -3,7 +3,6 @@ ghost use mathlib.Core.Path.{_≡_};
 ghost use Rattle.records.specs.Words.{chartOf};
 ghost use Rattle.chart.specs.Calls.{fit, answerOf, startOf, runOf, standingOf};
 ghost use Rattle.chart.specs.Facts.{StartChoices, RunChoices};
-use agenda::Found;
 
 // What start and run answer: the tables or the chart are refused (8), the chart does not hold the closure (9), items wait after the steps done since start (10),
 // or all are handled after so many steps.
@@ -41,7 +40,7 @@ pub fn start(grammar: &[u64], graph: &[u64], chart: &mut [u64]) -> Outcome
     Outcome::Done(0)
 }
 
-// Questions 9 and 10, by what stands in the chart.
+// Questions 9 and 10, by what stands in the chart: items wait where not all are handled.
 fn outcome_of(chart: &[u64]) -> Outcome
     ensures { λ r. ⌜ r ≡ answerOf (chartOf (now (chart .entry))) ⌝ }
 {
@@ -50,10 +49,10 @@ fn outcome_of(chart: &[u64]) -> Outcome
     }
     let n = records::item_count(chart);
     let done = records::handled_steps(chart, n);
-    match records::least(chart, n) {
-        Found::Nowhere => Outcome::Done(done),
-        Found::At(_) => Outcome::Unfinished(done),
+    if done == n {
+        return Outcome::Done(done);
     }
+    Outcome::Unfinished(done)
 }
 
 // How the chart stands: what a run of no steps says.

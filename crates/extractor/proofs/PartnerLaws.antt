@@ -8,7 +8,9 @@ use borrow.Author.Tests.{ne-eqb}
 use Rattle.hrg.specs.Grammars.{PlanNode, leaf, introduce, join, Grammar, planOf, planNode}
 use Rattle.questions.specs.Abstract.{planFrom}
 use Rattle.agenda.specs.declared.Record.{Record}
-use Rattle.records.specs.Words.{recordAt}
+use Rattle.hrg.specs.Counts.{tabulate}
+use Rattle.records.specs.Words.{fieldAt, blockAt, ofWords, recordAt}
+use Rattle.records.proofs.WordLaws.{rule-of}
 use Rattle.extraction.specs.Extraction.{partnersVia, partnersWithin, ruleAt, partnersAt}
 
 less : (n : ℕ) → suc n - 1 ≡ n
@@ -52,8 +54,12 @@ module _ (w : List ℕ) where
           b ∙ rw (a, at) (sym (within-step some ∙ ap below here))
 
   -- ---- a passive record
-  pub rule-by : (j : ℕ) (x y : Record) → x ≡ recordAt w j → y ≡ recordAt w (x .first) → y .of ≡ ruleAt look j
-  rule-by j x y a b = rw (b, a)
+  pub root-by : (j x : ℕ) → x ≡ fieldAt w j 14 → x ≡ recordAt w j .first
+  unfolding recordAt ofWords blockAt tabulate
+  root-by j x e = e
+
+  pub rule-by : (j x y : ℕ) → x ≡ recordAt w j .first → y ≡ fieldAt w x 1 → y ≡ ruleAt look j
+  rule-by j x y a b = b ∙ sym (rule-of w x) ∙ ap (λ k. recordAt w k .of) a
 
   module _ (G : Grammar) (j r n : ℕ) (rule : r ≡ ruleAt look j) (size : n ≡ length (planOf G r)) where
     sized : n ≡ length (planOf G (ruleAt look j))
@@ -63,6 +69,6 @@ module _ (w : List ℕ) where
     unfolding partnersAt
     partners-none e = within-end (planOf G (ruleAt look j)) (length (planOf G (ruleAt look j))) (length (planOf G (ruleAt look j)) - 1) (recordAt w j .first) (replicate 8 0) (sym sized ∙ e)
 
-    pub partners-some : (x : Record) (v : List ℕ) → x ≡ recordAt w j → v ≡ partnersWithin look (planOf G r) n (n - 1) (x .first) (replicate 8 0) → v ≡ partnersAt look G j
+    pub partners-some : (x : ℕ) (v : List ℕ) → x ≡ recordAt w j .first → v ≡ partnersWithin look (planOf G r) n (n - 1) x (replicate 8 0) → v ≡ partnersAt look G j
     unfolding partnersAt
     partners-some x v a b = b ∙ rw (size, rule, a)

@@ -64,7 +64,7 @@ module _ (w : List ℕ) (G : Grammar) (H : Graph) where
     pub fit : SizesFit sizes
     pub each : (m : ℕ) → getD sizes m 0 ≡ sizesFrom look G k (drop k js) m
 
-  pub written-start : (list text : List ℕ) (n : ℕ) → n ≤ 4096 → n ≤ length list → 303110 ≤ length text → Written (take n list) text text (nothing 4104) n (length text)
+  pub written-start : (list text : List ℕ) (n : ℕ) → n ≤ 4096 → n ≤ length list → 74 * n + 6 ≤ length text → Written (take n list) text text (nothing 4104) n (length text)
   unfolding rowLines rowsFrom sizesFrom
   written-start list text n few inside room =
       let size : length (take n list) ≡ n = length-take-le n list inside in

@@ -1,29 +1,39 @@
 // The applications that the partners of a chart's records spell, from a passive record down, as the text of a derivation file.
-ghost use Prim.Native.Nat.{_≤_};
+ghost use mathlib.Core.List.{[], _∷_};
+ghost use Prim.Native.Nat.{_+_, _*_, _≤_};
 ghost use lib.ListN.{length};
 ghost use Rattle.questions.specs.Abstract.{grammarOf, graphOf};
 ghost use Rattle.joins.specs.Joins.{Accepted};
 ghost use Rattle.records.specs.Words.{recordAt};
+ghost use Rattle.extraction.specs.Listing.{listing};
+ghost use Rattle.extractor.specs.Lists.{ListedIn};
 ghost use Rattle.extractor.specs.Texts.{textAt, EndsWith};
 
-mod listing;
+pub mod listing;
 mod lookup;
 mod numbers;
 mod partners;
 mod places;
 mod rows;
 
-// Writes the text of the applications under the passive record at j to the end of the buffer and answers where it starts; the buffer's end where they are more than 4,096.
-pub fn extract(grammar: &[u64], graph: &[u64], chart: &[u64], j: u64, text: &mut [u8]) -> usize
-    requires { ⌜ Accepted (now grammar) (now graph) × (303110 ≤ length (now text)) ⌝ }
+// Writes the text of the n applications listed under the passive record at j to the end of the buffer and answers where it starts; the buffer's end where none are
+// listed: they are more than 4,096. A line has at most 74 bytes, the first one six.
+pub fn extract(
+    grammar: &[u64],
+    graph: &[u64],
+    chart: &[u64],
+    j: u64,
+    list: &[u64],
+    n: usize,
+    text: &mut [u8],
+) -> usize
+    requires { ⌜ Accepted (now grammar) (now graph) × ListedIn (listing (λ k. recordAt (now chart) k) (grammarOf (now grammar)) 4096 (j ∷ [])) (now list) n × (n ≤ length (now list)) × (74 * n + 6 ≤ length (now text)) ⌝ }
     ensures { λ r. ⌜ EndsWith (textAt (λ k. recordAt (now (chart .entry)) k) (grammarOf (now (grammar .entry))) (graphOf (now (grammar .entry)) (now (graph .entry))) j) (now (text .entry)) (now (text .exit)) r ⌝ }
 {
-    let mut list = [0u64; 4104];
-    let n = listing::list_applications(grammar, chart, j, &mut list);
     if n == 0 {
         return text.len();
     }
-    let at = rows::write_rows(grammar, graph, chart, &list, n, text);
+    let at = rows::write_rows(grammar, graph, chart, list, n, text);
     let mut fields = [0u64; 18];
     fields[0] = n as u64;
     let start = at - 6;

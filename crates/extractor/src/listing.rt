@@ -50,7 +50,7 @@ fn push_children(grammar: &[u64], chart: &[u64], j: u64, list: &mut [u64], top: 
 }
 
 // Lists the applications under the passive record at j and answers how many; 0 where they are more than 4,096. Eight places are always free.
-pub(crate) fn list_applications(grammar: &[u64], chart: &[u64], j: u64, list: &mut [u64]) -> usize
+pub fn list_applications(grammar: &[u64], chart: &[u64], j: u64, list: &mut [u64]) -> usize
     requires { ⌜ (checkGrammar (now grammar) ≡ true) × (length (now list) ≡ 4104) ⌝ }
     ensures { λ n. ⌜ ListedIn (listing (λ k. recordAt (now (chart .entry)) k) (grammarOf (now (grammar .entry))) 4096 (j ∷ [])) (now (list .exit)) n ⌝ }
 {

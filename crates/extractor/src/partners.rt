@@ -51,13 +51,18 @@ fn partners_within(
     }
 }
 
+// The place of the root item of the passive record at j.
+fn root_at(chart: &[u64], j: u64) -> u64
+    ensures { λ x. ⌜ x ≡ recordAt (now (chart .entry)) j .first ⌝ }
+{
+    records::field(chart, j, 14)
+}
+
 // The rule of the passive record at j: that of its root item.
 pub(crate) fn rule_at(chart: &[u64], j: u64) -> u64
     ensures { λ x. ⌜ x ≡ ruleAt (λ k. recordAt (now (chart .entry)) k) j ⌝ }
 {
-    let x = records::load(chart, j);
-    let y = records::load(chart, x.first);
-    y.of
+    records::field(chart, root_at(chart, j), 1)
 }
 
 // For each edge of its rule: a graph edge, or the place of a passive record.
@@ -71,6 +76,5 @@ pub(crate) fn partners_at(grammar: &[u64], chart: &[u64], j: u64) -> [u64; 8]
     if n == 0 {
         return none;
     }
-    let x = records::load(chart, j);
-    partners_within(grammar, chart, r, n, n - 1, x.first, none)
+    partners_within(grammar, chart, r, n, n - 1, root_at(chart, j), none)
 }

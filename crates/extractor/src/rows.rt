@@ -1,7 +1,7 @@
 // The rows of the applications as lines of text, from the last application up to the first.
 ghost use mathlib.Core.Path.{_≡_};
 ghost use mathlib.Core.List.{_∷_, _++_};
-ghost use Prim.Native.Nat.{_+_, _≤_, _<_};
+ghost use Prim.Native.Nat.{_+_, _*_, _≤_, _<_};
 ghost use lib.ListN.{length, getD, take};
 ghost use lib.Seq.{paste};
 ghost use Rattle.questions.specs.Abstract.{grammarOf, graphOf};
@@ -92,7 +92,7 @@ pub(crate) fn write_rows(
     n: usize,
     text: &mut [u8],
 ) -> usize
-    requires { ⌜ Accepted (now grammar) (now graph) × (n ≤ 4096) × (n ≤ length (now list)) × (303110 ≤ length (now text)) ⌝ }
+    requires { ⌜ Accepted (now grammar) (now graph) × (n ≤ 4096) × (n ≤ length (now list)) × (74 * n + 6 ≤ length (now text)) ⌝ }
     ensures { λ x. ⌜ EndsWith (rowLines (rowsFrom (λ k. recordAt (now (chart .entry)) k) (grammarOf (now (grammar .entry))) (graphOf (now (grammar .entry)) (now (graph .entry))) 0 (take n (now (list .entry))))) (now (text .entry)) (now (text .exit)) x × (6 ≤ x) ⌝ }
 {
     let mut sizes = [0u64; 4104];

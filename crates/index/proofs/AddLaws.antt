@@ -13,7 +13,7 @@ use Rattle.agenda.specs.declared.Found.the-variants.{At, Nowhere}
 use Rattle.agenda.specs.Records.{isHandled}
 use Rattle.agenda.specs.Consequences.{recordIn}
 use Rattle.agenda.specs.Steps.{Chart, improved, handledNow, lastSame, placed, added}
-use Rattle.records.specs.Words.{Fits, capacity, itemCount, fieldAt, recordAt, recordsAt, chartOf, improvedAt, appendedTo, addedTo, markedAt}
+use Rattle.records.specs.Words.{Fits, capacity, itemCount, fieldAt, recordAt, chartOf, improvedAt, appendedTo, addedTo, markedAt}
 use Rattle.records.proofs.WordLaws.{Below, one, last-below, record-in, count-of, handled-yes, handled-no, improve-handled, improve-less, add-found, add-new}
 use Rattle.records.proofs.Written.{add-written, handle-written, chart-of-written}
 use Rattle.records.proofs.Rewritten.{handledIn, grown-added, grown-handled}

@@ -7,3 +7,5 @@ pub mod KeyLists
 pub mod IndexLaws
 -- the chart beside them
 pub mod AddLaws
+-- records over which cursors skim
+pub mod QuietLaws

@@ -15,7 +15,8 @@ ghost use Rattle.agenda.specs.Steps.{leastWaiting, improved, handledNow, placed
 ghost use Rattle.records.specs.Words.{Fits, capacity, itemCount, chartOf, improvedAt, appendedTo, addedTo, markedAt};
 ghost use Rattle.ranking.specs.Ranking.{Ranked};
 ghost use Rattle.lists.specs.Lists.{Within, Ready, Unlisted};
-ghost use Rattle.lists.specs.Cursors.{startsOf, passedOf};
+ghost use Rattle.lists.specs.Cursors.{startsOf, passedOf, Skims, SkimsAll};
+ghost use Rattle.index.specs.Quiet.{quietIn};
 ghost use Rattle.index.specs.Index.{indexWords, ranksOf, listsOf, Indexed, Empty, Keyed, Kept, listedWith};
 use agenda::Found;
 use agenda::Record;
@@ -86,6 +87,65 @@ pub fn passed(index: &[u64], cs: [u64; 5], k: u64) -> [u64; 5]
     ensures { λ r. ⌜ r ≡ passedOf (listsOf (now (index .entry))) cs k ⌝ }
 {
     lists::passed(&index[LISTS..MARK], cs, k)
+}
+
+// Whether the record at place k makes nothing with what has these edges: it has one of them, or it is not handled.
+fn quiet(chart: &[u64], edges: u64, k: u64) -> bool
+    requires { ⌜ (k < itemCount (now chart)) × (k < 4096) ⌝ }
+    ensures { λ r. ⌜ r ≡ quietIn (now (chart .entry)) edges k ⌝ }
+{
+    let own = chart[(2 + 16 * k + 3) as usize];
+    if !masks::disjoint(edges, own) {
+        return true;
+    }
+    if chart[(2 + 16 * k + 5) as usize] == 0 {
+        return true;
+    }
+    false
+}
+
+// A cursor goes on over the entries of quiet records of the first n. Places rise along a list, so 0 or a place that does not rise ends it.
+fn skim(ws: &[u64], chart: &[u64], edges: u64, n: u64, from: u64) -> u64
+    requires { ⌜ (length (now ws) ≡ 24578) × (n ≤ itemCount (now chart)) × (n ≤ 4096) ⌝ }
+    ensures { λ r. ⌜ Skims (quietIn (now (chart .entry)) edges) (now (ws .entry)) n from r ⌝ }
+{
+    if from == 0 {
+        return 0;
+    }
+    let end = 5 * n;
+    let mut c = from;
+    while c <= end {
+        if !quiet(chart, edges, (c - 1) / 5) {
+            return c;
+        }
+        let d = ws[(4097 + c) as usize];
+        if d <= c {
+            return d;
+        }
+        c = d;
+    }
+    c
+}
+
+fn skim_all(ws: &[u64], chart: &[u64], edges: u64, n: u64, cs: [u64; 5]) -> [u64; 5]
+    requires { ⌜ (length (now ws) ≡ 24578) × (n ≤ itemCount (now chart)) × (n ≤ 4096) ⌝ }
+    ensures { λ r. ⌜ SkimsAll (quietIn (now (chart .entry)) edges) (now (ws .entry)) n cs r ⌝ }
+{
+    [
+        skim(ws, chart, edges, n, cs[0]),
+        skim(ws, chart, edges, n, cs[1]),
+        skim(ws, chart, edges, n, cs[2]),
+        skim(ws, chart, edges, n, cs[3]),
+        skim(ws, chart, edges, n, cs[4]),
+    ]
+}
+
+// Each of five cursors goes on over the entries of quiet records of the first n.
+pub fn skimmed(chart: &[u64], index: &[u64], edges: u64, n: u64, cs: [u64; 5]) -> [u64; 5]
+    requires { ⌜ (length (now index) ≡ indexWords) × (n ≤ itemCount (now chart)) × (n ≤ 4096) ⌝ }
+    ensures { λ r. ⌜ SkimsAll (quietIn (now (chart .entry)) edges) (listsOf (now (index .entry))) n cs r ⌝ }
+{
+    skim_all(&index[LISTS..MARK], chart, edges, n, cs)
 }
 
 // Whether no record is irregular.

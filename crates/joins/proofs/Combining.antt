@@ -2,7 +2,7 @@
 use mathlib.Core.Path.{_≡_, refl, sym, ap, ap₂, _∙_}
 use mathlib.Core.Bool.{Bool, true, false, _&&_, _||_, not, or-true, false≢true}
 use mathlib.Core.List.{List, [], _∷_}
-use Prim.Native.Nat.{ℕ, zero, suc, _+_, _^_, _≤_, _<_}
+use Prim.Native.Nat.{ℕ, zero, suc, _^_, _≤_, _<_}
 use native.Mathlib.Omega.{arith}
 use native.Mathlib.Decide.{decLt}
 use lib.ListN.{length, take}
@@ -12,52 +12,25 @@ use lib.Dec.{eqb, leb, ltb}
 use borrow.Author.Tests.{ltb-true, lt-leb, ne-eqb}
 use Rattle.masks.specs.Masks.{bit, member, _∪_, disjoint, within, Subset}
 use Rattle.masks.specs.Laws.{bit-le, member-true, member-false, true-member, lt-bits, within-holds, holds-within}
-use Rattle.hrg.specs.Counts.{hit, occurs, tabulate}
+use Rattle.hrg.specs.Counts.{occurs, tabulate}
 use Rattle.hrg.specs.Grammars.{Graph, Rule, touches, ruleOf, edgeAt}
 use Rattle.hrg.specs.Trees.{unplaced, at, padded}
 use Rattle.hrg.specs.Items.{Item, active, orElse, joined, keepIf, restrict, below, isBoundary, isOpen, isOpenAt}
 use Rattle.hrg.specs.WellFormedTest.{every}
 use Rattle.hrg.specs.ClosureRun.{guard, agree, oneToOne, covering, combine}
-use Rattle.hrg.proofs.Sums.{hit-ne, length-tabulate, tabulate-ext}
+use Rattle.hrg.proofs.Sums.{length-tabulate, tabulate-ext}
 use Rattle.hrg.proofs.Degrees.{test-T, T-test, and-true}
 use Rattle.hrg.proofs.WellFormedTest.{every-false}
 use Rattle.questions.specs.Layout.{ruleNodes, graphNodes}
 use Rattle.questions.specs.Abstract.{grammarOf, graphOf}
 use Rattle.joins.specs.declared.Joined.{Joined}
 use Rattle.joins.specs.declared.Merged.{Merged}
-use Rattle.joins.specs.Joins.{Accepted, KnownNode, NodesIn, OpenAt, OpenIn, someBoth, Merges, nothing, joinedOf}
+use Rattle.joins.specs.Joins.{Accepted, KnownNode, NodesIn, OpenAt, OpenIn, someBoth, openJoined, Merges, nothing, joinedOf}
 use Rattle.joins.proofs.Known.{rule-ok, right-nodes, nodes-few, graph-ok, graph-nodes, graph-nodes-few}
 use Rattle.joins.proofs.Touching.{touches-some}
-use Rattle.joins.proofs.EdgeMaps.{at-padded}
-use Rattle.joins.proofs.MapLaws.{every-true, every-same, agreeAt}
+use Rattle.joins.proofs.MapLaws.{every-true, every-same, agreeAt, at-joined}
 
--- ---- a map in eight places has the images of the map
-pad-occurs : (n : ℕ) (F : List ℕ) (v : ℕ) → length F ≤ n → v < unplaced → occurs v (tabulate n (λ x. at F x)) ≡ occurs v F
-unfolding tabulate occurs
-pad-occurs zero [] v h l = refl
-pad-occurs zero (x ∷ F) v h l = absurd (omega arith)
-pad-occurs (suc n) [] v h l = omega (arith, hit-ne v unplaced (λ e. omega arith), pad-occurs n [] v (omega arith) l)
-pad-occurs (suc n) (x ∷ F) v h l = ap (λ k. hit v x + k) (pad-occurs n F v (omega arith) l)
-
-pub occurs-padded : (F : List ℕ) (v : ℕ) → length F ≤ 8 → v < 64 → occurs v (padded F) ≡ occurs v F
-unfolding padded
-occurs-padded F v h l = pad-occurs 8 F v h l
-
-one-to-one-padded : (nodes : ℕ) (F : List ℕ) → nodes ≤ 64 → length F ≤ 8 → oneToOne nodes (padded F) ≡ oneToOne nodes F
-unfolding oneToOne
-one-to-one-padded nodes F few h =
-    every-same nodes (λ v. leb (occurs v (padded F)) 1) (λ v. leb (occurs v F) 1) (λ v l. ap (λ k. leb k 1) (occurs-padded F v h (omega arith)))
-
-covering-padded : (H : Graph) (m : ℕ) (F : List ℕ) → H .nodes ≤ 64 → length F ≤ 8 → covering H m (padded F) ≡ covering H m F
-unfolding covering
-covering-padded H m F few h =
-    every-same (H .nodes) (λ v. not (isOpen H m v) || ltb 0 (occurs v (padded F))) (λ v. not (isOpen H m v) || ltb 0 (occurs v F))
-    (λ v l. ap (λ k. not (isOpen H m v) || ltb 0 k) (occurs-padded F v h (omega arith)))
-
-length-joined : (n : ℕ) (f k : List ℕ) → length (joined n f k) ≡ n
-unfolding joined
-length-joined n f k = length-tabulate n (λ x. orElse (at f x) (at k x))
-
+-- ---- as many places as rule nodes
 length-restrict : (R : Rule) (q : ℕ) (j : List ℕ) → length (restrict R q j) ≡ R .production .right .nodes
 unfolding restrict
 length-restrict R q j = length-tabulate (R .production .right .nodes) (λ x. keepIf (isOpenAt R q x) (at j x))
@@ -74,40 +47,16 @@ unfolding joined
 joined-take n f k =
     tabulate-ext n (λ x. orElse (at (take n f) x) (at (take n k) x)) (λ x. orElse (at f x) (at k x)) (λ x h. ap₂ orElse (getD-take n f x unplaced h) (getD-take n k x unplaced h))
 
-restrict-padded : (R : Rule) (q : ℕ) (j : List ℕ) → R .production .right .nodes ≤ 8 → restrict R q (padded j) ≡ restrict R q j
-unfolding restrict
-restrict-padded R q j few =
-    tabulate-ext (R .production .right .nodes) (λ x. keepIf (isOpenAt R q x) (at (padded j) x)) (λ x. keepIf (isOpenAt R q x) (at j x))
-    (λ x h. ap (keepIf (isOpenAt R q x)) (at-padded j x (omega arith)))
-
--- ---- two maps as one
-pub merge-no : (n m nodes : ℕ) (f k : List ℕ) (b : Bool) → m ≡ n → b ≡ agree m f k → b ≡ false → Merges n nodes f k (record { ok = false; nodes = f })
-merge-no n m nodes f k b e t fails = record {
-  test = ap (λ p. p && oneToOne nodes (joined n f k)) (sym fails ∙ t ∙ ap (λ i. agree i f k) e);
-  map = λ h. absurd (false≢true h);
-}
-
-pub merge-yes : (n m nodes gn : ℕ) (f k j : List ℕ) (b ok : Bool) → n ≤ 8 → nodes ≤ 64 → m ≡ n → gn ≡ nodes → b ≡ agree m f k → b ≡ true → j ≡ padded (joined m f k) → ok ≡ oneToOne gn j
-    → Merges n nodes f k (record { ok = ok; nodes = j })
-merge-yes n m nodes gn f k j b ok few few′ e e′ t holds map test = record {
-  test =
-      test ∙ rw (e′, map, e) (one-to-one-padded nodes (joined n f k) few′ (omega (arith, length-joined n f k)))
-      ∙ ap (λ p. p && oneToOne nodes (joined n f k)) (sym holds ∙ t ∙ ap (λ i. agree i f k) e);
-  map = λ h. map ∙ ap (λ i. padded (joined i f k)) e;
-}
-
 -- ---- closed nodes dropped
-pub closed : (g : List ℕ) (r q m o : ℕ) (j t : List ℕ) → KnownNode g r q → m ≡ ruleNodes g r → OpenAt g r q o → t ≡ padded (tabulate m (λ x. keepIf (member o x) (at j x)))
-    → t ≡ padded (restrict (ruleOf (grammarOf g) r) q j)
+pub closed : (g : List ℕ) (r q o : ℕ) (f k : List ℕ) → KnownNode g r q → OpenAt g r q o → openJoined (ruleNodes g r) o f k ≡ restrict (ruleOf (grammarOf g) r) q (joined (ruleNodes g r) f k)
 unfolding restrict
-closed g r q m o j t known e opened made =
+closed g r q o f k known opened =
     let R = ruleOf (grammarOf g) r in
-    let size : m ≡ R .production .right .nodes = e ∙ sym (right-nodes g r (known .grammar) (known .rule)) in
-    made
-    ∙ ap (λ i. padded (tabulate i (λ x. keepIf (member o x) (at j x)))) size
-    ∙ ap padded
-    (tabulate-ext (R .production .right .nodes) (λ x. keepIf (member o x) (at j x)) (λ x. keepIf (isOpenAt R q x) (at j x))
-    (λ x h. ap (λ b. keepIf b (at j x)) (opened .members x (omega (arith, right-nodes g r (known .grammar) (known .rule), nodes-few g r (known .grammar) (known .rule))))))
+    let n = ruleNodes g r in
+    let size : n ≡ R .production .right .nodes = sym (right-nodes g r (known .grammar) (known .rule)) in
+    tabulate-ext n (λ x. keepIf (member o x) (orElse (at f x) (at k x))) (λ x. keepIf (isOpenAt R q x) (at (joined n f k) x))
+    (λ x h. ap₂ keepIf (opened .members x (omega (arith, nodes-few g r (known .grammar) (known .rule)))) (sym (at-joined n f k x h)))
+    ∙ ap (λ i. tabulate i (λ x. keepIf (isOpenAt R q x) (at (joined n f k) x))) size
 
 -- ---- open nodes are nodes
 some-find : (t a : ℕ → Bool) (n : ℕ) → someBoth t a n ≡ true → (i : ℕ) × (i < n) × (a i ≡ true)
@@ -240,33 +189,28 @@ module _ (g h : List ℕ) (r q m₁ m₂ : ℕ) (f k : List ℕ) (accepted : Acc
   pub combine-apart : (b : Bool) → b ≡ disjoint m₁ m₂ → b ≡ false → nothing ≡ made
   combine-apart b e fails = sym (ap joinedOf whole ∙ apart-no (graphOf g h) R r q m₁ m₂ (agree n f k) (joined n f k) (sym e ∙ fails))
 
-  module _ (x : Merged) (merges : Merges n (graphNodes h) f k x) where
+  module _ (size nodes stays : ℕ) (e : size ≡ ruleNodes g r) (e′ : nodes ≡ graphNodes h) (x : Merged) (merges : Merges size nodes stays f k x) where
     test : (agree n f k && oneToOne (graphOf g h .nodes) (joined n f k)) ≡ x .ok
-    test = ap (λ i. agree n f k && oneToOne i (joined n f k)) (graph-nodes g h) ∙ sym (merges .test)
+    test =
+        ap₂ (λ (i n : ℕ). agree n f k && oneToOne i (joined n f k)) (graph-nodes g h ∙ sym e′) (sym e)
+        ∙ sym (merges .test)
 
     pub combine-clash : x .ok ≡ false → nothing ≡ made
     combine-clash fails = sym (ap joinedOf whole ∙ merge-not (graphOf g h) R r q m₁ m₂ (agree n f k) (joined n f k) (test ∙ fails))
 
-    module _ (ok : x .ok ≡ true) (t : List ℕ) (m : ℕ) (e : t ≡ padded (restrict R q (x .nodes))) (u : m ≡ m₁ ∪ m₂) (c : Bool) (covered : c ≡ covering (graphOf g h) m t) where
-      map : t ≡ padded (restrict R q (joined n f k))
-      map =
-          e
-          ∙ ap (λ (j : List ℕ). padded (restrict R q j)) (merges .map ok)
-          ∙ ap padded (restrict-padded R q (joined n f k) (omega (arith, right-nodes g r (known .grammar) (known .rule), nodes-few g r (known .grammar) (known .rule))))
+    module _ (ok : x .ok ≡ true) (opened : OpenAt g r q stays) (m : ℕ) (u : m ≡ m₁ ∪ m₂) (c : Bool) (covered : (t : List ℕ) → NodesIn (x .images) t → c ≡ covering (graphOf g h) m t) where
+      map : openJoined size stays f k ≡ restrict R q (joined n f k)
+      map = ap (λ i. openJoined i stays f k) e ∙ closed g r q stays f k known opened
 
       cover : c ≡ covering (graphOf g h) (m₁ ∪ m₂) (restrict R q (joined n f k))
-      cover =
-          covered
-          ∙ ap₂ (covering (graphOf g h)) u map
-          ∙ covering-padded (graphOf g h) (m₁ ∪ m₂) (restrict R q (joined n f k)) (omega (arith, graph-nodes g h, graph-nodes-few g h accepted))
-          (omega (arith, length-restrict R q (joined n f k), right-nodes g r (known .grammar) (known .rule), nodes-few g r (known .grammar) (known .rule)))
+      cover = covered (openJoined size stays f k) (merges .seen ok) ∙ ap₂ (covering (graphOf g h)) u map
 
       pub combine-bare : c ≡ false → nothing ≡ made
       combine-bare fails = sym (ap joinedOf whole ∙ cover-no (graphOf g h) R r q m₁ m₂ (agree n f k) (joined n f k) (sym cover ∙ fails))
 
-      pub combine-found : (b : Bool) → b ≡ disjoint m₁ m₂ → b ≡ true → c ≡ true → record { found = true; edges = m; nodes = t } ≡ made
+      pub combine-found : (b : Bool) → b ≡ disjoint m₁ m₂ → b ≡ true → c ≡ true → record { found = true; edges = m; nodes = x .nodes } ≡ made
       combine-found b d holds p =
-          ap₂ (λ (m : ℕ) (t : List ℕ). record { found = true; edges = m; nodes = t }) u map
+          ap₂ (λ (m : ℕ) (t : List ℕ). record { found = true; edges = m; nodes = t }) u (merges .map ok ∙ ap padded map)
           ∙ sym (ap joinedOf whole ∙ all-pass (graphOf g h) R r q m₁ m₂ (agree n f k) (joined n f k) (sym d ∙ holds) (test ∙ ok) (sym cover ∙ p))
 
 -- ---- what callers read off the answer

@@ -1,6 +1,6 @@
 -- The laws of the loops over maps: agreement, a map place by place, one-to-one, and the images.
 use mathlib.Core.Path.{_≡_, refl, sym, ap, ap₂, _∙_}
-use mathlib.Core.Bool.{Bool, true, false, _&&_, _||_, not}
+use mathlib.Core.Bool.{Bool, true, false, _&&_, _||_, not, false≢true}
 use mathlib.Core.List.{List, [], _∷_}
 use Prim.Native.Nat.{ℕ, zero, suc, _+_, _≤_, _<_}
 use native.Mathlib.Omega.{arith}
@@ -18,7 +18,7 @@ use Rattle.hrg.specs.ClosureRun.{agree, oneToOne}
 use Rattle.hrg.proofs.Sums.{hit-self, hit-ne, length-tabulate, at-tabulate, occurs-around, occurs-next}
 use Rattle.hrg.proofs.Degrees.{and-true}
 use Rattle.hrg.proofs.WellFormedTest.{every-false}
-use Rattle.joins.specs.Joins.{NodesIn}
+use Rattle.joins.specs.Joins.{NodesIn, openJoined, Merges}
 use Rattle.joins.proofs.PlanMasks.{member-none, some-sum, some-hit}
 use Rattle.joins.proofs.EdgeMaps.{at-past, is-padded, at-none}
 
@@ -109,7 +109,7 @@ placed-all t n i f a b p = is-padded f (tabulate n t) (p .size) (λ x h. go x (d
     go x (yes d) = p .before x (omega arith) ∙ sym (at-tabulate n t x d)
     go x (no d) = p .after x (omega arith) ∙ sym (at-past (tabulate n t) x (omega (arith, length-tabulate n t)))
 
--- two maps as one, and a map without closed nodes
+-- two maps as one
 module _ (f k : List ℕ) (size : length f ≡ 8) (size′ : length k ≡ 8) where
   pub merge-next : (i v : ℕ) (j : List ℕ) → i < 8 → v ≡ orElse (getD f i 0) (getD k i 0) → Placed (λ x. orElse (at f x) (at k x)) i j → Placed (λ x. orElse (at f x) (at k x)) (i + 1) (set j i v)
   merge-next i v j h e p =
@@ -118,11 +118,6 @@ module _ (f k : List ℕ) (size : length f ≡ 8) (size′ : length k ≡ 8) whe
 pub merge-all : (f k : List ℕ) (n i : ℕ) (j : List ℕ) → i ≤ n → n ≤ i → Placed (λ x. orElse (at f x) (at k x)) i j → j ≡ padded (joined n f k)
 unfolding joined
 merge-all f k n i j a b p = placed-all (λ x. orElse (at f x) (at k x)) n i j a b p
-
-pub restrict-next : (j : List ℕ) (i v m : ℕ) (t : List ℕ) (b : Bool) → length j ≡ 8 → i < 8 → Found m i b → v ≡ keepIf b (getD j i 0) → Placed (λ x. keepIf (member m x) (at j x)) i t
-    → Placed (λ x. keepIf (member m x) (at j x)) (i + 1) (set t i v)
-restrict-next j i v m t b size h found e p =
-    placed-next (λ x. keepIf (member m x) (at j x)) i v t h (e ∙ ap₂ keepIf (found .value) (getD-any j i 0 unplaced (omega arith))) p
 
 -- ---- the images so far
 pub seen-none : (j : List ℕ) → NodesIn 0 (take 0 j)
@@ -137,8 +132,8 @@ seen-next j i v m n h e added before = record {
       (ap (λ k. ltb 0 k) (sym (occurs-next x j i h)));
 }
 
-pub seen-all : (j : List ℕ) (i m : ℕ) → length j ≡ 8 → i ≤ 8 → 8 ≤ i → NodesIn m (take i j) → NodesIn m j
-seen-all j i m size a b here = let e : i ≡ length j = omega arith in rw (e, take-length j) at here
+pub seen-all : (j : List ℕ) (i m : ℕ) → i ≡ length j → NodesIn m (take i j) → NodesIn m j
+seen-all j i m e here = rw (e, take-length j) at here
 
 -- ---- one-to-one
 pub record Once (nodes : ℕ) (j : List ℕ) (i m : ℕ) : Type 0 where
@@ -149,14 +144,14 @@ pub once-none : (nodes : ℕ) (j : List ℕ) → Once nodes j 0 0
 unfolding occurs
 once-none nodes j = record { seen = seen-none j; once = λ v h. omega arith }
 
-module _ (nodes : ℕ) (j : List ℕ) (size : length j ≡ 8) (few : nodes ≤ 64) (i v seen : ℕ) (again : Bool) (h : i < 8) (e : v ≡ getD j i 0) (found : Found seen v again) (o : Once nodes j i seen) where
+module _ (nodes : ℕ) (j : List ℕ) (few : nodes ≤ 64) (i v seen : ℕ) (again : Bool) (inside : i < length j) (e : v ≡ getD j i 0) (found : Found seen v again) (o : Once nodes j i seen) where
   pub once-not : (again && ltb v nodes) ≡ true → false ≡ oneToOne nodes j
   unfolding oneToOne
   once-not t =
       let (a, b) = and-true again (ltb v nodes) t in
-      let inside : v < nodes = ltb-true v nodes b in
+      let known : v < nodes = ltb-true v nodes b in
       let before : 0 < occurs v (take i j) = ltb-true 0 (occurs v (take i j)) (sym (o .seen .members v (omega arith)) ∙ sym (found .value) ∙ a) in
-      every-false nodes (λ v. leb (occurs v j) 1) v inside
+      every-false nodes (λ v. leb (occurs v j) 1) v known
       (lt-leb (occurs v j) 1 (omega (arith, occurs-around v j i (omega arith), ap (λ w. hit v w) (sym e), hit-self v)))
 
   pub once-next : (n : ℕ) → Added seen v n → (again && ltb v nodes) ≡ false → Once nodes j (i + 1) n
@@ -176,8 +171,92 @@ module _ (nodes : ℕ) (j : List ℕ) (size : length j ≡ 8) (few : nodes ≤ 6
       go w l false d =
           omega (arith, occurs-next w j i (omega arith), ap (λ u. hit w u) (sym e), hit-ne w v (eqb-false w v d), o .once w l)
 
-pub once-all : (nodes : ℕ) (j : List ℕ) (i seen : ℕ) → length j ≡ 8 → i ≤ 8 → 8 ≤ i → Once nodes j i seen → true ≡ oneToOne nodes j
+pub once-all : (nodes : ℕ) (j : List ℕ) (i seen : ℕ) → i ≡ length j → Once nodes j i seen → true ≡ oneToOne nodes j
 unfolding oneToOne
-once-all nodes j i seen size a b o =
-    let e : i ≡ length j = omega arith in
+once-all nodes j i seen e o =
     sym (every-true nodes (λ v. leb (occurs v j) 1) (λ v l. le-leb (occurs v j) 1 (rw (e, take-length j) at (o .once v l))))
+
+-- ---- two maps joined and closed in one pass
+pub record Joining (n nodes stays : ℕ) (f k : List ℕ) (t : List ℕ) (seen images i : ℕ) : Type 0 where
+  pub few : i ≤ n
+  pub agreed : Agreed f k i
+  pub once : Once nodes (joined n f k) i seen
+  pub placed : Placed (λ x. keepIf (member stays x) (orElse (at f x) (at k x))) i t
+  pub kept : NodesIn images (take i (openJoined n stays f k))
+
+pub joining-none : (n nodes stays : ℕ) (f k : List ℕ) → length f ≡ 8 → length k ≡ 8 → Joining n nodes stays f k (replicate 8 unplaced) 0 0 0
+joining-none n nodes stays f k size size′ = record {
+  few = omega arith;
+  agreed = agree-none f k size size′;
+  once = once-none nodes (joined n f k);
+  placed = placed-none _;
+  kept = seen-none (openJoined n stays f k);
+}
+
+pub length-joined : (n : ℕ) (f k : List ℕ) → length (joined n f k) ≡ n
+unfolding joined
+length-joined n f k = length-tabulate n (λ x. orElse (at f x) (at k x))
+
+pub at-joined : (n : ℕ) (f k : List ℕ) (i : ℕ) → i < n → at (joined n f k) i ≡ orElse (at f i) (at k i)
+unfolding joined
+at-joined n f k i h = at-tabulate n (λ x. orElse (at f x) (at k x)) i h
+
+either-false : (p q : Bool) → (p || q) ≡ false → (p ≡ false) × (q ≡ false)
+either-false true q h = absurd (false≢true (sym h))
+either-false false q h = (refl, h)
+
+either-true : (p q : Bool) → (p || q) ≡ true → (a b : Bool) → (p ≡ true → false ≡ a) → (q ≡ true → false ≡ b) → false ≡ (a && b)
+either-true true q h a b x y = ap (λ c. c && b) (x refl)
+either-true false q h a b x y = sym (and-no a) ∙ ap (λ c. a && c) (y h)
+  where
+    and-no : (a : Bool) → (a && false) ≡ false
+    and-no true = refl
+    and-no false = refl
+
+module _ (n nodes stays : ℕ) (f k : List ℕ) (size : length f ≡ 8) (size′ : length k ≡ 8) (few : n ≤ 8) (few′ : nodes ≤ 64) where
+  module _ (t : List ℕ) (seen images i a b v : ℕ) (again : Bool) (h : i < n) (x : a ≡ getD f i 0) (y : b ≡ getD k i 0) (z : v ≡ orElse a b) (found : Found seen v again)
+      (o : Joining n nodes stays f k t seen images i) where
+    image : v ≡ orElse (at f i) (at k i)
+    image = z ∙ ap₂ orElse (x ∙ getD-any f i 0 unplaced (omega arith)) (y ∙ getD-any k i 0 unplaced (omega arith))
+
+    inside : i < length (joined n f k)
+    inside = omega (arith, length-joined n f k)
+
+    value : v ≡ getD (joined n f k) i 0
+    value = image ∙ sym (at-joined n f k i h) ∙ getD-any (joined n f k) i unplaced 0 inside
+
+    pub joining-not : ((ltb a 64 && ltb b 64 && not (eqb a b)) || (again && ltb v nodes)) ≡ true → Merges n nodes stays f k (record { ok = false; nodes = t; images = images })
+    joining-not fails = record {
+      test =
+          either-true (ltb a 64 && ltb b 64 && not (eqb a b)) (again && ltb v nodes) fails (agree n f k) (oneToOne nodes (joined n f k))
+          (agree-not f k size size′ n i a b few h x y) (once-not nodes (joined n f k) few′ i v seen again inside value found (o .once));
+      map = λ p. absurd (false≢true p);
+      seen = λ p. absurd (false≢true p);
+    }
+
+    pub joining-next : ((ltb a 64 && ltb b 64 && not (eqb a b)) || (again && ltb v nodes)) ≡ false → (seen′ : ℕ) → Added seen v seen′ → (here : Bool) → Found stays i here → (w : ℕ) → w ≡ keepIf here v
+        → (images′ : ℕ) → Added images w images′ → Joining n nodes stays f k (set t i w) seen′ images′ (i + 1)
+    joining-next passes seen′ added here stay w is images′ added′ =
+        let (p, q) = either-false (ltb a 64 && ltb b 64 && not (eqb a b)) (again && ltb v nodes) passes in
+        let there : w ≡ keepIf (member stays i) (orElse (at f i) (at k i)) = is ∙ ap₂ keepIf (stay .value) image in
+        let long : i < length (openJoined n stays f k) = omega (arith, length-tabulate n (λ x. keepIf (member stays x) (orElse (at f x) (at k x)))) in
+        record {
+          few = omega arith;
+          agreed = agree-next f k size size′ n i a b few h x y p (o .agreed);
+          once = once-next nodes (joined n f k) few′ i v seen again inside value found (o .once) seen′ added q;
+          placed = placed-next (λ x. keepIf (member stays x) (orElse (at f x) (at k x))) i w t (omega arith) there (o .placed);
+          kept =
+              seen-next (openJoined n stays f k) i w images images′ long
+              (there ∙ sym (at-tabulate n (λ x. keepIf (member stays x) (orElse (at f x) (at k x))) i h) ∙ getD-any (openJoined n stays f k) i unplaced 0 long) added′ (o .kept);
+        }
+
+  pub joining-all : (t : List ℕ) (seen images i : ℕ) → n ≤ i → Joining n nodes stays f k t seen images i → Merges n nodes stays f k (record { ok = true; nodes = t; images = images })
+  joining-all t seen images i h o =
+      let e : i ≡ n = omega (arith, o .few) in
+      record {
+        test =
+            ap₂ _&&_ (agree-all f k size size′ n i h (o .agreed))
+            (once-all nodes (joined n f k) i seen (e ∙ sym (length-joined n f k)) (o .once));
+        map = λ p. placed-all (λ x. keepIf (member stays x) (orElse (at f x) (at k x))) n i t (o .few) h (o .placed);
+        seen = λ p. seen-all (openJoined n stays f k) i images (e ∙ sym (length-tabulate n (λ x. keepIf (member stays x) (orElse (at f x) (at k x))))) (o .kept);
+      }

@@ -8,8 +8,8 @@ use lib.Dec.{ltb}
 use Rattle.masks.specs.Masks.{member, _∪_}
 use Rattle.hrg.specs.Counts.{occurs, tabulate}
 use Rattle.hrg.specs.Grammars.{ruleOf, rightOf, planOf, edgeAt}
-use Rattle.hrg.specs.Trees.{unplaced, padded}
-use Rattle.hrg.specs.Items.{Item, active, passive, below, isOpen, isOpenAt, joined}
+use Rattle.hrg.specs.Trees.{unplaced, at, padded}
+use Rattle.hrg.specs.Items.{Item, active, passive, below, isOpen, isOpenAt, orElse, joined, keepIf}
 use Rattle.hrg.specs.ClosureRun.{agree, oneToOne}
 use Rattle.questions.specs.Layout.{word, rankAt, ruleCount, ruleEdges, rulePlan}
 use Rattle.questions.specs.Checking.{checkGrammar, checkGraph}
@@ -88,10 +88,15 @@ abbrev pub edgeNodes : List ℕ → ℕ → ℕ → List ℕ
 edgeNodes g r i = edgeAt (rightOf (grammarOf g) r .edges) i .attachment
 
 -- ---- what two sets and maps make
--- whether two maps of n nodes are one map and one-to-one, and that map
-pub record Merges (n nodes : ℕ) (f k : List ℕ) (x : Merged) : Type 0 where
+-- two maps of n nodes as one, without the nodes that are not in the set `stays`
+abbrev pub openJoined : ℕ → ℕ → List ℕ → List ℕ → List ℕ
+openJoined n stays f k = tabulate n (λ x. keepIf (member stays x) (orElse (at f x) (at k x)))
+
+-- whether two maps of n nodes are one map and one-to-one; that map without the closed nodes, and its images
+pub record Merges (n nodes stays : ℕ) (f k : List ℕ) (x : Merged) : Type 0 where
   pub test : x .ok ≡ (agree n f k && oneToOne nodes (joined n f k))
-  pub map : x .ok ≡ true → x .nodes ≡ padded (joined n f k)
+  pub map : x .ok ≡ true → x .nodes ≡ padded (openJoined n stays f k)
+  pub seen : x .ok ≡ true → NodesIn (x .images) (openJoined n stays f k)
 
 abbrev pub nothing : Joined
 nothing = record { found = false; edges = 0; nodes = replicate 8 unplaced }

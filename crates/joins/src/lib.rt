@@ -1,13 +1,14 @@
 // The leaves of the chart's step, over accepted tables: what lies below a plan node, open nodes, the map of an edge, and two maps joined.
 ghost use mathlib.Core.Path.{_≡_};
-ghost use Prim.Native.Nat.{_+_, _*_, _≤_};
-ghost use lib.ListN.{take};
+ghost use mathlib.Core.List.{List};
+ghost use Prim.Native.Nat.{ℕ, _+_, _*_, _≤_};
+ghost use lib.ListN.{length, take};
 ghost use Rattle.hrg.specs.Trees.{padded};
 ghost use Rattle.hrg.specs.Counts.{tabulate};
 ghost use Rattle.hrg.specs.Grammars.{ruleOf};
-ghost use Rattle.hrg.specs.Items.{attach, restrict};
+ghost use Rattle.hrg.specs.Items.{attach};
 ghost use Rattle.hrg.specs.ClosureRun.{covering, combine};
-ghost use Rattle.questions.specs.Layout.{word, rankAt, startSymbol, ruleSymbol, ruleNodes, ruleExternal, edgeLabel, graphNodes, graphExternal};
+ghost use Rattle.questions.specs.Layout.{word, rankAt, startSymbol, ruleSymbol, ruleNodes, ruleExternal, edgeLabel, graphExternal};
 ghost use Rattle.questions.specs.Abstract.{grammarOf, graphOf};
 ghost use Rattle.joins.specs.Joins.{KnownNode, KnownEdge, Accepted, EdgesBelow, MasksBelow, NodesIn, sideWith, SidesOf, Boundary, OpenAt, OpenIn, edgeNodes, Merges, joinedOf};
 ghost use Rattle.joins.specs.Graphs.{GraphTable, Touched};
@@ -170,54 +171,65 @@ pub fn attach(g: &[u64], r: u64, i: u64, l: [u64; 8]) -> [u64; 8]
     requires { ⌜ KnownEdge (now g) r i ⌝ }
     ensures { λ f. ⌜ f ≡ padded (attach (ruleNodes (now (g .entry)) r) (edgeNodes (now (g .entry)) r i) (take (rankAt (now (g .entry)) (edgeLabel (now (g .entry)) r i)) l)) ⌝ }
 {
+    let p = 66 + 25 * r + i;
     let mut f = [64u64; 8];
-    let mut k = layout::rank_at(g, layout::edge_label(g, r, i));
+    let mut k = layout::rank_at(g, layout::word(g, p, 0));
     while 0 < k {
         k -= 1;
-        let x = layout::edge_node(g, r, i, k);
+        let x = layout::word(g, p, 1 + k);
         f[x as usize] = l[k as usize];
     }
     f
 }
 
-// Two maps as one, and whether that is a map and one-to-one.
+// Two maps as one without the rule nodes that are closed, its images, and whether the two agree and are one-to-one together.
 struct Merged {
     ok: bool,
     nodes: [u64; 8],
+    images: u64,
 }
 
-fn merge_maps(g: &[u64], h: &[u64], r: u64, f: [u64; 8], k: [u64; 8]) -> Merged
-    requires { ⌜ (ruleNodes (now g) r ≤ 8) × (graphNodes (now h) ≤ 64) ⌝ }
-    ensures { λ x. ⌜ Merges (ruleNodes (now (g .entry)) r) (graphNodes (now (h .entry))) f k x ⌝ }
+// Two maps of n rule nodes to `nodes` graph nodes, in one pass: the rule nodes in `stays` are open.
+fn merge_maps(n: u64, nodes: u64, stays: u64, f: &[u64; 8], k: &[u64; 8]) -> Merged
+    requires { ⌜ (n ≤ 8) × (nodes ≤ 64) × (length (now f) ≡ 8) × (length (now k) ≡ 8) ⌝ }
+    ensures { λ x. ⌜ Merges n nodes stays (now (f .entry)) (now (k .entry)) x ⌝ }
 {
-    let n = layout::rule_nodes(g, r);
-    if !maps::agree(n, f, k) {
-        return Merged {
-            ok: false,
-            nodes: f,
-        };
+    let mut t = [64u64; 8];
+    let mut seen: u64 = 0;
+    let mut images: u64 = 0;
+    let mut i: u64 = 0;
+    while i < n {
+        let a = f[i as usize];
+        let b = k[i as usize];
+        let v = maps::first_of(a, b);
+        let again = masks::has(seen, v);
+        if ((a < 64) & (b < 64) & (a != b)) | (again & (v < nodes)) {
+            return Merged {
+                ok: false,
+                nodes: t,
+                images,
+            };
+        }
+        seen = masks::with(seen, v);
+        let w = maps::kept(masks::has(stays, i), v);
+        t[i as usize] = w;
+        images = masks::with(images, w);
+        i += 1;
     }
-    let j = maps::merge(n, f, k);
-    let ok = maps::one_to_one(layout::graph_nodes(h), j);
-    Merged { ok, nodes: j }
+    Merged {
+        ok: true,
+        nodes: t,
+        images,
+    }
 }
 
-// A map without the rule nodes that are closed at plan node q: those in `stays` are open there.
-fn close(g: &[u64], r: u64, q: u64, stays: u64, j: [u64; 8]) -> [u64; 8]
-    requires { ⌜ KnownNode (now g) r q × OpenAt (now g) r q stays ⌝ }
-    ensures { λ t. ⌜ t ≡ padded (restrict (ruleOf (grammarOf (now (g .entry))) r) q j) ⌝ }
-{
-    maps::restrict(layout::rule_nodes(g, r), stays, j)
-}
-
-// Whether every open graph node of the edge set m is an image.
-fn covered(g: &[u64], h: &[u64], graph: &[u64; 577], m: u64, t: [u64; 8]) -> bool
+// Whether every open graph node of the edge set m is one of the images.
+fn covered(g: &[u64], h: &[u64], graph: &[u64; 577], m: u64, images: u64) -> bool
     requires { ⌜ Accepted (now g) (now h) × GraphTable (now g) (now h) (now graph) ⌝ }
-    ensures { λ x. ⌜ x ≡ covering (graphOf (now (g .entry)) (now (h .entry))) m t ⌝ }
+    ensures { λ x. ⌜ ((t : List ℕ) → NodesIn images t → x ≡ covering (graphOf (now (g .entry)) (now (h .entry))) m t) ⌝ }
 {
     let nodes = open_in(g, h, graph, m);
-    let seen = maps::images(t);
-    nodes & seen == nodes
+    nodes & images == nodes
 }
 
 // What two sets and maps make: nothing where found is false.
@@ -251,16 +263,17 @@ pub fn combine(
     if !masks::disjoint(m1, m2) {
         return none;
     }
-    let merged = merge_maps(g, h, r, f, k);
+    let n = layout::rule_nodes(g, r);
+    let nodes = layout::graph_nodes(h);
+    let merged = merge_maps(n, nodes, stays, &f, &k);
     if !merged.ok {
         return none;
     }
-    let j = merged.nodes;
-    let t = close(g, r, q, stays, j);
     let m = masks::union(m1, m2);
-    if !covered(g, h, graph, m, t) {
+    if !covered(g, h, graph, m, merged.images) {
         return none;
     }
+    let t = merged.nodes;
     Joined {
         found: true,
         edges: m,

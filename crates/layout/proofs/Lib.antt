@@ -1,2 +1,3 @@
 -- The root of the laws.
+pub mod Sizes
 pub mod Words

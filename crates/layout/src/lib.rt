@@ -1,7 +1,7 @@
 // The words of a table by name, the places of its lines and their order, for every table and every number: a word past the end is 0.
 ghost use mathlib.Core.Path.{_≡_};
 ghost use mathlib.Core.Bool.{cond};
-ghost use Prim.Native.Nat.{_+_, _*_, _≤_, min};
+ghost use Prim.Native.Nat.{_+_, _*_, _≤_, _<_, min};
 ghost use lib.ListN.{getD, length};
 ghost use Rattle.questions.specs.declared.Due.the-variants.{Symbol, RuleEdge, PlanLine, GraphEdge, Nothing};
 ghost use Rattle.questions.specs.Layout.{placeOf, inTable, fieldsIn, word, block, symbolCount, ruleCount, startSymbol, kindWord, rankAt, ruleSymbol, ruleNodes, ruleEdges, rulePlan, ruleExternal, edgeLabel, edgeNode, planKind, planFirst, planSecond, graphNodes, graphEdges, graphExternal, graphLabel, graphNode};
@@ -10,24 +10,34 @@ ghost use Rattle.layout.specs.Storing.{pasted, storeAt};
 use questions::Due;
 use questions::Fields;
 
-// Word j of the line at place p.
+// Word j of the line at place p. No slice is so long that the sum could wrap inside it.
 pub fn word(t: &[u64], p: u64, j: u64) -> u64
     ensures { λ r. ⌜ r ≡ word (now (t .entry)) p j ⌝ }
 {
-    let n = t.len() as u64;
-    if n / 9 < p {
+    if p >= 1024819115206086201 {
         return 0;
     }
-    let at = 9 * p;
-    if n - at <= j {
+    if j >= 9223372036854775808 {
         return 0;
     }
-    t[(at + j) as usize]
+    let at = 9 * p + j;
+    if t.len() as u64 <= at {
+        return 0;
+    }
+    t[at as usize]
+}
+
+// The same of a word that the table has.
+pub fn word_in(t: &[u64], p: u64, j: u64) -> u64
+    requires { ⌜ 9 * p + j < length (now t) ⌝ }
+    ensures { λ r. ⌜ r ≡ word (now (t .entry)) p j ⌝ }
+{
+    t[(9 * p + j) as usize]
 }
 
 // Word from + k of the line at place base + i.
 fn word_from(t: &[u64], base: u64, i: u64, from: u64, k: u64) -> u64
-    requires { ⌜ (base ≤ length (now t) + 74) × (from ≤ 5) ⌝ }
+    requires { ⌜ (base ≤ 1152921504606846976) × (from ≤ 5) ⌝ }
     ensures { λ x. ⌜ x ≡ word (now (t .entry)) (base + i) (from + k) ⌝ }
 {
     let n = t.len() as u64;
@@ -45,8 +55,7 @@ fn rule_word(t: &[u64], base: u64, r: u64, i: u64, from: u64, k: u64) -> u64
     requires { ⌜ (base ≤ 74) × (from ≤ 5) ⌝ }
     ensures { λ x. ⌜ x ≡ word (now (t .entry)) (base + 25 * r + i) (from + k) ⌝ }
 {
-    let n = t.len() as u64;
-    if n / 25 < r {
+    if r >= 40992764608243449 {
         return 0;
     }
     word_from(t, base + 25 * r, i, from, k)

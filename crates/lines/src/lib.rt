@@ -10,6 +10,7 @@ ghost use Rattle.format.specs.Lines.{lineOf, lineStart, lineEnd, isEnded, after
 ghost use Rattle.format.specs.Fields.{column as columnOf, digitOf, fieldText, valueOf, cellOf, fieldCount, fieldOf, numberIn, numberOf};
 ghost use Rattle.format.specs.Shape.{letterOf, letterKind, isCapital, shapeOf};
 ghost use Rattle.format.specs.Writing.{fieldsText, lineText, writable as writableOf, fieldFits, lineFits, Put};
+ghost use Rattle.format.specs.declared.Cell.the-variants.{Number};
 use format::Cell;
 use format::Letter;
 
@@ -115,7 +116,8 @@ fn is_text(n: u64, a: u8, b: u8, c: u8, d: u8) -> bool
     (a == column(1000, n)) & (b == column(100, n)) & (c == column(10, n)) & (d == last_column(n))
 }
 
-fn read_cell(a: u8, b: u8, c: u8, d: u8) -> Cell
+// Any four bytes: a number where they are the text of their value.
+fn compared_cell(a: u8, b: u8, c: u8, d: u8) -> Cell
     ensures { λ r. ⌜ r ≡ cellOf (a ∷ b ∷ c ∷ d ∷ []) ⌝ }
 {
     let n = value(a, b, c, d);
@@ -124,6 +126,44 @@ fn read_cell(a: u8, b: u8, c: u8, d: u8) -> Cell
     } else {
         Cell::Bad
     }
+}
+
+// The number behind two blanks, by its last two columns; 100 where they are no text of a number.
+fn last_two(c: u8, d: u8) -> u64
+    ensures { λ r. ⌜ (r < 100 → Number r ≡ cellOf (32 ∷ 32 ∷ c ∷ d ∷ [])) ⌝ }
+{
+    if d < 48 {
+        return 100;
+    }
+    if 57 < d {
+        return 100;
+    }
+    let units = (d - 48) as u64;
+    if c == 32 {
+        return units;
+    }
+    if c < 49 {
+        return 100;
+    }
+    if 57 < c {
+        return 100;
+    }
+    (c - 48) as u64 * 10 + units
+}
+
+// Most numbers are below 100, and need no division.
+fn read_cell(a: u8, b: u8, c: u8, d: u8) -> Cell
+    ensures { λ r. ⌜ r ≡ cellOf (a ∷ b ∷ c ∷ d ∷ []) ⌝ }
+{
+    if a == 32 {
+        if b == 32 {
+            let n = last_two(c, d);
+            if n < 100 {
+                return Cell::Number(n);
+            }
+        }
+    }
+    compared_cell(a, b, c, d)
 }
 
 // How many whole fields a line has behind its letter.

@@ -3,14 +3,14 @@ use Prim.Native.Nat.{ℕ, zero, suc, _+_, _-_, _*_, _/_, _≤_, _<_}
 use mathlib.Core.Path.{_≡_, refl, sym, ap, _∙_, subst}
 use mathlib.Core.Logic.{_≢_}
 use mathlib.Core.List.{List, [], _∷_, _++_}
-use mathlib.Core.Bool.{Bool, true, false, cond, _||_}
+use mathlib.Core.Bool.{Bool, true, false, cond, _||_, false≢true}
 use native.Mathlib.Omega.{arith}
 use native.Mathlib.Decide.{decLt, ℕ-discrete}
 use lib.Dec.{eqb, leb, ltb}
 use lib.ListN.{length, length-append, getD, List·getD-append}
 use borrow.Author.Tests.{eq-eqb, ne-eqb, le-leb, lt-leb, lt-ltb, le-ltb}
 use Rattle.lists.specs.Lists.{firstFrom, Listed, Within}
-use Rattle.lists.specs.Cursors.{startsOf, nearer, nearestOf, leastOf, movedOn, passedOf, Points, Ahead, leftOf, leftAll}
+use Rattle.lists.specs.Cursors.{startsOf, nearer, nearestOf, leastOf, movedOn, passedOf, Points, Ahead, Skims, stays, goes, SkimsAll, leftOf, leftAll}
 use Rattle.lists.proofs.ListLaws.{IsFirst, first-of, five}
 
 -- ---- the nearer of two
@@ -98,28 +98,28 @@ module _ (ws : List ℕ) (to c : ℕ) where
   unfolding movedOn
   moved-next h l = rw (ne-eqb c 0 h, le-ltb to c l)
 
-point-none : (keys : List ℕ) (b from to : ℕ) → ((e : ℕ) → from ≤ e → e < to → 0 < b → getD keys e 0 ≡ b → ⊥) → Points keys b from to 0
-point-none keys b from to h = record { low = omega arith; own = λ p. absurd (omega arith); ahead = λ e a d p m. absurd (h e a d p m) }
+point-none : (quiet : ℕ → Bool) (keys : List ℕ) (b from to : ℕ) → ((e : ℕ) → from ≤ e → e < to → quiet (e / 5) ≡ false → 0 < b → getD keys e 0 ≡ b → ⊥) → Points quiet keys b from to 0
+point-none quiet keys b from to h = record { low = omega arith; own = λ p. absurd (omega arith); ahead = λ e a d s p m. absurd (h e a d s p m) }
 
 -- what is found at or after e
-point-first : (keys : List ℕ) (b e from to r : ℕ) → 0 < b → e ≤ from → to ≤ length keys → IsFirst b keys e (length keys) r → Points keys b from to r
-point-first keys b e from to r pos h l p = record {
+point-first : (quiet : ℕ → Bool) (keys : List ℕ) (b e from to r : ℕ) → 0 < b → e ≤ from → to ≤ length keys → IsFirst b keys e (length keys) r → Points quiet keys b from to r
+point-first quiet keys b e from to r pos h l p = record {
   low = p .low;
   own = λ o. (pos, p .own o .1);
-  ahead = λ i a d q m. p .least i (omega arith) (omega arith) m;
+  ahead = λ i a d s q m. p .least i (omega arith) (omega arith) m;
 }
 
-module _ (ws keys : List ℕ) (c : Listed ws keys) (b : ℕ) (small : b ≤ 2048) (to : ℕ) (room : to ≤ length keys) where
-  point-start : Points keys b 0 to (getD ws b 0)
+module _ (quiet : ℕ → Bool) (ws keys : List ℕ) (c : Listed ws keys) (b : ℕ) (small : b ≤ 2048) (to : ℕ) (room : to ≤ length keys) where
+  point-start : Points quiet keys b 0 to (getD ws b 0)
   point-start = go (ℕ-discrete b 0)
     where
-      go : Dec (b ≡ 0) → Points keys b 0 to (getD ws b 0)
-      go (yes z) = subst (Points keys b 0 to) (sym (ap (λ i. getD ws i 0) z ∙ c .none)) (point-none keys b 0 to (λ e a d p m. omega arith))
+      go : Dec (b ≡ 0) → Points quiet keys b 0 to (getD ws b 0)
+      go (yes z) = subst (Points quiet keys b 0 to) (sym (ap (λ i. getD ws i 0) z ∙ c .none)) (point-none quiet keys b 0 to (λ e a d s p m. omega arith))
       go (no z) =
           let p : 0 < b = omega (arith, z) in
-          subst (Points keys b 0 to) (sym (c .first b p small)) (point-first keys b 0 0 to _ p (omega arith) room (first-of b keys 0))
+          subst (Points quiet keys b 0 to) (sym (c .first b p small)) (point-first quiet keys b 0 0 to _ p (omega arith) room (first-of b keys 0))
 
-  module _ (from x : ℕ) (p : Points keys b from to x) where
+  module _ (from x : ℕ) (p : Points quiet keys b from to x) where
     -- the next entry is the first one of its key behind the cursor
     next-is : 0 < x → IsFirst b keys x (length keys) (getD ws (4097 + x) 0)
     next-is h =
@@ -131,20 +131,34 @@ module _ (ws keys : List ℕ) (c : Listed ws keys) (b : ℕ) (small : b ≤ 2048
         ∙ ap (λ i. firstFrom i keys (x - 1 + 1)) (o .1) ∙ ap (λ i. firstFrom b keys i) s in
         subst (IsFirst b keys x (length keys)) (sym y) (first-of b keys x)
 
-    point-moved : (bound later : ℕ) → from ≤ later → bound ≤ later → Points keys b later to (movedOn ws bound x)
+    point-moved : (bound later : ℕ) → from ≤ later → bound ≤ later → Points quiet keys b later to (movedOn ws bound x)
     point-moved bound later f g = go (ℕ-discrete x 0) (decLt bound x)
       where
-        go : Dec (x ≡ 0) → Dec (bound < x) → Points keys b later to (movedOn ws bound x)
+        go : Dec (x ≡ 0) → Dec (bound < x) → Points quiet keys b later to (movedOn ws bound x)
         go (yes z) l =
-            subst (Points keys b later to) (moved-end ws bound x z)
-            (point-none keys b later to (λ e a d q m. omega (arith, p .ahead e (omega arith) d q m .0)))
+            subst (Points quiet keys b later to) (moved-end ws bound x z)
+            (point-none quiet keys b later to (λ e a d s q m. omega (arith, p .ahead e (omega arith) d s q m .0)))
         go (no z) (yes l) =
-            subst (Points keys b later to) (moved-stays ws bound x z l)
-            (record { low = p .low; own = p .own; ahead = λ e a d q m. p .ahead e (omega arith) d q m })
+            subst (Points quiet keys b later to) (moved-stays ws bound x z l)
+            (record { low = p .low; own = p .own; ahead = λ e a d s q m. p .ahead e (omega arith) d s q m })
         go (no z) (no l) =
             let h : 0 < x = omega (arith, z) in
-            subst (Points keys b later to) (moved-next ws bound x z (omega (arith, l)))
-            (point-first keys b x later to _ (p .own h .0) (omega (arith, l)) room (next-is h))
+            subst (Points quiet keys b later to) (moved-next ws bound x z (omega (arith, l)))
+            (point-first quiet keys b x later to _ (p .own h .0) (omega (arith, l)) room (next-is h))
+
+    -- a cursor at an entry of a quiet record goes on
+    point-on : 0 < x → quiet ((x - 1) / 5) ≡ true → Points quiet keys b from to (getD ws (4097 + x) 0)
+    point-on h s = record {
+      low = next-is h .low;
+      own = λ o. (p .own h .0, next-is h .own o .1);
+      ahead = λ e a d t q m. go e d t m (p .ahead e a d t q m .1) (decLt e x);
+    }
+      where
+        go : (e : ℕ) → e < to → quiet (e / 5) ≡ false → getD keys e 0 ≡ b → x ≤ e + 1 → Dec (e < x) → (0 < getD ws (4097 + x) 0) × (getD ws (4097 + x) 0 ≤ e + 1)
+        go e d t m l (yes g) =
+            let same : (x - 1) / 5 ≡ e / 5 = ap (λ i. i / 5) (let o : x - 1 ≡ e = omega arith in o) in
+            absurd (false≢true (sym t ∙ sym (ap quiet same) ∙ s))
+        go e d t m l (no g) = next-is h .least e (omega (arith, g)) (omega arith) m
 
 -- ---- what is left
 left-end : (c : ℕ) → c ≡ 0 → leftOf c ≡ 0
@@ -160,12 +174,12 @@ record Falls (bound c r : ℕ) : Type 0 where
   same : leftOf r ≤ leftOf c
   less : 0 < c → c ≤ bound → leftOf r < leftOf c
 
-module _ (ws keys : List ℕ) (c : Listed ws keys) (b : ℕ) (small : b ≤ 2048) (from to : ℕ) (room : to ≤ length keys) (x : ℕ) (p : Points keys b from to x) (bound : ℕ) where
+module _ (quiet : ℕ → Bool) (ws keys : List ℕ) (c : Listed ws keys) (b : ℕ) (small : b ≤ 2048) (from to : ℕ) (room : to ≤ length keys) (x : ℕ) (p : Points quiet keys b from to x) (bound : ℕ) where
   next-less : x ≢ 0 → leftOf (getD ws (4097 + x) 0) < leftOf x
   next-less z = go (ℕ-discrete (getD ws (4097 + x) 0) 0)
     where
       n : IsFirst b keys x (length keys) (getD ws (4097 + x) 0)
-      n = next-is ws keys c b small to room from x p (omega (arith, z))
+      n = next-is quiet ws keys c b small to room from x p (omega (arith, z))
 
       go : Dec (getD ws (4097 + x) 0 ≡ 0) → leftOf (getD ws (4097 + x) 0) < leftOf x
       go (yes y) = omega (arith, left-end _ y, left-some x z, p .low, c .few)
@@ -180,56 +194,57 @@ module _ (ws keys : List ℕ) (c : Listed ws keys) (b : ℕ) (small : b ≤ 2048
       go (no z) (no l) = subst (Falls bound x) (moved-next ws bound x z (omega (arith, l))) (record { same = omega (arith, next-less z); less = λ h d. next-less z })
 
 -- ---- five cursors
-pub ahead-start : (ws keys query : List ℕ) (n : ℕ) (cs : List ℕ) → Listed ws keys → Within 2048 query → 5 * n ≤ length keys → cs ≡ startsOf ws query → Ahead keys query n 0 cs
+pub ahead-start : (quiet : ℕ → Bool) (ws keys query : List ℕ) (n : ℕ) (cs : List ℕ) → Listed ws keys → Within 2048 query → 5 * n ≤ length keys → cs ≡ startsOf ws query → Ahead quiet keys query n 0 cs
 unfolding startsOf
-ahead-start ws keys query n cs c small room e = subst (λ (ds : List ℕ). Ahead keys query n 0 ds) (sym e) (record {
+ahead-start quiet ws keys query n cs c small room e = subst (λ (ds : List ℕ). Ahead quiet keys query n 0 ds) (sym e) (record {
   room = room;
   small = small;
-  points = five (λ i. Points keys (getD query i 0) 0 (5 * n) (getD (startsOf ws query) i 0)) (at 0 (omega arith)) (at 1 (omega arith)) (at 2 (omega arith)) (at 3 (omega arith)) (at 4 (omega arith));
+  points = five (λ i. Points quiet keys (getD query i 0) 0 (5 * n) (getD (startsOf ws query) i 0)) (at 0 (omega arith)) (at 1 (omega arith)) (at 2 (omega arith)) (at 3 (omega arith)) (at 4 (omega arith));
 })
   where
-    at : (i : ℕ) → i < 5 → Points keys (getD query i 0) 0 (5 * n) (getD ws (getD query i 0) 0)
-    at i l = point-start ws keys c (getD query i 0) (small i l) (5 * n) room
+    at : (i : ℕ) → i < 5 → Points quiet keys (getD query i 0) 0 (5 * n) (getD ws (getD query i 0) 0)
+    at i l = point-start quiet ws keys c (getD query i 0) (small i l) (5 * n) room
 
 -- cursors are entries
-pub ahead-within : (keys query : List ℕ) (n done : ℕ) (cs : List ℕ) → Ahead keys query n done cs → length keys ≤ 20480 → Within 20480 cs
-ahead-within keys query n done cs a h i l = omega (arith, a .points i l .low)
+pub ahead-within : (quiet : ℕ → Bool) (keys query : List ℕ) (n done : ℕ) (cs : List ℕ) → Ahead quiet keys query n done cs → length keys ≤ 20480 → Within 20480 cs
+ahead-within quiet keys query n done cs a h i l = omega (arith, a .points i l .low)
 
 -- no record is missed before the least one: none of its entries has a key of the query
-pub least-none : (keys query : List ℕ) (n done : ℕ) (cs : List ℕ) → Ahead keys query n done cs
-    → (k : ℕ) → done ≤ k → k < leastOf cs → k < n → (e : ℕ) → 5 * k ≤ e → e < 5 * k + 5 → (i : ℕ) → i < 5 → 0 < getD query i 0 → getD keys e 0 ≡ getD query i 0 → ⊥
+pub least-none : (quiet : ℕ → Bool) (keys query : List ℕ) (n done : ℕ) (cs : List ℕ) → Ahead quiet keys query n done cs
+    → (k : ℕ) → done ≤ k → k < leastOf cs → k < n → quiet k ≡ false → (e : ℕ) → 5 * k ≤ e → e < 5 * k + 5 → (i : ℕ) → i < 5 → 0 < getD query i 0 → getD keys e 0 ≡ getD query i 0 → ⊥
 unfolding leastOf
-least-none keys query n done cs a k d h l e f g i j p m =
-    let y = a .points i j .ahead e (omega arith) (omega arith) p m in
+least-none quiet keys query n done cs a k d h l s e f g i j p m =
+    let at : e / 5 ≡ k = omega arith in
+    let y = a .points i j .ahead e (omega arith) (omega arith) (ap quiet at ∙ s) p m in
     omega (arith, nearest-is cs .low i j (y .0), y .1)
 
 -- record k is dealt with, and the cursors pass it
-pub ahead-passed : (ws keys query : List ℕ) (n done later k : ℕ) (cs ds : List ℕ) → Listed ws keys → Ahead keys query n done cs → done ≤ later → k < later → ds ≡ passedOf ws cs k
-    → Ahead keys query n later ds
+pub ahead-passed : (quiet : ℕ → Bool) (ws keys query : List ℕ) (n done later k : ℕ) (cs ds : List ℕ) → Listed ws keys → Ahead quiet keys query n done cs → done ≤ later → k < later → ds ≡ passedOf ws cs k
+    → Ahead quiet keys query n later ds
 unfolding passedOf
-ahead-passed ws keys query n done later k cs ds c a h l e = subst (λ (xs : List ℕ). Ahead keys query n later xs) (sym e) (record {
+ahead-passed quiet ws keys query n done later k cs ds c a h l e = subst (λ (xs : List ℕ). Ahead quiet keys query n later xs) (sym e) (record {
   room = a .room;
   small = a .small;
-  points = five (λ i. Points keys (getD query i 0) (5 * later) (5 * n) (getD (passedOf ws cs k) i 0)) (at 0 (omega arith)) (at 1 (omega arith)) (at 2 (omega arith)) (at 3 (omega arith)) (at 4 (omega arith));
+  points = five (λ i. Points quiet keys (getD query i 0) (5 * later) (5 * n) (getD (passedOf ws cs k) i 0)) (at 0 (omega arith)) (at 1 (omega arith)) (at 2 (omega arith)) (at 3 (omega arith)) (at 4 (omega arith));
 })
   where
-    at : (i : ℕ) → i < 5 → Points keys (getD query i 0) (5 * later) (5 * n) (movedOn ws (5 * k + 5) (getD cs i 0))
-    at i j = point-moved ws keys c (getD query i 0) (a .small i j) (5 * n) (a .room) (5 * done) (getD cs i 0) (a .points i j) (5 * k + 5) (5 * later) (omega arith) (omega arith)
+    at : (i : ℕ) → i < 5 → Points quiet keys (getD query i 0) (5 * later) (5 * n) (movedOn ws (5 * k + 5) (getD cs i 0))
+    at i j = point-moved quiet ws keys c (getD query i 0) (a .small i j) (5 * n) (a .room) (5 * done) (getD cs i 0) (a .points i j) (5 * k + 5) (5 * later) (omega arith) (omega arith)
 
 -- entries may come at the end while the cursors go through the first n records
-pub ahead-grown : (keys more query : List ℕ) (n done : ℕ) (cs : List ℕ) → Ahead keys query n done cs → Ahead (keys ++ more) query n done cs
-ahead-grown keys more query n done cs a = record { room = omega (arith, a .room, longer); small = a .small; points = at }
+pub ahead-grown : (quiet : ℕ → Bool) (keys more query : List ℕ) (n done : ℕ) (cs : List ℕ) → Ahead quiet keys query n done cs → Ahead quiet (keys ++ more) query n done cs
+ahead-grown quiet keys more query n done cs a = record { room = omega (arith, a .room, longer); small = a .small; points = at }
   where
     longer : length (keys ++ more) ≡ length keys + length more
     longer = length-append keys more
 
-    at : (i : ℕ) → i < 5 → Points (keys ++ more) (getD query i 0) (5 * done) (5 * n) (getD cs i 0)
+    at : (i : ℕ) → i < 5 → Points quiet (keys ++ more) (getD query i 0) (5 * done) (5 * n) (getD cs i 0)
     at i j =
         let p = a .points i j in
         record {
           low = omega (arith, p .low, longer);
           own = λ o. (p .own o .0, List·getD-append keys more 0 (getD cs i 0 - 1) (omega (arith, p .low)) ∙ p .own o .1);
-          ahead = λ e f g q m. p .ahead e f g q (sym (List·getD-append keys more 0 e (omega (arith, a .room))) ∙ m);
+          ahead = λ e f g s q m. p .ahead e f g s q (sym (List·getD-append keys more 0 e (omega (arith, a .room))) ∙ m);
         }
 
 -- a cursor is at the least record
@@ -247,10 +262,10 @@ sum-falls a b c d e v w x y z p q r s t f = go (decLt (v + w + x + y + z) (a + b
     go (no h) = absurd (f (λ l. h (omega arith)) (λ l. h (omega arith)) (λ l. h (omega arith)) (λ l. h (omega arith)) (λ l. h (omega arith)))
 
 -- the measure falls
-pub left-falls : (ws keys query : List ℕ) (n done k : ℕ) (cs ds : List ℕ) → Listed ws keys → Ahead keys query n done cs → k ≡ leastOf cs → k < n → ds ≡ passedOf ws cs k
+pub left-falls : (quiet : ℕ → Bool) (ws keys query : List ℕ) (n done k : ℕ) (cs ds : List ℕ) → Listed ws keys → Ahead quiet keys query n done cs → k ≡ leastOf cs → k < n → ds ≡ passedOf ws cs k
     → leftAll ds < leftAll cs
 unfolding passedOf leftAll
-left-falls ws keys query n done k cs ds c a e h q =
+left-falls quiet ws keys query n done k cs ds c a e h q =
     subst (λ (xs : List ℕ). leftAll xs < leftAll cs) (sym q)
     (sum-falls _ _ _ _ _ _ _ _ _ _ (at 0 (omega arith) .same) (at 1 (omega arith) .same) (at 2 (omega arith) .same) (at 3 (omega arith) .same) (at 4 (omega arith) .same)
     (λ f0 f1 f2 f3 f4.
@@ -259,7 +274,7 @@ left-falls ws keys query n done k cs ds c a e h q =
     (still 0 (omega arith) f0) (still 1 (omega arith) f1) (still 2 (omega arith) f2) (still 3 (omega arith) f3) (still 4 (omega arith) f4))))
   where
     at : (i : ℕ) → i < 5 → Falls (5 * k + 5) (getD cs i 0) (movedOn ws (5 * k + 5) (getD cs i 0))
-    at i j = cursor-falls ws keys c (getD query i 0) (a .small i j) (5 * done) (5 * n) (a .room) (getD cs i 0) (a .points i j) (5 * k + 5)
+    at i j = cursor-falls quiet ws keys c (getD query i 0) (a .small i j) (5 * done) (5 * n) (a .room) (getD cs i 0) (a .points i j) (5 * k + 5)
 
     still : (i : ℕ) → i < 5 → (leftOf (movedOn ws (5 * k + 5) (getD cs i 0)) < leftOf (getD cs i 0) → ⊥) → 0 < getD cs i 0 → 5 * k + 5 < getD cs i 0
     still i j f p = go (decLt (5 * k + 5) (getD cs i 0))
@@ -267,3 +282,35 @@ left-falls ws keys query n done k cs ds c a e h q =
         go : Dec (5 * k + 5 < getD cs i 0) → 5 * k + 5 < getD cs i 0
         go (yes l) = l
         go (no l) = absurd (f (at i j .less p (omega (arith, l))))
+
+-- ---- cursors that skim over quiet records
+-- those that are quiet may be told in another way
+pub skims-by : (quiet hushed : ℕ → Bool) (ws : List ℕ) (n c r : ℕ) → ((k : ℕ) → k < n → quiet k ≡ hushed k) → Skims quiet ws n c r → Skims hushed ws n c r
+skims-by quiet hushed ws n c r same (stays _ e) = stays r e
+skims-by quiet hushed ws n c r same (goes _ d s p l q e) = goes r d (skims-by quiet hushed ws n c d same s) p l (sym (same ((d - 1) / 5) (omega arith)) ∙ q) e
+
+-- no entry is missed, and the cursor does not go back
+record Skimmed (quiet : ℕ → Bool) (keys : List ℕ) (b from to c r : ℕ) : Type 0 where
+  points : Points quiet keys b from to r
+  same : leftOf r ≤ leftOf c
+
+module _ (quiet : ℕ → Bool) (ws keys : List ℕ) (listed : Listed ws keys) (b : ℕ) (small : b ≤ 2048) (from to : ℕ) (room : to ≤ length keys) (n c : ℕ) (p : Points quiet keys b from to c) where
+  skimmed : (r : ℕ) → Skims quiet ws n c r → Skimmed quiet keys b from to c r
+  skimmed r (stays _ e) = subst (Skimmed quiet keys b from to c) (sym e) (record { points = p; same = omega arith })
+  skimmed r (goes _ d s h l q e) =
+      let o = skimmed d s in
+      subst (Skimmed quiet keys b from to c) (sym e) (record {
+        points = point-on quiet ws keys listed b small to room from d (o .points) h q;
+        same = omega (arith, o .same, next-less quiet ws keys listed b small from to room d (o .points) 0 (λ z. omega arith));
+      })
+
+module _ (quiet : ℕ → Bool) (ws keys query : List ℕ) (n done : ℕ) (cs ds : List ℕ) (listed : Listed ws keys) (a : Ahead quiet keys query n done cs) (s : SkimsAll quiet ws n cs ds) where
+  at : (i : ℕ) → i < 5 → Skimmed quiet keys (getD query i 0) (5 * done) (5 * n) (getD cs i 0) (getD ds i 0)
+  at i l = skimmed quiet ws keys listed (getD query i 0) (a .small i l) (5 * done) (5 * n) (a .room) n (getD cs i 0) (a .points i l) (getD ds i 0) (s i l)
+
+  pub ahead-skims : Ahead quiet keys query n done ds
+  ahead-skims = record { room = a .room; small = a .small; points = λ i l. at i l .points }
+
+  pub left-skims : leftAll ds ≤ leftAll cs
+  unfolding leftAll
+  left-skims = omega (arith, at 0 (omega arith) .same, at 1 (omega arith) .same, at 2 (omega arith) .same, at 3 (omega arith) .same, at 4 (omega arith) .same)

@@ -8,7 +8,7 @@ ghost use lib.Dec.{eqb};
 ghost use Rattle.format.specs.Fields.{fieldsOf};
 ghost use Rattle.format.specs.Shape.{letterOf, shapeOf, kindLetter};
 ghost use Rattle.format.specs.Lines.{countingLines};
-ghost use Rattle.questions.specs.Layout.{placeOf, letterDue, inTable, fieldsIn, stored};
+ghost use Rattle.questions.specs.Layout.{placeOf, letterDue, fieldsIn, stored};
 ghost use Rattle.questions.specs.Reading.{next, judgeLine, readLines, delivered, readGrammar};
 ghost use Rattle.questions.specs.Checking.{readGraph};
 ghost use Rattle.questions.specs.Walk.{Room};
@@ -104,7 +104,7 @@ fn fields_of(line: &[u8]) -> Fields
 
 // Questions 1 to 7 for one line.
 fn judge_line(g: &[u64], t: &[u64], due: Due, line: &[u8], ended: bool) -> u64
-    requires { ⌜ inTable due ≡ true ⌝ }
+    requires { ⌜ Room (length (now t)) due ⌝ }
     ensures { λ r. ⌜ r ≡ judgeLine (now (g .entry)) (now (t .entry)) due (lineWith (now (line .entry)) ended) ⌝ }
 {
     if !ended {

@@ -1,16 +1,15 @@
 -- The loops over leaf items: what is left to add gives the whole.
-use Prim.Native.Nat.{ℕ, zero, suc, _+_, _-_, _≤_, _<_}
+use Prim.Native.Nat.{ℕ, zero, suc, _+_, _-_, _<_}
 use mathlib.Core.Path.{_≡_, refl, sym, ap, _∙_}
 use mathlib.Core.Bool.{Bool, true, false, cond}
 use mathlib.Core.List.{List, [], _∷_, _++_, map, map-append}
-use native.Mathlib.Omega.{arith}
 use lib.Dec.{eqb}
 use lib.ListN.{length, replicate, length-replicate}
 use borrow.Author.Tests.{eq-eqb, ne-eqb}
 use Rattle.hrg.specs.Counts.{tabulate}
-use Rattle.hrg.specs.Grammars.{Grammar, Rule, PlanNode, leaf, introduce, join, planOf, planNode, rightOf, ruleOf}
+use Rattle.hrg.specs.Grammars.{Grammar, PlanNode, leaf, introduce, join, planOf, planNode, rightOf}
 use Rattle.hrg.specs.Trees.{unplaced, at, padded}
-use Rattle.hrg.specs.Items.{Item, active}
+use Rattle.hrg.specs.Items.{Item}
 use Rattle.hrg.specs.ClosureRun.{eachTo, leafAt, leaves}
 use Rattle.agenda.specs.declared.Record.{Record}
 use Rattle.agenda.specs.Records.{recordOf}

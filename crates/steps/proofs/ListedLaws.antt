@@ -1,34 +1,37 @@
 -- The loop over the lists of a record's keys: the records that it passes over make nothing with it.
-use Prim.Native.Nat.{ℕ, zero, suc, _+_, _*_, _≤_, _<_, max}
+use Prim.Native.Nat.{ℕ, _+_, _*_, _≤_, _<_, max}
 use mathlib.Core.Path.{_≡_, refl, sym, ap, _∙_, subst}
-use mathlib.Core.Bool.{Bool, true, false}
-use mathlib.Core.List.{List, [], _∷_, _++_}
+use mathlib.Core.Bool.{Bool, true, false, cond, false≢true}
+use mathlib.Core.List.{List, []}
 use native.Mathlib.Omega.{arith}
 use lib.Dec.{leb}
 use lib.ListN.{length, getD, List·getD-append}
 use borrow.Author.Tests.{leb-true, leb-false, le-leb, lt-leb}
 use Rattle.hrg.specs.Grammars.{Graph, Grammar}
+use Rattle.masks.specs.Masks.{disjoint}
 use Rattle.hrg.specs.ClosureRun.{guard}
 use Rattle.agenda.specs.declared.Record.{Record}
+use Rattle.agenda.specs.Records.{isHandled}
 use Rattle.agenda.specs.Consequences.{gather, recordIn}
 use Rattle.questions.specs.Abstract.{grammarOf}
 use Rattle.questions.specs.Checking.{checkGrammar}
 use Rattle.rules.specs.Wants.{WantTable}
-use Rattle.records.specs.Words.{Fits, itemCount, recordAt, recordsAt, chartOf, grownBy}
+use Rattle.records.specs.Words.{Fits, capacity, itemCount, recordAt, chartOf, grownBy}
 use Rattle.records.proofs.WordLaws.{length-records, record-in}
-use Rattle.records.proofs.Grown.{Whole, whole-gather, whole-guard, grown-none}
-use Rattle.lists.specs.Lists.{Within, Listed}
-use Rattle.lists.specs.Cursors.{startsOf, leastOf, passedOf, leftAll, Ahead}
-use Rattle.lists.proofs.CursorLaws.{ahead-start, ahead-within, least-none, ahead-passed, ahead-grown, left-falls}
+use Rattle.records.proofs.Grown.{Whole, whole-gather, whole-guard, grown-none, grown-flag, grown-record}
+use Rattle.lists.specs.Lists.{Within}
+use Rattle.lists.specs.Cursors.{startsOf, leastOf, passedOf, leftAll, Ahead, SkimsAll}
+use Rattle.lists.proofs.CursorLaws.{ahead-start, ahead-within, least-none, ahead-passed, ahead-grown, left-falls, skims-by, ahead-skims, left-skims}
 use Rattle.pivots.specs.Keys.{keysOf, queryOf, regularOf}
 use Rattle.pivots.specs.Pivots.{PivotTable}
 use Rattle.pivots.proofs.KeyLaws.{query-few}
 use Rattle.pivots.proofs.PivotLaws.{keyless}
 use Rattle.index.specs.Index.{listsOf, keysFor}
+use Rattle.index.specs.Quiet.{quietIn}
 use Rattle.index.proofs.KeyLists.{keys-length, keys-at, keys-grown}
 use Rattle.steps.specs.Partners.{withRecord}
 use Rattle.steps.specs.Ready.{Ready, Regular}
-use Rattle.steps.proofs.PartnerLaws.{unjoined-none}
+use Rattle.steps.proofs.PartnerLaws.{unjoined-none, waiting-none, overlap-none}
 use Rattle.steps.proofs.StepLaws.{Gathered, record-whole, gathered-none, gathered-skip, gathered-all, partners-next, added-longer}
 
 -- ---- a record that may be done already
@@ -38,12 +41,40 @@ next-done w f done k xs l = rw (lt-leb done k l) (sym (grown-none w f))
 pub next-dealt : (w v : List ℕ) (done k : ℕ) (xs : List Record) → done ≤ k → v ≡ grownBy w xs → v ≡ grownBy w (guard (leb done k) xs)
 next-dealt w v done k xs l p = rw (le-leb done k l) p
 
+-- no chart has more items than it holds
+pub few-items : (w : List ℕ) (n : ℕ) → n ≤ itemCount w → capacity w ≤ 4096 → n ≤ 4096
+unfolding itemCount
+few-items w n l h = omega arith
+
 -- ---- the keys that are asked for
 pub query-within : (g wants pivots : List ℕ) (x : Record) (q : List ℕ) → q ≡ queryOf g wants pivots x → Within 2048 q
 query-within g wants pivots x q e i h = rw e (query-few g wants pivots x i)
 
 pub query-starts : (g wants pivots : List ℕ) (x : Record) (q cs ws : List ℕ) → q ≡ queryOf g wants pivots x → cs ≡ startsOf ws q → cs ≡ startsOf ws (queryOf g wants pivots x)
 query-starts g wants pivots x q cs ws e p = p ∙ ap (startsOf ws) e
+
+-- ---- records that make nothing, whatever their keys
+pub quiet-none : (G : Grammar) (H : Graph) (x : Record) (j : ℕ) (w : List ℕ) (k : ℕ) → quietIn w (x .edges) k ≡ true → withRecord G H x j (recordAt w k) k ≡ []
+unfolding quietIn
+quiet-none G H x j w k = go (disjoint (x .edges) (recordAt w k .edges)) refl (isHandled (recordAt w k)) refl
+  where
+    go : (d : Bool) → disjoint (x .edges) (recordAt w k .edges) ≡ d → (b : Bool) → isHandled (recordAt w k) ≡ b → cond d (cond b false true) true ≡ true → withRecord G H x j (recordAt w k) k ≡ []
+    go false p b q h = overlap-none G H x (recordAt w k) j k p
+    go true p false q h = waiting-none G H x (recordAt w k) j k q
+    go true p true q h = absurd (false≢true h)
+
+-- they are so in words that grew, and no others
+pub quiet-grown : (w v : List ℕ) (xs : List Record) (edges k : ℕ) → Fits w → Whole xs → v ≡ grownBy w xs → k < itemCount w → quietIn v edges k ≡ quietIn w edges k
+unfolding quietIn
+quiet-grown w v xs edges k f e p l = ap (λ (u : List ℕ). quietIn u edges k) p ∙ go (isHandled (recordAt w k)) refl
+  where
+    waits : (d : Bool) → cond d true true ≡ true
+    waits true = refl
+    waits false = refl
+
+    go : (b : Bool) → isHandled (recordAt w k) ≡ b → quietIn (grownBy w xs) edges k ≡ quietIn w edges k
+    go true h = ap (λ (y : Record). cond (disjoint edges (y .edges)) (cond (isHandled y) false true) true) (grown-record w f xs e k l h)
+    go false h = rw (grown-flag w f xs e k l ∙ h, h) (waits (disjoint edges (recordAt (grownBy w xs) k .edges)) ∙ sym (waits (disjoint edges (recordAt w k .edges))))
 
 -- ---- the loop
 module _ (g wants pivots : List ℕ) (H : Graph) (w : List ℕ) (x : Record) (j n : ℕ) where
@@ -53,14 +84,18 @@ module _ (g wants pivots : List ℕ) (H : Graph) (w : List ℕ) (x : Record) (j 
   abbrev partner : ℕ → List Record
   partner i = withRecord G H x j (recordAt w i) i
 
+  -- the records over which cursors skim
+  abbrev quiet : ℕ → Bool
+  quiet = quietIn w (x .edges)
+
   abbrev keysIn : List ℕ → List ℕ
   keysIn v = keysFor g wants pivots (chartOf v .records)
 
-  -- where the loop is: the first `done` partners are dealt with, and what is left lies at the cursors or behind them
+  -- where the loop is: the first `done` partners are dealt with, and what is left and not quiet lies at the cursors or behind them
   pub record Going (v ix : List ℕ) (cs : List ℕ) (k done : ℕ) : Type 0 where
     pub ready : Ready g wants pivots v ix
     pub gathered : Gathered w partner v done
-    pub ahead : Ahead (keysIn v) (queryOf g wants pivots x) n done cs
+    pub ahead : Ahead quiet (keysIn v) (queryOf g wants pivots x) n done cs
     pub at : k ≡ leastOf cs
     pub few : k ≤ 4096
     pub low : done ≤ n
@@ -77,13 +112,14 @@ module _ (g wants pivots : List ℕ) (H : Graph) (w : List ℕ) (x : Record) (j 
   partner-whole i = record-whole G H x j (recordAt w i) i
 
   module _ (f : Fits w) (all : n ≤ itemCount w) where
-    pub going-start : (ix cs : List ℕ) (k : ℕ) → Ready g wants pivots w ix → cs ≡ startsOf (listsOf ix) (queryOf g wants pivots x) → k ≡ leastOf cs → k ≤ 4096 → Going w ix cs k 0
-    going-start ix cs k R e q l = record {
+    pub going-start : (ix bs cs : List ℕ) (k : ℕ) → Ready g wants pivots w ix → bs ≡ startsOf (listsOf ix) (queryOf g wants pivots x) → SkimsAll quiet (listsOf ix) n bs cs → k ≡ leastOf cs → k ≤ 4096 → Going w ix cs k 0
+    going-start ix bs cs k R e s q l = record {
       ready = R;
       gathered = gathered-none w f partner partner-whole;
       ahead =
-          ahead-start (listsOf ix) (keysIn w) (queryOf g wants pivots x) n cs (R .indexed .listed) (λ i h. query-few g wants pivots x i)
-          (omega (arith, keys-length g wants pivots (chartOf w .records), counted w)) e;
+          let first = ahead-start quiet (listsOf ix) (keysIn w) (queryOf g wants pivots x) n bs (R .indexed .listed) (λ i h. query-few g wants pivots x i)
+          (omega (arith, keys-length g wants pivots (chartOf w .records), counted w)) e in
+          ahead-skims quiet (listsOf ix) (keysIn w) (queryOf g wants pivots x) n 0 bs cs (R .indexed .listed) first s;
       at = q;
       few = l;
       low = omega arith;
@@ -97,7 +133,7 @@ module _ (g wants pivots : List ℕ) (H : Graph) (w : List ℕ) (x : Record) (j 
       few-keys = S .ready .indexed .listed .few
 
       pub going-within : Within 20480 cs
-      going-within = ahead-within (keysIn v) (queryOf g wants pivots x) n done cs (S .ahead) few-keys
+      going-within = ahead-within quiet (keysIn v) (queryOf g wants pivots x) n done cs (S .ahead) few-keys
 
       pub going-known : k < n → k < itemCount v
       going-known l = omega (arith, added-longer w v (gather done partner) f (whole-gather done partner partner-whole) grown)
@@ -114,14 +150,21 @@ module _ (g wants pivots : List ℕ) (H : Graph) (w : List ℕ) (x : Record) (j 
 
       module _ (checked : checkGrammar g ≡ true) (wanted : WantTable g wants) (pivoted : PivotTable g pivots) (own : regularOf g pivots x ≡ true) (others : Regular g pivots (chartOf w .records)) where
         -- the records that are passed over
-        passed-over : (i : ℕ) → done ≤ i → i < k → i < n → partner i ≡ []
-        passed-over i a b c =
+        unkeyed : (i : ℕ) → done ≤ i → i < k → i < n → quiet i ≡ false → partner i ≡ []
+        unkeyed i a b c s =
             let u = keyless g wants pivots checked wanted pivoted H x (recordAt w i) own
             (subst (λ (y : Record). regularOf g pivots y ≡ true) (in-chart w i (omega arith)) (others i (omega (arith, counted w))))
-            (λ q e p r pos eq. least-none (keysIn v) (queryOf g wants pivots x) n done cs (S .ahead) i a (omega (arith, S .at)) c (5 * i + e) (omega arith) (omega arith) q p pos
+            (λ q e p r pos eq. least-none quiet (keysIn v) (queryOf g wants pivots x) n done cs (S .ahead) i a (omega (arith, S .at)) c s (5 * i + e) (omega arith) (omega arith) q p pos
             (key-there i e (omega arith) r ∙ sym eq))
             in
             unjoined-none G H x (recordAt w i) j i (u .forth) (u .back)
+
+        passed-over : (i : ℕ) → done ≤ i → i < k → i < n → partner i ≡ []
+        passed-over i a b c = go (quiet i) refl
+          where
+            go : (t : Bool) → quiet i ≡ t → partner i ≡ []
+            go true s = quiet-none G H x j w i s
+            go false s = unkeyed i a b c s
 
         -- one turn: record k is dealt with unless it was, and the cursors at it go on
         module _ (u jx : List ℕ) (later : ℕ) (l : k < n) (p : u ≡ grownBy v (guard (leb done k) (withRecord G H x j (recordAt v k) k))) (R : Ready g wants pivots u jx) (q : later ≡ max done (k + 1)) where
@@ -133,27 +176,48 @@ module _ (g wants pivots : List ℕ) (H : Graph) (w : List ℕ) (x : Record) (j 
               let same : u ≡ v = h ∙ grown-none v (S .ready .fits) in
               subst (λ (t : List ℕ). Gathered w partner t later) (sym same) (subst (Gathered w partner v) (let o : done ≡ later = omega (arith, leb-false done k e) in o) (S .gathered))
 
-          grown-ahead : Ahead (keysIn u) (queryOf g wants pivots x) n done cs
+          grown-ahead : Ahead quiet (keysIn u) (queryOf g wants pivots x) n done cs
           grown-ahead =
               let ys = guard (leb done k) (withRecord G H x j (recordAt v k) k) in
               let m = keys-grown g wants pivots v u ys (S .ready .fits) (whole-guard (leb done k) (withRecord G H x j (recordAt v k) k) (record-whole G H x j (recordAt v k) k)) p in
-              subst (λ (ks : List ℕ). Ahead ks (queryOf g wants pivots x) n done cs) (sym (m .is)) (ahead-grown (keysIn v) (m .more) (queryOf g wants pivots x) n done cs (S .ahead))
+              subst (λ (ks : List ℕ). Ahead quiet ks (queryOf g wants pivots x) n done cs) (sym (m .is)) (ahead-grown quiet (keysIn v) (m .more) (queryOf g wants pivots x) n done cs (S .ahead))
 
-          pub going-next : (ds : List ℕ) (i : ℕ) → ds ≡ passedOf (listsOf jx) cs k → i ≡ leastOf ds → i ≤ 4096 → Going u jx ds i later
-          going-next ds i e a b = record {
-            ready = R;
-            gathered = dealt (leb done k) refl p;
-            ahead = ahead-passed (listsOf jx) (keysIn u) (queryOf g wants pivots x) n done later k cs ds (R .indexed .listed) grown-ahead (omega arith) (omega arith) e;
-            at = a;
-            few = b;
-            low = omega (arith, S .low);
-          }
+          pub next-count : n ≤ itemCount u
+          next-count =
+              let o = dealt (leb done k) refl p in
+              omega (arith, added-longer w u (gather later partner) f (whole-gather later partner partner-whole) (o .is))
 
-          pub going-less : (ds : List ℕ) → ds ≡ passedOf (listsOf jx) cs k → leftAll ds < leftAll cs
-          going-less ds e = left-falls (listsOf jx) (keysIn u) (queryOf g wants pivots x) n done k cs ds (R .indexed .listed) grown-ahead (S .at) l e
+          module _ (bs ds : List ℕ) (e : bs ≡ passedOf (listsOf jx) cs k) (s : SkimsAll (quietIn u (x .edges)) (listsOf jx) n bs ds) where
+            -- the cursors that pass record k
+            gone : Ahead quiet (keysIn u) (queryOf g wants pivots x) n later bs
+            gone = ahead-passed quiet (listsOf jx) (keysIn u) (queryOf g wants pivots x) n done later k cs bs (R .indexed .listed) grown-ahead (omega arith) (omega arith) e
+
+            skims : SkimsAll quiet (listsOf jx) n bs ds
+            skims i h =
+                let o = dealt (leb done k) refl p in
+                skims-by (quietIn u (x .edges)) quiet (listsOf jx) n (getD bs i 0) (getD ds i 0)
+                (λ m a. quiet-grown w u (gather later partner) (x .edges) m f (whole-gather later partner partner-whole) (o .is) (omega arith)) (s i h)
+
+            pub going-next : (i : ℕ) → i ≡ leastOf ds → i ≤ 4096 → Going u jx ds i later
+            going-next i a b = record {
+              ready = R;
+              gathered = dealt (leb done k) refl p;
+              ahead = ahead-skims quiet (listsOf jx) (keysIn u) (queryOf g wants pivots x) n later bs ds (R .indexed .listed) gone skims;
+              at = a;
+              few = b;
+              low = omega (arith, S .low);
+            }
+
+            pub going-less : leftAll ds < leftAll cs
+            going-less =
+                omega (
+                  arith,
+                  left-skims quiet (listsOf jx) (keysIn u) (queryOf g wants pivots x) n later bs ds (R .indexed .listed) gone skims,
+                  left-falls quiet (listsOf jx) (keysIn u) (queryOf g wants pivots x) n done k cs bs (R .indexed .listed) grown-ahead (S .at) l e,
+                )
 
           pub next-within : Within 20480 cs
-          next-within = ahead-within (keysIn u) (queryOf g wants pivots x) n done cs grown-ahead (R .indexed .listed .few)
+          next-within = ahead-within quiet (keysIn u) (queryOf g wants pivots x) n done cs grown-ahead (R .indexed .listed .few)
 
         pub going-end : n ≤ k → v ≡ grownBy w (gather n partner)
         going-end l =

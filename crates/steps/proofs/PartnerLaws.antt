@@ -1,9 +1,8 @@
 -- What a record makes with graph edges and with another record, as the functions of crate joins tell it.
-use Prim.Native.Nat.{ℕ, _+_, _≤_, _<_}
+use Prim.Native.Nat.{ℕ, _+_}
 use mathlib.Core.Path.{_≡_, refl, sym, ap, ap₂, _∙_}
 use mathlib.Core.Bool.{Bool, true, false, _&&_, false≢true}
 use mathlib.Core.List.{List, [], _∷_, _++_, map}
-use native.Mathlib.Omega.{arith}
 use lib.Bits.{and-comm}
 use lib.Dec.{eqb}
 use lib.ListN.{length}
@@ -100,6 +99,15 @@ pub unjoined-none : (G : Grammar) (H : Graph) (x y : Record) (j k : ℕ) → bin
 unfolding withRecord
 unjoined-none G H x y j k p q = guard-empty (isHandled y) _ (none G H x y j k p q)
 
+-- .. that have an edge in common, or of which the second is not handled
+pub overlap-none : (G : Grammar) (H : Graph) (x y : Record) (j k : ℕ) → disjoint (x .edges) (y .edges) ≡ false → withRecord G H x j y k ≡ []
+unfolding withRecord
+overlap-none G H x y j k e = guard-empty (isHandled y) _ (edges-none G H x y j k e)
+
+pub waiting-none : (G : Grammar) (H : Graph) (x y : Record) (j k : ℕ) → isHandled y ≡ false → withRecord G H x j y k ≡ []
+unfolding withRecord
+waiting-none G H x y j k h = ap (λ (b : Bool). guard b (pair G H x j y k ++ pair G H y k x j)) h
+
 module _ (g : List ℕ) (checked : checkGrammar g ≡ true) (H : Graph) (t : List ℕ) (table : WantTable g t) (x y : Record) (want : ℕ) (is : want ≡ wantIn t (x .of) (x .plan)) (j k : ℕ) where
   abbrev G : Grammar
   G = grammarOf g
@@ -122,24 +130,41 @@ module _ (g : List ℕ) (checked : checkGrammar g ≡ true) (H : Graph) (t : Lis
   unwanting-none a e = let n = unwanting g checked H t table x y want is a e in unjoined-none G H x y j k (n .forth) (n .back)
 
 -- ---- by the words that the test reads
-module _ (t w : List ℕ) (want : ℕ) (x : Record) (k kind of plan : ℕ) (a : kind ≡ fieldAt w k 0) (b : of ≡ fieldAt w k 1) (c : plan ≡ fieldAt w k 2) (m : Bool) (is : m ≡ meets t (x .kind) (x .of) want kind of plan) where
+and-apart : (a b : Bool) → false ≡ a && (b && false)
+and-apart true true = refl
+and-apart true false = refl
+and-apart false b = refl
+
+and-waits : (a d : Bool) → false ≡ a && (false && d)
+and-waits true d = refl
+and-waits false d = refl
+
+and-both : (a : Bool) → a ≡ a && (true && true)
+and-both true = refl
+and-both false = refl
+
+module _ (t w : List ℕ) (want : ℕ) (x : Record) (k e : ℕ) (d : Bool) (at : e ≡ fieldAt w k 3) (is : d ≡ disjoint (x .edges) e) where
   abbrev y : Record
   y = recordAt w k
 
-  met : meets t (x .kind) (x .of) want (y .kind) (y .of) (y .plan) ≡ m
-  met =
-      (λ i. meets t (x .kind) (x .of) want ((kind-of w k ∙ sym a) i) ((rule-of w k ∙ sym b) i) ((plan-of w k ∙ sym c) i))
-      ∙ sym is
+  abbrev met : Bool
+  met = meets t (x .kind) (x .of) want (y .kind) (y .of) (y .plan)
 
-  pub meet-nowhere : m ≡ false → false ≡ mayMeet t want x y
+  told : disjoint (x .edges) (y .edges) ≡ d
+  told = ap (disjoint (x .edges)) (edges-of w k ∙ sym at) ∙ sym is
+
+  pub meet-edges : d ≡ false → false ≡ mayMeet t want x y
   unfolding mayMeet
-  meet-nowhere h = rw (met ∙ h)
+  meet-edges h = rw (told ∙ h) (and-apart met (isHandled y))
 
-  module _ (r : ℕ) (handled : r ≡ fieldAt w k 5) (h : m ≡ true) where
+  module _ (h : d ≡ true) (r : ℕ) (handled : r ≡ fieldAt w k 5) where
     pub meet-waits : r ≡ 0 → false ≡ mayMeet t want x y
     unfolding mayMeet
-    meet-waits z = rw (met ∙ h, handled-no w k r handled z)
+    meet-waits z = rw (handled-no w k r handled z) (and-waits met (disjoint (x .edges) (y .edges)))
 
-    pub meet-edges : (r ≡ 0 → ⊥) → (e : ℕ) (d : Bool) → e ≡ fieldAt w k 3 → d ≡ disjoint (x .edges) e → d ≡ mayMeet t want x y
+    pub meet-words : (r ≡ 0 → ⊥) → (kind of plan : ℕ) (m : Bool) → kind ≡ fieldAt w k 0 → of ≡ fieldAt w k 1 → plan ≡ fieldAt w k 2 → m ≡ meets t (x .kind) (x .of) want kind of plan
+        → m ≡ mayMeet t want x y
     unfolding mayMeet
-    meet-edges z e d q p = rw (met ∙ h, handled-yes w k r handled z) (p ∙ ap (disjoint (x .edges)) (q ∙ sym (edges-of w k)))
+    meet-words z kind of plan m a b c q =
+        rw (told ∙ h, handled-yes w k r handled z)
+        (q ∙ (λ i. meets t (x .kind) (x .of) want ((a ∙ sym (kind-of w k)) i) ((b ∙ sym (rule-of w k)) i) ((c ∙ sym (plan-of w k)) i)) ∙ and-both met)

@@ -1,8 +1,8 @@
 -- The root rule on an accepted grammar table: what it makes of a record, and of which it makes nothing.
-use Prim.Native.Nat.{ℕ, zero, suc, _+_, _-_, _^_, _≤_, _<_, min}
+use Prim.Native.Nat.{ℕ, suc, _+_, _-_, _≤_, _<_}
 use mathlib.Core.Path.{_≡_, refl, sym, ap, _∙_}
-use mathlib.Core.Bool.{Bool, true, false}
-use mathlib.Core.List.{List, [], _∷_, map}
+use mathlib.Core.Bool.{true, false}
+use mathlib.Core.List.{List, [], _∷_}
 use native.Mathlib.Omega.{arith}
 use lib.Dec.{eqb}
 use lib.ListN.{length, take, List·getD-eq-default}
@@ -10,8 +10,7 @@ use borrow.Author.Tests.{eq-eqb, ne-eqb}
 use Rattle.hrg.specs.Grammars.{Rule, Grammar, noRule, cost, ruleOf, lhsOf, rightOf, planOf}
 use Rattle.hrg.specs.Trees.{padded, images}
 use Rattle.hrg.specs.Items.{Item, active, passive}
-use Rattle.hrg.specs.ClosureRun.{guard, rootAt}
-use Rattle.hrg.specs.AgendaRun.{Conclusion}
+use Rattle.hrg.specs.ClosureRun.{rootAt}
 use Rattle.agenda.specs.declared.Record.{Record}
 use Rattle.agenda.specs.Records.{recordOf, itemOf, plus}
 use Rattle.agenda.specs.Consequences.{atRoot}

@@ -5,18 +5,17 @@ use mathlib.Core.Bool.{Bool, true, false, cond}
 use mathlib.Core.List.{List, [], _∷_}
 use native.Mathlib.Omega.{arith}
 use lib.Dec.{eqb}
-use lib.ListN.{length, getD, set, drop}
-use borrow.Author.Tests.{eq-eqb, ne-eqb, eqb-true, eqb-false}
+use lib.ListN.{length, getD, set}
+use borrow.Author.Tests.{eq-eqb, ne-eqb, eqb-false}
 use Rattle.hrg.specs.Grammars.{Graph, Grammar}
 use Rattle.hrg.specs.ClosureRun.{leaves}
-use Rattle.agenda.specs.declared.Record.{Record}
 use Rattle.agenda.specs.declared.Found.{Found}
 use Rattle.agenda.specs.declared.Found.the-variants.{At, Nowhere}
 use Rattle.agenda.specs.Consequences.{consequences, leafRecords}
 use Rattle.agenda.specs.Steps.{Chart, addedAll, leastWaiting, handledAt, stepWith, stepChart, runChart, startChart}
 use Rattle.agenda.proofs.Adding.{cond-by}
 use Rattle.agenda.proofs.Runs.{again, run-none, run-more, run-split, marked-run, idle-run}
-use Rattle.records.specs.Words.{Fits, capacity, itemCount, recordsAt, chartOf, allWords, written, grownBy}
+use Rattle.records.specs.Words.{Fits, capacity, itemCount, chartOf, allWords, written, grownBy}
 use Rattle.records.proofs.WordLaws.{length-records, Below, none, one, least-below}
 use Rattle.records.proofs.Written.{Holds, chart-written, chart-of-written, capacity-written, fits-written, written-over}
 use Rattle.records.proofs.Rewritten.{Grown, handledIn, grown-handled}

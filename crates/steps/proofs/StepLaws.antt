@@ -1,12 +1,11 @@
 -- One step on words: the loops over graph edges and partners, and the step as the model's.
 use Prim.Native.Nat.{ℕ, zero, suc, _+_, _-_, _≤_, _<_}
 use mathlib.Core.Path.{_≡_, refl, sym, ap, ap₂, _∙_, subst}
-use mathlib.Core.Bool.{Bool, true, false, _&&_, cond}
-use mathlib.Core.List.{List, [], _∷_, _++_, List·Memᴰ as In, map}
+use mathlib.Core.Bool.{Bool, true, false}
+use mathlib.Core.List.{List, [], _∷_, _++_}
 use native.Mathlib.Omega.{arith}
 use native.Mathlib.Decide.{decLt}
-use lib.Dec.{eqb}
-use lib.ListN.{length, getD, set, length-set}
+use lib.ListN.{length, length-set}
 use Rattle.hrg.specs.Grammars.{Graph, Grammar, ruleOf, planOf, planNode}
 use Rattle.hrg.specs.Items.{Item, active, passive}
 use Rattle.hrg.specs.ClosureRun.{guard, binaryOf, eachTo, rootAt}
@@ -17,8 +16,8 @@ use Rattle.agenda.specs.Consequences.{gather, recordIn, atRoot, terminalAt, wit
 use Rattle.agenda.specs.Steps.{Chart, addedAll, handledNow, handledAt}
 use Rattle.agenda.proofs.Records.{record-eight}
 use Rattle.agenda.proofs.Consequences.{in-consequence}
-use Rattle.records.specs.Words.{Fits, capacity, itemCount, recordAt, recordsAt, chartOf, written, markedAt, grownBy}
-use Rattle.records.proofs.WordLaws.{length-records, record-in}
+use Rattle.records.specs.Words.{Fits, capacity, itemCount, recordAt, chartOf, written, markedAt, grownBy}
+use Rattle.records.proofs.WordLaws.{length-records}
 use Rattle.records.proofs.Written.{handle-written, chart-of-written, fits-written, written-over}
 use Rattle.records.proofs.Rewritten.{Grown, handledIn, grown-handled, count-on, capacity-on, record-on}
 use Rattle.records.proofs.Grown.{Whole, whole-none, whole-guard, whole-append, whole-map, whole-items, whole-gather, holds-own, grown-all, grown-none, grown-fits, grown-more, grown-longer, grown-flag, grown-record}

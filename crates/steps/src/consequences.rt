@@ -194,20 +194,21 @@ fn add_pair(
     );
 }
 
-// Whether the record at place k may make something with x, which wants `want` if it is active. Only the words that tell are read: most pairs end here.
+// Whether the record at place k may make something with x, which wants `want` if it is active. Only the words that tell are read, first those that tell the most.
 fn may_meet(wants: &[u64; 1024], chart: &[u64], k: u64, x: Record, want: u64) -> bool
     ensures { λ r. ⌜ r ≡ mayMeet (now (wants .entry)) want x (recordAt (now (chart .entry)) k) ⌝ }
 {
-    let kind = records::field(chart, k, 0);
-    let of = records::field(chart, k, 1);
-    let plan = records::field(chart, k, 2);
-    if !wants::meet(wants, x.kind, x.of, want, kind, of, plan) {
+    let edges = records::field(chart, k, 3);
+    if !masks::disjoint(x.edges, edges) {
         return false;
     }
     if records::field(chart, k, 5) == 0 {
         return false;
     }
-    masks::disjoint(x.edges, records::field(chart, k, 3))
+    let kind = records::field(chart, k, 0);
+    let of = records::field(chart, k, 1);
+    let plan = records::field(chart, k, 2);
+    wants::meet(wants, x.kind, x.of, want, kind, of, plan)
 }
 
 // What x at place j makes with the record at place k, in both orders, if that one is handled.
@@ -313,7 +314,7 @@ fn add_next(
     k + 1
 }
 
-// The same as add_each, with those of the first n records that can meet x: they are on the lists of its keys, in rising order.
+// The same as add_each, with those of the first n records that can meet x: they are on the lists of its keys, in rising order. Cursors skim over quiet records, most of what is listed.
 fn add_listed(
     g: &[u64],
     h: &[u64],
@@ -332,7 +333,8 @@ fn add_listed(
     ensures { λ r. ⌜ (now (chart .exit) ≡ grownBy (now (chart .entry)) (gather n (λ k. withRecord (grammarOf (now (g .entry))) (graphOf (now (g .entry)) (now (h .entry))) x j (recordAt (now (chart .entry)) k) k))) × Ready (now (g .entry)) (now (wants .entry)) (now (pivots .entry)) (now (chart .exit)) (now (index .exit)) ⌝ }
 {
     let query = pivots::query(g, wants, pivots, x);
-    let mut cs = index::starts(index, query);
+    let bs = index::starts(index, query);
+    let mut cs = index::skimmed(chart, index, x.edges, n, bs);
     let mut k = lists::least(cs);
     let mut done: u64 = 0;
     while k < n {
@@ -352,7 +354,8 @@ fn add_listed(
             done,
         );
         let ds = index::passed(index, cs, k);
-        cs = ds;
+        let es = index::skimmed(chart, index, x.edges, n, ds);
+        cs = es;
         k = lists::least(cs);
     }
 }

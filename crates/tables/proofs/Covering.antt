@@ -23,7 +23,7 @@ use Rattle.questions.specs.Questions.{covered, nodesOnEdges, nodesOnGraph}
 use Rattle.tables.proofs.Listing.{true-is}
 
 -- ---- loops that mark the numbers of a list
-marked-by : (m x r : ℕ) → Added m x r → r ≡ marked m x
+pub marked-by : (m x r : ℕ) → Added m x r → r ≡ marked m x
 unfolding marked
 marked-by m x r a = go (decLt x 64)
   where

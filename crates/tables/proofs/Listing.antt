@@ -1,13 +1,12 @@
 -- Question 5's loop: the mask of the nodes seen counts each of them once.
 use Prim.Native.Nat.{ℕ, suc, _+_, _-_, _≤_, _<_, min}
 use native.Mathlib.Omega.{arith}
-use native.Mathlib.Numerals.{add-one}
 use native.Mathlib.Decide.{ℕ-discrete}
 use mathlib.Core.Path.{_≡_, refl, sym, ap, _∙_, subst}
 use mathlib.Core.Bool.{Bool, true, false}
-use mathlib.Core.List.{List, [], _∷_}
+use mathlib.Core.List.{List, []}
 use lib.ListN.{length, getD, take, drop, length-drop}
-use lib.Seq.{split-at, take-suc, take-all, getD-drop}
+use lib.Seq.{take-all, getD-drop}
 use lib.Dec.{T}
 use Rattle.masks.specs.Masks.{bit, member, _∪_, single, Apart, Added, Found}
 use Rattle.masks.specs.Laws.{bit-le, bit-empty, bit-union, sum-disjoint, bit-single-self, bit-single-other, member-true, member-false}

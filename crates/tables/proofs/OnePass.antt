@@ -24,16 +24,11 @@ use Rattle.questions.proofs.WellFormedQuestions.{passes-rule, passes-edge}
 use Rattle.questions.proofs.WellFormedWalk.{IsLine, reach, reach-line, room-in, room-place, room-next, next-forward, Agree, Before, next-agree, judge-agree, before-next, walk-onward}
 use Rattle.questions.proofs.WellFormedReading.{check-walk}
 use Rattle.questions.proofs.Filled.{when-line, filled-by, by-filled, word-take}
-use Rattle.tables.specs.Concluding.{nothingDue, Opens, Zero, Zeros}
+use Rattle.tables.specs.Concluding.{nothingDue, Opens, Zero, Zeros, Gathered, eightFrom}
 
 -- ---- words that are 0
 or-none : (a b : ℕ) → bitOr a b ≡ 0 → (a ≡ 0) × (b ≡ 0)
 or-none a b h = (omega (arith, or-add-and a b, and-le-r a b), omega (arith, or-add-and a b, and-le-l a b))
-
--- one word made of those from a to i
-pub record Gathered (t : List ℕ) (a i any : ℕ) : Type 0 where
-  pub yes : any ≡ 0 → Zero t a i
-  pub no : Zero t a i → any ≡ 0
 
 pub gathered-none : (t : List ℕ) (a : ℕ) → Gathered t a a 0
 gathered-none t a = record { yes = λ h i k l. absurd (omega arith); no = λ z. refl }
@@ -50,6 +45,29 @@ gathered-more t a i any G l = record {
     go : (k : ℕ) → a ≤ k → k < i + 1 → (any ≡ 0) × (getD t i 0 ≡ 0) → Dec (k < i) → getD t k 0 ≡ 0
     go k b e h (yes d) = G .yes (h .0) k b d
     go k b e h (no d) = let same : k ≡ i = omega arith in rw same (h .1)
+
+-- the same where the next place is said otherwise
+gathered-on : (t : List ℕ) (a i j any : ℕ) → Gathered t a i any → a ≤ i → i + 1 ≡ j → Gathered t a j (bitOr any (getD t i 0))
+gathered-on t a i j any G l e = subst (λ k. Gathered t a k (bitOr any (getD t i 0))) e (gathered-more t a i any G l)
+
+gathered-eight : (t : List ℕ) (a i any r : ℕ) → Gathered t a i any → a ≤ i → r ≡ eightFrom t i any → Gathered t a (i + 8) r
+gathered-eight t a i any r G l e =
+    let one = gathered-on t a i (i + 1) any G l (omega arith) in
+    let two = gathered-on t a (i + 1) (i + 2) _ one (omega arith) (omega arith) in
+    let three = gathered-on t a (i + 2) (i + 3) _ two (omega arith) (omega arith) in
+    let four = gathered-on t a (i + 3) (i + 4) _ three (omega arith) (omega arith) in
+    let five = gathered-on t a (i + 4) (i + 5) _ four (omega arith) (omega arith) in
+    let six = gathered-on t a (i + 5) (i + 6) _ five (omega arith) (omega arith) in
+    let seven = gathered-on t a (i + 6) (i + 7) _ six (omega arith) (omega arith) in
+    subst (Gathered t a (i + 8)) (sym e) (gathered-on t a (i + 7) (i + 8) _ seven (omega arith) (omega arith))
+
+pub gathered-turn : (t : List ℕ) (a i any p q r s : ℕ) → Gathered t a i any → a ≤ i → p ≡ eightFrom t i any → q ≡ eightFrom t (i + 8) p → r ≡ eightFrom t (i + 16) q
+    → s ≡ eightFrom t (i + 24) r → Gathered t a (i + 32) s
+gathered-turn t a i any p q r s G l e f g h =
+    let one = gathered-eight t a i any p G l e in
+    let two = subst (λ k. Gathered t a k q) (let x : i + 8 + 8 ≡ i + 16 = omega arith in x) (gathered-eight t a (i + 8) p q one (omega arith) f) in
+    let three = subst (λ k. Gathered t a k r) (let x : i + 16 + 8 ≡ i + 24 = omega arith in x) (gathered-eight t a (i + 16) q r two (omega arith) g) in
+    subst (λ k. Gathered t a k s) (let x : i + 24 + 8 ≡ i + 32 = omega arith in x) (gathered-eight t a (i + 24) r s three (omega arith) h)
 
 pub gathered-all : (t : List ℕ) (a b i any : ℕ) → Gathered t a i any → i ≡ b → Zeros t a b (eqb any 0)
 gathered-all t a b i any G e = record {
@@ -82,6 +100,17 @@ when-nothing (PlanLine r q) v w h = absurd (false≢true h)
 when-nothing Graph v w h = absurd (false≢true h)
 when-nothing (GraphEdge e) v w h = absurd (false≢true h)
 when-nothing Nothing v w h = refl
+
+-- a longer table has room for the same lines
+pub room-more : (a b : ℕ) (d : Due) → a ≤ b → Room a d → Room b d
+room-more a b Grammar l r = omega arith
+room-more a b (Symbol s) l r = (r .0, omega arith)
+room-more a b (Rule k) l r = (r .0, omega arith)
+room-more a b (RuleEdge k i) l r = (r .0, r .1, omega arith)
+room-more a b (PlanLine k q) l r = (r .0, r .1, omega arith)
+room-more a b Graph l r = omega arith
+room-more a b (GraphEdge e) l r = (r .0, omega arith)
+room-more a b Nothing l r = omega arith
 
 -- The lines before `due` stand in t as in the table c of the definition, whose other words are 0; `from` is the first word behind them.
 pub record Passing (size : ℕ) (g t : List ℕ) (goal : Bool) (left : ℕ) (due : Due) (from : ℕ) : Type 0 where

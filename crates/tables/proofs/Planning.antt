@@ -1,19 +1,32 @@
 -- Question 7's counts: children and introduced edges, line by line.
-use Prim.Native.Nat.{ℕ, zero, suc, _+_, _≤_, _<_, min}
+use Prim.Native.Nat.{ℕ, _+_, _*_, _≤_, _<_, min}
 use native.Mathlib.Omega.{arith}
 use native.Mathlib.Numerals.{add-one}
-use mathlib.Core.Path.{_≡_, refl, sym, ap, _∙_}
+use mathlib.Core.Path.{_≡_, refl, sym, ap, _∙_, subst}
 use mathlib.Core.Bool.{Bool, true, false, _&&_}
 use mathlib.Core.List.{List, _++_}
-use lib.Dec.{ltb, eqb}
-use borrow.Author.Count.{below-more}
-use borrow.Author.Tests.{ne-eqb, lt-ltb, le-ltb}
+use lib.ListN.{length}
+use lib.Dec.{ltb, leb, eqb}
+use borrow.Author.Tests.{ne-eqb, le-leb}
+use Rattle.masks.specs.Masks.{_∪_, full, Added}
 use Rattle.hrg.specs.Counts.{hit, occurs}
 use Rattle.hrg.specs.WellFormedTest.{each, every}
 use Rattle.hrg.proofs.Sums.{occurs-append, hit-self, hit-ne}
-use Rattle.hrg.proofs.WellFormedTest.{every-false}
 use Rattle.questions.specs.Layout.{planKind, planFirst, planSecond, ruleEdges}
-use Rattle.questions.specs.Questions.{childrenOf, introducedBy, childrenBefore, introducedBefore, planSoFar, planWhole}
+use Rattle.questions.specs.Questions.{covered, childrenOf, introducedBy, childrenBefore, introducedBefore, planSoFar, planWhole}
+use Rattle.questions.specs.Walk.{Room}
+use Rattle.questions.specs.declared.Due.{Due}
+use Rattle.questions.specs.declared.Due.the-variants.{PlanLine}
+use Rattle.tables.specs.Marks.{marked, marks}
+use Rattle.tables.specs.Plans.{PlanRoom, Marked}
+use Rattle.tables.proofs.Covering.{marked-by, marks-append, covered-by}
+
+-- ---- the words of plan lines
+pub room-lines : (n : ℕ) (due : Due) (r q : ℕ) → Room n due → due ≡ PlanLine r q → Room n (PlanLine r q)
+room-lines n due r q h e = subst (Room n) e h
+
+pub plan-inside : (g : List ℕ) (r n q k : ℕ) → PlanRoom g r n → q < n → k < 9 → 9 * (74 + 25 * r + q) + k < length g
+plan-inside g r n q k p h l = omega (arith, p .long, p .rule, p .lines)
 
 pub hit-yes : (a b : ℕ) → a ≡ b → 1 ≡ hit a b
 hit-yes a b e = rw e (sym (hit-self b))
@@ -97,28 +110,55 @@ module _ (g : List ℕ) (r q first second : ℕ) where
   unfolding planSoFar each childrenOf introducedBy
   join-ok one other p e = rw (p, e) (simp and-yes)
 
--- ---- loops over every number below n
-every-decided : (n : ℕ) (t : ℕ → Bool) → ((i : ℕ) → i < n → t i ≡ true) → true ≡ every n t
-unfolding every
-every-decided zero t h = refl
-every-decided (suc n) t h = rw (h 0 (omega arith)) (every-decided n (λ i. t (suc i)) (λ i l. h (suc i) (omega arith)))
+-- ---- the same as sets
+module _ (m kind first second : ℕ) where
+  pub marks-one : (x : ℕ) → kind ≡ 1 → Added m first x → x ≡ marks m (childrenOf kind first second)
+  unfolding childrenOf marks
+  marks-one x k a = rw k (marked-by m first x a)
 
--- the numbers below i pass
-abbrev pub Passing : (ℕ → Bool) → ℕ → Type 0
-Passing t i = (j : ℕ) → j < i → t j ≡ true
+  pub marks-two : (x y : ℕ) → kind ≡ 2 → Added m first x → Added x second y → y ≡ marks m (childrenOf kind first second)
+  unfolding childrenOf marks
+  marks-two x y k a b = rw k (marked-by x second y b ∙ ap (λ n. marked n second) (marked-by m first x a))
 
-module _ (f : ℕ → ℕ) where
-  pub pass-none : Passing (λ j. ltb 0 (f j)) 0
-  pass-none j h = absurd (omega arith)
+  pub marks-none : (kind ≡ 1 → ⊥) → (kind ≡ 2 → ⊥) → m ≡ marks m (childrenOf kind first second)
+  unfolding childrenOf marks
+  marks-none p q = rw (ne-eqb kind 1 p, ne-eqb kind 2 q)
 
-  pub pass-more : (i x : ℕ) → x ≡ f i → (x ≡ 0 → ⊥) → Passing (λ j. ltb 0 (f j)) i → Passing (λ j. ltb 0 (f j)) (i + 1)
-  pass-more i x e h p = below-more _ i p (lt-ltb 0 (f i) (omega arith))
+  pub marks-edge : (x : ℕ) → kind ≡ 1 → Added m second x → x ≡ marks m (introducedBy kind first second)
+  unfolding introducedBy marks
+  marks-edge x k a = rw k (marked-by m second x a)
 
-  pub pass-all : (m n i : ℕ) → n ≡ m → n ≤ i → Passing (λ j. ltb 0 (f j)) i → true ≡ every m (λ j. ltb 0 (f j))
-  pass-all m n i w h p = every-decided m (λ j. ltb 0 (f j)) (λ j l. p j (omega arith))
+  pub marks-no-edge : (kind ≡ 1 → ⊥) → m ≡ marks m (introducedBy kind first second)
+  unfolding introducedBy marks
+  marks-no-edge p = rw (ne-eqb kind 1 p)
 
-  pub pass-not : (m n i x : ℕ) → n ≡ m → i < n → x ≡ f i → x ≡ 0 → false ≡ every m (λ j. ltb 0 (f j))
-  pass-not m n i x w h e z = every-false m (λ j. ltb 0 (f j)) i (omega arith) (le-ltb 0 (f i) (omega arith))
+module _ (g : List ℕ) (r : ℕ) where
+  pub marked-start : Marked g r 0 0 0
+  unfolding childrenBefore introducedBefore marks
+  marked-start = record { below = refl; edges = refl }
+
+  pub marked-next : (q kind first second m n x y : ℕ) → kind ≡ planKind g r q → first ≡ planFirst g r q → second ≡ planSecond g r q → Marked g r q m n
+      → x ≡ marks m (childrenOf kind first second) → y ≡ marks n (introducedBy kind first second) → Marked g r (q + 1) x y
+  unfolding childrenBefore introducedBefore
+  marked-next q kind first second m n x y k f s p a b = record {
+    below = a ∙ rw (p .below, k, f, s, add-one) (sym (marks-append 0 (childrenBefore g r q) (childrenOf (planKind g r q) (planFirst g r q) (planSecond g r q))));
+    edges = b ∙ rw (p .edges, k, s, add-one) (sym (marks-append 0 (introducedBefore g r q) (introducedBy (planKind g r q) (planFirst g r q) (planSecond g r q))));
+  }
+
+  pub marked-done : (n q x y : ℕ) → q ≤ n → n ≤ q → Marked g r q x y → Marked g r n x y
+  marked-done n q x y a b p = subst (λ k. Marked g r k x y) (let e : q ≡ n = omega arith in e) p
+
+-- every number below n is in the list
+every-covered : (n : ℕ) (l : List ℕ) → n ≤ 64 → covered n l ≡ every n (λ c. ltb 0 (occurs c l))
+unfolding covered
+every-covered n l h = let few : min 64 n ≡ n = omega arith in rw (le-leb n 64 h, few)
+
+pub all-marked : (nodes n first m : ℕ) (xs ys : List ℕ) (b : Bool) → n ≡ nodes → nodes ≤ 64 → first ≡ marks 0 xs → m ≡ marks first ys
+    → b ≡ (leb n 64 && eqb (m ∪ full (min n 64)) m) → b ≡ every nodes (λ c. ltb 0 (occurs c (xs ++ ys)))
+all-marked nodes n first m xs ys b e h p q w = covered-by nodes n first m xs ys b e p q w ∙ every-covered nodes (xs ++ ys) h
+
+pub eight-edges : (n m e : ℕ) → n ≡ min 8 m → m ≡ e → (n ≡ min 8 e) × (min 8 e ≤ 64)
+eight-edges n m e p q = (p ∙ ap (min 8) q, omega arith)
 
 pub whole-ok : (g : List ℕ) (r q kind first second : ℕ) (a b : Bool)
     → a ≡ every q (λ c. ltb 0 (occurs c (childrenBefore g r q ++ childrenOf kind first second)))

@@ -2,7 +2,8 @@
 use mathlib.Core.Path.{_≡_}
 use mathlib.Core.Bool.{Bool, true, false}
 use mathlib.Core.List.{List}
-use Prim.Native.Nat.{ℕ, _≤_, _<_}
+use Prim.Native.Nat.{ℕ, _+_, _≤_, _<_}
+use lib.Bits.{bitOr}
 use lib.ListN.{getD}
 use Rattle.questions.specs.declared.Due.{Due}
 use Rattle.questions.specs.declared.Due.the-variants.{Grammar, Symbol, Rule, RuleEdge, PlanLine, Graph, GraphEdge, Nothing}
@@ -37,3 +38,15 @@ Zero t a b = (i : ℕ) → a ≤ i → i < b → getD t i 0 ≡ 0
 pub record Zeros (t : List ℕ) (a b : ℕ) (r : Bool) : Type 0 where
   pub yes : r ≡ true → Zero t a b
   pub no : r ≡ false → Zero t a b → ⊥
+
+-- one word made of those from a to i
+pub record Gathered (t : List ℕ) (a i any : ℕ) : Type 0 where
+  pub yes : any ≡ 0 → Zero t a i
+  pub no : Zero t a i → any ≡ 0
+
+-- that of eight more
+abbrev pub eightFrom : List ℕ → ℕ → ℕ → ℕ
+eightFrom t i any =
+    bitOr (bitOr (bitOr (bitOr
+    (bitOr (bitOr (bitOr (bitOr any (getD t i 0)) (getD t (i + 1) 0)) (getD t (i + 2) 0)) (getD t (i + 3) 0))
+    (getD t (i + 4) 0)) (getD t (i + 5) 0)) (getD t (i + 6) 0)) (getD t (i + 7) 0)

@@ -1,3 +1,4 @@
 -- The root of the definitions.
 pub mod Marks
 pub mod Concluding
+pub mod Plans

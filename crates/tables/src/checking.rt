@@ -2,16 +2,22 @@
 ghost use mathlib.Core.Path.{_≡_};
 ghost use mathlib.Core.Bool.{cond, true};
 ghost use mathlib.Core.List.{[]};
-ghost use Prim.Native.Nat.{_≤_};
+ghost use Prim.Native.Nat.{_+_, _*_, _≤_};
 ghost use lib.ListN.{length, replicate};
 ghost use Rattle.hrg.specs.Counts.{tabulate};
 ghost use Rattle.questions.specs.Layout.{inTable, fieldsIn, word};
 ghost use Rattle.questions.specs.Walk.{Room};
-ghost use Rattle.tables.specs.Concluding.{nothingDue, Opens, Zeros};
+ghost use Rattle.tables.specs.Concluding.{nothingDue, Opens, Zeros, Gathered, eightFrom};
 ghost use Rattle.questions.specs.Checking.{fieldsDue, storedFields, checkLines, filledBy, checkGrammar, checkGraph};
 use crate::judging;
 use questions::Due;
 use questions::Fields;
+
+// How far words were gathered, and the one word made of them.
+struct Gathering {
+    from: u64,
+    any: u64,
+}
 
 // How many fields the line at a place of t has, by the ranks in t, or in the grammar g for a graph's lines.
 fn fields_due(g: &[u64], t: &[u64], due: Due) -> u64
@@ -29,27 +35,40 @@ fn fields_due(g: &[u64], t: &[u64], due: Due) -> u64
     }
 }
 
-// The first n words of the line at place p.
+// The first n words of the line at place p. All nine are read, so that nothing is tested on the way.
 fn line_fields(t: &[u64], p: u64, n: u64) -> Fields
-    requires { ⌜ n ≤ 9 ⌝ }
+    requires { ⌜ (n ≤ 9) × (9 * p + 9 ≤ length (now t)) ⌝ }
     ensures { λ x. ⌜ (fieldsIn x ≡ tabulate n (λ j. word (now (t .entry)) p j)) × (x .count ≡ n) ⌝ }
 {
-    let mut values = [0u64; 18];
-    let mut j: u64 = 0;
-    while j < n {
-        values[j as usize] = layout::word(t, p, j);
-        j += 1;
-    }
+    let at = (9 * p) as usize;
+    let values = [
+        t[at],
+        t[at + 1],
+        t[at + 2],
+        t[at + 3],
+        t[at + 4],
+        t[at + 5],
+        t[at + 6],
+        t[at + 7],
+        t[at + 8],
+        0,
+        0,
+        0,
+        0,
+        0,
+        0,
+        0,
+        0,
+        0,
+    ];
     Fields { values, count: n }
 }
 
-// The fields of the line at its place of t; none of a line that is in no table.
+// The fields of the line at its place of t.
 fn stored_fields(g: &[u64], t: &[u64], due: Due) -> Fields
+    requires { ⌜ Room (length (now t)) due ⌝ }
     ensures { λ x. ⌜ (fieldsIn x ≡ cond (inTable due) (storedFields (now (g .entry)) (now (t .entry)) (now (t .entry)) due) []) × (x .count ≤ 9) × (length (fieldsIn x) ≡ x .count) ⌝ }
 {
-    if !layout::in_table(due) {
-        return line_fields(t, 0, 0);
-    }
     line_fields(t, layout::place_of(due), fields_due(g, t, due))
 }
 
@@ -69,13 +88,39 @@ fn is_nothing(due: Due) -> bool
     }
 }
 
+// One word made of eight from i on, and of `any`.
+fn with_eight(t: &[u64], i: usize, any: u64) -> u64
+    requires { ⌜ i + 8 ≤ length (now t) ⌝ }
+    ensures { λ x. ⌜ x ≡ eightFrom (now (t .entry)) i any ⌝ }
+{
+    let low = any | t[i] | t[i + 1] | t[i + 2] | t[i + 3];
+    low | t[i + 4] | t[i + 5] | t[i + 6] | t[i + 7]
+}
+
+// One word made of those of t from a on, 32 a turn, as long as b is not near: how far it came, and the word.
+fn gather(t: &[u64], a: u64, b: u64) -> Gathering
+    requires { ⌜ (a ≤ b) × (b ≤ length (now t)) ⌝ }
+    ensures { λ x. ⌜ (a ≤ x .from) × (x .from ≤ b) × Gathered (now (t .entry)) a (x .from) (x .any) ⌝ }
+{
+    let mut any: u64 = 0;
+    let mut i = a;
+    while 32 <= b - i {
+        let at = i as usize;
+        let low = with_eight(t, at + 8, with_eight(t, at, any));
+        any = with_eight(t, at + 24, with_eight(t, at + 16, low));
+        i += 32;
+    }
+    Gathering { from: i, any }
+}
+
 // Whether the words of t from a to b are 0. One word is made of all, so that nothing is tested on the way.
 fn zeros(t: &[u64], a: u64, b: u64) -> bool
     requires { ⌜ (a ≤ b) × (b ≤ length (now t)) ⌝ }
     ensures { λ x. ⌜ Zeros (now (t .entry)) a b x ⌝ }
 {
-    let mut any: u64 = 0;
-    let mut i = a;
+    let gathered = gather(t, a, b);
+    let mut any = gathered.any;
+    let mut i = gathered.from;
     while i < b {
         any = any | t[i as usize];
         i += 1;

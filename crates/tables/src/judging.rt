@@ -2,9 +2,12 @@
 ghost use mathlib.Core.Path.{_≡_};
 ghost use mathlib.Core.Bool.{cond, _&&_, _||_};
 ghost use Prim.Native.Nat.{_+_, _≤_};
+ghost use lib.ListN.{length};
 ghost use lib.Dec.{eqb, ltb};
 ghost use Rattle.questions.specs.Layout.{inTable, fieldsIn, rulePlan};
 ghost use Rattle.questions.specs.Questions.{ask, planWhole, judgeGrammar, judgeSymbol, judgeRule, judgeRuleEdge, judgePlan, judgeGraph, judgeGraphEdge, judge};
+ghost use Rattle.questions.specs.Walk.{Room};
+ghost use Rattle.tables.specs.Plans.{PlanRoom};
 use crate::marks;
 use crate::plans;
 use questions::Due;
@@ -127,7 +130,7 @@ fn judge_known_plan(
     second: u64,
     kept: bool,
 ) -> u64
-    requires { ⌜ q ≤ 15 ⌝ }
+    requires { ⌜ PlanRoom (now g) r q ⌝ }
     ensures { λ x. ⌜ x ≡ ask 4 (eqb n 3) (ask 7 (kept && (ltb (q + 1) (rulePlan (now (g .entry)) r) || planWhole (now (g .entry)) r q kind first second)) 0) ⌝ }
 {
     if n != 3 {
@@ -147,7 +150,7 @@ fn judge_known_plan(
 
 // `P`: kind, first, second.
 fn judge_plan(g: &[u64], r: u64, q: u64, f: Fields) -> u64
-    requires { ⌜ q ≤ 15 ⌝ }
+    requires { ⌜ PlanRoom (now g) r q ⌝ }
     ensures { λ x. ⌜ x ≡ judgePlan (now (g .entry)) r q (fieldsIn f) ⌝ }
 {
     let n = layout::field_count(f);
@@ -226,6 +229,7 @@ fn judge_graph_edge(g: &[u64], h: &[u64], e: u64, f: Fields) -> u64
 
 // Questions 3 to 7 for the line that is due in the table t; a graph's lines are judged with the grammar table g. A line that is in no table is refused 2.
 pub fn judge(g: &[u64], t: &[u64], due: Due, f: Fields) -> u64
+    requires { ⌜ Room (length (now t)) due ⌝ }
     ensures { λ x. ⌜ x ≡ cond (inTable due) (judge (now (g .entry)) (now (t .entry)) due (fieldsIn f)) 2 ⌝ }
 {
     if !layout::in_table(due) {

@@ -93,7 +93,7 @@ fn mark_graph(g: &[u64], h: &[u64], n: u64) -> u64
 }
 
 // Whether a mask has every node.
-fn has_all(m: u64, nodes: u64) -> bool
+pub(crate) fn has_all(m: u64, nodes: u64) -> bool
     ensures { λ r. ⌜ r ≡ (leb nodes 64 && eqb (m ∪ full (min nodes 64)) m) ⌝ }
 {
     let all = masks::union(m, masks::full(nodes));

@@ -1,8 +1,8 @@
 -- Question 8's tests on words, one law per way that a function can go: each is the definition's test on the grammar and the graph of accepted tables.
 use mathlib.Core.Path.{_≡_, refl, sym, ap, ap₂, _∙_}
-use mathlib.Core.Bool.{Bool, true, false, _&&_, not, cond}
+use mathlib.Core.Bool.{Bool, true, false, _&&_, _||_, not, cond, false≢true}
 use mathlib.Core.List.{List, [], _∷_}
-use Prim.Native.Nat.{ℕ, _+_, _≤_, _<_, min}
+use Prim.Native.Nat.{ℕ, _+_, _*_, _≤_, _<_, min}
 use native.Mathlib.Omega.{arith}
 use native.Mathlib.Decide.{decLt}
 use lib.ListN.{length, getD}
@@ -10,7 +10,7 @@ use lib.Dec.{eqb, ltb, leb}
 use lib.Bits.{bitAnd}
 use borrow.Author.Tests.{eq-eqb, ne-eqb, lt-ltb, le-ltb, le-leb, lt-leb}
 use Rattle.masks.specs.Masks.{full, within, Filled}
-use Rattle.hrg.specs.Counts.{occurs}
+use Rattle.hrg.specs.Counts.{occurs, tabulate}
 use Rattle.hrg.specs.Grammars.{terminal, nonterminal, Edge, Rule, PlanNode, leaf, introduce, join, kindOf, rightOf, planOf, planNode, edgeAt}
 use Rattle.hrg.specs.Trees.{unplaced, at}
 use Rattle.hrg.specs.Items.{below}
@@ -21,27 +21,31 @@ use Rattle.hrg.proofs.Plans.{below-introduce, below-known}
 use Rattle.hrg.proofs.WellFormedTest.{every-false}
 use Rattle.questions.specs.Layout.{symbolCount, ruleCount, kindWord, ruleEdges, rulePlan, edgeLabel, planKind, planFirst, planSecond, graphNodes, graphEdges}
 use Rattle.questions.specs.Abstract.{planFrom, grammarOf, graphOf}
+use Rattle.questions.specs.Checking.{checkGrammar}
+use Rattle.questions.proofs.WellFormedLent.{checked-grammar-ok}
 use Rattle.questions.proofs.WellFormedAccepted.{symbols-length, rules-length, kind-is, rule-is, edge-is}
+use Rattle.layout.proofs.Sizes.{grammar-length}
 use Rattle.joins.specs.Joins.{KnownNode, KnownEdge, Accepted}
-use Rattle.joins.proofs.Known.{rule-ok, right-edges, plan-size, plan-ok, plan-node, graph-size, graph-nodes}
+use Rattle.joins.proofs.Known.{rule-ok, rule-few, right-edges, plan-size, plan-ok, edges-few, plan-few, plan-node, graph-size, graph-nodes, graph-edges-few}
 use Rattle.joins.proofs.PlanMasks.{alone}
 use Rattle.joins.proofs.MapLaws.{getD-any, every-true}
 use Rattle.agenda.specs.declared.Record.{Record}
-use Rattle.records.specs.Words.{capacity, recordAt}
+use Rattle.records.specs.Words.{capacity, fieldAt, blockAt, ofWords, recordAt}
 use Rattle.validity.specs.Checking.{knownEdges, knownNode, knownNodes, inGraph, knownSecond, knownPartners, knownActive, knownPassive, knownRecord, knownChart}
 
 pub getD-past : (w : List ℕ) → length w ≡ 0 → 0 ≡ getD w 0 0
 getD-past [] e = refl
 getD-past (a ∷ w) e = absurd (omega arith)
 
--- ---- edges and nodes
-pub edges-test : (n m all : ℕ) → n ≤ 64 → Filled n all → eqb (bitAnd m all) m ≡ knownEdges n m
-unfolding knownEdges within
-edges-test n m all few f =
-    let whole : min n 64 ≡ n = omega arith in
-    ap (λ a. eqb (bitAnd m a) m) (f .value ∙ ap full whole)
+-- ---- bounds
+pub below-equal : (x a b : ℕ) → a ≡ b → x < a → x < b
+below-equal x a b e l = omega arith
 
--- the first i places are known
+pub below-capacity : (w : List ℕ) (j n cap : ℕ) → cap ≡ capacity w → n ≤ cap → j < n → j < capacity w
+below-capacity w j n cap e l i = omega arith
+
+-- ---- edges and nodes
+-- the first i tests pass
 pub record Passed (t : ℕ → Bool) (i : ℕ) : Type 0 where
   pub each : (k : ℕ) → k < i → t k ≡ true
 
@@ -58,24 +62,40 @@ passed-next t i e p = record { each = λ k l. go k l (decLt k i) }
 pub passed-all : (n i : ℕ) (t : ℕ → Bool) → n ≤ i → Passed t i → true ≡ every n t
 passed-all n i t h p = sym (every-true n t (λ k l. p .each k (omega arith)))
 
--- the test of a place
-abbrev pub nodeTest : ℕ → List ℕ → ℕ → Bool
-nodeTest n ns k = knownNode n (at ns k)
+pub four-by : (n a b c d : ℕ) {p q r s : Bool} → p ≡ knownNode n a → q ≡ knownNode n b → r ≡ knownNode n c → s ≡ knownNode n d
+    → p && q && r && s ≡ knownNode n a && knownNode n b && knownNode n c && knownNode n d
+four-by n a b c d e f g h = cc
 
-module _ (n : ℕ) (ns : List ℕ) (size : length ns ≡ 8) where
-  node-test : (k v : ℕ) (b : Bool) → k < 8 → v ≡ getD ns k 0 → b ≡ knownNode n v → nodeTest n ns k ≡ b
-  node-test k v b h e t = ap (knownNode n) (getD-any ns k unplaced 0 (omega arith) ∙ sym e) ∙ sym t
+fours : (a b c d e f g h : Bool) → (a && b && c && d) && (e && f && g && h) ≡ a && (b && (c && (d && (e && (f && (g && (h && true)))))))
+fours false b c d e f g h = refl
+fours true false c d e f g h = refl
+fours true true false d e f g h = refl
+fours true true true false e f g h = refl
+fours true true true true false f g h = refl
+fours true true true true true false g h = refl
+fours true true true true true true false h = refl
+fours true true true true true true true false = refl
+fours true true true true true true true true = refl
 
-  pub nodes-not : (k v : ℕ) (b : Bool) → k < 8 → v ≡ getD ns k 0 → b ≡ knownNode n v → b ≡ false → false ≡ knownNodes n ns
-  unfolding knownNodes
-  nodes-not k v b h e t f = every-false 8 (nodeTest n ns) k h (node-test k v b h e t ∙ f)
+-- four nodes of a list, from the place at on
+abbrev fourAt : ℕ → List ℕ → ℕ → Bool
+fourAt n ns at = knownNode n (getD ns at 0) && knownNode n (getD ns (at + 1) 0) && knownNode n (getD ns (at + 2) 0) && knownNode n (getD ns (at + 3) 0)
 
-  pub nodes-next : (k v : ℕ) (b : Bool) → k < 8 → v ≡ getD ns k 0 → b ≡ knownNode n v → b ≡ true → Passed (nodeTest n ns) k → Passed (nodeTest n ns) (k + 1)
-  nodes-next k v b h e t f p = passed-next (nodeTest n ns) k (node-test k v b h e t ∙ f) p
-
-pub nodes-all : (n : ℕ) (ns : List ℕ) (k : ℕ) → 8 ≤ k → Passed (nodeTest n ns) k → true ≡ knownNodes n ns
-unfolding knownNodes
-nodes-all n ns k h p = passed-all 8 k (nodeTest n ns) h p
+pub nodes-by : (n : ℕ) (ns : List ℕ) (a b : Bool) → length ns ≡ 8 → a ≡ fourAt n ns 0 → b ≡ fourAt n ns 4 → a && b ≡ knownNodes n ns
+unfolding knownNodes every
+nodes-by n ns a b size p q =
+    let node : ℕ → Bool = λ k. knownNode n (getD ns k 0) in
+    ap₂ _&&_ p q ∙ fours (node 0) (node 1) (node 2) (node 3) (node 4) (node 5) (node 6) (node 7)
+    ∙ simp (
+      getD-any ns 0 0 unplaced (omega arith),
+      getD-any ns 1 0 unplaced (omega arith),
+      getD-any ns 2 0 unplaced (omega arith),
+      getD-any ns 3 0 unplaced (omega arith),
+      getD-any ns 4 0 unplaced (omega arith),
+      getD-any ns 5 0 unplaced (omega arith),
+      getD-any ns 6 0 unplaced (omega arith),
+      getD-any ns 7 0 unplaced (omega arith),
+    )
 
 and-no : (a b : Bool) → a ≡ false → a && b ≡ false
 and-no a b e = rw e
@@ -83,16 +103,56 @@ and-no a b e = rw e
 and-so : (a b : Bool) → a ≡ true → a && b ≡ b
 and-so a b e = rw e
 
-module _ (h : List ℕ) (x : Record) where
-  pub graph-not : (n : ℕ) (a : Bool) → n ≡ graphEdges h → a ≡ knownEdges n (x .edges) → a ≡ false → false ≡ inGraph (graphNodes h) (graphEdges h) x
-  unfolding inGraph
-  graph-not n a e t f = sym (and-no (knownEdges (graphEdges h) (x .edges)) _ (ap (λ m. knownEdges m (x .edges)) (sym e) ∙ sym t ∙ f))
+-- a graph has at most 64 edges
+pub all-graph-edges : (g h : List ℕ) → Accepted g h → (n all : ℕ) → n ≡ graphEdges h → Filled n all → all ≡ full (graphEdges h)
+all-graph-edges g h ok n all e f = f .value ∙ ap full (let whole : min n 64 ≡ graphEdges h = omega (arith, graph-edges-few g h ok) in whole)
 
-  pub graph-by : (n : ℕ) (a : Bool) (k : ℕ) (b : Bool) → n ≡ graphEdges h → a ≡ knownEdges n (x .edges) → a ≡ true → k ≡ graphNodes h → b ≡ knownNodes k (x .nodes)
-      → b ≡ inGraph (graphNodes h) (graphEdges h) x
-  unfolding inGraph
-  graph-by n a k b e t f q u =
-      u ∙ ap (λ m. knownNodes m (x .nodes)) q ∙ sym (and-so (knownEdges (graphEdges h) (x .edges)) _ (ap (λ m. knownEdges m (x .edges)) (sym e) ∙ sym t ∙ f))
+-- places without a node are known
+none-known : (p q r s a b c d : Bool) → (p && q && r && s) ≡ true → ((p || a) && (q || b) && (r || c) && (s || d)) ≡ true
+none-known true true true true a b c d e = refl
+none-known true true true false a b c d e = absurd (false≢true e)
+none-known true true false s a b c d e = absurd (false≢true e)
+none-known true false r s a b c d e = absurd (false≢true e)
+none-known false q r s a b c d e = absurd (false≢true e)
+
+and-yes : (b : Bool) → b && true ≡ b
+and-yes true = refl
+and-yes false = refl
+
+pub nodes-low : (n : ℕ) (ns : List ℕ) (a t : Bool) → length ns ≡ 8 → a ≡ fourAt n ns 0
+    → t ≡ (eqb (getD ns 4 0) 64 && eqb (getD ns 5 0) 64 && eqb (getD ns 6 0) 64 && eqb (getD ns 7 0) 64) → t ≡ true → a ≡ knownNodes n ns
+unfolding knownNode
+nodes-low n ns a t size p q y =
+    let none : true ≡ fourAt n ns 4 =
+    sym (none-known (eqb (getD ns 4 0) 64) (eqb (getD ns 5 0) 64) (eqb (getD ns 6 0) 64) (eqb (getD ns 7 0) 64)
+    (ltb (getD ns 4 0) n) (ltb (getD ns 5 0) n) (ltb (getD ns 6 0) n) (ltb (getD ns 7 0) n) (sym q ∙ y))
+    in
+    sym (and-yes a) ∙ nodes-by n ns a true size p none
+
+pub graph-test : (h : List ℕ) (x : Record) (nodes all : ℕ) (b : Bool) → nodes ≡ graphNodes h → all ≡ full (graphEdges h) → b ≡ knownNodes nodes (x .nodes)
+    → eqb (bitAnd (x .edges) all) (x .edges) && b ≡ inGraph (graphNodes h) (graphEdges h) x
+unfolding inGraph knownEdges within
+graph-test h x nodes all b p q t = ap₂ _&&_ (ap (λ m. eqb (bitAnd (x .edges) m) (x .edges)) q) (t ∙ ap (λ m. knownNodes m (x .nodes)) p)
+
+-- ---- a record of its words
+abbrev recordFrom : List ℕ → ℕ → ℕ → List ℕ → Record
+recordFrom w at first ns = record {
+  kind = getD w first 0;
+  of = getD w (at + 1) 0;
+  plan = getD w (at + 2) 0;
+  edges = getD w (at + 3) 0;
+  count = getD w (at + 4) 0;
+  handled = getD w (at + 5) 0;
+  nodes = ns;
+  first = getD w (at + 14) 0;
+  second = getD w (at + 15) 0;
+}
+
+pub record-by : (w : List ℕ) (j : ℕ) (ns : List ℕ) → ns ≡ tabulate 8 (λ k. getD w (2 + 16 * j + (6 + k)) 0) → recordFrom w (2 + 16 * j) (2 + 16 * j) ns ≡ recordAt w j
+unfolding recordAt ofWords blockAt fieldAt tabulate
+record-by w j ns e =
+    let zeroth : 2 + 16 * j ≡ 2 + 16 * j + 0 = omega arith in
+    ap₂ (λ (i : ℕ) (l : List ℕ). recordFrom w (2 + 16 * j) i l) zeroth e
 
 -- ---- kinds of symbols
 terminal-if : (b : Bool) → isTerminal (cond b terminal nonterminal) ≡ b
@@ -115,9 +175,27 @@ module _ (g : List ℕ) (r i : ℕ) (known : KnownEdge g r i) where
       let l : i < length (rightOf (grammarOf g) r .edges) = omega (arith, right-edges g r (known .grammar) (known .rule), known .edge) in
       omega (arith, label-is, symbols-length g, rule-ok g r (known .grammar) (known .rule) .right .edge i l .known)
 
+  pub label-here : (label : ℕ) → label ≡ edgeLabel g r i → label < symbolCount g
+  label-here label e = omega (arith, label-known)
+
   label-kind : (label kind : ℕ) → label ≡ edgeLabel g r i → kind ≡ kindWord g label → isTerminal (kindOf (grammarOf g) (edge .label)) ≡ eqb kind 0
   label-kind label kind a b =
       ap (λ s. isTerminal (kindOf (grammarOf g) s)) label-is ∙ kind-test g (edgeLabel g r i) label-known ∙ ap (λ w. eqb w 0) (sym (b ∙ ap (kindWord g) a))
+
+-- ---- words that an accepted grammar table has
+module _ (g : List ℕ) (checked : checkGrammar g ≡ true) where
+  pub symbol-inside : (s k : ℕ) → s < symbolCount g → k < 9 → 9 * (1 + s) + k < length g
+  symbol-inside s k h l = omega (arith, grammar-length g checked, checked-grammar-ok g checked .symbol-count .upper, symbols-length g)
+
+  module _ (r : ℕ) (known : r < ruleCount g) (k : ℕ) (l : k < 9) where
+    pub rule-inside : 9 * (65 + 25 * r) + k < length g
+    rule-inside = omega (arith, grammar-length g checked, rule-few g r checked known)
+
+    pub edge-inside : (i : ℕ) → i < ruleEdges g r → 9 * (66 + 25 * r + i) + k < length g
+    edge-inside i h = omega (arith, grammar-length g checked, rule-few g r checked known, edges-few g r checked known)
+
+    pub plan-inside : (q : ℕ) → q < rulePlan g r → 9 * (74 + 25 * r + q) + k < length g
+    plan-inside q h = omega (arith, grammar-length g checked, rule-few g r checked known, plan-few g r checked known)
 
 -- ---- plan nodes
 module _ (g : List ℕ) (r q : ℕ) (known : KnownNode g r q) (kind : ℕ) (a : kind ≡ planKind g r q) where

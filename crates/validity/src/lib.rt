@@ -1,13 +1,27 @@
 // Question 8 for a lent chart: how many items it holds, and whether each of its items names what exists.
 ghost use mathlib.Core.Path.{_≡_};
-ghost use Prim.Native.Nat.{_≤_};
-ghost use lib.ListN.{getD};
+ghost use mathlib.Core.Bool.{_&&_};
+ghost use Prim.Native.Nat.{_+_, _*_, _≤_};
+ghost use lib.ListN.{length, getD};
+ghost use lib.Dec.{eqb};
+ghost use Rattle.hrg.specs.Counts.{tabulate};
 ghost use Rattle.hrg.specs.Grammars.{planOf, planNode};
 ghost use Rattle.questions.specs.Layout.{graphNodes, graphEdges};
 ghost use Rattle.questions.specs.Abstract.{grammarOf, graphOf};
 ghost use Rattle.joins.specs.Joins.{KnownNode, KnownEdge, Accepted};
-ghost use Rattle.validity.specs.Checking.{holds, knownEdges, knownNode, knownNodes, inGraph, knownSecond, knownPartners, knownActive, knownPassive, knownRecord, knownChart};
+ghost use Rattle.records.specs.Words.{recordAt};
+ghost use Rattle.validity.specs.Checking.{holds, knownNode, knownNodes, inGraph, knownSecond, knownPartners, knownActive, knownPassive, knownRecord, knownChart};
+ghost use Rattle.validity.specs.Sizes.{Sized};
 use agenda::Record;
+
+// What is asked of accepted tables once for all items: how many rules, symbols, graph nodes and graph edges there are, and all graph edges as a set.
+struct Sizes {
+    rules: u64,
+    symbols: u64,
+    nodes: u64,
+    edges: u64,
+    all: u64,
+}
 
 // Does the chart hold 1 to 4,096 items?
 pub fn holds(chart: &[u64]) -> bool
@@ -17,15 +31,21 @@ pub fn holds(chart: &[u64]) -> bool
     (1 <= cap) & (cap <= 4096)
 }
 
-// ---- edges and nodes
-// Whether a set has only members below n.
-fn known_edges(n: u64, m: u64) -> bool
-    requires { ⌜ n ≤ 64 ⌝ }
-    ensures { λ r. ⌜ r ≡ knownEdges n m ⌝ }
+fn sizes_of(g: &[u64], h: &[u64]) -> Sizes
+    requires { ⌜ Accepted (now g) (now h) ⌝ }
+    ensures { λ s. ⌜ Sized (now (g .entry)) (now (h .entry)) s ⌝ }
 {
-    m & masks::full(n) == m
+    let edges = layout::graph_edges(h);
+    Sizes {
+        rules: layout::rule_count(g),
+        symbols: layout::symbol_count(g),
+        nodes: layout::graph_nodes(h),
+        edges,
+        all: masks::full(edges),
+    }
 }
 
+// ---- edges and nodes
 // Whether v is no node or one below n.
 fn known_node(n: u64, v: u64) -> bool
     ensures { λ r. ⌜ r ≡ knownNode n v ⌝ }
@@ -33,100 +53,147 @@ fn known_node(n: u64, v: u64) -> bool
     (v == 64) | (v < n)
 }
 
-// Whether that holds of each of eight places.
+// Whether that holds of each of four.
+fn known_four(n: u64, a: u64, b: u64, c: u64, d: u64) -> bool
+    ensures { λ r. ⌜ r ≡ (knownNode n a && knownNode n b && knownNode n c && knownNode n d) ⌝ }
+{
+    known_node(n, a) & known_node(n, b) & known_node(n, c) & known_node(n, d)
+}
+
+// Whether all four are no nodes.
+fn no_nodes(a: u64, b: u64, c: u64, d: u64) -> bool
+    ensures { λ r. ⌜ r ≡ (eqb a 64 && eqb b 64 && eqb c 64 && eqb d 64) ⌝ }
+{
+    (a == 64) & (b == 64) & (c == 64) & (d == 64)
+}
+
+// Whether each of eight places is known. Few items have more than four nodes.
 fn known_nodes(n: u64, ns: [u64; 8]) -> bool
     ensures { λ r. ⌜ r ≡ knownNodes n ns ⌝ }
 {
-    let mut k = 0;
-    while k < 8 {
-        if !known_node(n, ns[k]) {
-            return false;
-        }
-        k += 1;
+    let low = known_four(n, ns[0], ns[1], ns[2], ns[3]);
+    if no_nodes(ns[4], ns[5], ns[6], ns[7]) {
+        return low;
     }
-    true
+    low & known_four(n, ns[4], ns[5], ns[6], ns[7])
 }
 
 // Whether the graph has the edges and the nodes that a record names.
-fn in_graph(h: &[u64], x: Record) -> bool
-    requires { ⌜ graphEdges (now h) ≤ 64 ⌝ }
+fn in_graph(g: &[u64], h: &[u64], s: Sizes, x: Record) -> bool
+    requires { ⌜ Sized (now g) (now h) s ⌝ }
     ensures { λ r. ⌜ r ≡ inGraph (graphNodes (now (h .entry))) (graphEdges (now (h .entry))) x ⌝ }
 {
-    if !known_edges(layout::graph_edges(h), x.edges) {
-        return false;
-    }
     let nodes = x.nodes;
-    known_nodes(layout::graph_nodes(h), nodes)
+    (x.edges & s.all == x.edges) & known_nodes(s.nodes, nodes)
 }
 
 // ---- partners, among n items
 // Whether what edge i of the rule was matched with exists: a graph edge, or an item.
-fn known_second(g: &[u64], h: &[u64], n: u64, x: Record, i: u64) -> bool
-    requires { ⌜ KnownEdge (now g) (x .of) i ⌝ }
+fn known_second(g: &[u64], h: &[u64], s: Sizes, n: u64, x: Record, i: u64) -> bool
+    requires { ⌜ Sized (now g) (now h) s × KnownEdge (now g) (x .of) i ⌝ }
     ensures { λ r. ⌜ r ≡ knownSecond (grammarOf (now (g .entry))) (graphOf (now (g .entry)) (now (h .entry))) n x i ⌝ }
 {
-    let kind = layout::kind_of(g, layout::edge_label(g, x.of, i));
+    let label = layout::word_in(g, 66 + 25 * x.of + i, 0);
+    let kind = layout::word_in(g, 1 + label, 1);
     if kind == 0 {
-        return x.second < layout::graph_edges(h);
+        return x.second < s.edges;
     }
     x.second < n
 }
 
 // Whether the partners exist that the plan node of the record asks for.
-fn known_partners(g: &[u64], h: &[u64], n: u64, x: Record) -> bool
-    requires { ⌜ KnownNode (now g) (x .of) (x .plan) ⌝ }
+fn known_partners(g: &[u64], h: &[u64], s: Sizes, n: u64, x: Record) -> bool
+    requires { ⌜ Sized (now g) (now h) s × KnownNode (now g) (x .of) (x .plan) ⌝ }
     ensures { λ r. ⌜ r ≡ knownPartners (grammarOf (now (g .entry))) (graphOf (now (g .entry)) (now (h .entry))) n x (planNode (planOf (grammarOf (now (g .entry))) (x .of)) (x .plan)) ⌝ }
 {
-    let kind = layout::plan_kind(g, x.of, x.plan);
+    let p = 74 + 25 * x.of + x.plan;
+    let kind = layout::word_in(g, p, 0);
     match kind {
         0 => true,
-        1 => (x.first < n) & known_second(g, h, n, x, layout::plan_second(g, x.of, x.plan)),
+        1 => (x.first < n) & known_second(g, h, s, n, x, layout::word_in(g, p, 2)),
         _ => (x.first < n) & (x.second < n),
     }
 }
 
 // ---- records
-fn known_active(g: &[u64], h: &[u64], n: u64, x: Record) -> bool
-    requires { ⌜ Accepted (now g) (now h) ⌝ }
+fn known_active(g: &[u64], h: &[u64], s: Sizes, n: u64, x: Record) -> bool
+    requires { ⌜ Sized (now g) (now h) s ⌝ }
     ensures { λ r. ⌜ r ≡ knownActive (grammarOf (now (g .entry))) (graphOf (now (g .entry)) (now (h .entry))) n x ⌝ }
 {
-    if layout::rule_count(g) <= x.of {
+    if s.rules <= x.of {
         return false;
     }
-    if layout::rule_plan(g, x.of) <= x.plan {
+    if layout::word_in(g, 65 + 25 * x.of, 4) <= x.plan {
         return false;
     }
-    if !in_graph(h, x) {
+    if !in_graph(g, h, s, x) {
         return false;
     }
-    known_partners(g, h, n, x)
+    known_partners(g, h, s, n, x)
 }
 
-fn known_passive(g: &[u64], h: &[u64], n: u64, x: Record) -> bool
-    requires { ⌜ Accepted (now g) (now h) ⌝ }
+fn known_passive(g: &[u64], h: &[u64], s: Sizes, n: u64, x: Record) -> bool
+    requires { ⌜ Sized (now g) (now h) s ⌝ }
     ensures { λ r. ⌜ r ≡ knownPassive (grammarOf (now (g .entry))) (graphOf (now (g .entry)) (now (h .entry))) n x ⌝ }
 {
-    if layout::symbol_count(g) <= x.of {
+    if s.symbols <= x.of {
         return false;
     }
-    if layout::kind_of(g, x.of) == 0 {
+    if layout::word_in(g, 1 + x.of, 1) == 0 {
         return false;
     }
-    if !in_graph(h, x) {
+    if !in_graph(g, h, s, x) {
         return false;
     }
     x.first < n
 }
 
-fn known_record(g: &[u64], h: &[u64], n: u64, x: Record) -> bool
-    requires { ⌜ Accepted (now g) (now h) ⌝ }
+fn known_record(g: &[u64], h: &[u64], s: Sizes, n: u64, x: Record) -> bool
+    requires { ⌜ Sized (now g) (now h) s ⌝ }
     ensures { λ r. ⌜ r ≡ knownRecord (grammarOf (now (g .entry))) (graphOf (now (g .entry)) (now (h .entry))) n x ⌝ }
 {
     let kind = x.kind;
     match kind {
-        0 => known_active(g, h, n, x),
-        1 => known_passive(g, h, n, x),
+        0 => known_active(g, h, s, n, x),
+        1 => known_passive(g, h, s, n, x),
         _ => false,
+    }
+}
+
+// The nodes of the record whose words start at `at`.
+fn nodes_in(chart: &[u64], at: usize) -> [u64; 8]
+    requires { ⌜ at + 16 ≤ length (now chart) ⌝ }
+    ensures { λ r. ⌜ r ≡ tabulate 8 (λ k. getD (now (chart .entry)) (at + (6 + k)) 0) ⌝ }
+{
+    [
+        chart[at + 6],
+        chart[at + 7],
+        chart[at + 8],
+        chart[at + 9],
+        chart[at + 10],
+        chart[at + 11],
+        chart[at + 12],
+        chart[at + 13],
+    ]
+}
+
+// The record at a place that the chart has.
+fn record_in(chart: &[u64], j: u64) -> Record
+    requires { ⌜ 2 + 16 * j + 16 ≤ length (now chart) ⌝ }
+    ensures { λ r. ⌜ r ≡ recordAt (now (chart .entry)) j ⌝ }
+{
+    let at = (2 + 16 * j) as usize;
+    let nodes = nodes_in(chart, at);
+    Record {
+        kind: chart[at],
+        of: chart[at + 1],
+        plan: chart[at + 2],
+        edges: chart[at + 3],
+        count: chart[at + 4],
+        handled: chart[at + 5],
+        nodes,
+        first: chart[at + 14],
+        second: chart[at + 15],
     }
 }
 
@@ -149,9 +216,10 @@ pub fn known(g: &[u64], h: &[u64], chart: &[u64]) -> bool
     if records::capacity_of(chart) < n {
         return false;
     }
+    let s = sizes_of(g, h);
     let mut j: u64 = 0;
     while j < n {
-        if !known_record(g, h, n, records::load(chart, j)) {
+        if !known_record(g, h, s, n, record_in(chart, j)) {
             return false;
         }
         j += 1;

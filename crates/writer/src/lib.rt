@@ -1,6 +1,6 @@
 // The writer: the derivation of a chart's goal, as the text of a derivation file.
 ghost use mathlib.Core.Path.{_≡_};
-ghost use mathlib.Core.List.{_++_};
+ghost use mathlib.Core.List.{[], _∷_, _++_};
 ghost use Prim.Native.Nat.{_≤_};
 ghost use lib.ListN.{length, drop};
 ghost use Rattle.hrg.specs.Trees.{padded};
@@ -10,6 +10,8 @@ ghost use Rattle.questions.specs.Abstract.{grammarOf, graphOf};
 ghost use Rattle.joins.specs.Joins.{Accepted};
 ghost use Rattle.records.specs.Words.{recordAt, chartOf};
 ghost use Rattle.extraction.specs.Extraction.{treeAt};
+ghost use Rattle.extraction.specs.Listing.{listing};
+ghost use Rattle.extractor.specs.Lists.{ListedIn};
 ghost use Rattle.writing.specs.Writing.{writeSpelt, goalIn, writeGoal, writeOf};
 ghost use Rattle.writing.specs.Demand.{WriteChoices};
 ghost use Rattle.writer.specs.Delivering.{Leaves, delivered};
@@ -103,14 +105,54 @@ fn deliver_from(
     deliver(grammar, graph, &buffer[start..buffer.len()], out)
 }
 
-// The derivation of the passive item at place j. The buffer holds the longest one: 4,096 lines of 74 bytes behind the first of six.
+// The derivation of the passive item at place j, whose n applications are listed: at most 256 of them, so that a short buffer holds their lines of 74 bytes behind the
+// first one of six.
+fn write_short(
+    grammar: &[u64],
+    graph: &[u64],
+    chart: &[u64],
+    j: u64,
+    list: &[u64],
+    n: usize,
+    out: &mut [u8],
+) -> Answer
+    requires { ⌜ Accepted (now grammar) (now graph) × ListedIn (listing (λ k. recordAt (now chart) k) (grammarOf (now grammar)) 4096 (j ∷ [])) (now list) n × (n ≤ length (now list)) × (n ≤ 256) ⌝ }
+    ensures { λ r. ⌜ Leaves (writeSpelt (grammarOf (now (grammar .entry))) (graphOf (now (grammar .entry)) (now (graph .entry))) (now (out .entry)) (treeAt (λ k. recordAt (now (chart .entry)) k) (grammarOf (now (grammar .entry))) (graphOf (now (grammar .entry)) (now (graph .entry))) 4096 j)) r (now (out .exit)) ⌝ }
+{
+    let mut buffer = [0u8; 18950];
+    let start = extractor::extract(grammar, graph, chart, j, list, n, &mut buffer);
+    deliver_from(grammar, graph, &buffer, start, out)
+}
+
+// The same of at most 4,096 applications.
+fn write_long(
+    grammar: &[u64],
+    graph: &[u64],
+    chart: &[u64],
+    j: u64,
+    list: &[u64],
+    n: usize,
+    out: &mut [u8],
+) -> Answer
+    requires { ⌜ Accepted (now grammar) (now graph) × ListedIn (listing (λ k. recordAt (now chart) k) (grammarOf (now grammar)) 4096 (j ∷ [])) (now list) n × (n ≤ length (now list)) ⌝ }
+    ensures { λ r. ⌜ Leaves (writeSpelt (grammarOf (now (grammar .entry))) (graphOf (now (grammar .entry)) (now (graph .entry))) (now (out .entry)) (treeAt (λ k. recordAt (now (chart .entry)) k) (grammarOf (now (grammar .entry))) (graphOf (now (grammar .entry)) (now (graph .entry))) 4096 j)) r (now (out .exit)) ⌝ }
+{
+    let mut buffer = [0u8; 303110];
+    let start = extractor::extract(grammar, graph, chart, j, list, n, &mut buffer);
+    deliver_from(grammar, graph, &buffer, start, out)
+}
+
+// The derivation of the passive item at place j. Most are short, and a long buffer takes longer to clear than they take to write.
 fn write_item(grammar: &[u64], graph: &[u64], chart: &[u64], j: u64, out: &mut [u8]) -> Answer
     requires { ⌜ Accepted (now grammar) (now graph) ⌝ }
     ensures { λ r. ⌜ Leaves (writeSpelt (grammarOf (now (grammar .entry))) (graphOf (now (grammar .entry)) (now (graph .entry))) (now (out .entry)) (treeAt (λ k. recordAt (now (chart .entry)) k) (grammarOf (now (grammar .entry))) (graphOf (now (grammar .entry)) (now (graph .entry))) 4096 j)) r (now (out .exit)) ⌝ }
 {
-    let mut buffer = [0u8; 303110];
-    let start = extractor::extract(grammar, graph, chart, j, &mut buffer);
-    deliver_from(grammar, graph, &buffer, start, out)
+    let mut list = [0u64; 4104];
+    let n = extractor::listing::list_applications(grammar, chart, j, &mut list);
+    if n <= 256 {
+        return write_short(grammar, graph, chart, j, &list, n, out);
+    }
+    write_long(grammar, graph, chart, j, &list, n, out)
 }
 
 // Questions 11 and 12.

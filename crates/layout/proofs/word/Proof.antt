@@ -10,17 +10,17 @@ use Rattle.layout.proofs.word.Tie as tie
 returns : tie.Need-returns
 returns c = word-past _ _ _ (omega arith)
 
-mul-at : tie.Need-mul-at
-mul-at c = search needs
-
-sub-if2 : tie.Need-sub-if2
-sub-if2 c = search needs
-
 returns-2 : tie.Need-returns-2
 returns-2 c = word-past _ _ _ (omega arith)
 
-add-result : tie.Need-add-result
-add-result c = search needs
+mul-at : tie.Need-mul-at
+mul-at c = search needs
+
+add-at : tie.Need-add-at
+add-at c = search needs
+
+returns-3 : tie.Need-returns-3
+returns-3 c = word-past _ _ _ (omega arith)
 
 mul-result : tie.Need-mul-result
 mul-result c = search needs
@@ -28,19 +28,19 @@ mul-result c = search needs
 shared-slice-read-result : tie.Need-shared-slice-read-result
 shared-slice-read-result c = search needs
 
-returns-3 : tie.Need-returns-3
+returns-4 : tie.Need-returns-4
 unfolding word
-returns-3 c = refl
+returns-4 c = refl
 
 pub word-spec : {M : Type 1} → statement M
 word-spec =
     tie.close
     (tie.spec
     returns
-    mul-at
-    sub-if2
     returns-2
-    add-result
+    mul-at
+    add-at
+    returns-3
     mul-result
     shared-slice-read-result
-    returns-3)
+    returns-4)

@@ -2,6 +2,7 @@
 use mathlib.Core.Path.{sym, _∙_}
 use borrow.Author.Needs.{needs}
 use borrow.Author.Tests.{not-true, not-false}
+use Rattle.questions.proofs.WellFormedWalk.{room-in}
 use Rattle.readers.proofs.Letters.{letter-some}
 use Rattle.readers.proofs.Turns.{judged-open, judged-shape, judged-letter, judged-rest}
 use Rattle.readers.proofs.judge_line.Statement.{statement}
@@ -29,7 +30,7 @@ judge-requires : tie.Need-judge-requires
 judge-requires c κs = search needs
 
 returns-4 : tie.Need-returns-4
-returns-4 c = judged-rest _ _ _ _ _ (not-false _ (c .before .before .before .before .before .before .if1 .left)) _ (c .before .before .before .before .before .shape .ensures) (not-false _ (c .before .before .before .before .if2 .left)) _ (c .before .before .before .letter-due .ensures) (not-false _ (c .before .before .if3 .left)) _ _ (c .before .fields-of .ensures) (c .before .before .before .before .before .before .before .before .before .before .pre) (c .judge .ensures)
+returns-4 c = judged-rest _ _ _ _ _ (not-false _ (c .before .before .before .before .before .before .if1 .left)) _ (c .before .before .before .before .before .shape .ensures) (not-false _ (c .before .before .before .before .if2 .left)) _ (c .before .before .before .letter-due .ensures) (not-false _ (c .before .before .if3 .left)) _ _ (c .before .fields-of .ensures) (room-in _ _ (c .before .before .before .before .before .before .before .before .before .before .pre)) (c .judge .ensures)
 
 pub judge-line-spec : {M : Type 1} → statement M
 judge-line-spec =

@@ -4,7 +4,6 @@ use Prim.Native.Nat.{_-_}
 use mathlib.Core.Path.{refl, sym, _∙_}
 use lib.ListN.{length}
 use borrow.Author.Needs.{needs}
-use Rattle.questions.proofs.WellFormedWalk.{room-in}
 use Rattle.readers.proofs.Turns.{passed-shape, reads-done, Reading, turn-no, turn-on, turn-less}
 use Rattle.readers.proofs.read_lines.Statement.{statement}
 use Rattle.readers.proofs.read_lines.Tie as tie
@@ -28,7 +27,7 @@ is-ended-requires : tie.Need-is-ended-requires Inv-loop μ-loop
 is-ended-requires c κs = search needs
 
 judge-line-requires : tie.Need-judge-line-requires Inv-loop μ-loop
-judge-line-requires c κs = room-in _ _ (c .before .before .before .before .before .loop .inv .room)
+judge-line-requires c κs = c .before .before .before .before .before .loop .inv .room
 
 same-length : tie.Need-same-length Inv-loop μ-loop
 same-length c = c .before .before .before .before .before .before .before .loop .inv .size

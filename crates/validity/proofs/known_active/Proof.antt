@@ -1,44 +1,38 @@
 -- The tests in the order of the definition.
+use native.Mathlib.Omega.{arith}
 use borrow.Author.Needs.{needs}
 use borrow.Author.Tests.{not-true, not-false}
-use Rattle.joins.proofs.Known.{graph-edges-few}
-use Rattle.validity.proofs.WordTests.{active-no-rule, active-no-node, active-outside, active-by}
+use Rattle.joins.proofs.Known.{rule-few}
+use Rattle.validity.proofs.WordTests.{rule-inside, below-equal, active-no-rule, active-no-node, active-outside, active-by}
 use Rattle.validity.proofs.known_active.Statement.{statement}
 use Rattle.validity.proofs.known_active.Tie as tie
 
-rule-count-requires : tie.Need-rule-count-requires
-rule-count-requires c κs = search needs
-
 returns : tie.Need-returns
-returns c = active-no-rule _ _ (c .before .before .before .before .before .pre) _ _ _ (c .before .before .rule-count .ensures) (c .if1 .taken)
+returns c = active-no-rule _ _ (c .before .before .before .before .before .pre .tables) _ _ _ (c .before .before .before .before .before .pre .rules) (c .if1 .taken)
 
-rule-plan-requires : tie.Need-rule-plan-requires
-rule-plan-requires c κs = search needs
+mul-word-in : tie.Need-mul-word-in
+mul-word-in c = omega (arith, rule-few _ _ (c .before .before .before .before .before .before .pre .tables .grammar) (below-equal _ _ _ (c .before .before .before .before .before .before .pre .rules) (c .before .if1 .left)))
+
+add-word-in : tie.Need-add-word-in
+add-word-in c = omega (arith, rule-few _ _ (c .before .before .before .before .before .before .pre .tables .grammar) (below-equal _ _ _ (c .before .before .before .before .before .before .pre .rules) (c .before .if1 .left)))
+
+word-in-requires : tie.Need-word-in-requires
+word-in-requires c κs = rule-inside _ (c .before .before .before .before .before .before .pre .tables .grammar) _ (below-equal _ _ _ (c .before .before .before .before .before .before .pre .rules) (c .before .if1 .left)) 4 (omega arith)
 
 returns-2 : tie.Need-returns-2
-returns-2 c = active-no-node _ _ (c .before .before .before .before .before .before .before .before .pre) _ _ _ (c .before .before .before .before .before .rule-count .ensures) (c .before .before .before .if1 .left) _ (c .before .before .rule-plan .ensures) (c .if2 .taken)
+returns-2 c = active-no-node _ _ (c .before .before .before .before .before .before .before .before .before .pre .tables) _ _ _ (c .before .before .before .before .before .before .before .before .before .pre .rules) (c .before .before .before .before .if1 .left) _ (c .before .before .word-in .ensures) (c .if2 .taken)
 
 in-graph-requires : tie.Need-in-graph-requires
-in-graph-requires c κs = graph-edges-few _ _ (c .before .before .before .before .before .before .before .before .pre)
+in-graph-requires c κs = search needs
 
 returns-3 : tie.Need-returns-3
-returns-3 c = active-outside _ _ (c .before .before .before .before .before .before .before .before .before .before .pre) _ _ _ (c .before .before .before .before .before .before .before .rule-count .ensures) (c .before .before .before .before .before .if1 .left) _ (c .before .before .before .before .rule-plan .ensures) (c .before .before .if2 .left) _ (c .before .in-graph .ensures) (not-true _ (c .if3 .taken))
+returns-3 c = active-outside _ _ (c .before .before .before .before .before .before .before .before .before .before .before .pre .tables) _ _ _ (c .before .before .before .before .before .before .before .before .before .before .before .pre .rules) (c .before .before .before .before .before .before .if1 .left) _ (c .before .before .before .before .word-in .ensures) (c .before .before .if2 .left) _ (c .before .in-graph .ensures) (not-true _ (c .if3 .taken))
 
 known-partners-requires : tie.Need-known-partners-requires
-known-partners-requires c κs = search needs
+known-partners-requires c κs = (c .before .before .before .before .before .before .before .before .before .before .before .pre, record { grammar = c .before .before .before .before .before .before .before .before .before .before .before .pre .tables .grammar; rule = below-equal _ _ _ (c .before .before .before .before .before .before .before .before .before .before .before .pre .rules) (c .before .before .before .before .before .before .if1 .left); node = below-equal _ _ _ (c .before .before .before .before .word-in .ensures) (c .before .before .if2 .left) })
 
 returns-4 : tie.Need-returns-4
-returns-4 c = active-by _ _ (c .before .before .before .before .before .before .before .before .before .before .before .pre) _ _ _ (c .before .before .before .before .before .before .before .before .rule-count .ensures) (c .before .before .before .before .before .before .if1 .left) _ (c .before .before .before .before .before .rule-plan .ensures) (c .before .before .before .if2 .left) _ (c .before .before .in-graph .ensures) _ (not-false _ (c .before .if3 .left)) (c .known-partners .ensures)
+returns-4 c = active-by _ _ (c .before .before .before .before .before .before .before .before .before .before .before .before .pre .tables) _ _ _ (c .before .before .before .before .before .before .before .before .before .before .before .before .pre .rules) (c .before .before .before .before .before .before .before .if1 .left) _ (c .before .before .before .before .before .word-in .ensures) (c .before .before .before .if2 .left) _ (c .before .before .in-graph .ensures) _ (not-false _ (c .before .if3 .left)) (c .known-partners .ensures)
 
 pub known-active-spec : {M : Type 1} → statement M
-known-active-spec =
-    tie.close
-    (tie.spec
-    rule-count-requires
-    returns
-    rule-plan-requires
-    returns-2
-    in-graph-requires
-    returns-3
-    known-partners-requires
-    returns-4)
+known-active-spec = tie.close (tie.spec returns mul-word-in add-word-in word-in-requires returns-2 in-graph-requires returns-3 known-partners-requires returns-4)

@@ -1,58 +1,80 @@
--- Every place passed is known.
-use native.Mathlib.Omega.{arith}
-use Prim.Native.Nat.{_-_}
-use mathlib.Core.Path.{refl}
+-- Four places and four more, which mostly have no node.
 use borrow.Author.Needs.{needs}
-use borrow.Author.Tests.{not-true, not-false}
-use Rattle.validity.proofs.WordTests.{Passed, nodeTest, passed-none, nodes-not, nodes-next, nodes-all}
+use Rattle.validity.proofs.WordTests.{nodes-low, nodes-by}
 use Rattle.validity.proofs.known_nodes.Statement.{statement}
 use Rattle.validity.proofs.known_nodes.Tie as tie
+use Rattle.validity.proofs.known_four.Reads as known-four-reads
+use Rattle.validity.proofs.no_nodes.Reads as no-nodes-reads
 
-abbrev Inv-loop : tie.InvT-loop
-Inv-loop n ns k₀ k = Passed (nodeTest n ns) k
+array-read-known-four : tie.Need-array-read-known-four
+array-read-known-four c = search needs
 
-abbrev μ-loop : tie.MeasureT-loop
-μ-loop n ns k₀ k = 8 - k
+array-read-known-four-2 : tie.Need-array-read-known-four-2
+array-read-known-four-2 c = search needs
 
-loop-holds : tie.Need-loop-holds Inv-loop μ-loop
-loop-holds c = passed-none _
+array-read-known-four-3 : tie.Need-array-read-known-four-3
+array-read-known-four-3 c = search needs
 
-mul-known-node : tie.Need-mul-known-node Inv-loop μ-loop
-mul-known-node c = search needs
+array-read-known-four-4 : tie.Need-array-read-known-four-4
+array-read-known-four-4 c = search needs
 
-array-read-known-node : tie.Need-array-read-known-node Inv-loop μ-loop
-array-read-known-node c = search needs
+known-four-requires : tie.Need-known-four-requires
+known-four-requires c κs = search needs
 
-known-node-requires : tie.Need-known-node-requires Inv-loop μ-loop
-known-node-requires c κs = search needs
+array-read-no-nodes : tie.Need-array-read-no-nodes
+array-read-no-nodes c = search needs
 
-returns : tie.Need-returns Inv-loop μ-loop
-returns c = nodes-not _ _ (c .before .before .before .before .good .1 .0 .1 .0 .1) _ _ _ (c .before .before .loop-test .taken) refl (c .before .known-node .ensures) (not-true _ (c .if1 .taken))
+array-read-no-nodes-2 : tie.Need-array-read-no-nodes-2
+array-read-no-nodes-2 c = search needs
 
-add-k : tie.Need-add-k Inv-loop μ-loop
-add-k c = search needs
+array-read-no-nodes-3 : tie.Need-array-read-no-nodes-3
+array-read-no-nodes-3 c = search needs
 
-loop-less : tie.Need-loop-less Inv-loop μ-loop
-loop-less c = omega arith
+array-read-no-nodes-4 : tie.Need-array-read-no-nodes-4
+array-read-no-nodes-4 c = search needs
 
-loop-again : tie.Need-loop-again Inv-loop μ-loop
-loop-again c = nodes-next _ (c .before .before .before .before .args .t2) (c .before .before .before .before .good .1 .0 .1 .0 .1) _ _ _ (c .before .before .loop-test .taken) refl (c .before .known-node .ensures) (not-false _ (c .if1 .left)) (c .before .before .before .loop .inv)
+no-nodes-requires : tie.Need-no-nodes-requires
+no-nodes-requires c κs = search needs
 
-returns-2 : tie.Need-returns-2 Inv-loop μ-loop
-returns-2 c = nodes-all _ _ _ (c .loop-test .left) (c .before .loop .inv)
+returns : tie.Need-returns
+returns c = nodes-low _ _ _ _ (c .before .before .before .good .1 .0 .1 .0 .1) (c .before .before .known-four .ensures) (c .before .no-nodes .ensures) (c .if1 .taken)
+
+array-read-known-four-5 : tie.Need-array-read-known-four-5
+array-read-known-four-5 c = search needs
+
+array-read-known-four-6 : tie.Need-array-read-known-four-6
+array-read-known-four-6 c = search needs
+
+array-read-known-four-7 : tie.Need-array-read-known-four-7
+array-read-known-four-7 c = search needs
+
+array-read-known-four-8 : tie.Need-array-read-known-four-8
+array-read-known-four-8 c = search needs
+
+known-four-requires-2 : tie.Need-known-four-requires-2
+known-four-requires-2 c κs = search needs
+
+returns-2 : tie.Need-returns-2
+returns-2 c = nodes-by _ _ _ _ (c .before .before .before .before .good .1 .0 .1 .0 .1) (c .before .before .before .known-four .ensures) (c .known-four2 .ensures)
 
 pub known-nodes-spec : {M : Type 1} → statement M
 known-nodes-spec =
     tie.close
     (tie.spec
-    Inv-loop
-    μ-loop
-    loop-holds
-    mul-known-node
-    array-read-known-node
-    known-node-requires
+    array-read-known-four
+    array-read-known-four-2
+    array-read-known-four-3
+    array-read-known-four-4
+    known-four-requires
+    array-read-no-nodes
+    array-read-no-nodes-2
+    array-read-no-nodes-3
+    array-read-no-nodes-4
+    no-nodes-requires
     returns
-    add-k
-    loop-less
-    loop-again
+    array-read-known-four-5
+    array-read-known-four-6
+    array-read-known-four-7
+    array-read-known-four-8
+    known-four-requires-2
     returns-2)

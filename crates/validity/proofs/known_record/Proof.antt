@@ -11,14 +11,13 @@ known-passive-requires : tie.Need-known-passive-requires
 known-passive-requires c κs = search needs
 
 returns : tie.Need-returns
-returns c = record-active _ _ (c .before .before .before .before .pre) _ _ _ (c .before .match .keys1) (c .known-active .ensures)
+returns c = record-active _ _ (c .before .before .before .before .pre .tables) _ _ _ (c .before .match .keys1) (c .known-active .ensures)
 
 returns-2 : tie.Need-returns-2
-returns-2 c = record-passive _ _ (c .before .before .before .before .pre) _ _ _ (c .before .match .keys2) (c .known-passive .ensures)
+returns-2 c = record-passive _ _ (c .before .before .before .before .pre .tables) _ _ _ (c .before .match .keys2) (c .known-passive .ensures)
 
 returns-3 : tie.Need-returns-3
-returns-3 c = record-other _ _ (c .before .before .before .pre) _ _ (c .match .rest .0 .1) (c .match .rest .1)
+returns-3 c = record-other _ _ (c .before .before .before .pre .tables) _ _ (c .match .rest .0 .1) (c .match .rest .1)
 
 pub known-record-spec : {M : Type 1} → statement M
-known-record-spec =
-    tie.close (tie.spec known-active-requires known-passive-requires returns returns-2 returns-3)
+known-record-spec = tie.close (tie.spec known-active-requires known-passive-requires returns returns-2 returns-3)

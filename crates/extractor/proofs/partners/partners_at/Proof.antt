@@ -13,17 +13,17 @@ plan-size-requires c κs = search needs
 returns : tie.Need-returns
 returns c = partners-none _ _ _ _ _ (c .before .before .rule-at .ensures) (c .before .plan-size .ensures) (c .if1 .taken)
 
-load-requires : tie.Need-load-requires
-load-requires c κs = search needs
-
 sub-partners-within : tie.Need-sub-partners-within
 sub-partners-within c = search needs
+
+root-at-requires : tie.Need-root-at-requires
+root-at-requires c κs = search needs
 
 partners-within-requires : tie.Need-partners-within-requires
 partners-within-requires c κs = search needs
 
 returns-2 : tie.Need-returns-2
-returns-2 c = partners-some _ _ _ _ _ (c .before .before .before .before .rule-at .ensures) (c .before .before .before .plan-size .ensures) _ _ (c .before .load .ensures) (c .partners-within .ensures)
+returns-2 c = partners-some _ _ _ _ _ (c .before .before .before .before .rule-at .ensures) (c .before .before .before .plan-size .ensures) _ _ (c .before .root-at .ensures) (c .partners-within .ensures)
 
 pub partners-at-spec : {M : Type 1} → statement M
 partners-at-spec =
@@ -32,7 +32,7 @@ partners-at-spec =
     rule-at-requires
     plan-size-requires
     returns
-    load-requires
     sub-partners-within
+    root-at-requires
     partners-within-requires
     returns-2)

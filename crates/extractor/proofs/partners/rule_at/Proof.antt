@@ -4,14 +4,14 @@ use Rattle.extractor.proofs.PartnerLaws.{rule-by}
 use Rattle.extractor.proofs.partners.rule_at.Statement.{statement}
 use Rattle.extractor.proofs.partners.rule_at.Tie as tie
 
-load-requires : tie.Need-load-requires
-load-requires c κs = search needs
+root-at-requires : tie.Need-root-at-requires
+root-at-requires c κs = search needs
 
-load-requires-2 : tie.Need-load-requires-2
-load-requires-2 c κs = search needs
+field-requires : tie.Need-field-requires
+field-requires c κs = search needs
 
 returns : tie.Need-returns
-returns c = rule-by _ _ _ _ (c .before .load .ensures) (c .load2 .ensures)
+returns c = rule-by _ _ _ _ (c .before .root-at .ensures) (c .field .ensures)
 
 pub rule-at-spec : {M : Type 1} → statement M
-rule-at-spec = tie.close (tie.spec load-requires load-requires-2 returns)
+rule-at-spec = tie.close (tie.spec root-at-requires field-requires returns)

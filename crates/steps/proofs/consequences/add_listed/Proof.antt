@@ -6,7 +6,7 @@ use borrow.Author.Needs.{needs}
 use Rattle.questions.specs.Abstract.{grammarOf, graphOf}
 use Rattle.lists.specs.Cursors.{leftAll}
 use Rattle.steps.specs.Ready.{Ready}
-use Rattle.steps.proofs.ListedLaws.{Going, query-within, query-starts, going-start, going-within, going-known, going-next, going-less, next-within, going-end}
+use Rattle.steps.proofs.ListedLaws.{Going, few-items, query-within, query-starts, going-start, going-within, going-known, going-next, going-less, next-count, next-within, going-end}
 use Rattle.steps.proofs.consequences.add_listed.Statement.{statement}
 use Rattle.steps.proofs.consequences.add_listed.Tie as tie
 
@@ -22,36 +22,44 @@ query-requires c κs = search needs
 starts-requires : tie.Need-starts-requires Inv-loop μ-loop
 starts-requires c κs = (c .before .before .before .before .before .before .pre .1 .indexed .size, query-within _ _ _ _ _ (c .before .query .ensures))
 
+skimmed-requires : tie.Need-skimmed-requires Inv-loop μ-loop
+skimmed-requires c κs = (c .before .before .before .before .before .before .before .before .before .pre .1 .indexed .size, c .before .before .before .before .before .before .before .before .before .pre .2, few-items _ _ (c .before .before .before .before .before .before .before .before .before .pre .2) (c .before .before .before .before .before .before .before .before .before .pre .1 .small))
+
 least-requires : tie.Need-least-requires Inv-loop μ-loop
 least-requires c κs = search needs
 
 loop-holds : tie.Need-loop-holds Inv-loop μ-loop
 loop-holds c =
-    let s = c .before .before .before .before .before .before .before .before .args in
-    (refl, refl, going-start (s .g .now) (s .wants .now) (s .pivots .now) (graphOf (s .g .now) (s .h .now)) (s .chart .now) (s .x) (s .j) (s .n) (c .before .before .before .before .before .before .before .before .pre .1 .fits) (c .before .before .before .before .before .before .before .before .pre .2) (s .index .now) _ _ (c .before .before .before .before .before .before .before .before .pre .1) (query-starts _ _ _ _ _ _ _ (c .before .before .before .query .ensures) (c .before .starts .ensures)) (c .least .ensures .0) (c .least .ensures .1))
+    let s = c .before .before .before .before .before .before .before .before .before .before .before .args in
+    (refl, refl, going-start (s .g .now) (s .wants .now) (s .pivots .now) (graphOf (s .g .now) (s .h .now)) (s .chart .now) (s .x) (s .j) (s .n) (c .before .before .before .before .before .before .before .before .before .before .before .pre .1 .fits) (c .before .before .before .before .before .before .before .before .before .before .before .pre .2) (s .index .now) _ _ _ (c .before .before .before .before .before .before .before .before .before .before .before .pre .1) (query-starts _ _ _ _ _ _ _ (c .before .before .before .before .before .before .query .ensures) (c .before .before .before .before .starts .ensures)) (c .before .skimmed .ensures) (c .least .ensures .0) (c .least .ensures .1))
 
 add-next-requires : tie.Need-add-next-requires Inv-loop μ-loop
 add-next-requires c κs =
-    let s = c .before .before .before .before .before .before .before .before .before .before .before .before .args in
-    (c .before .before .before .before .before .before .before .before .before .before .before .before .pre .0, c .before .before .before .loop .inv .2 .ready, c .before .before .before .before .before .before .before .before .before .before .before .before .pre .3, going-known (s .g .now) (s .wants .now) (s .pivots .now) (graphOf (s .g .now) (s .h .now)) (s .chart .now) (s .x) (s .j) (s .n) (c .before .before .before .before .before .before .before .before .before .before .before .before .pre .1 .fits) (c .before .before .before .before .before .before .before .before .before .before .before .before .pre .2) (c .before .before .before .loop .chart) (c .before .before .before .loop .index) (c .before .before .before .loop .cs) (c .before .before .before .loop .k) (c .before .before .before .loop .done) (c .before .before .before .loop .inv .2) (c .before .before .loop-test .taken))
+    let s = c .before .before .before .before .before .before .before .before .before .before .before .before .before .before .before .args in
+    (c .before .before .before .before .before .before .before .before .before .before .before .before .before .before .before .pre .0, c .before .before .before .loop .inv .2 .ready, c .before .before .before .before .before .before .before .before .before .before .before .before .before .before .before .pre .3, going-known (s .g .now) (s .wants .now) (s .pivots .now) (graphOf (s .g .now) (s .h .now)) (s .chart .now) (s .x) (s .j) (s .n) (c .before .before .before .before .before .before .before .before .before .before .before .before .before .before .before .pre .1 .fits) (c .before .before .before .before .before .before .before .before .before .before .before .before .before .before .before .pre .2) (c .before .before .before .loop .chart) (c .before .before .before .loop .index) (c .before .before .before .loop .cs) (c .before .before .before .loop .k) (c .before .before .before .loop .done) (c .before .before .before .loop .inv .2) (c .before .before .loop-test .taken))
 
 passed-requires : tie.Need-passed-requires Inv-loop μ-loop
 passed-requires c κs =
-    let s = c .before .before .before .before .before .before .before .before .before .before .before .before .before .before .before .before .before .before .args in
-    (c .before .before .before .before .before .add-next .ensures .1 .indexed .size, next-within (s .g .now) (s .wants .now) (s .pivots .now) (graphOf (s .g .now) (s .h .now)) (s .chart .now) (s .x) (s .j) (s .n) (c .before .before .before .before .before .before .before .before .before .before .before .before .before .before .before .before .before .before .pre .1 .fits) (c .before .before .before .before .before .before .before .before .before .before .before .before .before .before .before .before .before .before .pre .2) (c .before .before .before .before .before .before .before .before .before .loop .chart) (c .before .before .before .before .before .before .before .before .before .loop .index) (c .before .before .before .before .before .before .before .before .before .loop .cs) (c .before .before .before .before .before .before .before .before .before .loop .k) (c .before .before .before .before .before .before .before .before .before .loop .done) (c .before .before .before .before .before .before .before .before .before .loop .inv .2) (c .before .before .before .before .before .before .before .before .before .before .before .before .before .before .before .before .before .before .pre .0 .accepted .grammar) (c .before .before .before .before .before .before .before .before .before .before .before .before .before .before .before .before .before .before .pre .0 .wanted) (c .before .before .before .before .before .before .before .before .before .before .before .before .before .before .before .before .before .before .pre .0 .pivoted) (c .before .before .before .before .before .before .before .before .before .before .before .before .before .before .before .before .before .before .pre .5) (c .before .before .before .before .before .before .before .before .before .before .before .before .before .before .before .before .before .before .pre .4) _ _ (c .before .before .before .before .before .add-next .result) (c .before .before .before .before .before .before .before .before .loop-test .taken) (c .before .before .before .before .before .add-next .ensures .0) (c .before .before .before .before .before .add-next .ensures .1) (c .before .before .before .before .before .add-next .ensures .2), c .before .before .before .before .before .before .before .before .before .loop .inv .2 .few)
+    let s = c .before .before .before .before .before .before .before .before .before .before .before .before .before .before .before .before .before .before .before .before .before .args in
+    (c .before .before .before .before .before .add-next .ensures .1 .indexed .size, next-within (s .g .now) (s .wants .now) (s .pivots .now) (graphOf (s .g .now) (s .h .now)) (s .chart .now) (s .x) (s .j) (s .n) (c .before .before .before .before .before .before .before .before .before .before .before .before .before .before .before .before .before .before .before .before .before .pre .1 .fits) (c .before .before .before .before .before .before .before .before .before .before .before .before .before .before .before .before .before .before .before .before .before .pre .2) (c .before .before .before .before .before .before .before .before .before .loop .chart) (c .before .before .before .before .before .before .before .before .before .loop .index) (c .before .before .before .before .before .before .before .before .before .loop .cs) (c .before .before .before .before .before .before .before .before .before .loop .k) (c .before .before .before .before .before .before .before .before .before .loop .done) (c .before .before .before .before .before .before .before .before .before .loop .inv .2) (c .before .before .before .before .before .before .before .before .before .before .before .before .before .before .before .before .before .before .before .before .before .pre .0 .accepted .grammar) (c .before .before .before .before .before .before .before .before .before .before .before .before .before .before .before .before .before .before .before .before .before .pre .0 .wanted) (c .before .before .before .before .before .before .before .before .before .before .before .before .before .before .before .before .before .before .before .before .before .pre .0 .pivoted) (c .before .before .before .before .before .before .before .before .before .before .before .before .before .before .before .before .before .before .before .before .before .pre .5) (c .before .before .before .before .before .before .before .before .before .before .before .before .before .before .before .before .before .before .before .before .before .pre .4) _ _ (c .before .before .before .before .before .add-next .result) (c .before .before .before .before .before .before .before .before .loop-test .taken) (c .before .before .before .before .before .add-next .ensures .0) (c .before .before .before .before .before .add-next .ensures .1) (c .before .before .before .before .before .add-next .ensures .2), c .before .before .before .before .before .before .before .before .before .loop .inv .2 .few)
+
+skimmed-requires-2 : tie.Need-skimmed-requires-2 Inv-loop μ-loop
+skimmed-requires-2 c κs =
+    let s = c .before .before .before .before .before .before .before .before .before .before .before .before .before .before .before .before .before .before .before .before .before .before .before .before .args in
+    (c .before .before .before .before .before .before .before .before .add-next .ensures .1 .indexed .size, next-count (s .g .now) (s .wants .now) (s .pivots .now) (graphOf (s .g .now) (s .h .now)) (s .chart .now) (s .x) (s .j) (s .n) (c .before .before .before .before .before .before .before .before .before .before .before .before .before .before .before .before .before .before .before .before .before .before .before .before .pre .1 .fits) (c .before .before .before .before .before .before .before .before .before .before .before .before .before .before .before .before .before .before .before .before .before .before .before .before .pre .2) (c .before .before .before .before .before .before .before .before .before .before .before .before .loop .chart) (c .before .before .before .before .before .before .before .before .before .before .before .before .loop .index) (c .before .before .before .before .before .before .before .before .before .before .before .before .loop .cs) (c .before .before .before .before .before .before .before .before .before .before .before .before .loop .k) (c .before .before .before .before .before .before .before .before .before .before .before .before .loop .done) (c .before .before .before .before .before .before .before .before .before .before .before .before .loop .inv .2) (c .before .before .before .before .before .before .before .before .before .before .before .before .before .before .before .before .before .before .before .before .before .before .before .before .pre .0 .accepted .grammar) (c .before .before .before .before .before .before .before .before .before .before .before .before .before .before .before .before .before .before .before .before .before .before .before .before .pre .0 .wanted) (c .before .before .before .before .before .before .before .before .before .before .before .before .before .before .before .before .before .before .before .before .before .before .before .before .pre .0 .pivoted) (c .before .before .before .before .before .before .before .before .before .before .before .before .before .before .before .before .before .before .before .before .before .before .before .before .pre .5) (c .before .before .before .before .before .before .before .before .before .before .before .before .before .before .before .before .before .before .before .before .before .before .before .before .pre .4) _ _ (c .before .before .before .before .before .before .before .before .add-next .result) (c .before .before .before .before .before .before .before .before .before .before .before .loop-test .taken) (c .before .before .before .before .before .before .before .before .add-next .ensures .0) (c .before .before .before .before .before .before .before .before .add-next .ensures .1) (c .before .before .before .before .before .before .before .before .add-next .ensures .2), few-items _ _ (c .before .before .before .before .before .before .before .before .before .before .before .before .before .before .before .before .before .before .before .before .before .before .before .before .pre .2) (c .before .before .before .before .before .before .before .before .before .before .before .before .before .before .before .before .before .before .before .before .before .before .before .before .pre .1 .small))
 
 least-requires-2 : tie.Need-least-requires-2 Inv-loop μ-loop
 least-requires-2 c κs = search needs
 
 loop-less : tie.Need-loop-less Inv-loop μ-loop
 loop-less c =
-    let s = c .before .before .before .before .before .before .before .before .before .before .before .before .before .before .before .before .before .before .before .before .args in
-    going-less (s .g .now) (s .wants .now) (s .pivots .now) (graphOf (s .g .now) (s .h .now)) (s .chart .now) (s .x) (s .j) (s .n) (c .before .before .before .before .before .before .before .before .before .before .before .before .before .before .before .before .before .before .before .before .pre .1 .fits) (c .before .before .before .before .before .before .before .before .before .before .before .before .before .before .before .before .before .before .before .before .pre .2) (c .before .before .before .before .before .before .before .before .before .before .before .loop .chart) (c .before .before .before .before .before .before .before .before .before .before .before .loop .index) (c .before .before .before .before .before .before .before .before .before .before .before .loop .cs) (c .before .before .before .before .before .before .before .before .before .before .before .loop .k) (c .before .before .before .before .before .before .before .before .before .before .before .loop .done) (c .before .before .before .before .before .before .before .before .before .before .before .loop .inv .2) (c .before .before .before .before .before .before .before .before .before .before .before .before .before .before .before .before .before .before .before .before .pre .0 .accepted .grammar) (c .before .before .before .before .before .before .before .before .before .before .before .before .before .before .before .before .before .before .before .before .pre .0 .wanted) (c .before .before .before .before .before .before .before .before .before .before .before .before .before .before .before .before .before .before .before .before .pre .0 .pivoted) (c .before .before .before .before .before .before .before .before .before .before .before .before .before .before .before .before .before .before .before .before .pre .5) (c .before .before .before .before .before .before .before .before .before .before .before .before .before .before .before .before .before .before .before .before .pre .4) _ _ (c .before .before .before .before .before .before .before .add-next .result) (c .before .before .before .before .before .before .before .before .before .before .loop-test .taken) (c .before .before .before .before .before .before .before .add-next .ensures .0) (c .before .before .before .before .before .before .before .add-next .ensures .1) (c .before .before .before .before .before .before .before .add-next .ensures .2) _ (c .before .passed .ensures)
+    let s = c .before .before .before .before .before .before .before .before .before .before .before .before .before .before .before .before .before .before .before .before .before .before .before .before .before .before .args in
+    going-less (s .g .now) (s .wants .now) (s .pivots .now) (graphOf (s .g .now) (s .h .now)) (s .chart .now) (s .x) (s .j) (s .n) (c .before .before .before .before .before .before .before .before .before .before .before .before .before .before .before .before .before .before .before .before .before .before .before .before .before .before .pre .1 .fits) (c .before .before .before .before .before .before .before .before .before .before .before .before .before .before .before .before .before .before .before .before .before .before .before .before .before .before .pre .2) (c .before .before .before .before .before .before .before .before .before .before .before .before .before .before .loop .chart) (c .before .before .before .before .before .before .before .before .before .before .before .before .before .before .loop .index) (c .before .before .before .before .before .before .before .before .before .before .before .before .before .before .loop .cs) (c .before .before .before .before .before .before .before .before .before .before .before .before .before .before .loop .k) (c .before .before .before .before .before .before .before .before .before .before .before .before .before .before .loop .done) (c .before .before .before .before .before .before .before .before .before .before .before .before .before .before .loop .inv .2) (c .before .before .before .before .before .before .before .before .before .before .before .before .before .before .before .before .before .before .before .before .before .before .before .before .before .before .pre .0 .accepted .grammar) (c .before .before .before .before .before .before .before .before .before .before .before .before .before .before .before .before .before .before .before .before .before .before .before .before .before .before .pre .0 .wanted) (c .before .before .before .before .before .before .before .before .before .before .before .before .before .before .before .before .before .before .before .before .before .before .before .before .before .before .pre .0 .pivoted) (c .before .before .before .before .before .before .before .before .before .before .before .before .before .before .before .before .before .before .before .before .before .before .before .before .before .before .pre .5) (c .before .before .before .before .before .before .before .before .before .before .before .before .before .before .before .before .before .before .before .before .before .before .before .before .before .before .pre .4) _ _ (c .before .before .before .before .before .before .before .before .before .before .add-next .result) (c .before .before .before .before .before .before .before .before .before .before .before .before .before .loop-test .taken) (c .before .before .before .before .before .before .before .before .before .before .add-next .ensures .0) (c .before .before .before .before .before .before .before .before .before .before .add-next .ensures .1) (c .before .before .before .before .before .before .before .before .before .before .add-next .ensures .2) _ _ (c .before .before .before .before .passed .ensures) (c .before .skimmed2 .ensures)
 
 loop-again : tie.Need-loop-again Inv-loop μ-loop
 loop-again c =
-    let s = c .before .before .before .before .before .before .before .before .before .before .before .before .before .before .before .before .before .before .before .before .args in
-    (c .before .before .before .before .before .before .before .add-next .kept .1 .1 .1 .1 .1 .1 .0 ∙ c .before .before .before .before .before .before .before .before .before .before .before .loop .inv .0, c .before .before .before .before .before .before .before .add-next .kept .1 .1 .1 .1 .1 .1 .1 .0 ∙ c .before .before .before .before .before .before .before .before .before .before .before .loop .inv .1, going-next (s .g .now) (s .wants .now) (s .pivots .now) (graphOf (s .g .now) (s .h .now)) (s .chart .now) (s .x) (s .j) (s .n) (c .before .before .before .before .before .before .before .before .before .before .before .before .before .before .before .before .before .before .before .before .pre .1 .fits) (c .before .before .before .before .before .before .before .before .before .before .before .before .before .before .before .before .before .before .before .before .pre .2) (c .before .before .before .before .before .before .before .before .before .before .before .loop .chart) (c .before .before .before .before .before .before .before .before .before .before .before .loop .index) (c .before .before .before .before .before .before .before .before .before .before .before .loop .cs) (c .before .before .before .before .before .before .before .before .before .before .before .loop .k) (c .before .before .before .before .before .before .before .before .before .before .before .loop .done) (c .before .before .before .before .before .before .before .before .before .before .before .loop .inv .2) (c .before .before .before .before .before .before .before .before .before .before .before .before .before .before .before .before .before .before .before .before .pre .0 .accepted .grammar) (c .before .before .before .before .before .before .before .before .before .before .before .before .before .before .before .before .before .before .before .before .pre .0 .wanted) (c .before .before .before .before .before .before .before .before .before .before .before .before .before .before .before .before .before .before .before .before .pre .0 .pivoted) (c .before .before .before .before .before .before .before .before .before .before .before .before .before .before .before .before .before .before .before .before .pre .5) (c .before .before .before .before .before .before .before .before .before .before .before .before .before .before .before .before .before .before .before .before .pre .4) _ _ (c .before .before .before .before .before .before .before .add-next .result) (c .before .before .before .before .before .before .before .before .before .before .loop-test .taken) (c .before .before .before .before .before .before .before .add-next .ensures .0) (c .before .before .before .before .before .before .before .add-next .ensures .1) (c .before .before .before .before .before .before .before .add-next .ensures .2) _ _ (c .before .passed .ensures) (c .least2 .ensures .0) (c .least2 .ensures .1))
+    let s = c .before .before .before .before .before .before .before .before .before .before .before .before .before .before .before .before .before .before .before .before .before .before .before .before .before .before .args in
+    (c .before .before .before .before .before .before .before .before .before .before .add-next .kept .1 .1 .1 .1 .1 .1 .0 ∙ c .before .before .before .before .before .before .before .before .before .before .before .before .before .before .loop .inv .0, c .before .before .before .before .before .before .before .before .before .before .add-next .kept .1 .1 .1 .1 .1 .1 .1 .0 ∙ c .before .before .before .before .before .before .before .before .before .before .before .before .before .before .loop .inv .1, going-next (s .g .now) (s .wants .now) (s .pivots .now) (graphOf (s .g .now) (s .h .now)) (s .chart .now) (s .x) (s .j) (s .n) (c .before .before .before .before .before .before .before .before .before .before .before .before .before .before .before .before .before .before .before .before .before .before .before .before .before .before .pre .1 .fits) (c .before .before .before .before .before .before .before .before .before .before .before .before .before .before .before .before .before .before .before .before .before .before .before .before .before .before .pre .2) (c .before .before .before .before .before .before .before .before .before .before .before .before .before .before .loop .chart) (c .before .before .before .before .before .before .before .before .before .before .before .before .before .before .loop .index) (c .before .before .before .before .before .before .before .before .before .before .before .before .before .before .loop .cs) (c .before .before .before .before .before .before .before .before .before .before .before .before .before .before .loop .k) (c .before .before .before .before .before .before .before .before .before .before .before .before .before .before .loop .done) (c .before .before .before .before .before .before .before .before .before .before .before .before .before .before .loop .inv .2) (c .before .before .before .before .before .before .before .before .before .before .before .before .before .before .before .before .before .before .before .before .before .before .before .before .before .before .pre .0 .accepted .grammar) (c .before .before .before .before .before .before .before .before .before .before .before .before .before .before .before .before .before .before .before .before .before .before .before .before .before .before .pre .0 .wanted) (c .before .before .before .before .before .before .before .before .before .before .before .before .before .before .before .before .before .before .before .before .before .before .before .before .before .before .pre .0 .pivoted) (c .before .before .before .before .before .before .before .before .before .before .before .before .before .before .before .before .before .before .before .before .before .before .before .before .before .before .pre .5) (c .before .before .before .before .before .before .before .before .before .before .before .before .before .before .before .before .before .before .before .before .before .before .before .before .before .before .pre .4) _ _ (c .before .before .before .before .before .before .before .before .before .before .add-next .result) (c .before .before .before .before .before .before .before .before .before .before .before .before .before .loop-test .taken) (c .before .before .before .before .before .before .before .before .before .before .add-next .ensures .0) (c .before .before .before .before .before .before .before .before .before .before .add-next .ensures .1) (c .before .before .before .before .before .before .before .before .before .before .add-next .ensures .2) _ _ (c .before .before .before .before .passed .ensures) (c .before .skimmed2 .ensures) _ (c .least2 .ensures .0) (c .least2 .ensures .1))
 
 same-length : tie.Need-same-length Inv-loop μ-loop
 same-length c = c .before .loop .inv .0
@@ -61,8 +69,8 @@ same-length-2 c = c .before .loop .inv .1
 
 returns : tie.Need-returns Inv-loop μ-loop
 returns c =
-    let s = c .before .before .before .before .before .before .before .before .before .before .args in
-    (going-end (s .g .now) (s .wants .now) (s .pivots .now) (graphOf (s .g .now) (s .h .now)) (s .chart .now) (s .x) (s .j) (s .n) (c .before .before .before .before .before .before .before .before .before .before .pre .1 .fits) (c .before .before .before .before .before .before .before .before .before .before .pre .2) (c .before .loop .chart) (c .before .loop .index) (c .before .loop .cs) (c .before .loop .k) (c .before .loop .done) (c .before .loop .inv .2) (c .before .before .before .before .before .before .before .before .before .before .pre .0 .accepted .grammar) (c .before .before .before .before .before .before .before .before .before .before .pre .0 .wanted) (c .before .before .before .before .before .before .before .before .before .before .pre .0 .pivoted) (c .before .before .before .before .before .before .before .before .before .before .pre .5) (c .before .before .before .before .before .before .before .before .before .before .pre .4) (c .loop-test .left), c .before .loop .inv .2 .ready)
+    let s = c .before .before .before .before .before .before .before .before .before .before .before .before .before .args in
+    (going-end (s .g .now) (s .wants .now) (s .pivots .now) (graphOf (s .g .now) (s .h .now)) (s .chart .now) (s .x) (s .j) (s .n) (c .before .before .before .before .before .before .before .before .before .before .before .before .before .pre .1 .fits) (c .before .before .before .before .before .before .before .before .before .before .before .before .before .pre .2) (c .before .loop .chart) (c .before .loop .index) (c .before .loop .cs) (c .before .loop .k) (c .before .loop .done) (c .before .loop .inv .2) (c .before .before .before .before .before .before .before .before .before .before .before .before .before .pre .0 .accepted .grammar) (c .before .before .before .before .before .before .before .before .before .before .before .before .before .pre .0 .wanted) (c .before .before .before .before .before .before .before .before .before .before .before .before .before .pre .0 .pivoted) (c .before .before .before .before .before .before .before .before .before .before .before .before .before .pre .5) (c .before .before .before .before .before .before .before .before .before .before .before .before .before .pre .4) (c .loop-test .left), c .before .loop .inv .2 .ready)
 
 pub add-listed-spec : {M : Type 1} → statement M
 add-listed-spec =
@@ -72,10 +80,12 @@ add-listed-spec =
     μ-loop
     query-requires
     starts-requires
+    skimmed-requires
     least-requires
     loop-holds
     add-next-requires
     passed-requires
+    skimmed-requires-2
     least-requires-2
     loop-less
     loop-again

@@ -4,7 +4,7 @@ use borrow.Author.Needs.{needs}
 use mathlib.Core.Path.{sym, _∙_}
 use lib.ListN.{replicate}
 use Rattle.questions.specs.Checking.{checkLines, filledBy}
-use Rattle.tables.proofs.OnePass.{Passing, pass-start, pass-none, pass-end, turn-from, turn-fits, turn-gap, turn-no, turn-tail, turn-next}
+use Rattle.tables.proofs.OnePass.{room-more, Passing, pass-start, pass-none, pass-end, turn-from, turn-fits, turn-gap, turn-no, turn-tail, turn-next}
 use Rattle.tables.proofs.checking.check_lines.Statement.{statement}
 use Rattle.tables.proofs.checking.check_lines.Tie as tie
 
@@ -39,10 +39,10 @@ returns-2 : tie.Need-returns-2 Inv-loop μ-loop
 returns-2 c = turn-gap _ _ _ _ (c .before .before .before .before .before .before .before .before .before .pre .2) _ _ _ (c .before .before .before .before .before .before .loop .inv) (c .before .before .before .before .before .loop-test .taken) _ (c .before .before .before .before .is-nothing .ensures) (c .before .before .before .if1 .left) _ (c .before .before .place-of .ensures .0) _ (c .before .zeros2 .ensures) (c .if2 .taken)
 
 stored-fields-requires : tie.Need-stored-fields-requires Inv-loop μ-loop
-stored-fields-requires c κs = search needs
+stored-fields-requires c κs = room-more _ _ (c .before .before .before .before .before .before .loop .due) (c .before .before .before .before .before .before .before .before .before .pre .2) (c .before .before .before .before .before .before .loop .inv .room)
 
 judge-requires : tie.Need-judge-requires Inv-loop μ-loop
-judge-requires c κs = search needs
+judge-requires c κs = room-more _ _ (c .before .before .before .before .before .before .before .loop .due) (c .before .before .before .before .before .before .before .before .before .before .pre .2) (c .before .before .before .before .before .before .before .loop .inv .room)
 
 returns-3 : tie.Need-returns-3 Inv-loop μ-loop
 returns-3 c = turn-no _ _ _ _ (c .before .before .before .before .before .before .before .before .before .before .before .before .pre .2) _ _ _ (c .before .before .before .before .before .before .before .before .before .loop .inv) (c .before .before .before .before .before .before .before .before .loop-test .taken) _ (c .before .before .before .before .before .before .before .is-nothing .ensures) (c .before .before .before .before .before .before .if1 .left) _ (c .before .before .before .before .before .place-of .ensures .0) _ (c .before .before .before .before .zeros2 .ensures) (c .before .before .before .if2 .left) _ (c .before .before .stored-fields .ensures .0) _ (c .before .judge .ensures) (c .if3 .taken)

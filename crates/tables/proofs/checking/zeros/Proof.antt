@@ -1,7 +1,8 @@
 -- One word made of those passed.
 use native.Mathlib.Omega.{arith}
 use Prim.Native.Nat.{_-_, _≤_}
-use Rattle.tables.proofs.OnePass.{Gathered, gathered-none, gathered-more, gathered-all}
+use Rattle.tables.specs.Concluding.{Gathered}
+use Rattle.tables.proofs.OnePass.{gathered-more, gathered-all}
 use Rattle.tables.proofs.checking.zeros.Statement.{statement}
 use Rattle.tables.proofs.checking.zeros.Tie as tie
 
@@ -11,8 +12,11 @@ Inv-loop t a b any₀ i₀ any i = (a ≤ i) × (i ≤ b) × Gathered t a i any
 abbrev μ-loop : tie.MeasureT-loop
 μ-loop t a b any₀ i₀ any i = b - i
 
+gather-requires : tie.Need-gather-requires Inv-loop μ-loop
+gather-requires c κs = c .before .pre
+
 loop-holds : tie.Need-loop-holds Inv-loop μ-loop
-loop-holds c = (omega arith, omega arith, gathered-none _ _)
+loop-holds c = c .gather .ensures
 
 mul-any : tie.Need-mul-any Inv-loop μ-loop
 mul-any c = omega arith
@@ -38,6 +42,7 @@ zeros-spec =
     (tie.spec
     Inv-loop
     μ-loop
+    gather-requires
     loop-holds
     mul-any
     shared-slice-read-any

@@ -6,6 +6,7 @@ use borrow.Author.Needs.{needs}
 use Rattle.questions.specs.Layout.{fieldsIn}
 use Rattle.questions.specs.Questions.{judge}
 use Rattle.layout.proofs.Words.{known, chosen, passed}
+use Rattle.tables.proofs.Planning.{room-lines}
 use Rattle.tables.proofs.judging.judge.Statement.{statement}
 use Rattle.tables.proofs.judging.judge.Tie as tie
 
@@ -43,7 +44,7 @@ enum-known-due-4 : tie.Need-enum-known-due-4
 enum-known-due-4 c = search needs
 
 judge-plan-requires : tie.Need-judge-plan-requires
-judge-plan-requires c κs = let h = known _ _ _ (c .before .before .before .before .in-table .ensures) (not-false _ (c .before .before .before .if1 .left)) (c .before .due4 .given .1) in omega arith
+judge-plan-requires c κs = let h = room-lines _ _ _ _ (c .before .before .before .before .before .before .before .pre) (c .before .due4 .given .1) in record { long = h .2; rule = omega arith; lines = omega arith }
 
 enum-told-2 : tie.Need-enum-told-2
 enum-told-2 c = search needs

@@ -5,9 +5,11 @@ use mathlib.Core.Path.{_≡_}
 use borrow.Author.Needs.{needs}
 use Rattle.hrg.specs.Counts.{occurs}
 use Rattle.questions.specs.Questions.{introducedBefore}
-use Rattle.tables.proofs.Planning.{introduced-start, introduced-next, introduced-done}
+use Rattle.tables.proofs.Planning.{plan-inside, introduced-start, introduced-next, introduced-done}
 use Rattle.tables.proofs.plans.introduced_before.Statement.{statement}
 use Rattle.tables.proofs.plans.introduced_before.Tie as tie
+use Rattle.layout.proofs.word_in.Reads as word-in-reads
+use Rattle.tables.proofs.plans.introduced_in.Reads as introduced-in-reads
 
 abbrev Inv-loop : tie.InvT-loop
 Inv-loop g r n i sum₀ q₀ sum q = (q ≤ n) × (sum ≤ 1 * q) × (sum ≡ occurs i (introducedBefore g r q))
@@ -18,32 +20,41 @@ abbrev μ-loop : tie.MeasureT-loop
 loop-holds : tie.Need-loop-holds Inv-loop μ-loop
 loop-holds c = (omega arith, omega arith, introduced-start _ _ _)
 
-plan-kind-requires : tie.Need-plan-kind-requires Inv-loop μ-loop
-plan-kind-requires c κs = search needs
+mul-p : tie.Need-mul-p Inv-loop μ-loop
+mul-p c = omega (arith, c .before .before .before .pre .rule)
 
-plan-first-requires : tie.Need-plan-first-requires Inv-loop μ-loop
-plan-first-requires c κs = search needs
+add-p : tie.Need-add-p Inv-loop μ-loop
+add-p c = omega (arith, c .before .before .before .pre .rule)
 
-plan-second-requires : tie.Need-plan-second-requires Inv-loop μ-loop
-plan-second-requires c κs = search needs
+add-p-2 : tie.Need-add-p-2 Inv-loop μ-loop
+add-p-2 c = omega (arith, c .before .before .before .pre .rule, c .before .before .before .pre .lines)
+
+word-in-requires : tie.Need-word-in-requires Inv-loop μ-loop
+word-in-requires c κs = plan-inside _ _ _ _ 0 (c .before .before .before .pre) (c .loop-test .taken) (omega arith)
+
+word-in-requires-2 : tie.Need-word-in-requires-2 Inv-loop μ-loop
+word-in-requires-2 c κs = plan-inside _ _ _ _ 1 (c .before .before .before .before .pre) (c .before .loop-test .taken) (omega arith)
+
+word-in-requires-3 : tie.Need-word-in-requires-3 Inv-loop μ-loop
+word-in-requires-3 c κs = plan-inside _ _ _ _ 2 (c .before .before .before .before .before .pre) (c .before .before .loop-test .taken) (omega arith)
 
 introduced-in-requires : tie.Need-introduced-in-requires Inv-loop μ-loop
 introduced-in-requires c κs = search needs
 
 add-sum : tie.Need-add-sum Inv-loop μ-loop
-add-sum c = search needs
+add-sum c = omega (arith, c .before .before .before .before .before .before .before .pre .lines, c .before .before .before .before .before .loop .inv .1, c .introduced-in .ensures .1)
 
 add-q : tie.Need-add-q Inv-loop μ-loop
 add-q c = search needs
 
 loop-less : tie.Need-loop-less Inv-loop μ-loop
-loop-less c = search needs
+loop-less c = omega arith
 
 loop-again : tie.Need-loop-again Inv-loop μ-loop
-loop-again c = (omega arith, omega arith, introduced-next _ _ _ _ _ _ _ _ _ (c .before .before .before .plan-kind .ensures) (c .before .before .plan-first .ensures) (c .before .plan-second .ensures) (c .before .before .before .before .before .loop .inv .2) (c .introduced-in .ensures .0))
+loop-again c = (omega arith, omega (arith, c .before .before .before .before .before .loop .inv .1, c .introduced-in .ensures .1), introduced-next _ _ _ _ _ _ _ _ _ (c .before .before .before .word-in .ensures) (c .before .before .word-in2 .ensures) (c .before .word-in3 .ensures) (c .before .before .before .before .before .loop .inv .2) (c .introduced-in .ensures .0))
 
 returns : tie.Need-returns Inv-loop μ-loop
-returns c = (introduced-done _ _ _ _ _ _ (c .before .loop .inv .0) (c .loop-test .left) (c .before .loop .inv .2), omega arith)
+returns c = (introduced-done _ _ _ _ _ _ (c .before .loop .inv .0) (c .loop-test .left) (c .before .loop .inv .2), omega (arith, c .before .before .before .pre .lines))
 
 pub introduced-before-spec : {M : Type 1} → statement M
 introduced-before-spec =
@@ -52,9 +63,12 @@ introduced-before-spec =
     Inv-loop
     μ-loop
     loop-holds
-    plan-kind-requires
-    plan-first-requires
-    plan-second-requires
+    mul-p
+    add-p
+    add-p-2
+    word-in-requires
+    word-in-requires-2
+    word-in-requires-3
     introduced-in-requires
     add-sum
     add-q

@@ -1,0 +1,46 @@
+-- Quiet records by their words, and the ways of a cursor that skims over them.
+use Prim.Native.Nat.{ℕ, _+_, _-_, _*_, _/_, _≤_, _<_}
+use mathlib.Core.Path.{_≡_, refl, sym, ap, _∙_}
+use mathlib.Core.List.{List, [], _∷_}
+use mathlib.Core.Bool.{Bool, true, false}
+use native.Mathlib.Omega.{arith}
+use lib.ListN.{length, getD}
+use Rattle.masks.specs.Masks.{disjoint}
+use Rattle.records.specs.Words.{itemCount, fieldAt, recordAt}
+use Rattle.records.proofs.WordLaws.{edges-of, handled-yes, handled-no, place-fits}
+use Rattle.lists.specs.Cursors.{Skims, goes, SkimsAll}
+use Rattle.lists.proofs.ListLaws.{five}
+use Rattle.index.specs.Quiet.{quietIn}
+
+-- the words of a record that there is
+pub item-fits : (w : List ℕ) (k : ℕ) → k < itemCount w → 2 + 16 * k + 16 ≤ length w
+unfolding itemCount
+item-fits w k l = place-fits w k (omega arith)
+
+word-at : (w : List ℕ) (k i : ℕ) → getD w (2 + 16 * k + i) 0 ≡ fieldAt w k i
+unfolding fieldAt
+word-at w k i = refl
+
+module _ (w : List ℕ) (edges k : ℕ) (d : Bool) (is : d ≡ disjoint edges (getD w (2 + 16 * k + 3) 0)) where
+  told : disjoint edges (recordAt w k .edges) ≡ d
+  told = ap (disjoint edges) (edges-of w k ∙ sym (word-at w k 3)) ∙ sym is
+
+  pub quiet-edges : d ≡ false → true ≡ quietIn w edges k
+  unfolding quietIn
+  quiet-edges h = rw (told ∙ h)
+
+  pub quiet-waits : d ≡ true → getD w (2 + 16 * k + 5) 0 ≡ 0 → true ≡ quietIn w edges k
+  unfolding quietIn
+  quiet-waits h z = rw (told ∙ h, handled-no w k _ (word-at w k 5) z)
+
+  pub quiet-not : d ≡ true → (getD w (2 + 16 * k + 5) 0 ≡ 0 → ⊥) → false ≡ quietIn w edges k
+  unfolding quietIn
+  quiet-not h z = rw (told ∙ h, handled-yes w k _ (word-at w k 5) z)
+
+-- a turn of the loop
+pub skim-on : (quiet : ℕ → Bool) (ws : List ℕ) (n c d r : ℕ) (b : Bool) → Skims quiet ws n c d → 0 < d → d ≤ 5 * n → b ≡ quiet ((d - 1) / 5) → b ≡ true → r ≡ getD ws (4097 + d) 0 → Skims quiet ws n c r
+skim-on quiet ws n c d r b s p l q h e = goes r d s p l (sym q ∙ h) e
+
+pub skims-five : (quiet : ℕ → Bool) (ws : List ℕ) (n : ℕ) (cs : List ℕ) (a b c d e : ℕ) → Skims quiet ws n (getD cs 0 0) a → Skims quiet ws n (getD cs 1 0) b → Skims quiet ws n (getD cs 2 0) c
+    → Skims quiet ws n (getD cs 3 0) d → Skims quiet ws n (getD cs 4 0) e → SkimsAll quiet ws n cs (a ∷ b ∷ c ∷ d ∷ e ∷ [])
+skims-five quiet ws n cs a b c d e p q r s t = five (λ i. Skims quiet ws n (getD cs i 0) (getD (a ∷ b ∷ c ∷ d ∷ e ∷ []) i 0)) p q r s t

@@ -1,0 +1,2 @@
+-- The root of the laws.
+pub mod Cells
