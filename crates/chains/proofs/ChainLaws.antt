@@ -1,5 +1,5 @@
 -- What is found on a chain is what a search through all records finds, and how chains are kept as records come.
-use Prim.Native.Nat.{ℕ, zero, suc, _+_, _-_, _≤_, _<_}
+use Prim.Native.Nat.{ℕ, zero, suc, _+_, _-_, _*_, _≤_, _<_}
 use mathlib.Core.Path.{_≡_, refl, sym, ap, ap₂, _∙_, subst}
 use mathlib.Core.Logic.{_≢_}
 use mathlib.Core.List.{List, [], _∷_, _++_}
@@ -8,7 +8,7 @@ use native.Mathlib.Omega.{arith}
 use native.Mathlib.Decide.{decLt}
 use native.Mathlib.Numerals.{add-one}
 use lib.Dec.{eqb}
-use lib.ListN.{length, length-append, getD, set, length-set, List·getD-append}
+use lib.ListN.{length, length-append, getD, set, take, drop, length-set, List·getD-append}
 use lib.Seq.{getD-set-same, getD-set-other, getD-at}
 use borrow.Author.Tests.{eq-eqb, ne-eqb, eqb-true, eqb-false}
 use Rattle.agenda.specs.declared.Record.{Record}
@@ -18,8 +18,8 @@ use Rattle.agenda.specs.Consequences.{recordIn, noRecord}
 use Rattle.agenda.specs.Steps.{lastSame, improved, handledNow}
 use Rattle.agenda.proofs.Records.{same-bare}
 use Rattle.agenda.proofs.Adding.{cond-by}
-use Rattle.records.specs.Words.{itemCount, recordAt, recordsAt, chartOf}
-use Rattle.records.proofs.WordLaws.{length-records, record-in}
+use Rattle.records.specs.Words.{itemCount, ofWords, recordAt, recordsAt, chartOf}
+use Rattle.records.proofs.WordLaws.{length-records, record-in, item-fits, part-record-at}
 use Rattle.chains.specs.Chains.{mixed, bucketOf, lastIn, Chained, linked, Cleared}
 
 -- ---- buckets
@@ -155,6 +155,10 @@ chain-end x rs i o e = ap (lastSame x rs) (sym e) ∙ o .found
 pub counted : (w : List ℕ) → length (chartOf w .records) ≡ itemCount w
 unfolding chartOf
 counted w = length-records w (itemCount w)
+
+-- a place on a chain lies inside the words
+pub inside : (w : List ℕ) (i : ℕ) → i ≤ length (chartOf w .records) → (i ≡ 0 → ⊥) → 2 + 16 * (i - 1) + 16 ≤ length w
+inside w i l h = item-fits w (i - 1) (omega (arith, counted w))
 
 pub same-in : (x : Record) (w : List ℕ) (k : ℕ) (t : Bool) → k < length (chartOf w .records) → t ≡ sameRecord x (recordAt w k) → t ≡ sameRecord x (recordIn (chartOf w .records) k)
 unfolding chartOf
@@ -301,6 +305,11 @@ chained-next w links next j b x c h e p q =
     let z : next ≡ linked links (length (recordsAt w j)) b = q ∙ ap (λ k. linked links k b) (sym l) in
     rw add-one (subst (λ (m : List ℕ). Chained m (recordsAt w j ++ (recordAt w j ∷ []))) (sym z)
     (chained-more links (recordsAt w j) (recordAt w j) b c (ap bucketOf (sym e) ∙ sym p) (omega arith)))
+
+-- .. whose words are a part of the chart
+pub chained-part : (w links next : List ℕ) (n j b at m : ℕ) → Chained links (recordsAt w j) → n ≡ itemCount w → j < n → n ≤ 4096 → at ≡ 2 + 16 * j → m ≡ 16 → b ≡ bucketOf (ofWords (take m (drop at w))) → next ≡ linked links j b → Chained next (recordsAt w (j + 1))
+chained-part w links next n j b at m c e h l p q r s =
+    chained-next w links next j b (ofWords (take m (drop at w))) c (omega arith) (part-record-at w j at m p q (item-fits w j (omega arith))) r s
 
 pub chained-all : (w links : List ℕ) (n j : ℕ) → n ≡ itemCount w → j ≤ n → n ≤ j → Chained links (recordsAt w j) → Chained links (chartOf w .records)
 unfolding chartOf

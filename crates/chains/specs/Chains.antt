@@ -8,15 +8,16 @@ use lib.ListN.{length, getD, set}
 use Rattle.agenda.specs.declared.Record.{Record}
 use Rattle.agenda.specs.Consequences.{recordIn}
 
--- The words that make two records the same item, mixed: each is brought below a bound first, so that the sum stays below 2^63 whatever the words are.
+-- The words that make two records the same item, mixed: each is brought below a bound first, so that the sum of words below 2^64 stays below 2^63.
 unfoldable pub mixed : Record → ℕ
 mixed x =
-    x .edges % 1000000007 * 2654435769
-    + x .of % 4096 * 2246822519
-    + x .plan % 4096 * 3266489917
-    + getD (x .nodes) 0 0 % 4096 * 668265263
-    + getD (x .nodes) 1 0 % 4096 * 374761393
-    + getD (x .nodes) 2 0 % 4096 * 1540483477
+    x .edges % 4294967296 * 191825777
+    + x .edges / 4294967296 * 139261425
+    + x .of % 4096 * 2507321997
+    + x .plan % 4096 * 2619417211
+    + getD (x .nodes) 0 0 % 4096 * 3376333291
+    + getD (x .nodes) 1 0 % 4096 * 4289565379
+    + getD (x .nodes) 2 0 % 4096 * 2999226579
 
 -- bits 20 to 31 of the mix, on which every lower bit has an effect
 unfoldable pub bucketOf : Record → ℕ

@@ -3,58 +3,58 @@ ghost use mathlib.Core.Path.{_≡_};
 ghost use Prim.Native.Nat.{_≤_, _<_};
 ghost use lib.ListN.{length};
 ghost use Rattle.agenda.specs.Steps.{lastSame};
-ghost use Rattle.records.specs.Words.{itemCount, chartOf};
+ghost use Rattle.records.specs.Words.{ofWords, itemCount, chartOf};
 ghost use Rattle.chains.specs.Chains.{bucketOf, Chained, linked, Cleared};
 use agenda::Found;
-use agenda::Record;
 
-// The bucket of a record, by the words that make two records the same item.
-pub fn bucket(x: Record) -> u64
-    ensures { λ r. ⌜ (r ≡ bucketOf x) × (r < 4096) ⌝ }
+// The bucket of a record, by those of its sixteen words that make two records the same item.
+pub fn bucket(x: &[u64]) -> u64
+    requires { ⌜ length (now x) ≡ 16 ⌝ }
+    ensures { λ r. ⌜ (r ≡ bucketOf (ofWords (now (x .entry)))) × (r < 4096) ⌝ }
 {
-    let item = x.edges % 1000000007 * 2654435769
-        + x.of % 4096 * 2246822519
-        + x.plan % 4096 * 3266489917;
-    let mix = item
-        + x.nodes[0] % 4096 * 668265263
-        + x.nodes[1] % 4096 * 374761393
-        + x.nodes[2] % 4096 * 1540483477;
+    let edges = x[3];
+    let item = edges % 4294967296 * 191825777
+        + edges / 4294967296 * 139261425
+        + x[1] % 4096 * 2507321997
+        + x[2] % 4096 * 2619417211;
+    let mix = item + x[6] % 4096 * 3376333291 + x[7] % 4096 * 4289565379 + x[8] % 4096 * 2999226579;
     mix % 4294967296 / 1048576
 }
 
-// The last record that is of the same item as x: only those of its bucket are looked at, from the last one back.
-pub fn find(chart: &[u64], links: &[u64], x: Record) -> Found
-    requires { ⌜ Chained (now links) (chartOf (now chart) .records) ⌝ }
-    ensures { λ r. ⌜ r ≡ lastSame x (chartOf (now (chart .entry)) .records) (length (chartOf (now (chart .entry)) .records)) ⌝ }
+// The last record that is of the same item as that of the sixteen words: only those of its bucket are looked at, from the last one back.
+pub fn find(chart: &[u64], links: &[u32], x: &[u64], b: u64) -> Found
+    requires { ⌜ Chained (now links) (chartOf (now chart) .records) × (length (now x) ≡ 16) × (b ≡ bucketOf (ofWords (now x))) × (b < 4096) ⌝ }
+    ensures { λ r. ⌜ r ≡ lastSame (ofWords (now (x .entry))) (chartOf (now (chart .entry)) .records) (length (chartOf (now (chart .entry)) .records)) ⌝ }
 {
-    let mut i = links[bucket(x) as usize];
+    let mut i = links[b as usize] as u64;
     while i != 0 {
-        if records::same_at(chart, i - 1, x) {
+        if records::same_words(chart, i - 1, x) {
             return Found::At(i - 1);
         }
-        i = links[(4095 + i) as usize];
+        i = links[(4095 + i) as usize] as u64;
     }
     Found::Nowhere
 }
 
 // Record j, the last one, joins bucket b.
-pub fn link(links: &mut [u64], j: u64, b: u64)
+pub fn link(links: &mut [u32], j: u64, b: u64)
     requires { ⌜ (length (now links) ≡ 8192) × (j < 4096) × (b < 4096) ⌝ }
     ensures { λ r. ⌜ now (links .exit) ≡ linked (now (links .entry)) j b ⌝ }
 {
     links[(4096 + j) as usize] = links[b as usize];
-    links[b as usize] = j + 1;
+    links[b as usize] = (j + 1) as u32;
 }
 
 // The records of a chart, chained one after another: the buckets are empty before.
-pub fn build(chart: &[u64], links: &mut [u64])
+pub fn build(chart: &[u64], links: &mut [u32])
     requires { ⌜ Cleared (now links) × (itemCount (now chart) ≤ 4096) ⌝ }
     ensures { λ r. ⌜ Chained (now (links .exit)) (chartOf (now (chart .entry)) .records) ⌝ }
 {
     let n = records::item_count(chart);
     let mut j = 0;
     while j < n {
-        let b = bucket(records::load(chart, j));
+        let at = (2 + 16 * j) as usize;
+        let b = bucket(&chart[at..at + 16]);
         link(links, j, b);
         j += 1;
     }

@@ -19,7 +19,9 @@ use Rattle.records.proofs.Written.{add-written, handle-written, chart-of-writte
 use Rattle.records.proofs.Rewritten.{handledIn, grown-added, grown-handled}
 use Rattle.records.proofs.Grown.{holds-own}
 use Rattle.chains.proofs.ChainLaws.{counted, same-found}
-use Rattle.index.specs.Index.{Indexed}
+use Rattle.index.specs.Index.{indexWords, Indexed, Spanned, nearPut, NearKept}
+use Rattle.joins.specs.Joins.{Spans}
+use Rattle.index.proofs.NearLaws.{spanned-kept, spanned-again, spanned-handled, spanned-more}
 
 -- ---- the records of a chart with one record more
 module _ (cap : ℕ) (x : Record) (c : Chart) where
@@ -44,12 +46,12 @@ module _ (cap : ℕ) (x : Record) (c : Chart) where
 pub inside : (w : List ℕ) (j : ℕ) → j < itemCount w → j < length (chartOf w .records)
 inside w j l = omega (arith, counted w)
 
-pub small : (g wants pivots w ix : List ℕ) (j : ℕ) → Indexed g wants pivots ix (chartOf w .records) → j < itemCount w → j < 4096
-small g wants pivots w ix j I l = let f = I .chained .few in omega (arith, counted w)
+pub small : (wants pivots w ix : List ℕ) (j : ℕ) → Indexed wants pivots ix (chartOf w .records) → j < itemCount w → j < 4096
+small wants pivots w ix j I l = let f = I .chained .few in omega (arith, counted w)
 
 module _ (w ix : List ℕ) (j : ℕ) (x : Record) (l : j < itemCount w) (r : ℕ) (e : r ≡ fieldAt w j 5) where
   abbrev Placed : List ℕ → Type 0
-  Placed new = (g wants pivots : List ℕ) → Indexed g wants pivots ix (chartOf w .records) → Indexed g wants pivots new (placed (capacity w) x (chartOf w) (At j) .records)
+  Placed new = (wants pivots : List ℕ) → Indexed wants pivots ix (chartOf w .records) → Indexed wants pivots new (placed (capacity w) x (chartOf w) (At j) .records)
 
   here : recordIn (chartOf w .records) j ≡ recordAt w j
   unfolding chartOf
@@ -58,7 +60,7 @@ module _ (w ix : List ℕ) (j : ℕ) (x : Record) (l : j < itemCount w) (r : ℕ
   pub again-handled : (r ≡ 0 → ⊥) → (w ≡ improvedAt w j x) × Placed ix
   again-handled h =
       let t : isHandled (recordIn (chartOf w .records) j) ≡ true = ap isHandled here ∙ handled-yes w j r e h in
-      (improve-handled w j x r e h, λ g wants pivots I. rw (placed-stays (capacity w) x (chartOf w) j (rw t)) I)
+      (improve-handled w j x r e h, λ wants pivots I. rw (placed-stays (capacity w) x (chartOf w) j (rw t)) I)
 
   module _ (z : r ≡ 0) (n : ℕ) (p : n ≡ fieldAt w j 4) where
     pub waits : isHandled (recordIn (chartOf w .records) j) ≡ false
@@ -71,11 +73,11 @@ module _ (w ix : List ℕ) (j : ℕ) (x : Record) (l : j < itemCount w) (r : ℕ
     again-less h =
         let q : recordIn (chartOf w .records) j .count ≤ x .count = omega (arith, count-is) in
         let t : isHandled (recordIn (chartOf w .records) j) || leb (recordIn (chartOf w .records) j .count) (x .count) ≡ true = rw (waits, le-leb _ _ q) in
-        (improve-less w j x r e z n p h, λ g wants pivots I. rw (placed-stays (capacity w) x (chartOf w) j t) I)
+        (improve-less w j x r e z n p h, λ wants pivots I. rw (placed-stays (capacity w) x (chartOf w) j t) I)
 
-    pub again-more : (g wants pivots new : List ℕ) → x .count < n → Indexed g wants pivots new (set (chartOf w .records) j (improved (recordIn (chartOf w .records) j) x))
-        → Indexed g wants pivots new (placed (capacity w) x (chartOf w) (At j) .records)
-    again-more g wants pivots new h J =
+    pub again-more : (wants pivots new : List ℕ) → x .count < n → Indexed wants pivots new (set (chartOf w .records) j (improved (recordIn (chartOf w .records) j) x))
+        → Indexed wants pivots new (placed (capacity w) x (chartOf w) (At j) .records)
+    again-more wants pivots new h J =
         let q : x .count < recordIn (chartOf w .records) j .count = omega (arith, count-is) in
         let t : isHandled (recordIn (chartOf w .records) j) || leb (recordIn (chartOf w .records) j .count) (x .count) ≡ false = rw (waits, lt-leb _ _ q) in
         rw (placed-improved (capacity w) x (chartOf w) j t) J
@@ -84,12 +86,22 @@ module _ (w ix : List ℕ) (j : ℕ) (x : Record) (l : j < itemCount w) (r : ℕ
 pub number : (w : List ℕ) (n : ℕ) → n ≡ itemCount w → n ≡ length (chartOf w .records)
 number w n p = p ∙ sym (counted w)
 
-module _ (g wants pivots w ix : List ℕ) (x : Record) (n cap : ℕ) (p : n ≡ itemCount w) (q : cap ≡ capacity w) where
-  pub behind-room : n < cap → Indexed g wants pivots ix (chartOf w .records ++ (x ∷ [])) → Indexed g wants pivots ix (placed (capacity w) x (chartOf w) Nowhere .records)
+module _ (wants pivots w ix : List ℕ) (x : Record) (n cap : ℕ) (p : n ≡ itemCount w) (q : cap ≡ capacity w) where
+  pub behind-room : n < cap → Indexed wants pivots ix (chartOf w .records ++ (x ∷ [])) → Indexed wants pivots ix (placed (capacity w) x (chartOf w) Nowhere .records)
   behind-room h I = rw (placed-room (capacity w) x (chartOf w) (omega (arith, number w n p))) I
 
-  pub behind-full : cap ≤ n → Indexed g wants pivots ix (chartOf w .records) → Indexed g wants pivots ix (placed (capacity w) x (chartOf w) Nowhere .records)
+  pub behind-full : cap ≤ n → Indexed wants pivots ix (chartOf w .records) → Indexed wants pivots ix (placed (capacity w) x (chartOf w) Nowhere .records)
   behind-full h I = rw (placed-full (capacity w) x (chartOf w) (omega (arith, number w n p))) I
+
+  -- .. with a set beside it
+  pub room-spanned : (g h mid new : List ℕ) (o : ℕ) → length ix ≡ indexWords → n < 4096 → n < cap → mid ≡ nearPut ix n o → NearKept mid new → Spanned g h ix (chartOf w .records)
+      → Spans g h (x .edges) o → Spanned g h new (placed (capacity w) x (chartOf w) Nowhere .records)
+  room-spanned g h mid new o s few room e k S t =
+      rw (placed-room (capacity w) x (chartOf w) (omega (arith, number w n p)))
+      (spanned-kept g h mid new (chartOf w .records ++ (x ∷ [])) k (spanned-more g h ix mid n o x (chartOf w .records) s few (number w n p) e S t))
+
+  pub full-spanned : (g h : List ℕ) → cap ≤ n → Spanned g h ix (chartOf w .records) → Spanned g h ix (placed (capacity w) x (chartOf w) Nowhere .records)
+  full-spanned g h l S = rw (placed-full (capacity w) x (chartOf w) (omega (arith, number w n p))) S
 
 -- ---- either way
 at-below : (n j : ℕ) (g : Found) → g ≡ At j → Below n g → j < n
@@ -102,7 +114,7 @@ module _ (w : List ℕ) (x : Record) (o : Found) (p : o ≡ lastSame x (chartOf 
   pub found-inside : (j : ℕ) → o ≡ At j → j < itemCount w
   found-inside j e = let h = at-below (length (chartOf w .records)) j o e (rw p (last-below x (chartOf w .records) (length (chartOf w .records)))) in omega (arith, counted w)
 
-  module _ (g wants pivots : List ℕ) (f : Fits w) (e : length (x .nodes) ≡ 8) (m : ℕ) (is : m ≡ getD w 1 0) (z : m ≡ 0) where
+  module _ (wants pivots : List ℕ) (f : Fits w) (e : length (x .nodes) ≡ 8) (m : ℕ) (is : m ≡ getD w 1 0) (z : m ≡ 0) where
     mark-is : chartOf w .mark ≡ getD w 1 0
     unfolding chartOf
     mark-is = refl
@@ -113,20 +125,35 @@ module _ (w : List ℕ) (x : Record) (o : Found) (p : o ≡ lastSame x (chartOf 
         ap chartOf (add-written w x f e) ∙ chart-of-written w (added (capacity w) x (chartOf w)) (grown-added w (chartOf w) (holds-own w f) x e .holds)
         ∙ rw (eq-eqb (chartOf w .mark) 0 (mark-is ∙ sym is ∙ z), ← p)
 
-    by : (v ix : List ℕ) → v ≡ addedTo w x → Indexed g wants pivots ix (placed (capacity w) x (chartOf w) o .records) → (v ≡ addedTo w x) × Indexed g wants pivots ix (chartOf v .records)
-    by v ix q I = (q, subst (λ (d : Chart). Indexed g wants pivots ix (d .records)) (sym (ap chartOf q ∙ chart-added)) I)
+    by : (v ix : List ℕ) → v ≡ addedTo w x → Indexed wants pivots ix (placed (capacity w) x (chartOf w) o .records) → (v ≡ addedTo w x) × Indexed wants pivots ix (chartOf v .records)
+    by v ix q I = (q, subst (λ (d : Chart). Indexed wants pivots ix (d .records)) (sym (ap chartOf q ∙ chart-added)) I)
 
-    pub add-again : (v ix : List ℕ) (j : ℕ) → o ≡ At j → v ≡ improvedAt w j x → Indexed g wants pivots ix (placed (capacity w) x (chartOf w) (At j) .records)
-        → (v ≡ addedTo w x) × Indexed g wants pivots ix (chartOf v .records)
+    pub add-again : (v ix : List ℕ) (j : ℕ) → o ≡ At j → v ≡ improvedAt w j x → Indexed wants pivots ix (placed (capacity w) x (chartOf w) (At j) .records)
+        → (v ≡ addedTo w x) × Indexed wants pivots ix (chartOf v .records)
     add-again v ix j t q I = by v ix (add-found w x m (itemCount w) o is z refl (p ∙ same-found x w) v j t q) (rw t I)
 
-    pub add-behind : (v ix : List ℕ) → o ≡ Nowhere → v ≡ appendedTo w (itemCount w) x → Indexed g wants pivots ix (placed (capacity w) x (chartOf w) Nowhere .records)
-        → (v ≡ addedTo w x) × Indexed g wants pivots ix (chartOf v .records)
+    pub add-behind : (v ix : List ℕ) → o ≡ Nowhere → v ≡ appendedTo w (itemCount w) x → Indexed wants pivots ix (placed (capacity w) x (chartOf w) Nowhere .records)
+        → (v ≡ addedTo w x) × Indexed wants pivots ix (chartOf v .records)
     add-behind v ix t q I = by v ix (add-new w x m (itemCount w) o is z refl (p ∙ same-found x w) v t q) (rw t I)
+
+    spanned-by : (g h v ix : List ℕ) → v ≡ addedTo w x → Spanned g h ix (placed (capacity w) x (chartOf w) o .records) → Spanned g h ix (chartOf v .records)
+    spanned-by g h v ix q S = subst (λ (d : Chart). Spanned g h ix (d .records)) (sym (ap chartOf q ∙ chart-added)) S
+
+    -- the sets: those of a record found again stay
+    pub again-spanned : (v ix new : List ℕ) (j : ℕ) → o ≡ At j → v ≡ addedTo w x → NearKept ix new → (g h : List ℕ) → Spanned g h ix (chartOf w .records) → Spanned g h new (chartOf v .records)
+    again-spanned v ix new j t q k g h S = spanned-by g h v new q (rw t (spanned-again g h new (capacity w) x (chartOf w) j (spanned-kept g h ix new (chartOf w .records) k S)))
+
+    pub behind-spanned : (v ix : List ℕ) → o ≡ Nowhere → v ≡ addedTo w x → (g h : List ℕ) → Spanned g h ix (placed (capacity w) x (chartOf w) Nowhere .records) → Spanned g h ix (chartOf v .records)
+    behind-spanned v ix t q g h S = spanned-by g h v ix q (rw t S)
 
 -- ---- handled
 module _ (w v : List ℕ) (j : ℕ) (f : Fits w) (l : j < itemCount w) (q : v ≡ markedAt w j) where
-  pub handled-beside : (g wants pivots ix : List ℕ) → Indexed g wants pivots ix (set (chartOf w .records) j (handledNow (recordIn (chartOf w .records) j))) → Indexed g wants pivots ix (chartOf v .records)
-  handled-beside g wants pivots ix I =
-      subst (λ (d : Chart). Indexed g wants pivots ix (d .records))
-      (sym (ap chartOf (q ∙ handle-written w j f l) ∙ chart-of-written w (handledIn j (chartOf w)) (grown-handled w (chartOf w) (holds-own w f) j .holds))) I
+  beside : chartOf v ≡ handledIn j (chartOf w)
+  beside = ap chartOf (q ∙ handle-written w j f l) ∙ chart-of-written w (handledIn j (chartOf w)) (grown-handled w (chartOf w) (holds-own w f) j .holds)
+
+  pub handled-beside : (wants pivots ix : List ℕ) → Indexed wants pivots ix (set (chartOf w .records) j (handledNow (recordIn (chartOf w .records) j))) → Indexed wants pivots ix (chartOf v .records)
+  handled-beside wants pivots ix I = subst (λ (d : Chart). Indexed wants pivots ix (d .records)) (sym beside) I
+
+  pub handled-spanned : (g h ix new : List ℕ) → NearKept ix new → Spanned g h ix (chartOf w .records) → Spanned g h new (chartOf v .records)
+  handled-spanned g h ix new k S =
+      subst (λ (d : Chart). Spanned g h new (d .records)) (sym beside) (spanned-handled g h new (chartOf w .records) j (spanned-kept g h ix new (chartOf w .records) k S))

@@ -23,8 +23,9 @@ use Rattle.lists.specs.Lists.{Listed, Unlisted, Ready, Within, enteredAll}
 use Rattle.lists.proofs.ListLaws.{listed-none, listed-ready, listed-entered-all}
 use Rattle.pivots.specs.Keys.{keysOf, regularOf}
 use Rattle.pivots.proofs.KeyLaws.{keys-few, improved-keys, handled-keys, improved-regular, handled-regular}
-use Rattle.index.specs.Index.{indexWords, linksOf, ranksOf, listsOf, markOf, keysFor, Indexed, Empty, Keyed, Kept, withKeys, listedWith}
+use Rattle.index.specs.Index.{indexWords, linksOf, ranksOf, listsOf, markOf, keysFor, Indexed, Empty, Keyed, Kept, withKeys, listedWith, NearKept}
 use Rattle.index.proofs.Parts.{part-zeros, length-part, part-set, put, length-put, put-same, put-before, put-behind, word-behind}
+use Rattle.index.proofs.NearLaws.{near-on, near-put, near-marked}
 use Rattle.index.proofs.KeyLists.{keys-five, keys-length, keys-more, keys-set}
 
 -- ---- the words are 0
@@ -47,14 +48,14 @@ links-empty ix e = let l = e .size in record {
 
 pub ranks-empty : (ix : List ℕ) → Empty ix → Blank (ranksOf ix)
 ranks-empty ix e = let l = e .size in record {
-  size = length-part 8192 16384 ix (omega arith);
-  empty = part-zeros 8192 16384 ix (omega arith) (e .zeros);
+  size = length-part 8192 8192 ix (omega arith);
+  empty = part-zeros 8192 8192 ix (omega arith) (e .zeros);
 }
 
 lists-empty : (ix : List ℕ) → Empty ix → Unlisted (listsOf ix)
 lists-empty ix e = let l = e .size in record {
-  size = length-part 24576 24578 ix (omega arith);
-  empty = λ i h. part-zeros 24576 24578 ix (omega arith) (e .zeros) i;
+  size = length-part 16384 24578 ix (omega arith);
+  empty = λ i h. part-zeros 16384 24578 ix (omega arith) (e .zeros) i;
 }
 
 -- ---- a part is made anew
@@ -66,49 +67,49 @@ module _ (ix new : List ℕ) (s : length ix ≡ indexWords) (e : length new ≡ 
   links-new = put-same 0 8192 ix new (omega arith) e
 
   pub links-ranks : ranksOf (put 0 8192 ix new) ≡ ranksOf ix
-  links-ranks = put-behind 0 8192 ix new (omega arith) e 8192 16384 (omega arith)
+  links-ranks = put-behind 0 8192 ix new (omega arith) e 8192 8192 (omega arith)
 
   links-lists : listsOf (put 0 8192 ix new) ≡ listsOf ix
-  links-lists = put-behind 0 8192 ix new (omega arith) e 24576 24578 (omega arith)
+  links-lists = put-behind 0 8192 ix new (omega arith) e 16384 24578 (omega arith)
 
   links-mark : markOf (put 0 8192 ix new) ≡ markOf ix
-  links-mark = word-behind 0 8192 ix new (omega arith) e 49154 (omega arith)
+  links-mark = word-behind 0 8192 ix new (omega arith) e 40962 (omega arith)
 
-module _ (ix new : List ℕ) (s : length ix ≡ indexWords) (e : length new ≡ 16384) where
-  pub ranks-size : length (put 8192 16384 ix new) ≡ indexWords
-  ranks-size = length-put 8192 16384 ix new (omega arith) e ∙ s
+module _ (ix new : List ℕ) (s : length ix ≡ indexWords) (e : length new ≡ 8192) where
+  pub ranks-size : length (put 8192 8192 ix new) ≡ indexWords
+  ranks-size = length-put 8192 8192 ix new (omega arith) e ∙ s
 
-  pub ranks-new : ranksOf (put 8192 16384 ix new) ≡ new
-  ranks-new = put-same 8192 16384 ix new (omega arith) e
+  pub ranks-new : ranksOf (put 8192 8192 ix new) ≡ new
+  ranks-new = put-same 8192 8192 ix new (omega arith) e
 
-  pub ranks-links : linksOf (put 8192 16384 ix new) ≡ linksOf ix
-  ranks-links = put-before 8192 16384 ix new (omega arith) e 0 8192 (omega arith)
+  pub ranks-links : linksOf (put 8192 8192 ix new) ≡ linksOf ix
+  ranks-links = put-before 8192 8192 ix new (omega arith) e 0 8192 (omega arith)
 
-  ranks-lists : listsOf (put 8192 16384 ix new) ≡ listsOf ix
-  ranks-lists = put-behind 8192 16384 ix new (omega arith) e 24576 24578 (omega arith)
+  ranks-lists : listsOf (put 8192 8192 ix new) ≡ listsOf ix
+  ranks-lists = put-behind 8192 8192 ix new (omega arith) e 16384 24578 (omega arith)
 
-  ranks-mark : markOf (put 8192 16384 ix new) ≡ markOf ix
-  ranks-mark = word-behind 8192 16384 ix new (omega arith) e 49154 (omega arith)
+  ranks-mark : markOf (put 8192 8192 ix new) ≡ markOf ix
+  ranks-mark = word-behind 8192 8192 ix new (omega arith) e 40962 (omega arith)
 
 module _ (ix new : List ℕ) (s : length ix ≡ indexWords) (e : length new ≡ 24578) where
-  lists-size : length (put 24576 24578 ix new) ≡ indexWords
-  lists-size = length-put 24576 24578 ix new (omega arith) e ∙ s
+  lists-size : length (put 16384 24578 ix new) ≡ indexWords
+  lists-size = length-put 16384 24578 ix new (omega arith) e ∙ s
 
-  lists-new : listsOf (put 24576 24578 ix new) ≡ new
-  lists-new = put-same 24576 24578 ix new (omega arith) e
+  lists-new : listsOf (put 16384 24578 ix new) ≡ new
+  lists-new = put-same 16384 24578 ix new (omega arith) e
 
-  lists-links : linksOf (put 24576 24578 ix new) ≡ linksOf ix
-  lists-links = put-before 24576 24578 ix new (omega arith) e 0 8192 (omega arith)
+  lists-links : linksOf (put 16384 24578 ix new) ≡ linksOf ix
+  lists-links = put-before 16384 24578 ix new (omega arith) e 0 8192 (omega arith)
 
-  lists-ranks : ranksOf (put 24576 24578 ix new) ≡ ranksOf ix
-  lists-ranks = put-before 24576 24578 ix new (omega arith) e 8192 16384 (omega arith)
+  lists-ranks : ranksOf (put 16384 24578 ix new) ≡ ranksOf ix
+  lists-ranks = put-before 16384 24578 ix new (omega arith) e 8192 8192 (omega arith)
 
-  lists-mark : markOf (put 24576 24578 ix new) ≡ markOf ix
-  lists-mark = word-behind 24576 24578 ix new (omega arith) e 49154 (omega arith)
+  lists-mark : markOf (put 16384 24578 ix new) ≡ markOf ix
+  lists-mark = word-behind 16384 24578 ix new (omega arith) e 40962 (omega arith)
 
 -- the links and the tree one after the other
-pub length-both : (ix listed links ranks : List ℕ) → length ix ≡ indexWords → length listed ≡ length ix → length links ≡ 8192 → length ranks ≡ 16384
-    → length (put 8192 16384 (put 0 8192 listed links) ranks) ≡ length ix
+pub length-both : (ix listed links ranks : List ℕ) → length ix ≡ indexWords → length listed ≡ length ix → length links ≡ 8192 → length ranks ≡ 8192
+    → length (put 8192 8192 (put 0 8192 listed links) ranks) ≡ length ix
 length-both ix listed links ranks s e p q = ranks-size (put 0 8192 listed links) ranks (links-size listed links (e ∙ s) p) q ∙ sym s
 
 -- ---- the lists and the mark
@@ -118,83 +119,83 @@ kept-same ix = record { links = refl; ranks = refl }
 pub kept-on : (ix mid new : List ℕ) → Kept ix mid → Kept mid new → Kept ix new
 kept-on ix mid new p q = record { links = q .links ∙ p .links; ranks = q .ranks ∙ p .ranks }
 
-module _ (g wants pivots : List ℕ) where
+module _ (wants pivots : List ℕ) where
   abbrev Regular : List Record → Type 0
-  Regular rs = (j : ℕ) → j < length rs → regularOf g pivots (recordIn rs j) ≡ true
+  Regular rs = (j : ℕ) → j < length rs → regularOf pivots (recordIn rs j) ≡ true
 
   -- words with the same lists and mark
-  keyed-same : (ix new : List ℕ) (rs : List Record) → length new ≡ indexWords → listsOf new ≡ listsOf ix → markOf new ≡ markOf ix → Keyed g wants pivots ix rs → Keyed g wants pivots new rs
+  keyed-same : (ix new : List ℕ) (rs : List Record) → length new ≡ indexWords → listsOf new ≡ listsOf ix → markOf new ≡ markOf ix → Keyed wants pivots ix rs → Keyed wants pivots new rs
   keyed-same ix new rs s p q K = record { size = s; listed = rw p (K .listed); regular = λ z. K .regular (sym q ∙ z) }
 
-  keyed-links : (ix new : List ℕ) (rs : List Record) → length new ≡ 8192 → Keyed g wants pivots ix rs → Keyed g wants pivots (put 0 8192 ix new) rs
+  keyed-links : (ix new : List ℕ) (rs : List Record) → length new ≡ 8192 → Keyed wants pivots ix rs → Keyed wants pivots (put 0 8192 ix new) rs
   keyed-links ix new rs e K = let s = K .size in
       keyed-same ix (put 0 8192 ix new) rs (links-size ix new s e) (links-lists ix new s e) (links-mark ix new s e) K
 
-  keyed-ranks : (ix new : List ℕ) (rs : List Record) → length new ≡ 16384 → Keyed g wants pivots ix rs → Keyed g wants pivots (put 8192 16384 ix new) rs
+  keyed-ranks : (ix new : List ℕ) (rs : List Record) → length new ≡ 8192 → Keyed wants pivots ix rs → Keyed wants pivots (put 8192 8192 ix new) rs
   keyed-ranks ix new rs e K = let s = K .size in
-      keyed-same ix (put 8192 16384 ix new) rs (ranks-size ix new s e) (ranks-lists ix new s e) (ranks-mark ix new s e) K
+      keyed-same ix (put 8192 8192 ix new) rs (ranks-size ix new s e) (ranks-lists ix new s e) (ranks-mark ix new s e) K
 
-  keyed-of : (ix : List ℕ) (rs : List Record) → Indexed g wants pivots ix rs → Keyed g wants pivots ix rs
+  keyed-of : (ix : List ℕ) (rs : List Record) → Indexed wants pivots ix rs → Keyed wants pivots ix rs
   keyed-of ix rs I = record { size = I .size; listed = I .listed; regular = I .regular }
 
-  pub keyed-ready : (ix : List ℕ) (rs : List Record) → Keyed g wants pivots ix rs → Ready (listsOf ix)
-  keyed-ready ix rs K = listed-ready (listsOf ix) (keysFor g wants pivots rs) (K .listed)
+  pub keyed-ready : (ix : List ℕ) (rs : List Record) → Keyed wants pivots ix rs → Ready (listsOf ix)
+  keyed-ready ix rs K = listed-ready (listsOf ix) (keysFor wants pivots rs) (K .listed)
 
-  pub indexed-ready : (ix : List ℕ) (rs : List Record) → Indexed g wants pivots ix rs → Ready (listsOf ix)
+  pub indexed-ready : (ix : List ℕ) (rs : List Record) → Indexed wants pivots ix rs → Ready (listsOf ix)
   indexed-ready ix rs I = keyed-ready ix rs (keyed-of ix rs I)
 
-  pub keys-within : (x : Record) (ks : List ℕ) → ks ≡ keysOf g wants pivots x → Within 2048 ks
-  keys-within x ks e i h = rw e (keys-few g wants pivots x i)
+  pub keys-within : (x : Record) (ks : List ℕ) → ks ≡ keysOf wants pivots x → Within 2048 ks
+  keys-within x ks e i h = rw e (keys-few wants pivots x i)
 
-  module _ (ix new ks : List ℕ) (n : ℕ) (x : Record) (t : Bool) (e : ks ≡ keysOf g wants pivots x) (q : new ≡ enteredAll (listsOf ix) (5 * n) ks) (r : t ≡ regularOf g pivots x) where
-    new-is : put 24576 24578 ix new ≡ withKeys ix n (keysOf g wants pivots x)
-    new-is = ap (put 24576 24578 ix) (q ∙ ap (enteredAll (listsOf ix) (5 * n)) e)
+  module _ (ix new ks : List ℕ) (n : ℕ) (x : Record) (t : Bool) (e : ks ≡ keysOf wants pivots x) (q : new ≡ enteredAll (listsOf ix) (5 * n) ks) (r : t ≡ regularOf pivots x) where
+    new-is : put 16384 24578 ix new ≡ withKeys ix n (keysOf wants pivots x)
+    new-is = ap (put 16384 24578 ix) (q ∙ ap (enteredAll (listsOf ix) (5 * n)) e)
 
-    pub list-regular : t ≡ true → put 24576 24578 ix new ≡ listedWith g wants pivots ix n x
+    pub list-regular : t ≡ true → put 16384 24578 ix new ≡ listedWith wants pivots ix n x
     unfolding listedWith
-    list-regular p = new-is ∙ sym (ap (λ b. cond b (withKeys ix n (keysOf g wants pivots x)) (set (withKeys ix n (keysOf g wants pivots x)) 49154 1)) (sym r ∙ p))
+    list-regular p = new-is ∙ sym (ap (λ b. cond b (withKeys ix n (keysOf wants pivots x)) (set (withKeys ix n (keysOf wants pivots x)) 40962 1)) (sym r ∙ p))
 
-    pub list-irregular : t ≡ false → set (put 24576 24578 ix new) 49154 1 ≡ listedWith g wants pivots ix n x
+    pub list-irregular : t ≡ false → set (put 16384 24578 ix new) 40962 1 ≡ listedWith wants pivots ix n x
     unfolding listedWith
     list-irregular p =
-        ap (λ (v : List ℕ). set v 49154 1) new-is
-        ∙ sym (ap (λ b. cond b (withKeys ix n (keysOf g wants pivots x)) (set (withKeys ix n (keysOf g wants pivots x)) 49154 1)) (sym r ∙ p))
+        ap (λ (v : List ℕ). set v 40962 1) new-is
+        ∙ sym (ap (λ b. cond b (withKeys ix n (keysOf wants pivots x)) (set (withKeys ix n (keysOf wants pivots x)) 40962 1)) (sym r ∙ p))
 
   -- ---- one record more
-  regular-more : (rs : List Record) (x : Record) → regularOf g pivots x ≡ true → Regular rs → Regular (rs ++ (x ∷ []))
+  regular-more : (rs : List Record) (x : Record) → regularOf pivots x ≡ true → Regular rs → Regular (rs ++ (x ∷ []))
   regular-more rs x t R j l = go (decLt j (length rs))
     where
-      go : Dec (j < length rs) → regularOf g pivots (recordIn (rs ++ (x ∷ [])) j) ≡ true
-      go (yes h) = ap (regularOf g pivots) (List·getD-append rs (x ∷ []) noRecord j h) ∙ R j h
-      go (no h) = ap (regularOf g pivots) (getD-at rs x [] noRecord j (omega (arith, length-append rs (x ∷ [])))) ∙ t
+      go : Dec (j < length rs) → regularOf pivots (recordIn (rs ++ (x ∷ [])) j) ≡ true
+      go (yes h) = ap (regularOf pivots) (List·getD-append rs (x ∷ []) noRecord j h) ∙ R j h
+      go (no h) = ap (regularOf pivots) (getD-at rs x [] noRecord j (omega (arith, length-append rs (x ∷ [])))) ∙ t
 
-  module _ (ix : List ℕ) (n : ℕ) (x : Record) (rs : List Record) (K : Keyed g wants pivots ix rs) (e : n ≡ length rs) (h : n < 4096) where
+  module _ (ix : List ℕ) (n : ℕ) (x : Record) (rs : List Record) (K : Keyed wants pivots ix rs) (e : n ≡ length rs) (h : n < 4096) where
     abbrev new : List ℕ
-    new = enteredAll (listsOf ix) (5 * n) (keysOf g wants pivots x)
+    new = enteredAll (listsOf ix) (5 * n) (keysOf wants pivots x)
 
-    more-listed : Listed new (keysFor g wants pivots (rs ++ (x ∷ [])))
+    more-listed : Listed new (keysFor wants pivots (rs ++ (x ∷ [])))
     more-listed =
-        rw (keys-more g wants pivots rs x)
-        (listed-entered-all (listsOf ix) (keysFor g wants pivots rs) (5 * n) (keysOf g wants pivots x) (K .listed) (omega (arith, keys-length g wants pivots rs)) (omega arith) (keys-within x (keysOf g wants pivots x) refl)
-        (keys-five g wants pivots x))
+        rw (keys-more wants pivots rs x)
+        (listed-entered-all (listsOf ix) (keysFor wants pivots rs) (5 * n) (keysOf wants pivots x) (K .listed) (omega (arith, keys-length wants pivots rs)) (omega arith) (keys-within x (keysOf wants pivots x) refl)
+        (keys-five wants pivots x))
 
     abbrev lists : List ℕ
-    lists = put 24576 24578 ix new
+    lists = put 16384 24578 ix new
 
     -- the lists without the mark
     lists-kept : Kept ix lists
     lists-kept = record { links = lists-links ix new (K .size) (more-listed .size); ranks = lists-ranks ix new (K .size) (more-listed .size) }
 
-    set-kept : Kept lists (set lists 49154 1)
-    set-kept = record { links = part-set 0 8192 49154 1 lists (omega arith); ranks = part-set 8192 16384 49154 1 lists (omega arith) }
+    set-kept : Kept lists (set lists 40962 1)
+    set-kept = record { links = part-set 0 8192 40962 1 lists (omega arith); ranks = part-set 8192 8192 40962 1 lists (omega arith) }
 
-    marked : getD (set lists 49154 1) 49154 0 ≡ 1
-    marked = getD-set-same lists 49154 1 0 (omega (arith, lists-size ix new (K .size) (more-listed .size)))
+    marked : getD (set lists 40962 1) 40962 0 ≡ 1
+    marked = getD-set-same lists 40962 1 0 (omega (arith, lists-size ix new (K .size) (more-listed .size)))
 
     abbrev Both : List ℕ → Type 0
-    Both v = Keyed g wants pivots v (rs ++ (x ∷ [])) × Kept ix v
+    Both v = Keyed wants pivots v (rs ++ (x ∷ [])) × Kept ix v
 
-    regular-both : regularOf g pivots x ≡ true → Both lists
+    regular-both : regularOf pivots x ≡ true → Both lists
     regular-both t = (
       record {
         size = lists-size ix new (K .size) (more-listed .size);
@@ -204,52 +205,64 @@ module _ (g wants pivots : List ℕ) where
       lists-kept,
     )
 
-    irregular-both : Both (set lists 49154 1)
+    irregular-both : Both (set lists 40962 1)
     irregular-both = (
       record {
-        size = length-set lists 49154 1 ∙ lists-size ix new (K .size) (more-listed .size);
-        listed = rw (part-set 24576 24578 49154 1 lists (omega arith), lists-new ix new (K .size) (more-listed .size)) more-listed;
+        size = length-set lists 40962 1 ∙ lists-size ix new (K .size) (more-listed .size);
+        listed = rw (part-set 16384 24578 40962 1 lists (omega arith), lists-new ix new (K .size) (more-listed .size)) more-listed;
         regular = λ z. absurd (omega (arith, marked));
       },
-      kept-on ix lists (set lists 49154 1) lists-kept set-kept,
+      kept-on ix lists (set lists 40962 1) lists-kept set-kept,
     )
 
-    pub keyed-more : Both (listedWith g wants pivots ix n x)
+    pub keyed-more : Both (listedWith wants pivots ix n x)
     unfolding listedWith
-    keyed-more = go (regularOf g pivots x) refl
+    keyed-more = go (regularOf pivots x) refl
       where
-        go : (t : Bool) → regularOf g pivots x ≡ t → Both (cond t lists (set lists 49154 1))
+        go : (t : Bool) → regularOf pivots x ≡ t → Both (cond t lists (set lists 40962 1))
         go true p = regular-both p
         go false p = irregular-both
 
+    -- the sets beside the records stay
+    pub near-more : NearKept ix (listedWith wants pivots ix n x)
+    unfolding listedWith
+    near-more = go (regularOf pivots x)
+      where
+        kept : NearKept ix lists
+        kept = near-put 16384 24578 ix new (K .size) (more-listed .size) (omega arith)
+
+        go : (t : Bool) → NearKept ix (cond t lists (set lists 40962 1))
+        go true = kept
+        go false = near-on ix lists (set lists 40962 1) kept (near-marked lists 1)
+
   -- the first records of words, one more of them
-  pub keyed-next : (w ix next : List ℕ) (j : ℕ) (x : Record) → Keyed g wants pivots ix (recordsAt w j) → j < 4096 → x ≡ recordAt w j → next ≡ listedWith g wants pivots ix j x
-      → Keyed g wants pivots next (recordsAt w (j + 1)) × Kept ix next
+  pub keyed-next : (w ix next : List ℕ) (j : ℕ) (x : Record) → Keyed wants pivots ix (recordsAt w j) → j < 4096 → x ≡ recordAt w j → next ≡ listedWith wants pivots ix j x
+      → Keyed wants pivots next (recordsAt w (j + 1)) × Kept ix next
   unfolding recordsAt
   keyed-next w ix next j x K h e q =
       rw add-one
-      (subst (λ (v : List ℕ). Keyed g wants pivots v (recordsAt w j ++ (recordAt w j ∷ [])) × Kept ix v) (sym (q ∙ ap (listedWith g wants pivots ix j) e))
+      (subst (λ (v : List ℕ). Keyed wants pivots v (recordsAt w j ++ (recordAt w j ∷ [])) × Kept ix v) (sym (q ∙ ap (listedWith wants pivots ix j) e))
       (keyed-more ix j (recordAt w j) (recordsAt w j) K (sym (length-records w j)) h))
 
-  pub keyed-first : (w ix : List ℕ) → length ix ≡ indexWords → Unlisted (listsOf ix) → Keyed g wants pivots ix (recordsAt w 0)
+  pub keyed-first : (w ix : List ℕ) → length ix ≡ indexWords → Unlisted (listsOf ix) → Keyed wants pivots ix (recordsAt w 0)
   unfolding recordsAt keysFor
   keyed-first w ix s u = record { size = s; listed = listed-none (listsOf ix) u; regular = λ z j l. absurd (omega arith) }
 
-  pub keyed-all : (w ix : List ℕ) (n j : ℕ) → n ≡ itemCount w → j ≤ n → n ≤ j → Keyed g wants pivots ix (recordsAt w j) → Keyed g wants pivots ix (chartOf w .records)
+  pub keyed-all : (w ix : List ℕ) (n j : ℕ) → n ≡ itemCount w → j ≤ n → n ≤ j → Keyed wants pivots ix (recordsAt w j) → Keyed wants pivots ix (chartOf w .records)
   unfolding chartOf
-  keyed-all w ix n j e h l K = subst (λ k. Keyed g wants pivots ix (recordsAt w k)) (let q : j ≡ itemCount w = omega arith in q) K
+  keyed-all w ix n j e h l K = subst (λ k. Keyed wants pivots ix (recordsAt w k)) (let q : j ≡ itemCount w = omega arith in q) K
 
   -- ---- all parts
-  indexed-by : (ix : List ℕ) (rs : List Record) → Keyed g wants pivots ix rs → Chained (linksOf ix) rs → Ranked (ranksOf ix) rs → Indexed g wants pivots ix rs
+  indexed-by : (ix : List ℕ) (rs : List Record) → Keyed wants pivots ix rs → Chained (linksOf ix) rs → Ranked (ranksOf ix) rs → Indexed wants pivots ix rs
   indexed-by ix rs K c r = record { size = K .size; chained = c; ranked = r; listed = K .listed; regular = K .regular }
 
   -- the ranking, beside the other parts of the same records
-  indexed-ranks : (ix new : List ℕ) (rs : List Record) → Keyed g wants pivots ix rs → Chained (linksOf ix) rs → Ranked new rs → Indexed g wants pivots (put 8192 16384 ix new) rs
+  indexed-ranks : (ix new : List ℕ) (rs : List Record) → Keyed wants pivots ix rs → Chained (linksOf ix) rs → Ranked new rs → Indexed wants pivots (put 8192 8192 ix new) rs
   indexed-ranks ix new rs K c r =
-      indexed-by (put 8192 16384 ix new) rs (keyed-ranks ix new rs (r .size) K) (rw (ranks-links ix new (K .size) (r .size)) c) (rw (ranks-new ix new (K .size) (r .size)) r)
+      indexed-by (put 8192 8192 ix new) rs (keyed-ranks ix new rs (r .size) K) (rw (ranks-links ix new (K .size) (r .size)) c) (rw (ranks-new ix new (K .size) (r .size)) r)
 
   -- .. and the chains
-  indexed-both : (ix links ranks : List ℕ) (rs : List Record) → Keyed g wants pivots ix rs → Chained links rs → Ranked ranks rs → Indexed g wants pivots (put 8192 16384 (put 0 8192 ix links) ranks) rs
+  indexed-both : (ix links ranks : List ℕ) (rs : List Record) → Keyed wants pivots ix rs → Chained links rs → Ranked ranks rs → Indexed wants pivots (put 8192 8192 (put 0 8192 ix links) ranks) rs
   indexed-both ix links ranks rs K c r =
       indexed-ranks (put 0 8192 ix links) ranks rs (keyed-links ix links rs (c .words) K) (rw (links-new ix links (K .size) (c .words)) c) r
 
@@ -262,22 +275,22 @@ module _ (ix links : List ℕ) (rs : List Record) (e : Empty ix) (c : Chained li
     mid-size : length (put 0 8192 ix links) ≡ indexWords
     mid-size = links-size ix links (e .size) (c .words)
 
-    pub both-size : length (put 8192 16384 (put 0 8192 ix links) ranks) ≡ indexWords
+    pub both-size : length (put 8192 8192 (put 0 8192 ix links) ranks) ≡ indexWords
     both-size = ranks-size (put 0 8192 ix links) ranks mid-size (r .size)
 
-    pub unlisted-beside : Unlisted (listsOf (put 8192 16384 (put 0 8192 ix links) ranks))
+    pub unlisted-beside : Unlisted (listsOf (put 8192 8192 (put 0 8192 ix links) ranks))
     unlisted-beside = rw (ranks-lists (put 0 8192 ix links) ranks mid-size (r .size), links-lists ix links (e .size) (c .words)) (lists-empty ix e)
 
-    pub built : (g wants pivots new : List ℕ) → Keyed g wants pivots new rs → Kept (put 8192 16384 (put 0 8192 ix links) ranks) new → Indexed g wants pivots new rs
-    built g wants pivots new K k =
-        indexed-by g wants pivots new rs K
+    pub built : (wants pivots new : List ℕ) → Keyed wants pivots new rs → Kept (put 8192 8192 (put 0 8192 ix links) ranks) new → Indexed wants pivots new rs
+    built wants pivots new K k =
+        indexed-by wants pivots new rs K
         (rw (k .links, ranks-links (put 0 8192 ix links) ranks mid-size (r .size), links-new ix links (e .size) (c .words)) c)
         (rw (k .ranks, ranks-new (put 0 8192 ix links) ranks mid-size (r .size)) r)
 
 -- ---- one record more
-module _ (g wants pivots ix listed links ranks : List ℕ) (n b : ℕ) (x : Record) (rs : List Record) (I : Indexed g wants pivots ix rs) (e : n ≡ length rs) (h : n < 4096) where
-  keyed : listed ≡ listedWith g wants pivots ix n x → Keyed g wants pivots listed (rs ++ (x ∷ [])) × Kept ix listed
-  keyed o = rw o (keyed-more g wants pivots ix n x rs (keyed-of g wants pivots ix rs I) e h)
+module _ (wants pivots ix listed links ranks : List ℕ) (n b : ℕ) (x : Record) (rs : List Record) (I : Indexed wants pivots ix rs) (e : n ≡ length rs) (h : n < 4096) where
+  keyed : listed ≡ listedWith wants pivots ix n x → Keyed wants pivots listed (rs ++ (x ∷ [])) × Kept ix listed
+  keyed o = rw o (keyed-more wants pivots ix n x rs (keyed-of wants pivots ix rs I) e h)
 
   longer : Kept ix listed → b ≡ bucketOf x → links ≡ linked (linksOf listed) n b → Chained links (rs ++ (x ∷ []))
   longer k p q =
@@ -293,39 +306,47 @@ module _ (g wants pivots ix listed links ranks : List ℕ) (n b : ℕ) (x : Reco
       subst (λ k. Replaces k (playerOf (eqb (x .handled) 0) k (x .count)) rs (rs ++ (x ∷ []))) (sym e)
       (subst (λ (t : Bool). Replaces (length rs) (playerOf t (length rs) (x .count)) rs (rs ++ (x ∷ []))) (not-not (eqb (x .handled) 0)) (appended-leaf rs x))
 
-  pub entered : listed ≡ listedWith g wants pivots ix n x → b ≡ bucketOf x → links ≡ linked (linksOf listed) n b
+  pub entered : listed ≡ listedWith wants pivots ix n x → b ≡ bucketOf x → links ≡ linked (linksOf listed) n b
       → (Ranked (ranksOf (put 0 8192 listed links)) rs → Replaces n (playerOf (eqb (x .handled) 0) n (x .count)) rs (rs ++ (x ∷ [])) → Ranked ranks (rs ++ (x ∷ [])))
-      → Indexed g wants pivots (put 8192 16384 (put 0 8192 listed links) ranks) (rs ++ (x ∷ []))
+      → Indexed wants pivots (put 8192 8192 (put 0 8192 listed links) ranks) (rs ++ (x ∷ []))
   entered o p q f =
       let K = keyed o in
       let c = longer (K .1) p q in
-      indexed-both g wants pivots listed links ranks (rs ++ (x ∷ [])) (K .0) c (f (rw (links-ranks listed links (K .0 .size) (c .words), K .1 .ranks) (I .ranked)) leaf)
+      indexed-both wants pivots listed links ranks (rs ++ (x ∷ [])) (K .0) c (f (rw (links-ranks listed links (K .0 .size) (c .words), K .1 .ranks) (I .ranked)) leaf)
+
+  pub entered-near : listed ≡ listedWith wants pivots ix n x → length links ≡ 8192 → length ranks ≡ 8192 → NearKept ix (put 8192 8192 (put 0 8192 listed links) ranks)
+  entered-near o p q =
+      let s = keyed o .0 .size in
+      near-on ix listed (put 8192 8192 (put 0 8192 listed links) ranks)
+      (rw o (near-more wants pivots ix n x rs (keyed-of wants pivots ix rs I) e h))
+      (near-on listed (put 0 8192 listed links) (put 8192 8192 (put 0 8192 listed links) ranks) (near-put 0 8192 listed links s p (omega arith))
+      (near-put 8192 8192 (put 0 8192 listed links) ranks (links-size listed links s p) q (omega arith)))
 
 -- ---- a record that is improved or handled
-module _ (ix ranks : List ℕ) (j : ℕ) (g wants pivots : List ℕ) (rs : List Record) (I : Indexed g wants pivots ix rs) (l : j < length rs) where
+module _ (ix ranks : List ℕ) (j : ℕ) (wants pivots : List ℕ) (rs : List Record) (I : Indexed wants pivots ix rs) (l : j < length rs) where
   -- a record with the same keys, as regular as the one in whose place it comes
-  keyed-set : (y : Record) → keysOf g wants pivots y ≡ keysOf g wants pivots (recordIn rs j) → regularOf g pivots y ≡ regularOf g pivots (recordIn rs j) → Keyed g wants pivots ix (set rs j y)
+  keyed-set : (y : Record) → keysOf wants pivots y ≡ keysOf wants pivots (recordIn rs j) → regularOf pivots y ≡ regularOf pivots (recordIn rs j) → Keyed wants pivots ix (set rs j y)
   keyed-set y p q = record {
     size = I .size;
-    listed = rw (keys-set g wants pivots rs j y p) (I .listed);
+    listed = rw (keys-set wants pivots rs j y p) (I .listed);
     regular = λ z k h. at z k (omega (arith, length-set rs j y)) (ℕ-discrete k j);
   }
     where
-      at : markOf ix ≡ 0 → (k : ℕ) → k < length rs → Dec (k ≡ j) → regularOf g pivots (recordIn (set rs j y) k) ≡ true
-      at z k h (yes e) = rw e (ap (regularOf g pivots) (getD-set-same rs j y noRecord l) ∙ q ∙ I .regular z j l)
-      at z k h (no e) = ap (regularOf g pivots) (getD-set-other rs j k y noRecord e) ∙ I .regular z k h
+      at : markOf ix ≡ 0 → (k : ℕ) → k < length rs → Dec (k ≡ j) → regularOf pivots (recordIn (set rs j y) k) ≡ true
+      at z k h (yes e) = rw e (ap (regularOf pivots) (getD-set-same rs j y noRecord l) ∙ q ∙ I .regular z j l)
+      at z k h (no e) = ap (regularOf pivots) (getD-set-other rs j k y noRecord e) ∙ I .regular z k h
 
   pub recounted : (x : Record) (n : ℕ) → isHandled (recordIn rs j) ≡ false → n ≡ x .count
       → (Ranked (ranksOf ix) rs → Replaces j (playerOf true j n) rs (set rs j (improved (recordIn rs j) x)) → Ranked ranks (set rs j (improved (recordIn rs j) x)))
-      → Indexed g wants pivots (put 8192 16384 ix ranks) (set rs j (improved (recordIn rs j) x))
+      → Indexed wants pivots (put 8192 8192 ix ranks) (set rs j (improved (recordIn rs j) x))
   recounted x n h e f =
       let y = recordIn rs j in
-      indexed-ranks g wants pivots ix ranks (set rs j (improved y x)) (keyed-set (improved y x) (improved-keys g wants pivots y x) (improved-regular g pivots y x))
+      indexed-ranks wants pivots ix ranks (set rs j (improved y x)) (keyed-set (improved y x) (improved-keys wants pivots y x) (improved-regular pivots y x))
       (chained-improved (linksOf ix) rs j x (I .chained)) (f (I .ranked) (rw e (improved-leaf rs j x l h)))
 
   pub settled : (Ranked (ranksOf ix) rs → Replaces j (playerOf false j 0) rs (set rs j (handledNow (recordIn rs j))) → Ranked ranks (set rs j (handledNow (recordIn rs j))))
-      → Indexed g wants pivots (put 8192 16384 ix ranks) (set rs j (handledNow (recordIn rs j)))
+      → Indexed wants pivots (put 8192 8192 ix ranks) (set rs j (handledNow (recordIn rs j)))
   settled f =
       let y = recordIn rs j in
-      indexed-ranks g wants pivots ix ranks (set rs j (handledNow y)) (keyed-set (handledNow y) (handled-keys g wants pivots y) (handled-regular g pivots y))
+      indexed-ranks wants pivots ix ranks (set rs j (handledNow y)) (keyed-set (handledNow y) (handled-keys wants pivots y) (handled-regular pivots y))
       (chained-handled (linksOf ix) rs j (I .chained)) (f (I .ranked) (handled-leaf rs j 0 l))

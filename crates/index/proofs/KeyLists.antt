@@ -4,7 +4,7 @@ use mathlib.Core.Path.{_≡_, refl, sym, ap, ap₂, _∙_, subst}
 use mathlib.Core.List.{List, [], _∷_, _++_, append-assoc}
 use mathlib.Core.Bool.{Bool, true, false, cond}
 use native.Mathlib.Omega.{arith}
-use lib.Dec.{eqb, ltb}
+use lib.Dec.{eqb}
 use lib.ListN.{length, length-append, getD, set, List·getD-append}
 use lib.Seq.{getD-append-add}
 use Rattle.agenda.specs.declared.Record.{Record}
@@ -14,77 +14,78 @@ use Rattle.agenda.proofs.Records.{bare}
 use Rattle.agenda.proofs.Growth.{Grew, all-grown}
 use Rattle.records.specs.Words.{Fits, capacity, chartOf, grownBy}
 use Rattle.records.proofs.Grown.{Whole, grown-chart}
-use Rattle.pivots.specs.Keys.{listedKeys, keysOf}
+use Rattle.pivots.specs.Keys.{passiveTag, listedKeys, keysOf}
+use Rattle.pivots.specs.Pivots.{usesIn}
 use Rattle.index.specs.Index.{keysFor}
 
 five-of : (b : Bool) (xs ys : List ℕ) → length xs ≡ 5 → length ys ≡ 5 → length (cond b xs ys) ≡ 5
 five-of true xs ys p q = p
 five-of false xs ys p q = q
 
-listed-five : (g : List ℕ) (tag s : ℕ) (L : List ℕ) → length (listedKeys g tag s L) ≡ 5
+listed-five : (u tag s : ℕ) (L : List ℕ) → length (listedKeys u tag s L) ≡ 5
 unfolding listedKeys
-listed-five g tag s L = five-of (ltb s 64) _ _ refl refl
+listed-five u tag s L = refl
 
-module _ (g wants pivots : List ℕ) where
+module _ (wants pivots : List ℕ) where
   -- ---- of one record
-  pub keys-five : (x : Record) → length (keysOf g wants pivots x) ≡ 5
+  pub keys-five : (x : Record) → length (keysOf wants pivots x) ≡ 5
   unfolding keysOf
-  keys-five x = five-of (eqb (x .kind) 0) _ (listedKeys g 1 (x .of) (x .nodes)) refl (listed-five g 1 (x .of) (x .nodes))
+  keys-five x = five-of (eqb (x .kind) 0) _ (listedKeys (usesIn pivots (x .of)) passiveTag (x .of) (x .nodes)) refl (listed-five (usesIn pivots (x .of)) passiveTag (x .of) (x .nodes))
 
   -- only what makes two records the same item tells
-  pub keys-bare : (x y : Record) → bare x ≡ bare y → keysOf g wants pivots x ≡ keysOf g wants pivots y
+  pub keys-bare : (x y : Record) → bare x ≡ bare y → keysOf wants pivots x ≡ keysOf wants pivots y
   unfolding keysOf
-  keys-bare x y e = ap (keysOf g wants pivots) e
+  keys-bare x y e = ap (keysOf wants pivots) e
 
   -- ---- of several
-  pub keys-length : (rs : List Record) → length (keysFor g wants pivots rs) ≡ 5 * length rs
+  pub keys-length : (rs : List Record) → length (keysFor wants pivots rs) ≡ 5 * length rs
   unfolding keysFor
   keys-length [] = refl
-  keys-length (x ∷ rs) = omega (arith, length-append (keysOf g wants pivots x) (keysFor g wants pivots rs), keys-five x, keys-length rs)
+  keys-length (x ∷ rs) = omega (arith, length-append (keysOf wants pivots x) (keysFor wants pivots rs), keys-five x, keys-length rs)
 
-  pub keys-at : (rs : List Record) (j i : ℕ) → j < length rs → i < 5 → getD (keysFor g wants pivots rs) (5 * j + i) 0 ≡ getD (keysOf g wants pivots (recordIn rs j)) i 0
+  pub keys-at : (rs : List Record) (j i : ℕ) → j < length rs → i < 5 → getD (keysFor wants pivots rs) (5 * j + i) 0 ≡ getD (keysOf wants pivots (recordIn rs j)) i 0
   unfolding keysFor
   keys-at [] j i h l = absurd (omega arith)
   keys-at (x ∷ rs) zero i h l =
-      ap (λ n. getD (keysOf g wants pivots x ++ keysFor g wants pivots rs) n 0) (let q : 5 * 0 + i ≡ i = omega arith in q)
-      ∙ List·getD-append (keysOf g wants pivots x) (keysFor g wants pivots rs) 0 i (omega (arith, keys-five x))
+      ap (λ n. getD (keysOf wants pivots x ++ keysFor wants pivots rs) n 0) (let q : 5 * 0 + i ≡ i = omega arith in q)
+      ∙ List·getD-append (keysOf wants pivots x) (keysFor wants pivots rs) 0 i (omega (arith, keys-five x))
   keys-at (x ∷ rs) (suc j) i h l =
-      ap (λ n. getD (keysOf g wants pivots x ++ keysFor g wants pivots rs) n 0)
-      (let q : 5 * suc j + i ≡ length (keysOf g wants pivots x) + (5 * j + i) = omega (arith, keys-five x) in q)
-      ∙ getD-append-add (keysOf g wants pivots x) (keysFor g wants pivots rs) (5 * j + i) 0
+      ap (λ n. getD (keysOf wants pivots x ++ keysFor wants pivots rs) n 0)
+      (let q : 5 * suc j + i ≡ length (keysOf wants pivots x) + (5 * j + i) = omega (arith, keys-five x) in q)
+      ∙ getD-append-add (keysOf wants pivots x) (keysFor wants pivots rs) (5 * j + i) 0
       ∙ keys-at rs j i (omega arith) l
 
   -- one record more
-  pub keys-more : (rs : List Record) (x : Record) → keysFor g wants pivots (rs ++ (x ∷ [])) ≡ keysFor g wants pivots rs ++ keysOf g wants pivots x
+  pub keys-more : (rs : List Record) (x : Record) → keysFor wants pivots (rs ++ (x ∷ [])) ≡ keysFor wants pivots rs ++ keysOf wants pivots x
   unfolding keysFor
-  keys-more [] x = end (keysOf g wants pivots x)
+  keys-more [] x = end (keysOf wants pivots x)
     where
       end : (ks : List ℕ) → ks ++ [] ≡ ks
       end [] = refl
       end (k ∷ ks) = ap (λ (l : List ℕ). k ∷ l) (end ks)
-  keys-more (y ∷ rs) x = ap (λ (ks : List ℕ). keysOf g wants pivots y ++ ks) (keys-more rs x) ∙ sym (append-assoc (keysOf g wants pivots y) (keysFor g wants pivots rs) (keysOf g wants pivots x))
+  keys-more (y ∷ rs) x = ap (λ (ks : List ℕ). keysOf wants pivots y ++ ks) (keys-more rs x) ∙ sym (append-assoc (keysOf wants pivots y) (keysFor wants pivots rs) (keysOf wants pivots x))
 
   -- a record with the keys of the one in whose place it comes
-  pub keys-set : (rs : List Record) (j : ℕ) (y : Record) → keysOf g wants pivots y ≡ keysOf g wants pivots (recordIn rs j) → keysFor g wants pivots (set rs j y) ≡ keysFor g wants pivots rs
+  pub keys-set : (rs : List Record) (j : ℕ) (y : Record) → keysOf wants pivots y ≡ keysOf wants pivots (recordIn rs j) → keysFor wants pivots (set rs j y) ≡ keysFor wants pivots rs
   unfolding keysFor
   keys-set [] j y e = refl
-  keys-set (x ∷ rs) zero y e = ap (λ (ks : List ℕ). ks ++ keysFor g wants pivots rs) e
-  keys-set (x ∷ rs) (suc j) y e = ap (λ (ks : List ℕ). keysOf g wants pivots x ++ ks) (keys-set rs j y e)
+  keys-set (x ∷ rs) zero y e = ap (λ (ks : List ℕ). ks ++ keysFor wants pivots rs) e
+  keys-set (x ∷ rs) (suc j) y e = ap (λ (ks : List ℕ). keysOf wants pivots x ++ ks) (keys-set rs j y e)
 
   -- ---- keys that stay, with more behind them
   pub record KeysMore (rs ts : List Record) : Type 0 where
     pub more : List ℕ
-    pub is : keysFor g wants pivots ts ≡ keysFor g wants pivots rs ++ more
+    pub is : keysFor wants pivots ts ≡ keysFor wants pivots rs ++ more
 
   keys-same : (rs ts : List Record) → length rs ≤ length ts → ((k : ℕ) → k < length rs → bare (recordIn ts k) ≡ bare (recordIn rs k)) → KeysMore rs ts
   unfolding keysFor
-  keys-same [] ts l e = record { more = keysFor g wants pivots ts; is = refl }
+  keys-same [] ts l e = record { more = keysFor wants pivots ts; is = refl }
   keys-same (x ∷ rs) [] l e = absurd (omega arith)
   keys-same (x ∷ rs) (y ∷ ts) l e =
       let r = keys-same rs ts (omega arith) (λ k h. e (suc k) (omega arith)) in
       record {
         more = r .more;
-        is = ap₂ (λ (a b : List ℕ). a ++ b) (keys-bare y x (e 0 (omega arith))) (r .is) ∙ sym (append-assoc (keysOf g wants pivots x) (keysFor g wants pivots rs) (r .more));
+        is = ap₂ (λ (a b : List ℕ). a ++ b) (keys-bare y x (e 0 (omega arith))) (r .is) ∙ sym (append-assoc (keysOf wants pivots x) (keysFor wants pivots rs) (r .more));
       }
 
   pub keys-grew : (rs ts : List Record) → Grew rs ts → KeysMore rs ts

@@ -7,15 +7,10 @@ use native.Mathlib.Omega.{arith}
 use lib.ListN.{length, getD}
 use Rattle.masks.specs.Masks.{disjoint}
 use Rattle.records.specs.Words.{itemCount, fieldAt, recordAt}
-use Rattle.records.proofs.WordLaws.{edges-of, handled-yes, handled-no, place-fits}
+use Rattle.records.proofs.WordLaws.{edges-of, handled-yes, handled-no}
 use Rattle.lists.specs.Cursors.{Skims, goes, SkimsAll}
 use Rattle.lists.proofs.ListLaws.{five}
 use Rattle.index.specs.Quiet.{quietIn}
-
--- the words of a record that there is
-pub item-fits : (w : List ℕ) (k : ℕ) → k < itemCount w → 2 + 16 * k + 16 ≤ length w
-unfolding itemCount
-item-fits w k l = place-fits w k (omega arith)
 
 word-at : (w : List ℕ) (k i : ℕ) → getD w (2 + 16 * k + i) 0 ≡ fieldAt w k i
 unfolding fieldAt

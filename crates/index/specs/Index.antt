@@ -2,13 +2,14 @@
 use mathlib.Core.Bool.{true, cond}
 use mathlib.Core.List.{List, [], _∷_, _++_}
 use mathlib.Core.Path.{_≡_}
-use Prim.Native.Nat.{ℕ, _*_, _<_}
+use Prim.Native.Nat.{ℕ, _+_, _*_, _/_, _%_, _≤_, _<_}
 use lib.ListN.{length, getD, take, drop, set}
 use Rattle.agenda.specs.declared.Record.{Record}
 use Rattle.agenda.specs.Consequences.{recordIn}
 use Rattle.chains.specs.Chains.{Chained}
 use Rattle.ranking.specs.Ranking.{Ranked}
 use Rattle.lists.specs.Lists.{Listed, enteredAll}
+use Rattle.joins.specs.Joins.{Spans}
 use Rattle.pivots.specs.Keys.{keysOf, regularOf}
 
 -- how many words there are
@@ -20,28 +21,32 @@ abbrev pub linksOf : List ℕ → List ℕ
 linksOf ix = take 8192 (drop 0 ix)
 
 abbrev pub ranksOf : List ℕ → List ℕ
-ranksOf ix = take 16384 (drop 8192 ix)
+ranksOf ix = take 8192 (drop 8192 ix)
 
 abbrev pub listsOf : List ℕ → List ℕ
-listsOf ix = take 24578 (drop 24576 ix)
+listsOf ix = take 24578 (drop 16384 ix)
 
--- the last word, 0 where no record is irregular
+-- the word behind the lists, 0 where no record is irregular
 abbrev pub markOf : List ℕ → ℕ
-markOf ix = getD ix 49154 0
+markOf ix = getD ix 40962 0
+
+-- the set of graph nodes that stands beside record j, in two words behind the mark
+abbrev pub nearOf : List ℕ → ℕ → ℕ
+nearOf ix j = getD ix (40963 + 2 * j) 0 + 4294967296 * getD ix (40964 + 2 * j) 0
 
 -- the keys of records, five of each: entry 5 * j + i is key i of record j
-unfoldable pub keysFor : List ℕ → List ℕ → List ℕ → List Record → List ℕ
+unfoldable pub keysFor : List ℕ → List ℕ → List Record → List ℕ
 unfolding keysOf
-keysFor g wants pivots [] = []
-keysFor g wants pivots (x ∷ rs) = keysOf g wants pivots x ++ keysFor g wants pivots rs
+keysFor wants pivots [] = []
+keysFor wants pivots (x ∷ rs) = keysOf wants pivots x ++ keysFor wants pivots rs
 
 -- each part is the index of the records that it is named for
-pub record Indexed (g wants pivots ix : List ℕ) (rs : List Record) : Type 0 where
+pub record Indexed (wants pivots ix : List ℕ) (rs : List Record) : Type 0 where
   pub size : length ix ≡ indexWords
   pub chained : Chained (linksOf ix) rs
   pub ranked : Ranked (ranksOf ix) rs
-  pub listed : Listed (listsOf ix) (keysFor g wants pivots rs)
-  pub regular : markOf ix ≡ 0 → (j : ℕ) → j < length rs → regularOf g pivots (recordIn rs j) ≡ true
+  pub listed : Listed (listsOf ix) (keysFor wants pivots rs)
+  pub regular : markOf ix ≡ 0 → (j : ℕ) → j < length rs → regularOf pivots (recordIn rs j) ≡ true
 
 -- words that are all 0: the indexes of no records
 pub record Empty (ix : List ℕ) : Type 0 where
@@ -49,10 +54,10 @@ pub record Empty (ix : List ℕ) : Type 0 where
   pub zeros : (k : ℕ) → getD ix k 0 ≡ 0
 
 -- ---- the lists and the mark on their own
-pub record Keyed (g wants pivots ix : List ℕ) (rs : List Record) : Type 0 where
+pub record Keyed (wants pivots ix : List ℕ) (rs : List Record) : Type 0 where
   pub size : length ix ≡ indexWords
-  pub listed : Listed (listsOf ix) (keysFor g wants pivots rs)
-  pub regular : markOf ix ≡ 0 → (j : ℕ) → j < length rs → regularOf g pivots (recordIn rs j) ≡ true
+  pub listed : Listed (listsOf ix) (keysFor wants pivots rs)
+  pub regular : markOf ix ≡ 0 → (j : ℕ) → j < length rs → regularOf pivots (recordIn rs j) ≡ true
 
 -- the links and the tree are as they were
 pub record Kept (ix new : List ℕ) : Type 0 where
@@ -61,10 +66,23 @@ pub record Kept (ix new : List ℕ) : Type 0 where
 
 -- record n, which is x, on the lists of its keys
 abbrev pub withKeys : List ℕ → ℕ → List ℕ → List ℕ
-withKeys ix n keys = take 24576 ix ++ (enteredAll (listsOf ix) (5 * n) keys ++ drop 24578 (drop 24576 ix))
+withKeys ix n keys = take 16384 ix ++ (enteredAll (listsOf ix) (5 * n) keys ++ drop 24578 (drop 16384 ix))
 
 -- .. and marked where it is irregular
-unfoldable pub listedWith : List ℕ → List ℕ → List ℕ → List ℕ → ℕ → Record → List ℕ
+unfoldable pub listedWith : List ℕ → List ℕ → List ℕ → ℕ → Record → List ℕ
 unfolding enteredAll keysOf regularOf
-listedWith g wants pivots ix n x =
-    cond (regularOf g pivots x) (withKeys ix n (keysOf g wants pivots x)) (set (withKeys ix n (keysOf g wants pivots x)) 49154 1)
+listedWith wants pivots ix n x =
+    cond (regularOf pivots x) (withKeys ix n (keysOf wants pivots x)) (set (withKeys ix n (keysOf wants pivots x)) 40962 1)
+
+-- ---- the sets beside the records
+-- each holds the open graph nodes of its record's edges
+pub record Spanned (g h ix : List ℕ) (rs : List Record) : Type 0 where
+  pub each : (j : ℕ) → j < length rs → Spans g h (recordIn rs j .edges) (nearOf ix j)
+
+-- the set o beside record j
+unfoldable pub nearPut : List ℕ → ℕ → ℕ → List ℕ
+nearPut ix j o = set (set ix (40963 + 2 * j) (o % 4294967296)) (40964 + 2 * j) (o / 4294967296)
+
+-- the sets are as they were
+pub record NearKept (ix new : List ℕ) : Type 0 where
+  pub words : (i : ℕ) → 40963 ≤ i → getD new i 0 ≡ getD ix i 0

@@ -1,10 +1,11 @@
 // The indexes of a chart's records, which live for one run, in the parts of one lent slice:
 // the links of crate `chains`, the tree of crate `ranking`, the lists of crate `lists` by which records that can be
-// joined find each other, and a word that tells whether some record is irregular.
+// joined find each other, a word that tells whether some record is irregular, and beside each record a set that holds
+// the open graph nodes of its edges, so that whoever joins it need not look for them.
 ghost use mathlib.Core.Path.{_≡_};
 ghost use mathlib.Core.Bool.{false};
 ghost use mathlib.Core.List.{List, [], _∷_, _++_};
-ghost use Prim.Native.Nat.{ℕ, _≤_, _<_};
+ghost use Prim.Native.Nat.{ℕ, _+_, _≤_, _<_};
 ghost use lib.Dec.{eqb};
 ghost use lib.ListN.{length, getD, set};
 ghost use Rattle.agenda.specs.declared.Record.{Record};
@@ -12,69 +13,124 @@ ghost use Rattle.agenda.specs.declared.Found.the-variants.{At, Nowhere};
 ghost use Rattle.agenda.specs.Records.{isHandled};
 ghost use Rattle.agenda.specs.Consequences.{recordIn};
 ghost use Rattle.agenda.specs.Steps.{leastWaiting, improved, handledNow, placed};
-ghost use Rattle.records.specs.Words.{Fits, capacity, itemCount, chartOf, improvedAt, appendedTo, addedTo, markedAt};
+ghost use Rattle.records.specs.Words.{Fits, ofWords, capacity, itemCount, chartOf, improvedAt, appendedTo, addedTo, markedAt};
+ghost use Rattle.chains.specs.Chains.{bucketOf};
 ghost use Rattle.ranking.specs.Ranking.{Ranked};
+ghost use Rattle.joins.specs.Joins.{Accepted, Spans};
+ghost use Rattle.joins.specs.Graphs.{GraphTable};
 ghost use Rattle.lists.specs.Lists.{Within, Ready, Unlisted};
-ghost use Rattle.lists.specs.Cursors.{startsOf, passedOf, Skims, SkimsAll};
+ghost use Rattle.lists.specs.Cursors.{alone, startsOf, passedOf, Skims, SkimsAll};
 ghost use Rattle.index.specs.Quiet.{quietIn};
-ghost use Rattle.index.specs.Index.{indexWords, ranksOf, listsOf, Indexed, Empty, Keyed, Kept, listedWith};
+ghost use Rattle.index.specs.Index.{indexWords, ranksOf, listsOf, nearOf, Indexed, Empty, Keyed, Kept, listedWith, Spanned, nearPut, NearKept};
 use agenda::Found;
-use agenda::Record;
 
 // where the links end and the tree starts
 const TREE: usize = 8192;
 // where the tree ends and the lists start
-const LISTS: usize = 24576;
-// where the lists end: the word that is not 0 once a record was irregular
-const MARK: usize = 49154;
+const LISTS: usize = 16384;
+// where the lists end: the word that is not 0 once a record was irregular, and behind it the sets, two words each
+const MARK: usize = 40962;
 
-// Record n, one more than there are, is x: it comes on the lists of its keys.
-fn list(g: &[u64], wants: &[u64; 1024], pivots: &[u64; 1024], index: &mut [u64], n: u64, x: Record)
-    requires { ⌜ (length (now index) ≡ indexWords) × Ready (listsOf (now index)) × (n < 4096) ⌝ }
-    ensures { λ r. ⌜ now (index .exit) ≡ listedWith (now (g .entry)) (now (wants .entry)) (now (pivots .entry)) (now (index .entry)) n x ⌝ }
+// Record n, one more than there are, is that of the words x: it comes on the lists of its keys.
+fn list(wants: &[u64; 1024], pivots: &[u64; 1088], index: &mut [u32], n: u64, x: &[u64])
+    requires { ⌜ (length (now index) ≡ indexWords) × Ready (listsOf (now index)) × (n < 4096) × (length (now x) ≡ 16) ⌝ }
+    ensures { λ r. ⌜ now (index .exit) ≡ listedWith (now (wants .entry)) (now (pivots .entry)) (now (index .entry)) n (ofWords (now (x .entry))) ⌝ }
 {
-    let keys = pivots::keys(g, wants, pivots, x);
+    let keys = pivots::keys(wants, pivots, x);
     lists::enter_all(&mut index[LISTS..MARK], 5 * n, keys);
-    if pivots::regular(g, pivots, x) {
+    if pivots::regular(pivots, x) {
         return;
     }
     index[MARK] = 1;
 }
 
 // The lists of a chart's records, which come one after another: there is none before.
-fn list_all(g: &[u64], wants: &[u64; 1024], pivots: &[u64; 1024], chart: &[u64], index: &mut [u64])
+fn list_all(wants: &[u64; 1024], pivots: &[u64; 1088], chart: &[u64], index: &mut [u32])
     requires { ⌜ (length (now index) ≡ indexWords) × Unlisted (listsOf (now index)) × (itemCount (now chart) ≤ 4096) ⌝ }
-    ensures { λ r. ⌜ Keyed (now (g .entry)) (now (wants .entry)) (now (pivots .entry)) (now (index .exit)) (chartOf (now (chart .entry)) .records) × Kept (now (index .entry)) (now (index .exit)) ⌝ }
+    ensures { λ r. ⌜ Keyed (now (wants .entry)) (now (pivots .entry)) (now (index .exit)) (chartOf (now (chart .entry)) .records) × Kept (now (index .entry)) (now (index .exit)) ⌝ }
 {
     let n = records::item_count(chart);
     let mut j = 0;
     while j < n {
-        let x = records::load(chart, j);
-        list(g, wants, pivots, index, j, x);
+        let x = records::words_at(chart, j);
+        list(wants, pivots, index, j, &x);
+        j += 1;
+    }
+}
+
+// The set that stands beside record j.
+pub fn near(index: &[u32], j: u64) -> u64
+    requires { ⌜ (length (now index) ≡ indexWords) × (j < 4096) ⌝ }
+    ensures { λ r. ⌜ r ≡ nearOf (now (index .entry)) j ⌝ }
+{
+    let low = index[(40963 + 2 * j) as usize] as u64;
+    let high = index[(40964 + 2 * j) as usize] as u64;
+    low + 4294967296 * high
+}
+
+// The set o beside record j.
+fn put_near(index: &mut [u32], j: u64, o: u64)
+    requires { ⌜ (length (now index) ≡ indexWords) × (j < 4096) ⌝ }
+    ensures { λ r. ⌜ now (index .exit) ≡ nearPut (now (index .entry)) j o ⌝ }
+{
+    index[(40963 + 2 * j) as usize] = (o % 4294967296) as u32;
+    index[(40964 + 2 * j) as usize] = (o / 4294967296) as u32;
+}
+
+// A set that holds the open nodes of the edges m. A fresh chart has records without edges only, and those have none.
+fn span(g: &[u64], h: &[u64], graph: &[u64; 577], m: u64) -> u64
+    requires { ⌜ Accepted (now g) (now h) × GraphTable (now g) (now h) (now graph) ⌝ }
+    ensures { λ r. ⌜ Spans (now (g .entry)) (now (h .entry)) m r ⌝ }
+{
+    if m == 0 {
+        return 0;
+    }
+    joins::open_in(g, h, graph, m)
+}
+
+// A set beside each of a chart's records.
+fn span_all(g: &[u64], h: &[u64], graph: &[u64; 577], chart: &[u64], index: &mut [u32])
+    requires { ⌜ (length (now index) ≡ indexWords) × (itemCount (now chart) ≤ 4096) × Accepted (now g) (now h) × GraphTable (now g) (now h) (now graph) ⌝ }
+    ensures { λ r. ⌜ Spanned (now (g .entry)) (now (h .entry)) (now (index .exit)) (chartOf (now (chart .entry)) .records) × ((wants pivots : List ℕ) (rs : List Record) → Indexed wants pivots (now (index .entry)) rs → Indexed wants pivots (now (index .exit)) rs) ⌝ }
+{
+    let n = records::item_count(chart);
+    let mut j = 0;
+    while j < n {
+        let o = span(g, h, graph, records::field(chart, j, 3));
+        put_near(index, j, o);
         j += 1;
     }
 }
 
 // The records of a chart, indexed: the words are 0 before.
-pub fn build(g: &[u64], wants: &[u64; 1024], pivots: &[u64; 1024], chart: &[u64], index: &mut [u64])
-    requires { ⌜ Empty (now index) × (itemCount (now chart) ≤ 4096) ⌝ }
-    ensures { λ r. ⌜ Indexed (now (g .entry)) (now (wants .entry)) (now (pivots .entry)) (now (index .exit)) (chartOf (now (chart .entry)) .records) ⌝ }
+pub fn build(
+    g: &[u64],
+    h: &[u64],
+    graph: &[u64; 577],
+    wants: &[u64; 1024],
+    pivots: &[u64; 1088],
+    chart: &[u64],
+    index: &mut [u32],
+)
+    requires { ⌜ Empty (now index) × (itemCount (now chart) ≤ 4096) × Accepted (now g) (now h) × GraphTable (now g) (now h) (now graph) ⌝ }
+    ensures { λ r. ⌜ Indexed (now (wants .entry)) (now (pivots .entry)) (now (index .exit)) (chartOf (now (chart .entry)) .records) × Spanned (now (g .entry)) (now (h .entry)) (now (index .exit)) (chartOf (now (chart .entry)) .records) ⌝ }
 {
     chains::build(chart, &mut index[0..TREE]);
     ranking::build(chart, &mut index[TREE..LISTS]);
-    list_all(g, wants, pivots, chart, index);
+    list_all(wants, pivots, chart, index);
+    span_all(g, h, graph, chart, index);
 }
 
 // The first waiting record of least count.
-pub fn next(chart: &[u64], index: &[u64]) -> Found
+pub fn next(chart: &[u64], index: &[u32]) -> Found
     requires { ⌜ (length (now index) ≡ indexWords) × Ranked (ranksOf (now index)) (chartOf (now chart) .records) × (length (chartOf (now chart) .records) ≤ 4096) ⌝ }
     ensures { λ r. ⌜ r ≡ leastWaiting (chartOf (now (chart .entry)) .records) (length (chartOf (now (chart .entry)) .records)) ⌝ }
 {
-    ranking::least(&index[TREE..LISTS])
+    ranking::least(chart, &index[TREE..LISTS])
 }
 
 // Five cursors, each at the first entry of its key.
-pub fn starts(index: &[u64], query: [u64; 5]) -> [u64; 5]
+pub fn starts(index: &[u32], query: [u64; 5]) -> [u64; 5]
     requires { ⌜ (length (now index) ≡ indexWords) × Within 2048 query ⌝ }
     ensures { λ r. ⌜ r ≡ startsOf (listsOf (now (index .entry))) query ⌝ }
 {
@@ -82,7 +138,7 @@ pub fn starts(index: &[u64], query: [u64; 5]) -> [u64; 5]
 }
 
 // Each cursor whose record is k or before goes on by one entry.
-pub fn passed(index: &[u64], cs: [u64; 5], k: u64) -> [u64; 5]
+pub fn passed(index: &[u32], cs: [u64; 5], k: u64) -> [u64; 5]
     requires { ⌜ (length (now index) ≡ indexWords) × Within 20480 cs × (k ≤ 4096) ⌝ }
     ensures { λ r. ⌜ r ≡ passedOf (listsOf (now (index .entry))) cs k ⌝ }
 {
@@ -105,7 +161,7 @@ fn quiet(chart: &[u64], edges: u64, k: u64) -> bool
 }
 
 // A cursor goes on over the entries of quiet records of the first n. Places rise along a list, so 0 or a place that does not rise ends it.
-fn skim(ws: &[u64], chart: &[u64], edges: u64, n: u64, from: u64) -> u64
+fn skim(ws: &[u32], chart: &[u64], edges: u64, n: u64, from: u64) -> u64
     requires { ⌜ (length (now ws) ≡ 24578) × (n ≤ itemCount (now chart)) × (n ≤ 4096) ⌝ }
     ensures { λ r. ⌜ Skims (quietIn (now (chart .entry)) edges) (now (ws .entry)) n from r ⌝ }
 {
@@ -118,7 +174,7 @@ fn skim(ws: &[u64], chart: &[u64], edges: u64, n: u64, from: u64) -> u64
         if !quiet(chart, edges, (c - 1) / 5) {
             return c;
         }
-        let d = ws[(4097 + c) as usize];
+        let d = ws[(4097 + c) as usize] as u64;
         if d <= c {
             return d;
         }
@@ -127,7 +183,7 @@ fn skim(ws: &[u64], chart: &[u64], edges: u64, n: u64, from: u64) -> u64
     c
 }
 
-fn skim_all(ws: &[u64], chart: &[u64], edges: u64, n: u64, cs: [u64; 5]) -> [u64; 5]
+fn skim_all(ws: &[u32], chart: &[u64], edges: u64, n: u64, cs: [u64; 5]) -> [u64; 5]
     requires { ⌜ (length (now ws) ≡ 24578) × (n ≤ itemCount (now chart)) × (n ≤ 4096) ⌝ }
     ensures { λ r. ⌜ SkimsAll (quietIn (now (chart .entry)) edges) (now (ws .entry)) n cs r ⌝ }
 {
@@ -141,108 +197,135 @@ fn skim_all(ws: &[u64], chart: &[u64], edges: u64, n: u64, cs: [u64; 5]) -> [u64
 }
 
 // Each of five cursors goes on over the entries of quiet records of the first n.
-pub fn skimmed(chart: &[u64], index: &[u64], edges: u64, n: u64, cs: [u64; 5]) -> [u64; 5]
+pub fn skimmed(chart: &[u64], index: &[u32], edges: u64, n: u64, cs: [u64; 5]) -> [u64; 5]
     requires { ⌜ (length (now index) ≡ indexWords) × (n ≤ itemCount (now chart)) × (n ≤ 4096) ⌝ }
     ensures { λ r. ⌜ SkimsAll (quietIn (now (chart .entry)) edges) (listsOf (now (index .entry))) n cs r ⌝ }
 {
     skim_all(&index[LISTS..MARK], chart, edges, n, cs)
 }
 
+// One cursor at the first entry of a key.
+pub fn first(index: &[u32], key: u64) -> u64
+    requires { ⌜ (length (now index) ≡ indexWords) × (key ≤ 2048) ⌝ }
+    ensures { λ r. ⌜ r ≡ getD (listsOf (now (index .entry))) key 0 ⌝ }
+{
+    lists::first(&index[LISTS..MARK], key)
+}
+
+// The entry behind the one that a cursor is at.
+pub fn after(index: &[u32], c: u64) -> u64
+    requires { ⌜ (length (now index) ≡ indexWords) × (c ≤ 20480) ⌝ }
+    ensures { λ r. ⌜ r ≡ getD (listsOf (now (index .entry))) (4097 + c) 0 ⌝ }
+{
+    lists::after(&index[LISTS..MARK], c)
+}
+
+// One cursor goes on over the entries of quiet records of the first n.
+pub fn sought(chart: &[u64], index: &[u32], edges: u64, n: u64, c: u64) -> u64
+    requires { ⌜ (length (now index) ≡ indexWords) × (n ≤ itemCount (now chart)) × (n ≤ 4096) ⌝ }
+    ensures { λ r. ⌜ SkimsAll (quietIn (now (chart .entry)) edges) (listsOf (now (index .entry))) n (alone c) (alone r) ⌝ }
+{
+    skim(&index[LISTS..MARK], chart, edges, n, c)
+}
+
 // Whether no record is irregular.
-pub fn regular(index: &[u64]) -> bool
+pub fn regular(index: &[u32]) -> bool
     requires { ⌜ length (now index) ≡ indexWords ⌝ }
-    ensures { λ r. ⌜ r ≡ eqb (getD (now (index .entry)) 49154 0) 0 ⌝ }
+    ensures { λ r. ⌜ r ≡ eqb (getD (now (index .entry)) 40962 0) 0 ⌝ }
 {
     index[MARK] == 0
 }
 
-// Record n, one more than there are, is x.
-fn enter(g: &[u64], wants: &[u64; 1024], pivots: &[u64; 1024], index: &mut [u64], n: u64, x: Record)
-    requires { ⌜ (length (now index) ≡ indexWords) × Ready (listsOf (now index)) × (n < 4096) ⌝ }
-    ensures { λ r. ⌜ ((rs : List Record) → Indexed (now (g .entry)) (now (wants .entry)) (now (pivots .entry)) (now (index .entry)) rs → n ≡ length rs → Indexed (now (g .entry)) (now (wants .entry)) (now (pivots .entry)) (now (index .exit)) (rs ++ (x ∷ []))) ⌝ }
+// Record n, one more than there are, is that of the words x.
+fn enter(wants: &[u64; 1024], pivots: &[u64; 1088], index: &mut [u32], n: u64, x: &[u64], b: u64)
+    requires { ⌜ (length (now index) ≡ indexWords) × Ready (listsOf (now index)) × (n < 4096) × (length (now x) ≡ 16) × (b ≡ bucketOf (ofWords (now x))) × (b < 4096) ⌝ }
+    ensures { λ r. ⌜ ((rs : List Record) → Indexed (now (wants .entry)) (now (pivots .entry)) (now (index .entry)) rs → n ≡ length rs → Indexed (now (wants .entry)) (now (pivots .entry)) (now (index .exit)) (rs ++ (ofWords (now (x .entry)) ∷ [])) × NearKept (now (index .entry)) (now (index .exit))) ⌝ }
 {
-    list(g, wants, pivots, index, n, x);
-    chains::link(&mut index[0..TREE], n, chains::bucket(x));
-    ranking::place(&mut index[TREE..LISTS], n, x.handled == 0, x.count);
+    list(wants, pivots, index, n, x);
+    chains::link(&mut index[0..TREE], n, b);
+    ranking::place(&mut index[TREE..LISTS], n, x[5] == 0, x[4]);
 }
 
 // Record j, which waits, has the count of x.
-fn recount(index: &mut [u64], j: u64, count: u64)
+fn recount(index: &mut [u32], j: u64, count: u64)
     requires { ⌜ (length (now index) ≡ indexWords) × (j < 4096) ⌝ }
-    ensures { λ r. ⌜ ((g wants pivots : List ℕ) (rs : List Record) (x : Record) → Indexed g wants pivots (now (index .entry)) rs → j < length rs → isHandled (recordIn rs j) ≡ false → count ≡ x .count → Indexed g wants pivots (now (index .exit)) (set rs j (improved (recordIn rs j) x))) ⌝ }
+    ensures { λ r. ⌜ ((wants pivots : List ℕ) (rs : List Record) (x : Record) → Indexed wants pivots (now (index .entry)) rs → j < length rs → isHandled (recordIn rs j) ≡ false → count ≡ x .count → Indexed wants pivots (now (index .exit)) (set rs j (improved (recordIn rs j) x))) × NearKept (now (index .entry)) (now (index .exit)) ⌝ }
 {
     ranking::place(&mut index[TREE..LISTS], j, true, count);
 }
 
 // Record j waits no more.
-fn settle(index: &mut [u64], j: u64)
+fn settle(index: &mut [u32], j: u64)
     requires { ⌜ (length (now index) ≡ indexWords) × (j < 4096) ⌝ }
-    ensures { λ r. ⌜ ((g wants pivots : List ℕ) (rs : List Record) → Indexed g wants pivots (now (index .entry)) rs → j < length rs → Indexed g wants pivots (now (index .exit)) (set rs j (handledNow (recordIn rs j)))) ⌝ }
+    ensures { λ r. ⌜ ((wants pivots : List ℕ) (rs : List Record) → Indexed wants pivots (now (index .entry)) rs → j < length rs → Indexed wants pivots (now (index .exit)) (set rs j (handledNow (recordIn rs j)))) × NearKept (now (index .entry)) (now (index .exit)) ⌝ }
 {
     ranking::place(&mut index[TREE..LISTS], j, false, 0);
 }
 
 // The record at place j, found again with the item of x, takes the count and the partners of x if that is better.
-fn again(chart: &mut [u64], index: &mut [u64], j: u64, x: Record)
-    requires { ⌜ (length (now index) ≡ indexWords) × (j < itemCount (now chart)) × (j < 4096) ⌝ }
-    ensures { λ r. ⌜ (now (chart .exit) ≡ improvedAt (now (chart .entry)) j x) × ((g wants pivots : List ℕ) → Indexed g wants pivots (now (index .entry)) (chartOf (now (chart .entry)) .records) → Indexed g wants pivots (now (index .exit)) (placed (capacity (now (chart .entry))) x (chartOf (now (chart .entry))) (At j) .records)) ⌝ }
+fn again(chart: &mut [u64], index: &mut [u32], j: u64, x: &[u64])
+    requires { ⌜ (length (now index) ≡ indexWords) × (j < itemCount (now chart)) × (j < 4096) × (length (now x) ≡ 16) ⌝ }
+    ensures { λ r. ⌜ (now (chart .exit) ≡ improvedAt (now (chart .entry)) j (ofWords (now (x .entry)))) × ((wants pivots : List ℕ) → Indexed wants pivots (now (index .entry)) (chartOf (now (chart .entry)) .records) → Indexed wants pivots (now (index .exit)) (placed (capacity (now (chart .entry))) (ofWords (now (x .entry))) (chartOf (now (chart .entry))) (At j) .records)) × NearKept (now (index .entry)) (now (index .exit)) ⌝ }
 {
     if records::field(chart, j, 5) != 0 {
         return;
     }
-    if records::field(chart, j, 4) <= x.count {
+    if records::field(chart, j, 4) <= x[4] {
         return;
     }
-    recount(index, j, x.count);
-    records::improve(chart, j, x);
+    recount(index, j, x[4]);
+    records::improve_words(chart, j, x);
 }
 
-// The record x behind the others; where no place is left the chart is marked.
+// The record x behind the others, with the set o beside it; where no place is left the chart is marked.
 fn behind(
-    g: &[u64],
     wants: &[u64; 1024],
-    pivots: &[u64; 1024],
+    pivots: &[u64; 1088],
     chart: &mut [u64],
-    index: &mut [u64],
-    x: Record,
+    index: &mut [u32],
+    x: &[u64],
+    b: u64,
+    o: u64,
 )
-    requires { ⌜ Indexed (now g) (now wants) (now pivots) (now index) (chartOf (now chart) .records) × (capacity (now chart) ≤ 4096) ⌝ }
-    ensures { λ r. ⌜ (now (chart .exit) ≡ appendedTo (now (chart .entry)) (itemCount (now (chart .entry))) x) × Indexed (now (g .entry)) (now (wants .entry)) (now (pivots .entry)) (now (index .exit)) (placed (capacity (now (chart .entry))) x (chartOf (now (chart .entry))) Nowhere .records) ⌝ }
+    requires { ⌜ Indexed (now wants) (now pivots) (now index) (chartOf (now chart) .records) × (capacity (now chart) ≤ 4096) × (length (now x) ≡ 16) × (b ≡ bucketOf (ofWords (now x))) × (b < 4096) ⌝ }
+    ensures { λ r. ⌜ (now (chart .exit) ≡ appendedTo (now (chart .entry)) (itemCount (now (chart .entry))) (ofWords (now (x .entry)))) × Indexed (now (wants .entry)) (now (pivots .entry)) (now (index .exit)) (placed (capacity (now (chart .entry))) (ofWords (now (x .entry))) (chartOf (now (chart .entry))) Nowhere .records) × ((g h : List ℕ) → Spanned g h (now (index .entry)) (chartOf (now (chart .entry)) .records) → Spans g h (ofWords (now (x .entry)) .edges) o → Spanned g h (now (index .exit)) (placed (capacity (now (chart .entry))) (ofWords (now (x .entry))) (chartOf (now (chart .entry))) Nowhere .records)) ⌝ }
 {
     let n = records::item_count(chart);
     if n < records::capacity_of(chart) {
-        enter(g, wants, pivots, index, n, x);
-        records::append(chart, n, x);
+        put_near(index, n, o);
+        enter(wants, pivots, index, n, x, b);
+        records::append_words(chart, n, x);
         return;
     }
-    records::append(chart, n, x);
+    records::append_words(chart, n, x);
 }
 
-// The record x in the chart, as `records::add` has it, with the indexes kept.
+// The record x in the chart, as `records::add` has it, with the indexes kept. The set o holds the open nodes of its edges.
 pub fn add(
-    g: &[u64],
     wants: &[u64; 1024],
-    pivots: &[u64; 1024],
+    pivots: &[u64; 1088],
     chart: &mut [u64],
-    index: &mut [u64],
-    x: Record,
+    index: &mut [u32],
+    x: &[u64],
+    o: u64,
 )
-    requires { ⌜ Indexed (now g) (now wants) (now pivots) (now index) (chartOf (now chart) .records) × Fits (now chart) × (capacity (now chart) ≤ 4096) ⌝ }
-    ensures { λ r. ⌜ (now (chart .exit) ≡ addedTo (now (chart .entry)) x) × Indexed (now (g .entry)) (now (wants .entry)) (now (pivots .entry)) (now (index .exit)) (chartOf (now (chart .exit)) .records) ⌝ }
+    requires { ⌜ Indexed (now wants) (now pivots) (now index) (chartOf (now chart) .records) × Fits (now chart) × (capacity (now chart) ≤ 4096) × (length (now x) ≡ 16) ⌝ }
+    ensures { λ r. ⌜ (now (chart .exit) ≡ addedTo (now (chart .entry)) (ofWords (now (x .entry)))) × Indexed (now (wants .entry)) (now (pivots .entry)) (now (index .exit)) (chartOf (now (chart .exit)) .records) × ((g h : List ℕ) → Spanned g h (now (index .entry)) (chartOf (now (chart .entry)) .records) → Spans g h (ofWords (now (x .entry)) .edges) o → Spanned g h (now (index .exit)) (chartOf (now (chart .exit)) .records)) ⌝ }
 {
     if records::mark_of(chart) != 0 {
         return;
     }
-    match chains::find(chart, &index[0..TREE], x) {
+    let b = chains::bucket(x);
+    match chains::find(chart, &index[0..TREE], x, b) {
         Found::At(j) => again(chart, index, j, x),
-        Found::Nowhere => behind(g, wants, pivots, chart, index, x),
+        Found::Nowhere => behind(wants, pivots, chart, index, x, b, o),
     }
 }
 
 // The record at place j becomes handled.
-pub fn handle(chart: &mut [u64], index: &mut [u64], j: u64)
+pub fn handle(chart: &mut [u64], index: &mut [u32], j: u64)
     requires { ⌜ (length (now index) ≡ indexWords) × Fits (now chart) × (j < itemCount (now chart)) × (j < 4096) ⌝ }
-    ensures { λ r. ⌜ (now (chart .exit) ≡ markedAt (now (chart .entry)) j) × ((g wants pivots : List ℕ) → Indexed g wants pivots (now (index .entry)) (chartOf (now (chart .entry)) .records) → Indexed g wants pivots (now (index .exit)) (chartOf (now (chart .exit)) .records)) ⌝ }
+    ensures { λ r. ⌜ (now (chart .exit) ≡ markedAt (now (chart .entry)) j) × ((wants pivots : List ℕ) → Indexed wants pivots (now (index .entry)) (chartOf (now (chart .entry)) .records) → Indexed wants pivots (now (index .exit)) (chartOf (now (chart .exit)) .records)) × ((g h : List ℕ) → Spanned g h (now (index .entry)) (chartOf (now (chart .entry)) .records) → Spanned g h (now (index .exit)) (chartOf (now (chart .exit)) .records)) ⌝ }
 {
     settle(index, j);
     records::mark_handled(chart, j);

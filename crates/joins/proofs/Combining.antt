@@ -1,34 +1,36 @@
 -- `combine` of crate hrg, stage by stage, over maps in eight places.
-use mathlib.Core.Path.{_≡_, refl, sym, ap, ap₂, _∙_}
+use mathlib.Core.Path.{_≡_, refl, sym, ap, ap₂, _∙_, subst}
 use mathlib.Core.Bool.{Bool, true, false, _&&_, _||_, not, or-true, false≢true}
 use mathlib.Core.List.{List, [], _∷_}
-use Prim.Native.Nat.{ℕ, zero, suc, _^_, _≤_, _<_}
+use Prim.Native.Nat.{ℕ, zero, suc, _+_, _^_, _≤_, _<_}
 use native.Mathlib.Omega.{arith}
 use native.Mathlib.Decide.{decLt}
 use lib.ListN.{length, take}
 use lib.Seq.{getD-take}
 use lib.Bits.{bitAnd}
 use lib.Dec.{eqb, leb, ltb}
-use borrow.Author.Tests.{ltb-true, lt-leb, ne-eqb}
+use borrow.Author.Tests.{lt-ltb, ltb-true, leb-true, lt-leb, ne-eqb, eqb-true, not-true, not-false}
 use Rattle.masks.specs.Masks.{bit, member, _∪_, disjoint, within, Subset}
 use Rattle.masks.specs.Laws.{bit-le, member-true, member-false, true-member, lt-bits, within-holds, holds-within}
-use Rattle.hrg.specs.Counts.{occurs, tabulate}
+use Rattle.hrg.specs.Counts.{hit, occurs, tabulate}
 use Rattle.hrg.specs.Grammars.{Graph, Rule, touches, ruleOf, edgeAt}
 use Rattle.hrg.specs.Trees.{unplaced, at, padded}
 use Rattle.hrg.specs.Items.{Item, active, orElse, joined, keepIf, restrict, below, isBoundary, isOpen, isOpenAt}
 use Rattle.hrg.specs.WellFormedTest.{every}
 use Rattle.hrg.specs.ClosureRun.{guard, agree, oneToOne, covering, combine}
-use Rattle.hrg.proofs.Sums.{length-tabulate, tabulate-ext}
+use Rattle.hrg.proofs.Sums.{hit-self, hit-ne, length-tabulate, at-tabulate, tabulate-ext, occurs-at, occurs-find}
 use Rattle.hrg.proofs.Degrees.{test-T, T-test, and-true}
 use Rattle.hrg.proofs.WellFormedTest.{every-false}
 use Rattle.questions.specs.Layout.{ruleNodes, graphNodes}
 use Rattle.questions.specs.Abstract.{grammarOf, graphOf}
 use Rattle.joins.specs.declared.Joined.{Joined}
 use Rattle.joins.specs.declared.Merged.{Merged}
-use Rattle.joins.specs.Joins.{Accepted, KnownNode, NodesIn, OpenAt, OpenIn, someBoth, openJoined, Merges, nothing, joinedOf}
+use Rattle.joins.specs.Joins.{Accepted, KnownNode, NodesIn, OpenAt, OpenIn, Spans, Keeps, openBy, openJoined, lostAt, noneLost, Merges, nothing, joinedAs}
+use Rattle.joins.specs.Graphs.{GraphTable}
 use Rattle.joins.proofs.Known.{rule-ok, right-nodes, nodes-few, graph-ok, graph-nodes, graph-nodes-few}
-use Rattle.joins.proofs.Touching.{touches-some}
-use Rattle.joins.proofs.MapLaws.{every-true, every-same, agreeAt, at-joined}
+use Rattle.joins.proofs.Touching.{member-both, touches-some}
+use Rattle.joins.proofs.Openness.{bool-same, some-find, open-by, open-few, spans-none}
+use Rattle.joins.proofs.MapLaws.{every-true, every-same, agreeAt, length-joined, at-joined}
 
 -- ---- as many places as rule nodes
 length-restrict : (R : Rule) (q : ℕ) (j : List ℕ) → length (restrict R q j) ≡ R .production .right .nodes
@@ -59,32 +61,18 @@ closed g r q o f k known opened =
     ∙ ap (λ i. tabulate i (λ x. keepIf (isOpenAt R q x) (at (joined n f k) x))) size
 
 -- ---- open nodes are nodes
-some-find : (t a : ℕ → Bool) (n : ℕ) → someBoth t a n ≡ true → (i : ℕ) × (i < n) × (a i ≡ true)
-unfolding someBoth
-some-find t a zero h = absurd (false≢true h)
-some-find t a (suc n) h = go (someBoth t a n) refl h (some-find t a n)
-  where
-    go : (p : Bool) → someBoth t a n ≡ p → (p || (t n && a n)) ≡ true → (someBoth t a n ≡ true → (i : ℕ) × (i < n) × (a i ≡ true)) → (i : ℕ) × (i < suc n) × (a i ≡ true)
-    go true e y ih = let z = ih e in (z .0, omega (arith, z .1), z .2)
-    go false e y ih = (n, omega arith, and-true (t n) (a n) y .1)
-
 boundary-inside : (t : ℕ → Bool) (P : Graph) (x : ℕ) → ((i : ℕ) → i < length (P .edges) → 0 < occurs x (edgeAt (P .edges) i .attachment) → x < P .nodes) → isBoundary t P x ≡ true → x < P .nodes
 unfolding isBoundary
 boundary-inside t P x inside h =
     let on = and-true (touches t (P .edges) x) _ h .0 in
     let z = some-find t (λ i. ltb 0 (occurs x (edgeAt (P .edges) i .attachment))) (length (P .edges)) (sym (touches-some t (P .edges) x) ∙ on) in
-    inside (z .0) (z .1) (ltb-true 0 (occurs x (edgeAt (P .edges) (z .0) .attachment)) (z .2))
+    inside (z .0) (z .1) (ltb-true 0 (occurs x (edgeAt (P .edges) (z .0) .attachment)) (z .3))
 
 pub open-known : (g h : List ℕ) (m v : ℕ) → Accepted g h → isOpen (graphOf g h) m v ≡ true → v < graphOf g h .nodes
 unfolding isOpen
 open-known g h m v accepted o = boundary-inside (λ e. member m e) (graphOf g h) v (λ i l. graph-ok g h accepted .side .edge i l .listed .inside v) o
 
 -- ---- every open node is an image
-bool-same : (a b : Bool) → (a ≡ true → b ≡ true) → (b ≡ true → a ≡ true) → a ≡ b
-bool-same true b p q = sym (p refl)
-bool-same false true p q = q refl
-bool-same false false p q = refl
-
 every-at : (n : ℕ) (t : ℕ → Bool) → every n t ≡ true → (i : ℕ) → i < n → t i ≡ true
 unfolding every
 every-at zero t h i l = absurd (omega arith)
@@ -128,6 +116,107 @@ module _ (g h : List ℕ) (m o im : ℕ) (t : List ℕ) (accepted : Accepted g h
       (λ p. every-true (graphOf g h .nodes) seenAt (to-seen (within-holds o im (test-T (eqb (bitAnd o im) o) p))))
       (λ p. T-test (eqb (bitAnd o im) o) (holds-within o im (to-subset (every-at (graphOf g h .nodes) seenAt p))))
 
+-- every open node is in `near`, and those that are seen are images
+module _ (g h : List ℕ) (m near seen im : ℕ) (accepted : Accepted g h) (spans : Spans g h m near) (keeps : Keeps g h m seen im) where
+  pub covers-near : eqb (bitAnd near seen) near ≡ true → (t : List ℕ) → NodesIn im t → true ≡ covering (graphOf g h) m t
+  unfolding covering
+  covers-near e t images = sym (every-true (graphOf g h .nodes) (λ v. not (isOpen (graphOf g h) m v) || ltb 0 (occurs v t)) (λ v l. go v l (isOpen (graphOf g h) m v) refl))
+    where
+      few : graphOf g h .nodes ≤ 64
+      few = omega (arith, graph-nodes-few g h accepted, graph-nodes g h)
+
+      there : (v : ℕ) → member near v ≡ true → member seen v ≡ true
+      there v p = and-true (member near v) (member seen v) (sym (member-both near seen v) ∙ ap (λ k. member k v) (eqb-true (bitAnd near seen) near e) ∙ p) .1
+
+      go : (v : ℕ) → v < graphOf g h .nodes → (p : Bool) → isOpen (graphOf g h) m v ≡ p → (not (isOpen (graphOf g h) m v) || ltb 0 (occurs v t)) ≡ true
+      go v l true p =
+          let d : v < 64 = omega (arith, few) in
+          let here : ltb 0 (occurs v t) ≡ true = sym (images .members v d) ∙ keeps .each v d (there v (spans .each v d p)) p in
+          ap (λ b. not (isOpen (graphOf g h) m v) || b) here ∙ or-true (not (isOpen (graphOf g h) m v))
+      go v l false p = ap (λ b. not b || ltb 0 (occurs v t)) p
+
+-- a covered set's open nodes are images
+covered-spans : (g h : List ℕ) (m im : ℕ) (t : List ℕ) → Accepted g h → covering (graphOf g h) m t ≡ true → NodesIn im t → Spans g h m im
+unfolding covering
+covered-spans g h m im t accepted c images = record {
+  each = λ v l p.
+      images .members v l
+      ∙ ap (λ b. not b || ltb 0 (occurs v t)) (sym p)
+      ∙ every-at (graphOf g h .nodes) (λ v. not (isOpen (graphOf g h) m v) || ltb 0 (occurs v t)) c v (open-known g h m v accepted p);
+}
+
+-- ---- images of dropped nodes
+-- a number that stands once in a list does not stand in it where its place is dropped
+occurs-kept : (n : ℕ) (s : ℕ → Bool) (F : ℕ → ℕ) (v : ℕ) → v < 64 → occurs v (tabulate n (λ x. keepIf (s x) (F x))) ≤ occurs v (tabulate n F)
+unfolding occurs tabulate
+occurs-kept zero s F v l = omega arith
+occurs-kept (suc n) s F v l = go (s 0) (occurs-kept n (λ x. s (suc x)) (λ x. F (suc x)) v l)
+  where
+    go : (p : Bool) → occurs v (tabulate n (λ x. keepIf (s (suc x)) (F (suc x)))) ≤ occurs v (tabulate n (λ x. F (suc x)))
+        → hit v (keepIf p (F 0)) + occurs v (tabulate n (λ x. keepIf (s (suc x)) (F (suc x)))) ≤ hit v (F 0) + occurs v (tabulate n (λ x. F (suc x)))
+    go true h = omega arith
+    go false h = omega (arith, hit-ne v 64 (λ e. omega arith))
+
+occurs-dropped : (n : ℕ) (s : ℕ → Bool) (F : ℕ → ℕ) (v x : ℕ) → v < 64 → x < n → s x ≡ false → F x ≡ v → occurs v (tabulate n (λ x. keepIf (s x) (F x))) < occurs v (tabulate n F)
+unfolding occurs tabulate
+occurs-dropped zero s F v x l h p q = absurd (omega arith)
+occurs-dropped (suc n) s F v zero l h p q =
+    rw p
+    (omega (arith, hit-ne v 64 (λ e. omega arith), hit-self v, ap (λ w. hit v w) q, occurs-kept n (λ x. s (suc x)) (λ x. F (suc x)) v l))
+occurs-dropped (suc n) s F v (suc x) l h p q = go (s 0) (occurs-dropped n (λ x. s (suc x)) (λ x. F (suc x)) v x l (omega arith) p q)
+  where
+    go : (p : Bool) → occurs v (tabulate n (λ x. keepIf (s (suc x)) (F (suc x)))) < occurs v (tabulate n (λ x. F (suc x)))
+        → hit v (keepIf p (F 0)) + occurs v (tabulate n (λ x. keepIf (s (suc x)) (F (suc x)))) < hit v (F 0) + occurs v (tabulate n (λ x. F (suc x)))
+    go true h = omega arith
+    go false h = omega (arith, hit-ne v 64 (λ e. omega arith))
+
+every-find : (n : ℕ) (t : ℕ → Bool) → every n t ≡ false → (i : ℕ) × (i < n) × (t i ≡ false)
+unfolding every
+every-find zero t h = absurd (false≢true (sym h))
+every-find (suc n) t h = go (t 0) refl h (every-find n (λ i. t (suc i)))
+  where
+    go : (p : Bool) → t 0 ≡ p → (p && every n (λ i. t (suc i))) ≡ false → (every n (λ i. t (suc i)) ≡ false → (i : ℕ) × (i < n) × (t (suc i) ≡ false)) → (i : ℕ) × (i < suc n) × (t i ≡ false)
+    go true e y ih = let z = ih y in (suc (z .0), omega (arith, z .1), z .2)
+    go false e y ih = (0, omega arith, e)
+
+module _ (g h w : List ℕ) (accepted : Accepted g h) (table : GraphTable g h w) (m : ℕ) (small : m < 2 ^ 64) (n stays : ℕ) (f k : List ℕ) where
+  abbrev imageAt : ℕ → ℕ
+  imageAt x = orElse (at f x) (at k x)
+
+  -- a lost node's image is open and is none of the images
+  lost-bare : oneToOne (graphOf g h .nodes) (joined n f k) ≡ true → noneLost n stays w m f k ≡ false → covering (graphOf g h) m (openJoined n stays f k) ≡ false
+  unfolding noneLost oneToOne covering joined
+  lost-bare once fails =
+      let (x, l, p) = every-find n (λ x. not (lostAt stays w m f k x)) fails in
+      let (s, o) = and-true (not (member stays x)) (openBy w m (imageAt x)) (not-false (lostAt stays w m f k x) p) in
+      let few : imageAt x < 64 = open-few w m (imageAt x) o in
+      let is : isOpen (graphOf g h) m (imageAt x) ≡ true = sym (open-by g h w accepted table (imageAt x) few m small) ∙ o in
+      let known = open-known g h m (imageAt x) accepted is in
+      let one = leb-true (occurs (imageAt x) (tabulate n imageAt)) 1 (every-at (graphOf g h .nodes) (λ v. leb (occurs v (tabulate n imageAt)) 1) once (imageAt x) known) in
+      let none : occurs (imageAt x) (openJoined n stays f k) ≡ 0 = omega (arith, one, occurs-dropped n (λ x. member stays x) imageAt (imageAt x) x few l (not-true (member stays x) s) refl) in
+      sym (every-false (graphOf g h .nodes) (λ v. not (isOpen (graphOf g h) m v) || ltb 0 (occurs v (openJoined n stays f k))) (imageAt x) known (ap₂ (λ (a : Bool) (b : ℕ). not a || ltb 0 b) is none))
+
+  -- where none is lost, an open image is one of the images that stay
+  none-lost : (seen images : ℕ) → noneLost n stays w m f k ≡ true → NodesIn seen (joined n f k) → NodesIn images (openJoined n stays f k) → Keeps g h m seen images
+  unfolding noneLost
+  none-lost seen images passes all stayed = record {
+    each = λ v l p o.
+        let j = joined n f k in
+        let (x, d, e) = occurs-find v j (ltb-true 0 (occurs v j) (sym (all .members v l) ∙ p)) in
+        let inside : x < n = omega (arith, length-joined n f k) in
+        let image : imageAt x ≡ v = sym (at-joined n f k x inside) ∙ e in
+        let shut = not-true (lostAt stays w m f k x) (every-at n (λ x. not (lostAt stays w m f k x)) passes x inside) in
+        stayed .members v l ∙ go v l x inside image (open-by g h w accepted table v l m small ∙ o) shut (member stays x) refl;
+  }
+    where
+      go : (v : ℕ) → v < 64 → (x : ℕ) → x < n → imageAt x ≡ v → openBy w m v ≡ true → lostAt stays w m f k x ≡ false → (b : Bool) → member stays x ≡ b → ltb 0 (occurs v (openJoined n stays f k)) ≡ true
+      go v l x inside image o shut true s =
+          let t = openJoined n stays f k in
+          let here : at t x ≡ v = at-tabulate n (λ x. keepIf (member stays x) (imageAt x)) x inside ∙ ap (λ b. keepIf b (imageAt x)) s ∙ image in
+          let there = rw here at (occurs-at t x (omega (arith, length-tabulate n (λ x. keepIf (member stays x) (imageAt x))))) in
+          lt-ltb 0 (occurs v t) there
+      go v l x inside image o shut false s = absurd (false≢true (sym shut ∙ ap₂ (λ (b : Bool) (u : ℕ). not b && openBy w m u) s image ∙ o))
+
 -- ---- the four tests
 module _ (H : Graph) (R : Rule) (r q m₁ m₂ : ℕ) where
   unfoldable stages : Bool → List ℕ → List Item
@@ -138,35 +227,35 @@ module _ (H : Graph) (R : Rule) (r q m₁ m₂ : ℕ) where
   unfolding combine stages
   combine-stages f k = refl
 
-  apart-no : (a : Bool) (j : List ℕ) → disjoint m₁ m₂ ≡ false → joinedOf (stages a j) ≡ nothing
-  unfolding stages joinedOf
-  apart-no a j h = rw h
+  apart-no : (a : Bool) (j : List ℕ) (o : ℕ) → disjoint m₁ m₂ ≡ false → joinedAs (stages a j) o ≡ nothing
+  unfolding stages joinedAs
+  apart-no a j o h = rw h
 
-  merge-not : (a : Bool) (j : List ℕ) → (a && oneToOne (H .nodes) j) ≡ false → joinedOf (stages a j) ≡ nothing
-  unfolding stages joinedOf
-  merge-not a j h =
+  merge-not : (a : Bool) (j : List ℕ) (o : ℕ) → (a && oneToOne (H .nodes) j) ≡ false → joinedAs (stages a j) o ≡ nothing
+  unfolding stages joinedAs
+  merge-not a j o h =
       go (guard (covering H (m₁ ∪ m₂) (restrict R q j)) (active r q (m₁ ∪ m₂) (restrict R q j) ∷ [])) (disjoint m₁ m₂) a (oneToOne (H .nodes) j) h
     where
-      go : (l : List Item) (d a b : Bool) → (a && b) ≡ false → joinedOf (guard d (guard a (guard b l))) ≡ nothing
+      go : (l : List Item) (d a b : Bool) → (a && b) ≡ false → joinedAs (guard d (guard a (guard b l))) o ≡ nothing
       go l false a b h = refl
       go l true false b h = refl
       go l true true false h = refl
       go l true true true h = absurd (false≢true (sym h))
 
-  cover-no : (a : Bool) (j : List ℕ) → covering H (m₁ ∪ m₂) (restrict R q j) ≡ false → joinedOf (stages a j) ≡ nothing
-  unfolding stages joinedOf
-  cover-no a j h = rw h (go (disjoint m₁ m₂) a (oneToOne (H .nodes) j))
+  cover-no : (a : Bool) (j : List ℕ) (o : ℕ) → covering H (m₁ ∪ m₂) (restrict R q j) ≡ false → joinedAs (stages a j) o ≡ nothing
+  unfolding stages joinedAs
+  cover-no a j o h = rw h (go (disjoint m₁ m₂) a (oneToOne (H .nodes) j))
     where
-      go : (d a b : Bool) → joinedOf (guard d (guard a (guard b []))) ≡ nothing
+      go : (d a b : Bool) → joinedAs (guard d (guard a (guard b []))) o ≡ nothing
       go false a b = refl
       go true false b = refl
       go true true false = refl
       go true true true = refl
 
-  all-pass : (a : Bool) (j : List ℕ) → disjoint m₁ m₂ ≡ true → (a && oneToOne (H .nodes) j) ≡ true → covering H (m₁ ∪ m₂) (restrict R q j) ≡ true
-      → joinedOf (stages a j) ≡ record { found = true; edges = m₁ ∪ m₂; nodes = padded (restrict R q j) }
-  unfolding stages joinedOf
-  all-pass a j d p c = let (x, y) = and-true a (oneToOne (H .nodes) j) p in rw (d, x, y, c)
+  all-pass : (a : Bool) (j : List ℕ) (o : ℕ) → disjoint m₁ m₂ ≡ true → (a && oneToOne (H .nodes) j) ≡ true → covering H (m₁ ∪ m₂) (restrict R q j) ≡ true
+      → joinedAs (stages a j) o ≡ record { found = true; edges = m₁ ∪ m₂; nodes = padded (restrict R q j); images = o }
+  unfolding stages joinedAs
+  all-pass a j o d p c = let (x, y) = and-true a (oneToOne (H .nodes) j) p in rw (d, x, y, c)
 
 -- ---- over accepted tables
 module _ (g h : List ℕ) (r q m₁ m₂ : ℕ) (f k : List ℕ) (accepted : Accepted g h) (known : KnownNode g r q) where
@@ -176,42 +265,76 @@ module _ (g h : List ℕ) (r q m₁ m₂ : ℕ) (f k : List ℕ) (accepted : Acc
   abbrev R : Rule
   R = ruleOf (grammarOf g) r
 
-  abbrev made : Joined
-  made = joinedOf (combine (graphOf g h) R r q m₁ m₂ (take n f) (take n k))
+  abbrev made : ℕ → Joined
+  made o = joinedAs (combine (graphOf g h) R r q m₁ m₂ (take n f) (take n k)) o
 
-  whole : combine (graphOf g h) R r q m₁ m₂ (take n f) (take n k) ≡ stages (graphOf g h) R r q m₁ m₂ (agree n f k) (joined n f k)
-  whole =
+  -- what is promised of the answer
+  abbrev Answer : Joined → Type 0
+  Answer y = (y ≡ made (y .images)) × Spans g h (y .edges) (y .images)
+
+  whole : (o : ℕ) → made o ≡ joinedAs (stages (graphOf g h) R r q m₁ m₂ (agree n f k) (joined n f k)) o
+  whole o =
       let size : R .production .right .nodes ≡ n = right-nodes g r (known .grammar) (known .rule) in
-      combine-stages (graphOf g h) R r q m₁ m₂ (take n f) (take n k)
+      ap (λ (l : List Item). joinedAs l o)
+      (combine-stages (graphOf g h) R r q m₁ m₂ (take n f) (take n k)
       ∙ ap₂ (stages (graphOf g h) R r q m₁ m₂)
-      (ap (λ i. agree i (take n f) (take n k)) size ∙ agree-take n f k) (ap (λ i. joined i (take n f) (take n k)) size ∙ joined-take n f k)
+      (ap (λ i. agree i (take n f) (take n k)) size ∙ agree-take n f k) (ap (λ i. joined i (take n f) (take n k)) size ∙ joined-take n f k))
 
-  pub combine-apart : (b : Bool) → b ≡ disjoint m₁ m₂ → b ≡ false → nothing ≡ made
-  combine-apart b e fails = sym (ap joinedOf whole ∙ apart-no (graphOf g h) R r q m₁ m₂ (agree n f k) (joined n f k) (sym e ∙ fails))
+  none-made : (y : Joined) → y ≡ nothing → ((o : ℕ) → joinedAs (stages (graphOf g h) R r q m₁ m₂ (agree n f k) (joined n f k)) o ≡ nothing) → Answer y
+  none-made y e none =
+      (e ∙ sym (whole (y .images) ∙ none (y .images)), subst (λ (y : Joined). Spans g h (y .edges) (y .images)) (sym e) (spans-none g h 0))
 
-  module _ (size nodes stays : ℕ) (e : size ≡ ruleNodes g r) (e′ : nodes ≡ graphNodes h) (x : Merged) (merges : Merges size nodes stays f k x) where
-    test : (agree n f k && oneToOne (graphOf g h .nodes) (joined n f k)) ≡ x .ok
+  pub combine-apart : (b : Bool) → b ≡ disjoint m₁ m₂ → b ≡ false → (y : Joined) → y ≡ nothing → Answer y
+  combine-apart b e fails y is = none-made y is (λ o. apart-no (graphOf g h) R r q m₁ m₂ (agree n f k) (joined n f k) o (sym e ∙ fails))
+
+  module _ (w : List ℕ) (table : GraphTable g h w) (size nodes stays : ℕ) (opened : OpenAt g r q stays) (e : size ≡ ruleNodes g r) (e′ : nodes ≡ graphNodes h) (m : ℕ) (small : m < 2 ^ 64) (u : m ≡ m₁ ∪ m₂)
+      (x : Merged) (merges : Merges size nodes stays w m f k x) where
+    abbrev fits : Bool
+    fits = agree n f k && oneToOne (graphOf g h .nodes) (joined n f k)
+
+    test : (fits && noneLost n stays w m f k) ≡ x .ok
     test =
-        ap₂ (λ (i n : ℕ). agree n f k && oneToOne i (joined n f k)) (graph-nodes g h ∙ sym e′) (sym e)
+        ap₂ (λ (i n : ℕ). agree n f k && oneToOne i (joined n f k) && noneLost n stays w m f k) (graph-nodes g h ∙ sym e′) (sym e)
         ∙ sym (merges .test)
 
-    pub combine-clash : x .ok ≡ false → nothing ≡ made
-    combine-clash fails = sym (ap joinedOf whole ∙ merge-not (graphOf g h) R r q m₁ m₂ (agree n f k) (joined n f k) (test ∙ fails))
+    map : openJoined size stays f k ≡ restrict R q (joined n f k)
+    map = ap (λ i. openJoined i stays f k) e ∙ closed g r q stays f k known opened
 
-    module _ (ok : x .ok ≡ true) (opened : OpenAt g r q stays) (m : ℕ) (u : m ≡ m₁ ∪ m₂) (c : Bool) (covered : (t : List ℕ) → NodesIn (x .images) t → c ≡ covering (graphOf g h) m t) where
-      map : openJoined size stays f k ≡ restrict R q (joined n f k)
-      map = ap (λ i. openJoined i stays f k) e ∙ closed g r q stays f k known opened
+    pub combine-clash : x .ok ≡ false → (y : Joined) → y ≡ nothing → Answer y
+    combine-clash fails y is = none-made y is (λ o. go o fits refl (test ∙ fails))
+      where
+        go : (o : ℕ) (b : Bool) → fits ≡ b → (b && noneLost n stays w m f k) ≡ false → joinedAs (stages (graphOf g h) R r q m₁ m₂ (agree n f k) (joined n f k)) o ≡ nothing
+        go o false p z = merge-not (graphOf g h) R r q m₁ m₂ (agree n f k) (joined n f k) o p
+        go o true p z =
+            cover-no (graphOf g h) R r q m₁ m₂ (agree n f k) (joined n f k) o
+            (ap₂ (covering (graphOf g h)) (sym u) (sym (ap (λ i. openJoined i stays f k) (sym e) ∙ map))
+            ∙ lost-bare g h w accepted table m small n stays f k (and-true (agree n f k) (oneToOne (graphOf g h .nodes) (joined n f k)) p .1) z)
 
-      cover : c ≡ covering (graphOf g h) (m₁ ∪ m₂) (restrict R q (joined n f k))
-      cover = covered (openJoined size stays f k) (merges .seen ok) ∙ ap₂ (covering (graphOf g h)) u map
+    module _ (ok : x .ok ≡ true) where
+      passed : (fits ≡ true) × (noneLost n stays w m f k ≡ true)
+      passed = and-true fits (noneLost n stays w m f k) (test ∙ ok)
 
-      pub combine-bare : c ≡ false → nothing ≡ made
-      combine-bare fails = sym (ap joinedOf whole ∙ cover-no (graphOf g h) R r q m₁ m₂ (agree n f k) (joined n f k) (sym cover ∙ fails))
+      pub combine-keeps : Keeps g h m (x .seen) (x .images)
+      combine-keeps =
+          none-lost g h w accepted table m small n stays f k (x .seen) (x .images) (passed .1)
+          (subst (λ i. NodesIn (x .seen) (joined i f k)) e (merges .seen ok)) (subst (λ i. NodesIn (x .images) (openJoined i stays f k)) e (merges .images ok))
 
-      pub combine-found : (b : Bool) → b ≡ disjoint m₁ m₂ → b ≡ true → c ≡ true → record { found = true; edges = m; nodes = x .nodes } ≡ made
-      combine-found b d holds p =
-          ap₂ (λ (m : ℕ) (t : List ℕ). record { found = true; edges = m; nodes = t }) u (merges .map ok ∙ ap padded map)
-          ∙ sym (ap joinedOf whole ∙ all-pass (graphOf g h) R r q m₁ m₂ (agree n f k) (joined n f k) (sym d ∙ holds) (test ∙ ok) (sym cover ∙ p))
+      module _ (c : Bool) (covered : (t : List ℕ) → NodesIn (x .images) t → c ≡ covering (graphOf g h) m t) where
+        bare : c ≡ covering (graphOf g h) m (openJoined size stays f k)
+        bare = covered (openJoined size stays f k) (merges .images ok)
+
+        cover : c ≡ covering (graphOf g h) (m₁ ∪ m₂) (restrict R q (joined n f k))
+        cover = bare ∙ ap₂ (covering (graphOf g h)) u map
+
+        pub combine-bare : c ≡ false → (y : Joined) → y ≡ nothing → Answer y
+        combine-bare fails y is = none-made y is (λ o. cover-no (graphOf g h) R r q m₁ m₂ (agree n f k) (joined n f k) o (sym cover ∙ fails))
+
+        pub combine-found : (b : Bool) → b ≡ disjoint m₁ m₂ → b ≡ true → c ≡ true → Answer (record { found = true; edges = m; nodes = x .nodes; images = x .images })
+        combine-found b d holds p = (
+          ap₂ (λ (m : ℕ) (t : List ℕ). record { found = true; edges = m; nodes = t; images = x .images }) u (merges .map ok ∙ ap padded map)
+              ∙ sym (whole (x .images) ∙ all-pass (graphOf g h) R r q m₁ m₂ (agree n f k) (joined n f k) (x .images) (sym d ∙ holds) (passed .0) (sym cover ∙ p)),
+          covered-spans g h m (x .images) (openJoined size stays f k) accepted (sym bare ∙ p) (merges .images ok),
+        )
 
 -- ---- what callers read off the answer
 module _ (H : Graph) (R : Rule) (r q m₁ m₂ : ℕ) (f k : List ℕ) where
@@ -228,30 +351,30 @@ module _ (H : Graph) (R : Rule) (r q m₁ m₂ : ℕ) (f k : List ℕ) where
   abbrev j : List ℕ
   j = joined (R .production .right .nodes) f k
 
-  pub answer-none : (x : Joined) → x ≡ joinedOf items → x .found ≡ false → items ≡ []
-  unfolding combine joinedOf
-  answer-none x e h =
+  pub answer-none : (x : Joined) (o : ℕ) → x ≡ joinedAs items o → x .found ≡ false → items ≡ []
+  unfolding combine joinedAs
+  answer-none x o e h =
       go (disjoint m₁ m₂) (agree (R .production .right .nodes) f k) (oneToOne (H .nodes) j) (covering H (m₁ ∪ m₂) (restrict R q j)) (ap (λ (y : Joined). y .found) (sym e) ∙ h)
     where
       list : (d a b c : Bool) → List Item
       list d a b c = guard d (guard a (guard b (guard c (active r q (m₁ ∪ m₂) (restrict R q j) ∷ []))))
 
-      go : (d a b c : Bool) → joinedOf (list d a b c) .found ≡ false → list d a b c ≡ []
+      go : (d a b c : Bool) → joinedAs (list d a b c) o .found ≡ false → list d a b c ≡ []
       go false a b c h = refl
       go true false b c h = refl
       go true true false c h = refl
       go true true true false h = refl
       go true true true true h = absurd (false≢true (sym h))
 
-  pub answer-one : (x : Joined) → x ≡ joinedOf items → x .found ≡ true → One x
-  unfolding combine joinedOf
-  answer-one x e h =
+  pub answer-one : (x : Joined) (o : ℕ) → x ≡ joinedAs items o → x .found ≡ true → One x
+  unfolding combine joinedAs
+  answer-one x o e h =
       go (disjoint m₁ m₂) (agree (R .production .right .nodes) f k) (oneToOne (H .nodes) j) (covering H (m₁ ∪ m₂) (restrict R q j)) refl e h
     where
       list : (d a b c : Bool) → List Item
       list d a b c = guard d (guard a (guard b (guard c (active r q (m₁ ∪ m₂) (restrict R q j) ∷ []))))
 
-      go : (d a b c : Bool) → items ≡ list d a b c → x ≡ joinedOf (list d a b c) → x .found ≡ true → One x
+      go : (d a b c : Bool) → items ≡ list d a b c → x ≡ joinedAs (list d a b c) o → x .found ≡ true → One x
       go false a b c l e h = absurd (false≢true (ap (λ (y : Joined). y .found) (sym e) ∙ h))
       go true false b c l e h = absurd (false≢true (ap (λ (y : Joined). y .found) (sym e) ∙ h))
       go true true false c l e h = absurd (false≢true (ap (λ (y : Joined). y .found) (sym e) ∙ h))

@@ -18,6 +18,7 @@ use Rattle.hrg.proofs.Sums.{hit-self, occurs-at, length-tabulate, at-tabulate, 
 use Rattle.questions.specs.Layout.{rankAt, ruleNodes, edgeLabel, edgeNode}
 use Rattle.questions.specs.Abstract.{grammarOf}
 use Rattle.questions.proofs.StoredLaws.{getD-tabulate}
+use Rattle.questions.proofs.WellFormedLent.{checked-grammar-ok}
 use Rattle.questions.proofs.WellFormedAccepted.{rule-is, edge-is}
 use Rattle.joins.specs.Joins.{KnownEdge, edgeNodes}
 use Rattle.joins.proofs.Known.{rule-ok, right-nodes, right-edges, nodes-few}
@@ -114,6 +115,9 @@ module _ (g : List ℕ) (r i : ℕ) (known : KnownEdge g r i) where
   pub edge-label : edgeAt (ruleOf (grammarOf g) r .production .right .edges) i .label ≡ edgeLabel g r i
   edge-label =
       ap (λ (R : Rule). edgeAt (R .production .right .edges) i .label) (rule-is g r (known .rule)) ∙ ap (λ (e : Edge). e .label) (edge-is g r i (known .edge))
+
+  pub edge-label-few : edgeLabel g r i < 64
+  edge-label-few = omega (arith, edge-ok .known, edge-label, checked-grammar-ok g (known .grammar) .symbol-count .upper)
 
   pub edge-rank : length (edgeNodes g r i) ≡ rank
   edge-rank = ap length edge-nodes ∙ length-tabulate rank (λ k. edgeNode g r i k)

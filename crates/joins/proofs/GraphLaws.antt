@@ -61,7 +61,7 @@ some-in t a (suc n) i l p q = go (decLt i n) (some-in t a n i)
     go (no d) ih = let e : n ≡ i = omega arith in rw (e, p, q) (or-true (someBoth t a i))
 
 -- ---- four bits of a number
-by-four : (P : ℕ → Type 0) → P 0 → P 1 → P 2 → P 3 → (k : ℕ) → k < 4 → P k
+pub by-four : (P : ℕ → Type 0) → P 0 → P 1 → P 2 → P 3 → (k : ℕ) → k < 4 → P k
 by-four P a b c d zero h = a
 by-four P a b c d (suc zero) h = b
 by-four P a b c d (suc (suc zero)) h = c

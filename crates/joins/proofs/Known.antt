@@ -1,19 +1,30 @@
 -- What an accepted table's words say of the grammar and the graph that it stands for.
 use mathlib.Core.Path.{_≡_, refl, ap, _∙_}
 use mathlib.Core.Bool.{true}
-use mathlib.Core.List.{List}
+use mathlib.Core.List.{List, []}
 use Prim.Native.Nat.{ℕ, _≤_, _<_}
 use native.Mathlib.Omega.{arith}
-use lib.ListN.{length}
+use lib.ListN.{length, replicate}
 use Rattle.hrg.specs.Grammars.{Rule, ruleOf, planOf, planNode}
 use Rattle.hrg.specs.WellFormed.{PlanOk, RuleOk, GraphOk}
 use Rattle.questions.specs.Layout.{ruleCount, ruleNodes, ruleEdges, rulePlan, planKind, planFirst, planSecond, graphNodes, graphEdges}
-use Rattle.questions.specs.Checking.{checkGrammar}
+use Rattle.questions.specs.declared.Due.the-variants.{Grammar, Graph}
+use Rattle.questions.specs.Checking.{checkLines, checkGrammar, checkGraph}
 use Rattle.questions.specs.Abstract.{planFrom, ruleFrom, grammarOf, graphOf}
+use Rattle.questions.proofs.Filled.{filled-by}
 use Rattle.questions.proofs.WellFormedLent.{checked-grammar-ok, checked-graph-ok}
 use Rattle.questions.proofs.WellFormedLists.{length-build}
 use Rattle.questions.proofs.WellFormedAccepted.{rules-length, rule-is, edges-length, plan-length, plan-is}
 use Rattle.joins.specs.Joins.{Accepted}
+
+-- ---- a table that is accepted has all its words
+pub grammar-long : (g : List ℕ) → checkGrammar g ≡ true → 14985 ≤ length g
+unfolding checkGrammar
+grammar-long g checked = filled-by 14985 g (checkLines 1666 [] g (replicate 14985 0) Grammar) checked .2
+
+pub graph-long : (g h : List ℕ) → Accepted g h → 585 ≤ length h
+unfolding checkGraph
+graph-long g h accepted = filled-by 585 h (checkLines 66 g h (replicate 585 0) Graph) (accepted .graph) .2
 
 -- ---- a rule of an accepted grammar table
 module _ (g : List ℕ) (r : ℕ) (checked : checkGrammar g ≡ true) (known : r < ruleCount g) where

@@ -1,15 +1,17 @@
 -- The laws of the loops over maps: agreement, a map place by place, one-to-one, and the images.
 use mathlib.Core.Path.{_≡_, refl, sym, ap, ap₂, _∙_}
-use mathlib.Core.Bool.{Bool, true, false, _&&_, _||_, not, false≢true}
+use mathlib.Core.Bool.{Bool, true, false, _&&_, _||_, not, false≢true, and-false}
 use mathlib.Core.List.{List, [], _∷_}
-use Prim.Native.Nat.{ℕ, zero, suc, _+_, _≤_, _<_}
+use Prim.Native.Nat.{ℕ, zero, suc, _+_, _≤_, _<_, min}
 use native.Mathlib.Omega.{arith}
 use native.Mathlib.Decide.{decLt}
 use lib.ListN.{length, getD, set, take, replicate, length-set}
 use lib.Seq.{getD-set-same, getD-set-other, take-length}
 use lib.Dec.{eqb, leb, ltb}
-use borrow.Author.Tests.{lt-ltb, le-leb, lt-leb, ltb-true, ltb-false, eqb-true, eqb-false}
-use Rattle.masks.specs.Masks.{member, Added, Found}
+use borrow.Author.Tests.{lt-ltb, le-leb, lt-leb, ltb-true, ltb-false, eq-eqb, ne-eqb, eqb-true, eqb-false, not-true, not-false}
+use lib.Bits.{bitAnd, bitOr}
+use Rattle.masks.specs.Masks.{member, full, _∪_, Added, Found, Filled}
+use Rattle.masks.specs.Laws.{true-member, nonempty, member-union, member-full}
 use Rattle.hrg.specs.Counts.{hit, occurs, tabulate}
 use Rattle.hrg.specs.Trees.{unplaced, at, padded}
 use Rattle.hrg.specs.Items.{orElse, joined, keepIf}
@@ -18,9 +20,11 @@ use Rattle.hrg.specs.ClosureRun.{agree, oneToOne}
 use Rattle.hrg.proofs.Sums.{hit-self, hit-ne, length-tabulate, at-tabulate, occurs-around, occurs-next}
 use Rattle.hrg.proofs.Degrees.{and-true}
 use Rattle.hrg.proofs.WellFormedTest.{every-false}
-use Rattle.joins.specs.Joins.{NodesIn, openJoined, Merges}
+use Rattle.joins.specs.declared.Merged.{Merged}
+use Rattle.joins.specs.Joins.{NodesIn, openBy, openJoined, lostAt, noneLost, Merges}
 use Rattle.joins.proofs.PlanMasks.{member-none, some-sum, some-hit}
 use Rattle.joins.proofs.EdgeMaps.{at-past, is-padded, at-none}
+use Rattle.joins.proofs.Touching.{member-both}
 
 -- inside a list the value for numbers past its end does not matter
 pub getD-any : (l : List ℕ) (i d e : ℕ) → i < length l → getD l i d ≡ getD l i e
@@ -124,10 +128,10 @@ pub seen-none : (j : List ℕ) → NodesIn 0 (take 0 j)
 unfolding occurs
 seen-none j = record { members = λ x h. member-none x }
 
-pub seen-next : (j : List ℕ) (i v m n : ℕ) → i < length j → v ≡ getD j i 0 → Added m v n → NodesIn m (take i j) → NodesIn n (take (i + 1) j)
+pub seen-next : (j : List ℕ) (i v m n : ℕ) → i < length j → v ≡ getD j i 0 → ((x : ℕ) → x < 64 → member n x ≡ (member m x || eqb x v)) → NodesIn m (take i j) → NodesIn n (take (i + 1) j)
 seen-next j i v m n h e added before = record {
   members = λ x l.
-      added .members x l
+      added x l
       ∙ rw (before .members x l, e, ← some-hit x (getD j i 0), ← some-sum (occurs x (take i j)) (hit x (getD j i 0)))
       (ap (λ k. ltb 0 k) (sym (occurs-next x j i h)));
 }
@@ -144,30 +148,24 @@ pub once-none : (nodes : ℕ) (j : List ℕ) → Once nodes j 0 0
 unfolding occurs
 once-none nodes j = record { seen = seen-none j; once = λ v h. omega arith }
 
-module _ (nodes : ℕ) (j : List ℕ) (few : nodes ≤ 64) (i v seen : ℕ) (again : Bool) (inside : i < length j) (e : v ≡ getD j i 0) (found : Found seen v again) (o : Once nodes j i seen) where
-  pub once-not : (again && ltb v nodes) ≡ true → false ≡ oneToOne nodes j
+module _ (nodes : ℕ) (j : List ℕ) (few : nodes ≤ 64) (i v seen : ℕ) (inside : i < length j) (e : v ≡ getD j i 0) (o : Once nodes j i seen) where
+  pub once-not : v < nodes → member seen v ≡ true → false ≡ oneToOne nodes j
   unfolding oneToOne
-  once-not t =
-      let (a, b) = and-true again (ltb v nodes) t in
-      let known : v < nodes = ltb-true v nodes b in
-      let before : 0 < occurs v (take i j) = ltb-true 0 (occurs v (take i j)) (sym (o .seen .members v (omega arith)) ∙ sym (found .value) ∙ a) in
+  once-not known a =
+      let before : 0 < occurs v (take i j) = ltb-true 0 (occurs v (take i j)) (sym (o .seen .members v (omega arith)) ∙ a) in
       every-false nodes (λ v. leb (occurs v j) 1) v known
       (lt-leb (occurs v j) 1 (omega (arith, occurs-around v j i (omega arith), ap (λ w. hit v w) (sym e), hit-self v)))
 
-  pub once-next : (n : ℕ) → Added seen v n → (again && ltb v nodes) ≡ false → Once nodes j (i + 1) n
+  pub once-next : (n : ℕ) → ((x : ℕ) → x < 64 → member n x ≡ (member seen x || eqb x v)) → (v < nodes → member seen v ≡ false) → Once nodes j (i + 1) n
   once-next n added t = record { seen = seen-next j i v seen n (omega arith) e added (o .seen); once = λ w l. go w l (eqb w v) refl }
     where
-      fresh : (p : Bool) → again ≡ p → v < nodes → occurs v (take i j) ≡ 0
-      fresh true a l = let z : _≡_ {A = Bool} true false = sym (ap₂ _&&_ a (lt-ltb v nodes l)) ∙ t in absurd (never z)
-        where
-          never : true ≡ false → ⊥
-          never z = let y : _≡_ {A = ℕ} 0 1 = cc in omega arith
-      fresh false a l = omega (arith, ltb-false 0 (occurs v (take i j)) (sym (o .seen .members v (omega arith)) ∙ sym (found .value) ∙ a))
+      fresh : v < nodes → occurs v (take i j) ≡ 0
+      fresh l = omega (arith, ltb-false 0 (occurs v (take i j)) (sym (o .seen .members v (omega arith)) ∙ t l))
 
       go : (w : ℕ) → w < nodes → (p : Bool) → eqb w v ≡ p → occurs w (take (i + 1) j) ≤ 1
       go w l true d =
           let s : w ≡ v = eqb-true w v d in
-          rw s (omega (arith, occurs-next v j i (omega arith), ap (λ w. hit v w) (sym e), hit-self v, fresh again refl (omega arith)))
+          rw s (omega (arith, occurs-next v j i (omega arith), ap (λ w. hit v w) (sym e), hit-self v, fresh (omega arith)))
       go w l false d =
           omega (arith, occurs-next w j i (omega arith), ap (λ u. hit w u) (sym e), hit-ne w v (eqb-false w v d), o .once w l)
 
@@ -177,20 +175,22 @@ once-all nodes j i seen e o =
     sym (every-true nodes (λ v. leb (occurs v j) 1) (λ v l. le-leb (occurs v j) 1 (rw (e, take-length j) at (o .once v l))))
 
 -- ---- two maps joined and closed in one pass
-pub record Joining (n nodes stays : ℕ) (f k : List ℕ) (t : List ℕ) (seen images i : ℕ) : Type 0 where
+pub record Joining (n nodes stays : ℕ) (table : List ℕ) (m : ℕ) (f k t : List ℕ) (seen images i : ℕ) : Type 0 where
   pub few : i ≤ n
   pub agreed : Agreed f k i
   pub once : Once nodes (joined n f k) i seen
   pub placed : Placed (λ x. keepIf (member stays x) (orElse (at f x) (at k x))) i t
   pub kept : NodesIn images (take i (openJoined n stays f k))
+  pub closed : (x : ℕ) → x < i → lostAt stays table m f k x ≡ false
 
-pub joining-none : (n nodes stays : ℕ) (f k : List ℕ) → length f ≡ 8 → length k ≡ 8 → Joining n nodes stays f k (replicate 8 unplaced) 0 0 0
-joining-none n nodes stays f k size size′ = record {
+pub joining-none : (n nodes stays : ℕ) (table : List ℕ) (m : ℕ) (f k : List ℕ) → length f ≡ 8 → length k ≡ 8 → Joining n nodes stays table m f k (replicate 8 unplaced) 0 0 0
+joining-none n nodes stays table m f k size size′ = record {
   few = omega arith;
   agreed = agree-none f k size size′;
   once = once-none nodes (joined n f k);
   placed = placed-none _;
   kept = seen-none (openJoined n stays f k);
+  closed = λ x h. absurd (omega arith);
 }
 
 pub length-joined : (n : ℕ) (f k : List ℕ) → length (joined n f k) ≡ n
@@ -213,9 +213,60 @@ either-true false q h a b x y = sym (and-no a) ∙ ap (λ c. a && c) (y h)
     and-no true = refl
     and-no false = refl
 
-module _ (n nodes stays : ℕ) (f k : List ℕ) (size : length f ≡ 8) (size′ : length k ≡ 8) (few : n ≤ 8) (few′ : nodes ≤ 64) where
-  module _ (t : List ℕ) (seen images i a b v : ℕ) (again : Bool) (h : i < n) (x : a ≡ getD f i 0) (y : b ≡ getD k i 0) (z : v ≡ orElse a b) (found : Found seen v again)
-      (o : Joining n nodes stays f k t seen images i) where
+-- one image more in a set
+gains : (m v on : ℕ) → Added 0 v on → (x : ℕ) → x < 64 → member (bitOr m on) x ≡ (member m x || eqb x v)
+unfolding _∪_
+gains m v on added x h = member-union m on x ∙ ap (λ b. member m x || b) (added .members x h ∙ ap (λ b. b || eqb x v) (member-none x))
+
+-- .. where its rule node is open
+gains-open : (m v on stays i part : ℕ) → Added 0 v on → ((x : ℕ) → member part x ≡ (member stays i && member on x)) → (x : ℕ) → x < 64
+    → member (bitOr m part) x ≡ (member m x || eqb x (keepIf (member stays i) v))
+unfolding _∪_
+gains-open m v on stays i part added chosen x h = member-union m part x ∙ ap (λ b. member m x || b) (chosen x ∙ go (member stays i))
+  where
+    go : (p : Bool) → (p && member on x) ≡ eqb x (keepIf p v)
+    go true = added .members x h ∙ ap (λ b. b || eqb x v) (member-none x)
+    go false = sym (ne-eqb x 64 (λ s. omega arith))
+
+-- whether the image is a node of the graph that was seen before
+module _ (nodes v seen on known : ℕ) (few : nodes ≤ 64) (added : Added 0 v on) (filled : Filled nodes known) where
+  abbrev twice : ℕ
+  twice = bitAnd (bitAnd seen on) known
+
+  both : (e : ℕ) → member twice e ≡ (member seen e && member on e && member known e)
+  both e = member-both (bitAnd seen on) known e ∙ ap (λ b. b && member known e) (member-both seen on e)
+
+  size : min nodes 64 ≡ nodes
+  size = omega arith
+
+  known-is : (e : ℕ) → member known e ≡ ltb e nodes
+  known-is e = ap (λ m. member m e) (filled .value ∙ ap full size) ∙ member-full nodes e
+
+  pub seen-twice : not (eqb twice 0) ≡ true → (v < nodes) × (member seen v ≡ true)
+  seen-twice t =
+      let (e, here) = nonempty twice (omega (arith, eqb-false twice 0 (not-true (eqb twice 0) t))) in
+      let (r, q) = and-true (member seen e && member on e) (member known e) (sym (both e) ∙ true-member twice e here) in
+      let (s, p) = and-true (member seen e) (member on e) r in
+      let l : e < nodes = ltb-true e nodes (sym (known-is e) ∙ q) in
+      let same : e ≡ v = eqb-true e v (sym (added .members e (omega arith) ∙ ap (λ b. b || eqb e v) (member-none e)) ∙ p) in
+      (omega arith, ap (member seen) (sym same) ∙ s)
+
+  pub seen-once : not (eqb twice 0) ≡ false → v < nodes → member seen v ≡ false
+  seen-once t l = go (member seen v) refl
+    where
+      none : member twice v ≡ false
+      none = ap (λ m. member m v) (eqb-true twice 0 (not-false (eqb twice 0) t)) ∙ member-none v
+
+      here : member on v ≡ true
+      here = added .members v (omega arith) ∙ rw (member-none v, eq-eqb v v refl)
+
+      go : (p : Bool) → member seen v ≡ p → member seen v ≡ false
+      go true s = absurd (false≢true (sym none ∙ both v ∙ rw (s, here, known-is v, lt-ltb v nodes l)))
+      go false s = s
+
+module _ (n nodes stays : ℕ) (table : List ℕ) (m : ℕ) (f k : List ℕ) (size : length f ≡ 8) (size′ : length k ≡ 8) (few : n ≤ 8) (few′ : nodes ≤ 64) where
+  module _ (t : List ℕ) (seen images i a b v on known : ℕ) (h : i < n) (x : a ≡ getD f i 0) (y : b ≡ getD k i 0) (z : v ≡ orElse a b) (added : Added 0 v on) (filled : Filled nodes known)
+      (o : Joining n nodes stays table m f k t seen images i) where
     image : v ≡ orElse (at f i) (at k i)
     image = z ∙ ap₂ orElse (x ∙ getD-any f i 0 unplaced (omega arith)) (y ∙ getD-any k i 0 unplaced (omega arith))
 
@@ -225,38 +276,70 @@ module _ (n nodes stays : ℕ) (f k : List ℕ) (size : length f ≡ 8) (size′
     value : v ≡ getD (joined n f k) i 0
     value = image ∙ sym (at-joined n f k i h) ∙ getD-any (joined n f k) i unplaced 0 inside
 
-    pub joining-not : ((ltb a 64 && ltb b 64 && not (eqb a b)) || (again && ltb v nodes)) ≡ true → Merges n nodes stays f k (record { ok = false; nodes = t; images = images })
-    joining-not fails = record {
-      test =
-          either-true (ltb a 64 && ltb b 64 && not (eqb a b)) (again && ltb v nodes) fails (agree n f k) (oneToOne nodes (joined n f k))
-          (agree-not f k size size′ n i a b few h x y) (once-not nodes (joined n f k) few′ i v seen again inside value found (o .once));
-      map = λ p. absurd (false≢true p);
-      seen = λ p. absurd (false≢true p);
+    abbrev again : Bool
+    again = not (eqb (bitAnd (bitAnd seen on) known) 0)
+
+    abbrev merged : Bool
+    merged = agree n f k && oneToOne nodes (joined n f k)
+
+    merges-not : (x : Merged) → x .ok ≡ false → false ≡ (merged && noneLost n stays table m f k) → Merges n nodes stays table m f k x
+    merges-not x bad test = record {
+      test = bad ∙ test;
+      map = λ p. absurd (false≢true (sym bad ∙ p));
+      seen = λ p. absurd (false≢true (sym bad ∙ p));
+      images = λ p. absurd (false≢true (sym bad ∙ p));
     }
 
-    pub joining-next : ((ltb a 64 && ltb b 64 && not (eqb a b)) || (again && ltb v nodes)) ≡ false → (seen′ : ℕ) → Added seen v seen′ → (here : Bool) → Found stays i here → (w : ℕ) → w ≡ keepIf here v
-        → (images′ : ℕ) → Added images w images′ → Joining n nodes stays f k (set t i w) seen′ images′ (i + 1)
-    joining-next passes seen′ added here stay w is images′ added′ =
-        let (p, q) = either-false (ltb a 64 && ltb b 64 && not (eqb a b)) (again && ltb v nodes) passes in
+    pub joining-not : ((ltb a 64 && ltb b 64 && not (eqb a b)) || again) ≡ true → (x : Merged) → x .ok ≡ false → Merges n nodes stays table m f k x
+    joining-not fails r bad =
+        merges-not r bad
+        (ap (λ b. b && noneLost n stays table m f k)
+        (either-true (ltb a 64 && ltb b 64 && not (eqb a b)) again fails (agree n f k) (oneToOne nodes (joined n f k))
+        (agree-not f k size size′ n i a b few h x y)
+        (λ p. let (l, s) = seen-twice nodes v seen on known few′ added filled p in once-not nodes (joined n f k) few′ i v seen inside value (o .once) l s)))
+
+    lost-is : (here : Bool) → Found stays i here → (c : Bool) → c ≡ (not here && openBy table m v) → lostAt stays table m f k i ≡ c
+    lost-is here stay c e = sym (e ∙ ap₂ (λ (p : Bool) (u : ℕ). not p && openBy table m u) (stay .value) image)
+
+    pub joining-lost : (here : Bool) → Found stays i here → (c : Bool) → c ≡ (not here && openBy table m v) → c ≡ true → (x : Merged) → x .ok ≡ false → Merges n nodes stays table m f k x
+    unfolding noneLost
+    joining-lost here stay c e fails r bad =
+        merges-not r bad
+        (sym (and-false merged) ∙ ap (λ b. merged && b) (every-false n (λ x. not (lostAt stays table m f k x)) i h (ap not (lost-is here stay c e ∙ fails))))
+
+    pub joining-next : ((ltb a 64 && ltb b 64 && not (eqb a b)) || again) ≡ false → (here : Bool) → Found stays i here → (c : Bool) → c ≡ (not here && openBy table m v) → c ≡ false → (w : ℕ) → w ≡ keepIf here v
+        → (part : ℕ) → ((x : ℕ) → member part x ≡ (member stays i && member on x)) → Joining n nodes stays table m f k (set t i w) (bitOr seen on) (bitOr images part) (i + 1)
+    joining-next passes here stay c e stuck w is part chosen =
+        let (p, q) = either-false (ltb a 64 && ltb b 64 && not (eqb a b)) again passes in
         let there : w ≡ keepIf (member stays i) (orElse (at f i) (at k i)) = is ∙ ap₂ keepIf (stay .value) image in
         let long : i < length (openJoined n stays f k) = omega (arith, length-tabulate n (λ x. keepIf (member stays x) (orElse (at f x) (at k x)))) in
+        let open-is : keepIf (member stays i) v ≡ w = ap (keepIf (member stays i)) image ∙ sym there in
         record {
           few = omega arith;
           agreed = agree-next f k size size′ n i a b few h x y p (o .agreed);
-          once = once-next nodes (joined n f k) few′ i v seen again inside value found (o .once) seen′ added q;
+          once = once-next nodes (joined n f k) few′ i v seen inside value (o .once) (bitOr seen on) (gains seen v on added) (seen-once nodes v seen on known few′ added filled q);
           placed = placed-next (λ x. keepIf (member stays x) (orElse (at f x) (at k x))) i w t (omega arith) there (o .placed);
           kept =
-              seen-next (openJoined n stays f k) i w images images′ long
-              (there ∙ sym (at-tabulate n (λ x. keepIf (member stays x) (orElse (at f x) (at k x))) i h) ∙ getD-any (openJoined n stays f k) i unplaced 0 long) added′ (o .kept);
+              seen-next (openJoined n stays f k) i w images (bitOr images part) long
+              (there ∙ sym (at-tabulate n (λ x. keepIf (member stays x) (orElse (at f x) (at k x))) i h) ∙ getD-any (openJoined n stays f k) i unplaced 0 long)
+              (λ x l. gains-open images v on stays i part added chosen x l ∙ ap (λ u. member images x || eqb x u) open-is) (o .kept);
+          closed = λ z l. go z l (decLt z i);
         }
+      where
+        go : (z : ℕ) → z < i + 1 → Dec (z < i) → lostAt stays table m f k z ≡ false
+        go z l (yes d) = o .closed z d
+        go z l (no d) = let same : z ≡ i = omega arith in ap (lostAt stays table m f k) same ∙ lost-is here stay c e ∙ stuck
 
-  pub joining-all : (t : List ℕ) (seen images i : ℕ) → n ≤ i → Joining n nodes stays f k t seen images i → Merges n nodes stays f k (record { ok = true; nodes = t; images = images })
+  pub joining-all : (t : List ℕ) (seen images i : ℕ) → n ≤ i → Joining n nodes stays table m f k t seen images i → Merges n nodes stays table m f k (record { ok = true; nodes = t; seen = seen; images = images })
+  unfolding noneLost
   joining-all t seen images i h o =
       let e : i ≡ n = omega (arith, o .few) in
       record {
         test =
-            ap₂ _&&_ (agree-all f k size size′ n i h (o .agreed))
-            (once-all nodes (joined n f k) i seen (e ∙ sym (length-joined n f k)) (o .once));
+            ap₂ _&&_
+            (ap₂ _&&_ (agree-all f k size size′ n i h (o .agreed)) (once-all nodes (joined n f k) i seen (e ∙ sym (length-joined n f k)) (o .once)))
+            (sym (every-true n (λ x. not (lostAt stays table m f k x)) (λ x l. ap not (o .closed x (omega arith)))));
         map = λ p. placed-all (λ x. keepIf (member stays x) (orElse (at f x) (at k x))) n i t (o .few) h (o .placed);
-        seen = λ p. seen-all (openJoined n stays f k) i images (e ∙ sym (length-tabulate n (λ x. keepIf (member stays x) (orElse (at f x) (at k x))))) (o .kept);
+        seen = λ p. seen-all (joined n f k) i seen (e ∙ sym (length-joined n f k)) (o .once .seen);
+        images = λ p. seen-all (openJoined n stays f k) i images (e ∙ sym (length-tabulate n (λ x. keepIf (member stays x) (orElse (at f x) (at k x))))) (o .kept);
       }

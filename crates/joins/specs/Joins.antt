@@ -2,14 +2,16 @@
 use mathlib.Core.Path.{_≡_}
 use mathlib.Core.Bool.{Bool, true, false, _&&_, _||_, not}
 use mathlib.Core.List.{List, [], _∷_}
-use Prim.Native.Nat.{ℕ, zero, suc, _+_, _<_}
+use Prim.Native.Nat.{ℕ, zero, suc, _+_, _-_, _^_, _<_}
 use lib.ListN.{getD, replicate}
-use lib.Dec.{ltb}
+use lib.Bits.{bitOr, bitAnd}
+use lib.Dec.{eqb, ltb}
 use Rattle.masks.specs.Masks.{member, _∪_}
 use Rattle.hrg.specs.Counts.{occurs, tabulate}
 use Rattle.hrg.specs.Grammars.{ruleOf, rightOf, planOf, edgeAt}
 use Rattle.hrg.specs.Trees.{unplaced, at, padded}
 use Rattle.hrg.specs.Items.{Item, active, passive, below, isOpen, isOpenAt, orElse, joined, keepIf}
+use Rattle.hrg.specs.WellFormedTest.{every}
 use Rattle.hrg.specs.ClosureRun.{agree, oneToOne}
 use Rattle.questions.specs.Layout.{word, rankAt, ruleCount, ruleEdges, rulePlan}
 use Rattle.questions.specs.Checking.{checkGrammar, checkGraph}
@@ -82,6 +84,23 @@ pub record OpenAt (g : List ℕ) (r p m : ℕ) : Type 0 where
 pub record OpenIn (g h : List ℕ) (m o : ℕ) : Type 0 where
   pub members : (v : ℕ) → v < 64 → member o v ≡ isOpen (graphOf g h) m v
 
+-- every open graph node of the edge set m is in the set o
+pub record Spans (g h : List ℕ) (m o : ℕ) : Type 0 where
+  pub each : (v : ℕ) → v < 64 → isOpen (graphOf g h) m v ≡ true → member o v ≡ true
+
+-- those in the set `seen` are in the set `images`
+pub record Keeps (g h : List ℕ) (m seen images : ℕ) : Type 0 where
+  pub each : (v : ℕ) → v < 64 → member seen v ≡ true → isOpen (graphOf g h) m v ≡ true → member images v ≡ true
+
+-- the edges of graph node v, by a table of the graph: from word 321 on it has those by place and node
+abbrev pub edgesOn : List ℕ → ℕ → ℕ
+edgesOn t v = bitOr (bitOr (getD t (321 + v) 0) (getD t (385 + v) 0)) (bitOr (getD t (449 + v) 0) (getD t (513 + v) 0))
+
+-- whether graph node v is open in the edge set m, by a table of the graph
+unfoldable pub openBy : List ℕ → ℕ → ℕ → Bool
+openBy t m v =
+    ltb v 64 && (not (eqb (bitAnd (edgesOn t v) m) 0) && (member (getD t 256 0) v || not (eqb (bitAnd (edgesOn t v) (2 ^ 64 - 1 - m)) 0)))
+
 -- ---- maps of rule nodes
 -- the nodes of edge i of rule r
 abbrev pub edgeNodes : List ℕ → ℕ → ℕ → List ℕ
@@ -92,17 +111,27 @@ edgeNodes g r i = edgeAt (rightOf (grammarOf g) r .edges) i .attachment
 abbrev pub openJoined : ℕ → ℕ → List ℕ → List ℕ → List ℕ
 openJoined n stays f k = tabulate n (λ x. keepIf (member stays x) (orElse (at f x) (at k x)))
 
--- whether two maps of n nodes are one map and one-to-one; that map without the closed nodes, and its images
-pub record Merges (n nodes stays : ℕ) (f k : List ℕ) (x : Merged) : Type 0 where
-  pub test : x .ok ≡ (agree n f k && oneToOne nodes (joined n f k))
+-- whether rule node x, which two maps give an image, is dropped though the image is open in the edge set m
+abbrev pub lostAt : ℕ → List ℕ → ℕ → List ℕ → List ℕ → ℕ → Bool
+lostAt stays t m f k x = not (member stays x) && openBy t m (orElse (at f x) (at k x))
+
+-- whether no node is
+unfoldable pub noneLost : ℕ → ℕ → List ℕ → ℕ → List ℕ → List ℕ → Bool
+unfolding every
+noneLost n stays t m f k = every n (λ x. not (lostAt stays t m f k x))
+
+-- whether two maps of n nodes are one map and one-to-one and lose no node that is open in the edge set m; that map without the closed nodes, its images, and those of the closed nodes too
+pub record Merges (n nodes stays : ℕ) (t : List ℕ) (m : ℕ) (f k : List ℕ) (x : Merged) : Type 0 where
+  pub test : x .ok ≡ (agree n f k && oneToOne nodes (joined n f k) && noneLost n stays t m f k)
   pub map : x .ok ≡ true → x .nodes ≡ padded (openJoined n stays f k)
-  pub seen : x .ok ≡ true → NodesIn (x .images) (openJoined n stays f k)
+  pub seen : x .ok ≡ true → NodesIn (x .seen) (joined n f k)
+  pub images : x .ok ≡ true → NodesIn (x .images) (openJoined n stays f k)
 
 abbrev pub nothing : Joined
-nothing = record { found = false; edges = 0; nodes = replicate 8 unplaced }
+nothing = record { found = false; edges = 0; nodes = replicate 8 unplaced; images = 0 }
 
--- the item that `combine` makes, if it does: its set, and its map in eight places
-unfoldable pub joinedOf : List Item → Joined
-joinedOf [] = nothing
-joinedOf (active r p m t ∷ is) = record { found = true; edges = m; nodes = padded t }
-joinedOf (passive s m L ∷ is) = nothing
+-- the item that `combine` makes, if it does: its set, its map in eight places, and o for the images
+unfoldable pub joinedAs : List Item → ℕ → Joined
+joinedAs [] o = nothing
+joinedAs (active r p m t ∷ is) o = record { found = true; edges = m; nodes = padded t; images = o }
+joinedAs (passive s m L ∷ is) o = nothing

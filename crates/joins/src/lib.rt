@@ -1,16 +1,19 @@
 // The leaves of the chart's step, over accepted tables: what lies below a plan node, open nodes, the map of an edge, and two maps joined.
 ghost use mathlib.Core.Path.{_≡_};
+ghost use mathlib.Core.Bool.{true, false, _&&_, not};
 ghost use mathlib.Core.List.{List};
-ghost use Prim.Native.Nat.{ℕ, _+_, _*_, _≤_};
+ghost use Prim.Native.Nat.{ℕ, _+_, _*_, _≤_, _<_};
 ghost use lib.ListN.{length, take};
+ghost use Rattle.masks.specs.Masks.{single};
 ghost use Rattle.hrg.specs.Trees.{padded};
 ghost use Rattle.hrg.specs.Counts.{tabulate};
 ghost use Rattle.hrg.specs.Grammars.{ruleOf};
 ghost use Rattle.hrg.specs.Items.{attach};
 ghost use Rattle.hrg.specs.ClosureRun.{covering, combine};
-ghost use Rattle.questions.specs.Layout.{word, rankAt, startSymbol, ruleSymbol, ruleNodes, ruleExternal, edgeLabel, graphExternal};
+ghost use Rattle.questions.specs.Layout.{word, rankAt, startSymbol, ruleSymbol, ruleNodes, ruleExternal, edgeLabel, graphEdges, graphExternal};
+ghost use Rattle.questions.specs.Checking.{checkGrammar};
 ghost use Rattle.questions.specs.Abstract.{grammarOf, graphOf};
-ghost use Rattle.joins.specs.Joins.{KnownNode, KnownEdge, Accepted, EdgesBelow, MasksBelow, NodesIn, sideWith, SidesOf, Boundary, OpenAt, OpenIn, edgeNodes, Merges, joinedOf};
+ghost use Rattle.joins.specs.Joins.{KnownNode, KnownEdge, Accepted, EdgesBelow, MasksBelow, NodesIn, sideWith, SidesOf, Boundary, OpenAt, OpenIn, Spans, Keeps, edgeNodes, openBy, Merges, nothing, joinedAs};
 ghost use Rattle.joins.specs.Graphs.{GraphTable, Touched};
 
 pub mod graphs;
@@ -165,35 +168,88 @@ pub fn open_in(g: &[u64], h: &[u64], graph: &[u64; 577], m: u64) -> u64
     boundary(s, graph[256])
 }
 
+// The nodes of graph edge e, among which are the open nodes of that edge alone.
+pub fn edge_span(g: &[u64], h: &[u64], graph: &[u64; 577], e: u64) -> u64
+    requires { ⌜ Accepted (now g) (now h) × GraphTable (now g) (now h) (now graph) × (e < graphEdges (now h)) ⌝ }
+    ensures { λ x. ⌜ Spans (now (g .entry)) (now (h .entry)) (single e) x ⌝ }
+{
+    graph[(16 * (e / 4) + (1u64 << (e % 4))) as usize]
+}
+
+// The rank of a symbol below 64 of an accepted table, which has that symbol's line.
+pub fn rank_of(g: &[u64], s: u64) -> u64
+    requires { ⌜ (checkGrammar (now g) ≡ true) × (s < 64) ⌝ }
+    ensures { λ x. ⌜ (x ≡ rankAt (now (g .entry)) s) × (x ≤ 4) ⌝ }
+{
+    layout::at_most(4, layout::word_in(g, 1 + s, 2))
+}
+
 // ---- maps of rule nodes: eight places, 64 where a node has no image
 // The map of edge i's nodes to the first nodes of l, in order: from the last on, since the first of equal nodes counts.
-pub fn attach(g: &[u64], r: u64, i: u64, l: [u64; 8]) -> [u64; 8]
-    requires { ⌜ KnownEdge (now g) r i ⌝ }
-    ensures { λ f. ⌜ f ≡ padded (attach (ruleNodes (now (g .entry)) r) (edgeNodes (now (g .entry)) r i) (take (rankAt (now (g .entry)) (edgeLabel (now (g .entry)) r i)) l)) ⌝ }
+pub fn attach(g: &[u64], r: u64, i: u64, l: &[u64]) -> [u64; 8]
+    requires { ⌜ KnownEdge (now g) r i × (length (now l) ≡ 8) ⌝ }
+    ensures { λ f. ⌜ f ≡ padded (attach (ruleNodes (now (g .entry)) r) (edgeNodes (now (g .entry)) r i) (take (rankAt (now (g .entry)) (edgeLabel (now (g .entry)) r i)) (now (l .entry)))) ⌝ }
 {
     let p = 66 + 25 * r + i;
     let mut f = [64u64; 8];
-    let mut k = layout::rank_at(g, layout::word(g, p, 0));
+    let mut k = rank_of(g, layout::word_in(g, p, 0));
     while 0 < k {
         k -= 1;
-        let x = layout::word(g, p, 1 + k);
+        let x = layout::word_in(g, p, 1 + k);
         f[x as usize] = l[k as usize];
     }
     f
 }
 
-// Two maps as one without the rule nodes that are closed, its images, and whether the two agree and are one-to-one together.
+// Whether graph node v is open in the edge set m, where a rule node with this image is dropped. The words of v at the four places have its edges.
+fn lost(graph: &[u64; 577], m: u64, stays: bool, v: u64) -> bool
+    ensures { λ x. ⌜ x ≡ (not stays && openBy (now (graph .entry)) m v) ⌝ }
+{
+    if stays {
+        return false;
+    }
+    if v >= 64 {
+        return false;
+    }
+    let low = graph[(321 + v) as usize] | graph[(385 + v) as usize];
+    let high = graph[(449 + v) as usize] | graph[(513 + v) as usize];
+    let on = low | high;
+    (on & m != 0) & (masks::has(graph[256], v) | (on & !m != 0))
+}
+
+// Two maps as one without the rule nodes that are closed, its images, those of the closed nodes too, and whether the two agree, are one-to-one together and drop no open graph node.
 struct Merged {
     ok: bool,
     nodes: [u64; 8],
+    seen: u64,
     images: u64,
 }
 
-// Two maps of n rule nodes to `nodes` graph nodes, in one pass: the rule nodes in `stays` are open.
-fn merge_maps(n: u64, nodes: u64, stays: u64, f: &[u64; 8], k: &[u64; 8]) -> Merged
-    requires { ⌜ (n ≤ 8) × (nodes ≤ 64) × (length (now f) ≡ 8) × (length (now k) ≡ 8) ⌝ }
-    ensures { λ x. ⌜ Merges n nodes stays (now (f .entry)) (now (k .entry)) x ⌝ }
+fn not_merged() -> Merged
+    ensures { λ x. ⌜ x .ok ≡ false ⌝ }
 {
+    Merged {
+        ok: false,
+        nodes: [64u64; 8],
+        seen: 0,
+        images: 0,
+    }
+}
+
+// Two maps of n rule nodes to `nodes` graph nodes, in one pass: the rule nodes in `stays` are open. The set of an image is made once and serves each test.
+fn merge_maps(
+    n: u64,
+    nodes: u64,
+    stays: u64,
+    graph: &[u64; 577],
+    m: u64,
+    f: &[u64],
+    k: &[u64],
+) -> Merged
+    requires { ⌜ (n ≤ 8) × (nodes ≤ 64) × (length (now f) ≡ 8) × (length (now k) ≡ 8) ⌝ }
+    ensures { λ x. ⌜ Merges n nodes stays (now (graph .entry)) m (now (f .entry)) (now (k .entry)) x ⌝ }
+{
+    let known = masks::full(nodes);
     let mut t = [64u64; 8];
     let mut seen: u64 = 0;
     let mut images: u64 = 0;
@@ -202,44 +258,69 @@ fn merge_maps(n: u64, nodes: u64, stays: u64, f: &[u64; 8], k: &[u64; 8]) -> Mer
         let a = f[i as usize];
         let b = k[i as usize];
         let v = maps::first_of(a, b);
-        let again = masks::has(seen, v);
-        if ((a < 64) & (b < 64) & (a != b)) | (again & (v < nodes)) {
-            return Merged {
-                ok: false,
-                nodes: t,
-                images,
-            };
+        let on = masks::with(0, v);
+        if ((a < 64) & (b < 64) & (a != b)) | (seen & on & known != 0) {
+            return not_merged();
         }
-        seen = masks::with(seen, v);
-        let w = maps::kept(masks::has(stays, i), v);
+        let here = masks::has(stays, i);
+        if lost(graph, m, here, v) {
+            return not_merged();
+        }
+        seen |= on;
+        let w = maps::kept(here, v);
         t[i as usize] = w;
-        images = masks::with(images, w);
+        images |= graphs::chosen(stays, i, on);
         i += 1;
     }
     Merged {
         ok: true,
         nodes: t,
+        seen,
         images,
     }
 }
 
-// Whether every open graph node of the edge set m is one of the images.
-fn covered(g: &[u64], h: &[u64], graph: &[u64; 577], m: u64, images: u64) -> bool
-    requires { ⌜ Accepted (now g) (now h) × GraphTable (now g) (now h) (now graph) ⌝ }
+// Whether every open graph node of the edge set m is one of the images. The open nodes are in `near`; those in `seen` are images.
+fn covered(
+    g: &[u64],
+    h: &[u64],
+    graph: &[u64; 577],
+    m: u64,
+    near: u64,
+    seen: u64,
+    images: u64,
+) -> bool
+    requires { ⌜ Accepted (now g) (now h) × GraphTable (now g) (now h) (now graph) × Spans (now g) (now h) m near × Keeps (now g) (now h) m seen images ⌝ }
     ensures { λ x. ⌜ ((t : List ℕ) → NodesIn images t → x ≡ covering (graphOf (now (g .entry)) (now (h .entry))) m t) ⌝ }
 {
+    if near & seen == near {
+        return true;
+    }
     let nodes = open_in(g, h, graph, m);
     nodes & images == nodes
 }
 
-// What two sets and maps make: nothing where found is false.
+// What two sets and maps make: nothing where found is false. The images are the graph nodes of its map.
 pub struct Joined {
     pub found: bool,
     pub edges: u64,
     pub nodes: [u64; 8],
+    pub images: u64,
+}
+
+fn not_joined() -> Joined
+    ensures { λ x. ⌜ x ≡ nothing ⌝ }
+{
+    Joined {
+        found: false,
+        edges: 0,
+        nodes: [64u64; 8],
+        images: 0,
+    }
 }
 
 // The item of rule r at plan node q that two sets and maps of rule nodes make, if they do: the rule nodes in `stays` are open there.
+// The open graph nodes of both sets are in `near`: the fewer others are, the sooner it is known that the union's are covered.
 pub fn combine(
     g: &[u64],
     h: &[u64],
@@ -249,34 +330,31 @@ pub fn combine(
     stays: u64,
     m1: u64,
     m2: u64,
-    f: [u64; 8],
-    k: [u64; 8],
+    near: u64,
+    f: &[u64],
+    k: &[u64],
 ) -> Joined
-    requires { ⌜ Accepted (now g) (now h) × KnownNode (now g) r q × GraphTable (now g) (now h) (now graph) × OpenAt (now g) r q stays ⌝ }
-    ensures { λ x. ⌜ x ≡ joinedOf (combine (graphOf (now (g .entry)) (now (h .entry))) (ruleOf (grammarOf (now (g .entry))) r) r q m1 m2 (take (ruleNodes (now (g .entry)) r) f) (take (ruleNodes (now (g .entry)) r) k)) ⌝ }
+    requires { ⌜ Accepted (now g) (now h) × KnownNode (now g) r q × GraphTable (now g) (now h) (now graph) × OpenAt (now g) r q stays × Spans (now g) (now h) m1 near × Spans (now g) (now h) m2 near × (length (now f) ≡ 8) × (length (now k) ≡ 8) ⌝ }
+    ensures { λ x. ⌜ (x ≡ joinedAs (combine (graphOf (now (g .entry)) (now (h .entry))) (ruleOf (grammarOf (now (g .entry))) r) r q m1 m2 (take (ruleNodes (now (g .entry)) r) (now (f .entry))) (take (ruleNodes (now (g .entry)) r) (now (k .entry)))) (x .images)) × Spans (now (g .entry)) (now (h .entry)) (x .edges) (x .images) ⌝ }
 {
-    let none = Joined {
-        found: false,
-        edges: 0,
-        nodes: [64u64; 8],
-    };
     if !masks::disjoint(m1, m2) {
-        return none;
+        return not_joined();
     }
-    let n = layout::rule_nodes(g, r);
+    let n = layout::word_in(g, 65 + 25 * r, 2);
     let nodes = layout::graph_nodes(h);
-    let merged = merge_maps(n, nodes, stays, &f, &k);
-    if !merged.ok {
-        return none;
-    }
     let m = masks::union(m1, m2);
-    if !covered(g, h, graph, m, merged.images) {
-        return none;
+    let merged = merge_maps(n, nodes, stays, graph, m, f, k);
+    if !merged.ok {
+        return not_joined();
+    }
+    if !covered(g, h, graph, m, near, merged.seen, merged.images) {
+        return not_joined();
     }
     let t = merged.nodes;
     Joined {
         found: true,
         edges: m,
         nodes: t,
+        images: merged.images,
     }
 }

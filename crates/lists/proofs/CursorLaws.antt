@@ -10,7 +10,7 @@ use lib.Dec.{eqb, leb, ltb}
 use lib.ListN.{length, length-append, getD, List·getD-append}
 use borrow.Author.Tests.{eq-eqb, ne-eqb, le-leb, lt-leb, lt-ltb, le-ltb}
 use Rattle.lists.specs.Lists.{firstFrom, Listed, Within}
-use Rattle.lists.specs.Cursors.{startsOf, nearer, nearestOf, leastOf, movedOn, passedOf, Points, Ahead, Skims, stays, goes, SkimsAll, leftOf, leftAll}
+use Rattle.lists.specs.Cursors.{alone, startsOf, nearer, nearestOf, leastOf, movedOn, passedOf, Points, Ahead, Skims, stays, goes, SkimsAll, leftOf, leftAll}
 use Rattle.lists.proofs.ListLaws.{IsFirst, first-of, five}
 
 -- ---- the nearer of two
@@ -85,6 +85,10 @@ unfolding leastOf
 least-by cs m e = (ap (λ i. (i - 1) / 5) e, omega (arith, nearest-pos cs m e .1))
 
 -- ---- one cursor
+pub alone-nearest : (c m : ℕ) → m ≡ nearer 20481 c → m ≡ nearestOf (alone c)
+unfolding nearestOf nearer
+alone-nearest c m p = p
+
 module _ (ws : List ℕ) (to c : ℕ) where
   pub moved-end : c ≡ 0 → 0 ≡ movedOn ws to c
   unfolding movedOn
@@ -314,3 +318,22 @@ module _ (quiet : ℕ → Bool) (ws keys query : List ℕ) (n done : ℕ) (cs ds
   pub left-skims : leftAll ds ≤ leftAll cs
   unfolding leftAll
   left-skims = omega (arith, at 0 (omega arith) .same, at 1 (omega arith) .same, at 2 (omega arith) .same, at 3 (omega arith) .same, at 4 (omega arith) .same)
+
+-- ---- one cursor
+pub alone-starts : (ws keys : List ℕ) (b : ℕ) (query : List ℕ) → Listed ws keys → query ≡ alone b → (r : ℕ) → r ≡ getD ws b 0 → alone r ≡ startsOf ws query
+unfolding startsOf
+alone-starts ws keys b query L e r p = rw (e, p, L .none)
+
+pub alone-passed : (ws : List ℕ) (c k r : ℕ) → 0 < c → c ≤ 5 * k + 5 → r ≡ getD ws (4097 + c) 0 → alone r ≡ passedOf ws (alone c) k
+unfolding passedOf movedOn
+alone-passed ws c k r h l p = rw (p, ne-eqb c 0 (λ e. omega arith), le-ltb (5 * k + 5) c l)
+
+-- a cursor that is at one of the first n records
+pub alone-at : (c k n : ℕ) → k ≡ leastOf (alone c) → k < n → n ≤ 4096 → (0 < c) × (c ≤ 5 * k + 5)
+unfolding leastOf nearestOf nearer
+alone-at c k n e l h = go (ℕ-discrete c 0) (decLt c 20481)
+  where
+    go : Dec (c ≡ 0) → Dec (c < 20481) → (0 < c) × (c ≤ 5 * k + 5)
+    go (yes z) d = absurd (let q : k ≡ 4096 = rw z at e in omega arith)
+    go (no z) (no d) = absurd (let q : k ≡ 4096 = rw (ne-eqb c 0 z, le-leb 20481 c (omega arith)) at e in omega arith)
+    go (no z) (yes d) = let q : k ≡ (c - 1) / 5 = rw (ne-eqb c 0 z, lt-leb 20481 c d) at e in (omega arith, omega arith)

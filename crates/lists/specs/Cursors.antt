@@ -7,6 +7,10 @@ use lib.Dec.{eqb, leb, ltb}
 use lib.ListN.{length, getD}
 use Rattle.lists.specs.Lists.{Within}
 
+-- one cursor, and four at the end
+abbrev pub alone : ℕ → List ℕ
+alone c = c ∷ 0 ∷ 0 ∷ 0 ∷ 0 ∷ []
+
 -- each cursor at the first entry of its key; key 0 has none
 unfoldable pub startsOf : List ℕ → List ℕ → List ℕ
 startsOf ws query =

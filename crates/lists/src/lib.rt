@@ -3,30 +3,22 @@ ghost use mathlib.Core.Path.{_≡_};
 ghost use Prim.Native.Nat.{_+_, _≤_, _<_};
 ghost use lib.ListN.{length, getD};
 ghost use Rattle.lists.specs.Lists.{Linkable, tailOf, appended, entered, Ready, enteredAll, Within};
-ghost use Rattle.lists.specs.Cursors.{startsOf, nearer, leastOf, movedOn, passedOf};
+ghost use Rattle.lists.specs.Cursors.{alone, startsOf, nearer, leastOf, movedOn, passedOf};
 
 // The first entry of key b: its place + 1, 0 for none.
-pub fn first(ws: &[u64], b: u64) -> u64
+pub fn first(ws: &[u32], b: u64) -> u64
     requires { ⌜ (length (now ws) ≡ 24578) × (b ≤ 2048) ⌝ }
     ensures { λ r. ⌜ r ≡ getD (now (ws .entry)) b 0 ⌝ }
 {
-    ws[b as usize]
-}
-
-// The entry after e on its list, likewise.
-pub fn next(ws: &[u64], e: u64) -> u64
-    requires { ⌜ (length (now ws) ≡ 24578) × (e < 20480) ⌝ }
-    ensures { λ r. ⌜ r ≡ getD (now (ws .entry)) (4098 + e) 0 ⌝ }
-{
-    ws[(4098 + e) as usize]
+    ws[b as usize] as u64
 }
 
 // The word that is to lead to the next entry of key b.
-fn tail(ws: &[u64], b: u64) -> u64
+fn tail(ws: &[u32], b: u64) -> u64
     requires { ⌜ (length (now ws) ≡ 24578) × (b ≤ 2048) × (getD (now ws) (2049 + b) 0 ≤ 20480) ⌝ }
     ensures { λ r. ⌜ (r ≡ tailOf (now (ws .entry)) b) × (r < 24578) ⌝ }
 {
-    let last = ws[(2049 + b) as usize];
+    let last = ws[(2049 + b) as usize] as u64;
     if last == 0 {
         return b;
     }
@@ -34,18 +26,18 @@ fn tail(ws: &[u64], b: u64) -> u64
 }
 
 // Entry e, the number of entries so far, at the end of the list of b.
-pub fn append(ws: &mut [u64], e: u64, b: u64)
+fn append(ws: &mut [u32], e: u64, b: u64)
     requires { ⌜ Linkable (now ws) e b × (0 < b) ⌝ }
     ensures { λ r. ⌜ now (ws .exit) ≡ appended (now (ws .entry)) e b ⌝ }
 {
     let at = tail(ws, b) as usize;
-    ws[at] = e + 1;
-    ws[(2049 + b) as usize] = e + 1;
+    ws[at] = (e + 1) as u32;
+    ws[(2049 + b) as usize] = (e + 1) as u32;
     ws[(4098 + e) as usize] = 0;
 }
 
 // .. an entry with key 0 is on no list.
-pub fn enter(ws: &mut [u64], e: u64, b: u64)
+fn enter(ws: &mut [u32], e: u64, b: u64)
     requires { ⌜ Linkable (now ws) e b ⌝ }
     ensures { λ r. ⌜ now (ws .exit) ≡ entered (now (ws .entry)) e b ⌝ }
 {
@@ -56,7 +48,7 @@ pub fn enter(ws: &mut [u64], e: u64, b: u64)
 }
 
 // The five entries of a record, from e on.
-pub fn enter_all(ws: &mut [u64], e: u64, bs: [u64; 5])
+pub fn enter_all(ws: &mut [u32], e: u64, bs: [u64; 5])
     requires { ⌜ Ready (now ws) × (e + 5 ≤ 20480) × Within 2048 bs ⌝ }
     ensures { λ r. ⌜ now (ws .exit) ≡ enteredAll (now (ws .entry)) e bs ⌝ }
 {
@@ -68,7 +60,7 @@ pub fn enter_all(ws: &mut [u64], e: u64, bs: [u64; 5])
 }
 
 // Five cursors, each at the first entry of its key; key 0 has none.
-pub fn starts(ws: &[u64], query: [u64; 5]) -> [u64; 5]
+pub fn starts(ws: &[u32], query: [u64; 5]) -> [u64; 5]
     requires { ⌜ (length (now ws) ≡ 24578) × Within 2048 query ⌝ }
     ensures { λ r. ⌜ r ≡ startsOf (now (ws .entry)) query ⌝ }
 {
@@ -103,8 +95,23 @@ pub fn least(cs: [u64; 5]) -> u64
     (m - 1) / 5
 }
 
+// The record at which one cursor is, 4096 where it is at the end.
+pub fn record_of(c: u64) -> u64
+    ensures { λ r. ⌜ (r ≡ leastOf (alone c)) × (r ≤ 4096) ⌝ }
+{
+    (nearer_of(20481, c) - 1) / 5
+}
+
+// The entry behind the one that the cursor e is at: its place + 1, 0 for none.
+pub fn after(ws: &[u32], e: u64) -> u64
+    requires { ⌜ (length (now ws) ≡ 24578) × (e ≤ 20480) ⌝ }
+    ensures { λ r. ⌜ r ≡ getD (now (ws .entry)) (4097 + e) 0 ⌝ }
+{
+    ws[(4097 + e) as usize] as u64
+}
+
 // A cursor at an entry below the place `to` goes on to the next entry of its list.
-fn moved(ws: &[u64], to: u64, c: u64) -> u64
+fn moved(ws: &[u32], to: u64, c: u64) -> u64
     requires { ⌜ (length (now ws) ≡ 24578) × (c ≤ 20480) ⌝ }
     ensures { λ r. ⌜ r ≡ movedOn (now (ws .entry)) to c ⌝ }
 {
@@ -114,11 +121,11 @@ fn moved(ws: &[u64], to: u64, c: u64) -> u64
     if to < c {
         return c;
     }
-    ws[(4097 + c) as usize]
+    ws[(4097 + c) as usize] as u64
 }
 
 // Each cursor whose record is k or before goes on by one entry; it may be at another entry of record k then.
-pub fn passed(ws: &[u64], cs: [u64; 5], k: u64) -> [u64; 5]
+pub fn passed(ws: &[u32], cs: [u64; 5], k: u64) -> [u64; 5]
     requires { ⌜ (length (now ws) ≡ 24578) × Within 20480 cs × (k ≤ 4096) ⌝ }
     ensures { λ r. ⌜ r ≡ passedOf (now (ws .entry)) cs k ⌝ }
 {

@@ -2,109 +2,140 @@
 use mathlib.Core.Path.{_≡_, refl, sym, ap, ap₂, _∙_}
 use mathlib.Core.Bool.{Bool, _&&_, _||_}
 use mathlib.Core.List.{List, [], _∷_}
-use Prim.Native.Nat.{ℕ, zero, suc, _%_, _≤_, _<_}
+use Prim.Native.Nat.{ℕ, zero, suc, _+_, _/_, _%_, _≤_, _<_}
 use native.Mathlib.Omega.{arith}
-use lib.ListN.{length, getD}
-use lib.Dec.{ltb, leb}
-use borrow.Author.Tests.{eq-eqb, ne-eqb, lt-ltb, le-ltb}
+use lib.ListN.{getD}
+use lib.Dec.{eqb, ltb, leb}
+use borrow.Author.Tests.{eq-eqb, ne-eqb}
+use Rattle.masks.specs.Masks.{bit}
+use Rattle.masks.specs.Laws.{bit-empty}
 use Rattle.hrg.specs.Trees.{at}
-use Rattle.agenda.specs.declared.Record.{Record}
-use Rattle.questions.specs.Layout.{rankAt}
+use Rattle.records.specs.Words.{ofWords}
 use Rattle.rules.specs.Wants.{wantIn}
-use Rattle.pivots.specs.Pivots.{positionOf, nodeOf, pivotIn}
+use Rattle.pivots.specs.Pivots.{positionOf, nodeOf, pivotIn, usesIn}
 use Rattle.pivots.specs.Keys.{bucketOf, imageOf, activeKey, placeKey, listedKeys, keysOf, queryOf, allPlaced, regularOf}
 use Rattle.pivots.proofs.KeyLaws.{key-edge, key-join, key-none, image-there, image-none}
 
--- a place that is there
-at-place : (f : List ℕ) (i : ℕ) → i < length f → getD f i 0 ≡ at f i
-at-place [] i h = absurd (omega arith)
-at-place (a ∷ f) zero h = refl
-at-place (a ∷ f) (suc i) h = at-place f i (omega arith)
+-- ---- words of a record
+node-word : (x : List ℕ) (v : ℕ) → v < 8 → getD x (6 + v) 0 ≡ at (ofWords x .nodes) v
+unfolding ofWords
+node-word x zero h = refl
+node-word x (suc zero) h = refl
+node-word x (suc (suc zero)) h = refl
+node-word x (suc (suc (suc zero))) h = refl
+node-word x (suc (suc (suc (suc zero)))) h = refl
+node-word x (suc (suc (suc (suc (suc zero))))) h = refl
+node-word x (suc (suc (suc (suc (suc (suc zero)))))) h = refl
+node-word x (suc (suc (suc (suc (suc (suc (suc zero))))))) h = refl
+node-word x (suc (suc (suc (suc (suc (suc (suc (suc v)))))))) h = absurd (omega arith)
 
 -- ---- one key
 pub image-no : (w : ℕ) (f : List ℕ) → 8 ≤ nodeOf w → 64 ≡ imageOf w f
 image-no w f h = sym (image-none w f h)
 
-pub image-read : (w : ℕ) (f : List ℕ) → length f ≡ 8 → nodeOf w < 8 → getD f (nodeOf w) 0 ≡ imageOf w f
-image-read w f e h = at-place f (nodeOf w) (omega arith) ∙ sym (image-there w f h)
+pub image-read : (w : ℕ) (x : List ℕ) → nodeOf w < 8 → getD x (6 + nodeOf w) 0 ≡ imageOf w (ofWords x .nodes)
+image-read w x h = node-word x (nodeOf w) h ∙ sym (image-there w (ofWords x .nodes) h)
 
-module _ (tag want w r p : ℕ) (f : List ℕ) where
-  pub unwanting : want ≡ 80 → 0 ≡ activeKey tag want w r p f
-  unwanting e = sym (key-none tag want w r p f e)
+module _ (pivots : List ℕ) (tag want p : ℕ) (x : List ℕ) where
+  abbrev own : ℕ
+  own = pivotIn pivots (ofWords x .of) (ofWords x .plan)
 
-  module _ (a x : ℕ) (is : a ≡ imageOf w f) where
-    pub edge-key : want < 64 → x ≡ bucketOf tag want (positionOf w) a → x ≡ activeKey tag want w r p f
-    edge-key h e = e ∙ ap (bucketOf tag want (positionOf w)) is ∙ sym (key-edge tag want w r p f h)
+  abbrev key : ℕ
+  key = activeKey tag want own (ofWords x .of) p (ofWords x .nodes)
 
-    pub join-key : (want ≡ 80 → ⊥) → 64 ≤ want → x ≡ bucketOf 3 r p a → x ≡ activeKey tag want w r p f
-    join-key n h e = e ∙ ap (bucketOf 3 r p) is ∙ sym (key-join tag want w r p f h n)
+  pub unwanting : want ≡ 80 → 0 ≡ key
+  unwanting e = sym (key-none tag want own (ofWords x .of) p (ofWords x .nodes) e)
 
-module _ (rank tag s i a : ℕ) where
-  pub place-past : rank ≤ i → 0 ≡ placeKey rank tag s i a
+  module _ (w a k : ℕ) (pivot : w ≡ pivotIn pivots (getD x 1 0) (getD x 2 0)) (is : a ≡ imageOf w (ofWords x .nodes)) where
+    own-is : w ≡ own
+    unfolding ofWords
+    own-is = pivot
+
+    image-is : a ≡ imageOf own (ofWords x .nodes)
+    image-is = is ∙ ap (λ w. imageOf w (ofWords x .nodes)) own-is
+
+    pub edge-key : want < 64 → k ≡ bucketOf tag want (positionOf w) a → k ≡ key
+    edge-key h e = e ∙ ap₂ (λ w a. bucketOf tag want (positionOf w) a) own-is image-is ∙ sym (key-edge tag want own (ofWords x .of) p (ofWords x .nodes) h)
+
+    rule-is : getD x 1 0 ≡ ofWords x .of
+    unfolding ofWords
+    rule-is = refl
+
+    pub join-key : (want ≡ 80 → ⊥) → 64 ≤ want → k ≡ bucketOf 3 (getD x 1 0) p a → k ≡ key
+    join-key n h e = e ∙ ap₂ (λ r a. bucketOf 3 r p a) rule-is image-is ∙ sym (key-join tag want own (ofWords x .of) p (ofWords x .nodes) h n)
+
+module _ (used tag s i a : ℕ) where
+  pub place-unused : used ≡ 0 → 0 ≡ placeKey used tag s i a
   unfolding placeKey
-  place-past h = rw (le-ltb i rank h)
+  place-unused e = rw (eq-eqb used 0 e)
 
-  pub place-key : (x : ℕ) → i < rank → x ≡ bucketOf tag s i a → x ≡ placeKey rank tag s i a
+  pub place-key : (x : ℕ) → (used ≡ 0 → ⊥) → x ≡ bucketOf tag s i a → x ≡ placeKey used tag s i a
   unfolding placeKey
-  place-key x h e = rw (lt-ltb i rank h) e
+  place-key x n e = rw (ne-eqb used 0 n) e
 
 -- ---- five keys
-pub listed-far : (g : List ℕ) (tag s : ℕ) (l : List ℕ) → 64 ≤ s → (0 ∷ 0 ∷ 0 ∷ 0 ∷ 0 ∷ []) ≡ listedKeys g tag s l
-unfolding listedKeys
-listed-far g tag s l h = rw (le-ltb s 64 h)
+-- the last digit is a member's bit
+bit-first : (u : ℕ) → u % 2 ≡ bit u 0
+unfolding bit
+bit-first u = omega arith
 
-module _ (g : List ℕ) (tag s : ℕ) (l : List ℕ) (eight : length l ≡ 8) (known : s < 64) (rank : ℕ) (is : rank ≡ rankAt g s) where
-  place-is : (i x : ℕ) → i < 8 → x ≡ placeKey rank tag s i (getD l i 0) → x ≡ placeKey (rankAt g s) tag s i (at l i)
-  place-is i x h e = e ∙ ap₂ (λ n a. placeKey n tag s i a) is (at-place l i (omega arith))
+module _ (pivots : List ℕ) (tag : ℕ) (x : List ℕ) (u : ℕ) (is : u ≡ usesIn pivots (getD x 1 0)) where
+  abbrev five : List ℕ
+  five = listedKeys (usesIn pivots (ofWords x .of)) tag (ofWords x .of) (ofWords x .nodes)
 
-  pub listed-keys : (a b c d e : ℕ) → a ≡ placeKey rank tag s 0 (getD l 0 0) → b ≡ placeKey rank tag s 1 (getD l 1 0) → c ≡ placeKey rank tag s 2 (getD l 2 0) → d ≡ placeKey rank tag s 3 (getD l 3 0)
-      → e ≡ bucketOf tag s 4 64 → (a ∷ b ∷ c ∷ d ∷ e ∷ []) ≡ listedKeys g tag s l
-  unfolding listedKeys
-  listed-keys a b c d e p q u v t =
-      rw (lt-ltb s 64 known)
-      (let p′ = place-is 0 a (omega arith) p in
-      let q′ = place-is 1 b (omega arith) q in
-      let u′ = place-is 2 c (omega arith) u in
-      let v′ = place-is 3 d (omega arith) v in
-      cc)
+  uses-is : listedKeys u tag (ofWords x .of) (ofWords x .nodes) ≡ five
+  unfolding ofWords
+  uses-is = ap (λ u. listedKeys u tag (getD x 1 0) (ofWords x .nodes)) is
 
-module _ (g wants pivots : List ℕ) (x : Record) where
-  abbrev want-of : ℕ
-  want-of = wantIn wants (x .of) (x .plan)
+  pub listed-none : u ≡ 0 → (0 ∷ 0 ∷ 0 ∷ 0 ∷ 0 ∷ []) ≡ five
+  unfolding listedKeys placeKey
+  listed-none e =
+      let none : (k : ℕ) → bit u k ≡ 0 = λ k. ap (λ u. bit u k) e ∙ bit-empty k in
+      let nothing : (0 ∷ 0 ∷ 0 ∷ 0 ∷ 0 ∷ []) ≡ listedKeys u tag (ofWords x .of) (ofWords x .nodes) = rw (none 0, none 1, none 2, none 3, none 4) in
+      nothing ∙ uses-is
 
-  abbrev pivot-of : ℕ
-  pivot-of = pivotIn pivots (x .of) (x .plan)
+  pub listed-keys : (a b c d e : ℕ) → a ≡ placeKey (u % 2) tag (getD x 1 0) 0 (getD x 6 0) → b ≡ placeKey (u / 2 % 2) tag (getD x 1 0) 1 (getD x 7 0)
+      → c ≡ placeKey (u / 4 % 2) tag (getD x 1 0) 2 (getD x 8 0) → d ≡ placeKey (u / 8 % 2) tag (getD x 1 0) 3 (getD x 9 0) → e ≡ placeKey (u / 16 % 2) tag (getD x 1 0) 4 64
+      → (a ∷ b ∷ c ∷ d ∷ e ∷ []) ≡ five
+  unfolding listedKeys ofWords bit
+  listed-keys a b c d e p q r s t =
+      let p′ : a ≡ placeKey (bit u 0) tag (getD x 1 0) 0 (getD x 6 0) = p ∙ ap (λ n. placeKey n tag (getD x 1 0) 0 (getD x 6 0)) (bit-first u) in
+      let all : (a ∷ b ∷ c ∷ d ∷ e ∷ []) ≡ listedKeys u tag (ofWords x .of) (ofWords x .nodes) = cc in
+      all ∙ uses-is
 
-  pub keys-passive : (ks : List ℕ) → (x .kind ≡ 0 → ⊥) → ks ≡ listedKeys g 1 (x .of) (x .nodes) → ks ≡ keysOf g wants pivots x
-  unfolding keysOf
-  keys-passive ks n e = rw (ne-eqb (x .kind) 0 n) e
+module _ (wants pivots x : List ℕ) where
+  pub keys-passive : (ks : List ℕ) → (getD x 0 0 ≡ 0 → ⊥) → ks ≡ listedKeys (usesIn pivots (ofWords x .of)) 1 (ofWords x .of) (ofWords x .nodes) → ks ≡ keysOf wants pivots (ofWords x)
+  unfolding keysOf ofWords
+  keys-passive ks n e = rw (ne-eqb (getD x 0 0) 0 n) e
 
-  pub query-passive : (ks : List ℕ) → (x .kind ≡ 0 → ⊥) → ks ≡ listedKeys g 2 (x .of) (x .nodes) → ks ≡ queryOf g wants pivots x
-  unfolding queryOf
-  query-passive ks n e = rw (ne-eqb (x .kind) 0 n) e
+  pub query-passive : (ks : List ℕ) → (getD x 0 0 ≡ 0 → ⊥) → ks ≡ listedKeys (usesIn pivots (ofWords x .of)) 2 (ofWords x .of) (ofWords x .nodes) → ks ≡ queryOf wants pivots (ofWords x)
+  unfolding queryOf ofWords
+  query-passive ks n e = rw (ne-eqb (getD x 0 0) 0 n) e
 
-  module _ (active : x .kind ≡ 0) (want w key : ℕ) (a : want ≡ want-of) (b : w ≡ pivot-of) where
-    pub keys-active : key ≡ activeKey 2 want w (x .of) (x .plan) (x .nodes) → (key ∷ 0 ∷ 0 ∷ 0 ∷ 0 ∷ []) ≡ keysOf g wants pivots x
-    unfolding keysOf
-    keys-active e = rw (eq-eqb (x .kind) 0 active) (ap (λ k. k ∷ 0 ∷ 0 ∷ 0 ∷ 0 ∷ []) (e ∙ ap₂ (λ want w. activeKey 2 want w (x .of) (x .plan) (x .nodes)) a b))
+  module _ (active : getD x 0 0 ≡ 0) (want key : ℕ) (is : want ≡ wantIn wants (getD x 1 0) (getD x 2 0)) where
+    abbrev key-for : ℕ → ℕ → ℕ → ℕ
+    key-for tag want p = activeKey tag want (pivotIn pivots (ofWords x .of) (ofWords x .plan)) (ofWords x .of) p (ofWords x .nodes)
 
-    pub query-active : key ≡ activeKey 1 want w (x .of) (want % 64) (x .nodes) → (key ∷ 0 ∷ 0 ∷ 0 ∷ 0 ∷ []) ≡ queryOf g wants pivots x
-    unfolding queryOf
-    query-active e = rw (eq-eqb (x .kind) 0 active) (ap (λ k. k ∷ 0 ∷ 0 ∷ 0 ∷ 0 ∷ []) (e ∙ ap₂ (λ want w. activeKey 1 want w (x .of) (want % 64) (x .nodes)) a b))
+    pub keys-active : key ≡ key-for 2 want (getD x 2 0) → (key ∷ 0 ∷ 0 ∷ 0 ∷ 0 ∷ []) ≡ keysOf wants pivots (ofWords x)
+    unfolding keysOf ofWords
+    keys-active e = rw (eq-eqb (getD x 0 0) 0 active) (ap (λ k. k ∷ 0 ∷ 0 ∷ 0 ∷ 0 ∷ []) (e ∙ ap (λ want. key-for 2 want (getD x 2 0)) is))
+
+    pub query-active : key ≡ key-for 1 want (want % 64) → (key ∷ 0 ∷ 0 ∷ 0 ∷ 0 ∷ []) ≡ queryOf wants pivots (ofWords x)
+    unfolding queryOf ofWords
+    query-active e = rw (eq-eqb (getD x 0 0) 0 active) (ap (λ k. k ∷ 0 ∷ 0 ∷ 0 ∷ 0 ∷ []) (e ∙ ap (λ want. key-for 1 want (want % 64)) is))
 
 -- ---- regular records
-pub all-placed : (rank : ℕ) (l : List ℕ) → length l ≡ 8
-    → ((leb rank 0 || ltb (getD l 0 0) 64) && (leb rank 1 || ltb (getD l 1 0) 64) && (leb rank 2 || ltb (getD l 2 0) 64) && (leb rank 3 || ltb (getD l 3 0) 64)) ≡ allPlaced rank l
-unfolding allPlaced
-all-placed rank l e =
-    rw (at-place l 0 (omega arith), at-place l 1 (omega arith), at-place l 2 (omega arith), at-place l 3 (omega arith))
+pub all-placed : (u : ℕ) (x : List ℕ)
+    → ((eqb (u % 2) 0 || ltb (getD x 6 0) 64) && (eqb (u / 2 % 2) 0 || ltb (getD x 7 0) 64) && (eqb (u / 4 % 2) 0 || ltb (getD x 8 0) 64) && (eqb (u / 8 % 2) 0 || ltb (getD x 9 0) 64)) ≡ allPlaced u (ofWords x .nodes)
+unfolding allPlaced ofWords bit
+all-placed u x = rw (bit-first u)
 
-module _ (g pivots : List ℕ) (x : Record) where
-  pub regular-listed : (t : Bool) (rank : ℕ) → (x .kind ≡ 0 → ⊥) → rank ≡ rankAt g (x .of) → t ≡ allPlaced rank (x .nodes) → t ≡ regularOf g pivots x
-  unfolding regularOf
-  regular-listed t rank n a e = rw (ne-eqb (x .kind) 0 n) (e ∙ ap (λ n. allPlaced n (x .nodes)) a)
+module _ (pivots x : List ℕ) where
+  pub regular-listed : (t : Bool) (u : ℕ) → (getD x 0 0 ≡ 0 → ⊥) → u ≡ usesIn pivots (getD x 1 0) → t ≡ allPlaced u (ofWords x .nodes) → t ≡ regularOf pivots (ofWords x)
+  unfolding regularOf ofWords
+  regular-listed t u n a e = rw (ne-eqb (getD x 0 0) 0 n) (e ∙ ap (λ u. allPlaced u (ofWords x .nodes)) a)
 
-  pub regular-mapped : (w a : ℕ) → x .kind ≡ 0 → w ≡ pivotIn pivots (x .of) (x .plan) → a ≡ imageOf w (x .nodes) → (leb 8 (nodeOf w) || ltb a 64) ≡ regularOf g pivots x
-  unfolding regularOf
+  pub regular-mapped : (w a : ℕ) → getD x 0 0 ≡ 0 → w ≡ pivotIn pivots (getD x 1 0) (getD x 2 0) → a ≡ imageOf w (ofWords x .nodes) → (leb 8 (nodeOf w) || ltb a 64) ≡ regularOf pivots (ofWords x)
+  unfolding regularOf ofWords
   regular-mapped w a n e d =
-      rw (eq-eqb (x .kind) 0 n) (ap₂ (λ w a. leb 8 (nodeOf w) || ltb a 64) e (d ∙ ap (λ w. imageOf w (x .nodes)) e))
+      rw (eq-eqb (getD x 0 0) 0 n) (ap₂ (λ w a. leb 8 (nodeOf w) || ltb a 64) e (d ∙ ap (λ w. imageOf w (ofWords x .nodes)) e))

@@ -8,12 +8,12 @@ use native.Mathlib.Decide.{decLt}
 use lib.ListN.{length, getD}
 use lib.Dec.{eqb, ltb, leb}
 use borrow.Author.Tests.{eq-eqb, ne-eqb, eqb-true, eqb-false, lt-ltb, le-ltb, ltb-true, lt-leb}
+use Rattle.masks.specs.Masks.{bit}
 use Rattle.hrg.specs.Trees.{at}
 use Rattle.agenda.specs.declared.Record.{Record}
 use Rattle.agenda.specs.Steps.{improved, handledNow}
-use Rattle.questions.specs.Layout.{rankAt}
 use Rattle.rules.specs.Wants.{wantIn}
-use Rattle.pivots.specs.Pivots.{positionOf, nodeOf, pivotIn, EdgePivot, JoinPivot}
+use Rattle.pivots.specs.Pivots.{positionOf, nodeOf, pivotIn, usesIn, EdgePivot, JoinPivot}
 use Rattle.pivots.specs.Keys.{bucketOf, imageOf, activeKey, placeKey, listedKeys, keysOf, queryOf, allPlaced, regularOf}
 
 -- ---- buckets
@@ -48,22 +48,22 @@ unfolding imageOf
 image-none w f h = rw (le-ltb (nodeOf w) 8 h)
 
 -- ---- the keys of a passive record
-module _ (g : List ℕ) (tag s : ℕ) (L : List ℕ) (known : s < 64) where
-  pub listed-last : getD (listedKeys g tag s L) 4 0 ≡ bucketOf tag s 4 64
-  unfolding listedKeys
-  listed-last = rw (lt-ltb s 64 known)
+place-there : (used tag s i a : ℕ) → used ≡ 1 → placeKey used tag s i a ≡ bucketOf tag s i a
+unfolding placeKey
+place-there used tag s i a e = rw e
 
-  place-there : (rank i a : ℕ) → i < rank → placeKey rank tag s i a ≡ bucketOf tag s i a
-  unfolding placeKey
-  place-there rank i a h = rw (lt-ltb i rank h)
-
-  pub listed-at : (k : ℕ) → k < rankAt g s → getD (listedKeys g tag s L) k 0 ≡ bucketOf tag s k (at L k)
+module _ (u tag s : ℕ) (L : List ℕ) where
+  pub listed-last : bit u 4 ≡ 1 → getD (listedKeys u tag s L) 4 0 ≡ bucketOf tag s 4 64
   unfolding listedKeys
-  listed-at zero h = rw (lt-ltb s 64 known) (place-there (rankAt g s) 0 (at L 0) h)
-  listed-at (suc zero) h = rw (lt-ltb s 64 known) (place-there (rankAt g s) 1 (at L 1) h)
-  listed-at (suc (suc zero)) h = rw (lt-ltb s 64 known) (place-there (rankAt g s) 2 (at L 2) h)
-  listed-at (suc (suc (suc zero))) h = rw (lt-ltb s 64 known) (place-there (rankAt g s) 3 (at L 3) h)
-  listed-at (suc (suc (suc (suc k)))) h = absurd (omega arith)
+  listed-last e = place-there (bit u 4) tag s 4 64 e
+
+  pub listed-at : (k : ℕ) → k < 4 → bit u k ≡ 1 → getD (listedKeys u tag s L) k 0 ≡ bucketOf tag s k (at L k)
+  unfolding listedKeys
+  listed-at zero h e = place-there (bit u 0) tag s 0 (at L 0) e
+  listed-at (suc zero) h e = place-there (bit u 1) tag s 1 (at L 1) e
+  listed-at (suc (suc zero)) h e = place-there (bit u 2) tag s 2 (at L 2) e
+  listed-at (suc (suc (suc zero))) h e = place-there (bit u 3) tag s 3 (at L 3) e
+  listed-at (suc (suc (suc (suc k)))) h e = absurd (omega arith)
 
 -- ---- an edge
 -- the pivot's position and node, at which the map and the list differ
@@ -72,14 +72,16 @@ pub record Differ (A f L : List ℕ) (w : ℕ) : Type 0 where
   pub node : nodeOf w ≡ at A (positionOf w)
   pub differ : at f (nodeOf w) ≡ at L (positionOf w) → ⊥
 
-module _ (g : List ℕ) (tag s w r p : ℕ) (A f L : List ℕ) (known : s < 64) (size : length A ≡ rankAt g s) (inside : (k : ℕ) → k < length A → at A k < 8) (pivot : EdgePivot A w)
-    (apart : (i : ℕ) → i < 5 → activeKey tag s w r p f ≡ getD (listedKeys g tag s L) i 0 → ⊥) where
+module _ (u tag s w r p : ℕ) (A f L : List ℕ) (known : s < 64) (size : length A ≤ 4) (inside : (k : ℕ) → k < length A → at A k < 8) (pivot : EdgePivot A w) (used : bit u (positionOf w) ≡ 1)
+    (apart : (i : ℕ) → i < 5 → activeKey tag s w r p f ≡ getD (listedKeys u tag s L) i 0 → ⊥) where
   pub edge-differ : Differ A f L w
   unfolding imageOf
   edge-differ = go (eqb w 72) refl
     where
-      none : w ≡ 72 → activeKey tag s w r p f ≡ getD (listedKeys g tag s L) 4 0
-      none e = key-edge tag s w r p f known ∙ ap (λ w. bucketOf tag s (positionOf w) (imageOf w f)) e ∙ sym (listed-last g tag s L known)
+      none : w ≡ 72 → activeKey tag s w r p f ≡ getD (listedKeys u tag s L) 4 0
+      none e =
+          key-edge tag s w r p f known ∙ ap (λ w. bucketOf tag s (positionOf w) (imageOf w f)) e
+          ∙ sym (listed-last u tag s L (ap (λ w. bit u (positionOf w)) (sym e) ∙ used))
 
       go : (b : Bool) → eqb w 72 ≡ b → Differ A f L w
       go true e = absurd (apart 4 (omega arith) (none (eqb-true w 72 e)))
@@ -92,7 +94,7 @@ module _ (g : List ℕ) (tag s w r p : ℕ) (A f L : List ℕ) (known : s < 64) 
             differ = λ d. apart (positionOf w) (omega arith)
                 (key-edge tag s w r p f known
                 ∙ ap (λ a. bucketOf tag s (positionOf w) a) (image-there w f (omega (arith, pivot .node n, inside (positionOf w) k)) ∙ d)
-                ∙ sym (listed-at g tag s L known (positionOf w) (omega arith)));
+                ∙ sym (listed-at u tag s L (positionOf w) (omega arith) used));
           }
 
 -- ---- a join
@@ -115,45 +117,45 @@ module _ (n w w′ r p p′ : ℕ) (f k : List ℕ) (few : p < 16) (few′ : p�
       images-differ (image-there w f join-node ∙ e ∙ ap (at k) (pivot .same) ∙ sym (image-there w′ k (omega (arith, pivot .same, join-node))))
 
 -- ---- keys of records
-module _ (g wants pivots : List ℕ) (x : Record) where
+module _ (wants pivots : List ℕ) (x : Record) where
   abbrev want : ℕ
   want = wantIn wants (x .of) (x .plan)
 
   abbrev pivot-of : ℕ
   pivot-of = pivotIn pivots (x .of) (x .plan)
 
-  pub active-keys : eqb (x .kind) 0 ≡ true → getD (keysOf g wants pivots x) 0 0 ≡ activeKey 2 want pivot-of (x .of) (x .plan) (x .nodes)
+  pub active-keys : eqb (x .kind) 0 ≡ true → getD (keysOf wants pivots x) 0 0 ≡ activeKey 2 want pivot-of (x .of) (x .plan) (x .nodes)
   unfolding keysOf
   active-keys e = rw e
 
-  pub passive-keys : eqb (x .kind) 0 ≡ false → keysOf g wants pivots x ≡ listedKeys g 1 (x .of) (x .nodes)
+  pub passive-keys : eqb (x .kind) 0 ≡ false → keysOf wants pivots x ≡ listedKeys (usesIn pivots (x .of)) 1 (x .of) (x .nodes)
   unfolding keysOf
   passive-keys e = rw e
 
-  pub active-query : eqb (x .kind) 0 ≡ true → getD (queryOf g wants pivots x) 0 0 ≡ activeKey 1 want pivot-of (x .of) (want % 64) (x .nodes)
+  pub active-query : eqb (x .kind) 0 ≡ true → getD (queryOf wants pivots x) 0 0 ≡ activeKey 1 want pivot-of (x .of) (want % 64) (x .nodes)
   unfolding queryOf
   active-query e = rw e
 
-  pub passive-query : eqb (x .kind) 0 ≡ false → queryOf g wants pivots x ≡ listedKeys g 2 (x .of) (x .nodes)
+  pub passive-query : eqb (x .kind) 0 ≡ false → queryOf wants pivots x ≡ listedKeys (usesIn pivots (x .of)) 2 (x .of) (x .nodes)
   unfolding queryOf
   passive-query e = rw e
 
 -- only what makes two records the same item tells
-pub improved-keys : (g wants pivots : List ℕ) (y x : Record) → keysOf g wants pivots (improved y x) ≡ keysOf g wants pivots y
+pub improved-keys : (wants pivots : List ℕ) (y x : Record) → keysOf wants pivots (improved y x) ≡ keysOf wants pivots y
 unfolding keysOf
-improved-keys g wants pivots y x = refl
+improved-keys wants pivots y x = refl
 
-pub handled-keys : (g wants pivots : List ℕ) (y : Record) → keysOf g wants pivots (handledNow y) ≡ keysOf g wants pivots y
+pub handled-keys : (wants pivots : List ℕ) (y : Record) → keysOf wants pivots (handledNow y) ≡ keysOf wants pivots y
 unfolding keysOf
-handled-keys g wants pivots y = refl
+handled-keys wants pivots y = refl
 
-pub improved-query : (g wants pivots : List ℕ) (y x : Record) → queryOf g wants pivots (improved y x) ≡ queryOf g wants pivots y
+pub improved-query : (wants pivots : List ℕ) (y x : Record) → queryOf wants pivots (improved y x) ≡ queryOf wants pivots y
 unfolding queryOf
-improved-query g wants pivots y x = refl
+improved-query wants pivots y x = refl
 
-pub handled-query : (g wants pivots : List ℕ) (y : Record) → queryOf g wants pivots (handledNow y) ≡ queryOf g wants pivots y
+pub handled-query : (wants pivots : List ℕ) (y : Record) → queryOf wants pivots (handledNow y) ≡ queryOf wants pivots y
 unfolding queryOf
-handled-query g wants pivots y = refl
+handled-query wants pivots y = refl
 
 -- keys are at most 2,048
 few-of : (b : Bool) (x y : ℕ) → x ≤ 2048 → y ≤ 2048 → cond b x y ≤ 2048
@@ -167,9 +169,9 @@ active-few tag want w r p f =
     few-of (eqb want 80) 0 _ (omega arith)
     (few-of (ltb want 64) (bucketOf tag want (positionOf w) a) (bucketOf 3 r p a) (bucket-few tag want (positionOf w) a) (bucket-few 3 r p a))
 
-place-few : (rank tag s i a : ℕ) → placeKey rank tag s i a ≤ 2048
+place-few : (used tag s i a : ℕ) → placeKey used tag s i a ≤ 2048
 unfolding placeKey
-place-few rank tag s i a = few-of (ltb i rank) (bucketOf tag s i a) 0 (bucket-few tag s i a) (omega arith)
+place-few used tag s i a = few-of (eqb used 0) 0 (bucketOf tag s i a) (omega arith) (bucket-few tag s i a)
 
 five-few : (a b c d e : ℕ) → a ≤ 2048 → b ≤ 2048 → c ≤ 2048 → d ≤ 2048 → e ≤ 2048 → (i : ℕ) → getD (a ∷ b ∷ c ∷ d ∷ e ∷ []) i 0 ≤ 2048
 five-few a b c d e p q u v t zero = p
@@ -182,48 +184,43 @@ five-few a b c d e p q u v t (suc (suc (suc (suc (suc i))))) = omega arith
 one-few : (k : ℕ) → k ≤ 2048 → (i : ℕ) → getD (k ∷ 0 ∷ 0 ∷ 0 ∷ 0 ∷ []) i 0 ≤ 2048
 one-few k h i = five-few k 0 0 0 0 h (omega arith) (omega arith) (omega arith) (omega arith) i
 
-listed-few : (g : List ℕ) (tag s : ℕ) (L : List ℕ) (i : ℕ) → getD (listedKeys g tag s L) i 0 ≤ 2048
+listed-few : (u tag s : ℕ) (L : List ℕ) (i : ℕ) → getD (listedKeys u tag s L) i 0 ≤ 2048
 unfolding listedKeys
-listed-few g tag s L i = go (ltb s 64)
-  where
-    go : (b : Bool) → getD (cond b (placeKey (rankAt g s) tag s 0 (at L 0) ∷ placeKey (rankAt g s) tag s 1 (at L 1) ∷ placeKey (rankAt g s) tag s 2 (at L 2) ∷ placeKey (rankAt g s) tag s 3 (at L 3) ∷ bucketOf tag s 4 64 ∷ []) (0 ∷ 0 ∷ 0 ∷ 0 ∷ 0 ∷ [])) i 0 ≤ 2048
-    go true =
-        let n = rankAt g s in
-        five-few (placeKey n tag s 0 (at L 0)) (placeKey n tag s 1 (at L 1)) (placeKey n tag s 2 (at L 2)) (placeKey n tag s 3 (at L 3)) (bucketOf tag s 4 64)
-        (place-few n tag s 0 (at L 0)) (place-few n tag s 1 (at L 1)) (place-few n tag s 2 (at L 2)) (place-few n tag s 3 (at L 3)) (bucket-few tag s 4 64) i
-    go false = one-few 0 (omega arith) i
+listed-few u tag s L i =
+    five-few (placeKey (bit u 0) tag s 0 (at L 0)) (placeKey (bit u 1) tag s 1 (at L 1)) (placeKey (bit u 2) tag s 2 (at L 2)) (placeKey (bit u 3) tag s 3 (at L 3)) (placeKey (bit u 4) tag s 4 64)
+    (place-few (bit u 0) tag s 0 (at L 0)) (place-few (bit u 1) tag s 1 (at L 1)) (place-few (bit u 2) tag s 2 (at L 2)) (place-few (bit u 3) tag s 3 (at L 3)) (place-few (bit u 4) tag s 4 64) i
 
-module _ (g wants pivots : List ℕ) (x : Record) (i : ℕ) where
+module _ (wants pivots : List ℕ) (x : Record) (i : ℕ) where
   abbrev w : ℕ
   w = wantIn wants (x .of) (x .plan)
 
   abbrev v : ℕ
   v = pivotIn pivots (x .of) (x .plan)
 
-  pub keys-few : getD (keysOf g wants pivots x) i 0 ≤ 2048
+  pub keys-few : getD (keysOf wants pivots x) i 0 ≤ 2048
   unfolding keysOf
   keys-few = go (eqb (x .kind) 0)
     where
-      go : (b : Bool) → getD (cond b (activeKey 2 w v (x .of) (x .plan) (x .nodes) ∷ 0 ∷ 0 ∷ 0 ∷ 0 ∷ []) (listedKeys g 1 (x .of) (x .nodes))) i 0 ≤ 2048
+      go : (b : Bool) → getD (cond b (activeKey 2 w v (x .of) (x .plan) (x .nodes) ∷ 0 ∷ 0 ∷ 0 ∷ 0 ∷ []) (listedKeys (usesIn pivots (x .of)) 1 (x .of) (x .nodes))) i 0 ≤ 2048
       go true = one-few (activeKey 2 w v (x .of) (x .plan) (x .nodes)) (active-few 2 w v (x .of) (x .plan) (x .nodes)) i
-      go false = listed-few g 1 (x .of) (x .nodes) i
+      go false = listed-few (usesIn pivots (x .of)) 1 (x .of) (x .nodes) i
 
-  pub query-few : getD (queryOf g wants pivots x) i 0 ≤ 2048
+  pub query-few : getD (queryOf wants pivots x) i 0 ≤ 2048
   unfolding queryOf
   query-few = go (eqb (x .kind) 0)
     where
-      go : (b : Bool) → getD (cond b (activeKey 1 w v (x .of) (w % 64) (x .nodes) ∷ 0 ∷ 0 ∷ 0 ∷ 0 ∷ []) (listedKeys g 2 (x .of) (x .nodes))) i 0 ≤ 2048
+      go : (b : Bool) → getD (cond b (activeKey 1 w v (x .of) (w % 64) (x .nodes) ∷ 0 ∷ 0 ∷ 0 ∷ 0 ∷ []) (listedKeys (usesIn pivots (x .of)) 2 (x .of) (x .nodes))) i 0 ≤ 2048
       go true = one-few (activeKey 1 w v (x .of) (w % 64) (x .nodes)) (active-few 1 w v (x .of) (w % 64) (x .nodes)) i
-      go false = listed-few g 2 (x .of) (x .nodes) i
+      go false = listed-few (usesIn pivots (x .of)) 2 (x .of) (x .nodes) i
 
 -- ---- regular records
-pub improved-regular : (g pivots : List ℕ) (y x : Record) → regularOf g pivots (improved y x) ≡ regularOf g pivots y
+pub improved-regular : (pivots : List ℕ) (y x : Record) → regularOf pivots (improved y x) ≡ regularOf pivots y
 unfolding regularOf
-improved-regular g pivots y x = refl
+improved-regular pivots y x = refl
 
-pub handled-regular : (g pivots : List ℕ) (y : Record) → regularOf g pivots (handledNow y) ≡ regularOf g pivots y
+pub handled-regular : (pivots : List ℕ) (y : Record) → regularOf pivots (handledNow y) ≡ regularOf pivots y
 unfolding regularOf
-handled-regular g pivots y = refl
+handled-regular pivots y = refl
 
 or-left : (a : ℕ) (t : Bool) (b : ℕ) → (leb a b || t) ≡ true → b < a → t ≡ true
 or-left a t b h l = go (leb a b) (lt-leb a b l) h
@@ -237,28 +234,32 @@ and-parts true true h = (refl, refl)
 and-parts true false h = absurd (true≢false (sym h))
 and-parts false b h = absurd (true≢false (sym h))
 
-placed-at : (rank : ℕ) (L : List ℕ) → allPlaced rank L ≡ true → (k : ℕ) → k < rank → k < 4 → at L k < 64
+used-placed : (used : ℕ) (t : Bool) → used ≡ 1 → (eqb used 0 || t) ≡ true → t ≡ true
+used-placed used t e h = rw e at h
+
+placed-at : (u : ℕ) (L : List ℕ) → allPlaced u L ≡ true → (k : ℕ) → k < 4 → bit u k ≡ 1 → at L k < 64
 unfolding allPlaced
-placed-at rank L h k l few =
+placed-at u L h k few e =
     let d = and-parts _ _ h in
     let c = and-parts _ _ (d .0) in
     let ab = and-parts _ _ (c .0) in
-    go k l few (ab .0) (ab .1) (c .1) (d .1)
+    go k few e (ab .0) (ab .1) (c .1) (d .1)
   where
-    go : (k : ℕ) → k < rank → k < 4 → (leb rank 0 || ltb (at L 0) 64) ≡ true → (leb rank 1 || ltb (at L 1) 64) ≡ true → (leb rank 2 || ltb (at L 2) 64) ≡ true → (leb rank 3 || ltb (at L 3) 64) ≡ true → at L k < 64
-    go zero l few a b c d = ltb-true _ 64 (or-left rank _ 0 a l)
-    go (suc zero) l few a b c d = ltb-true _ 64 (or-left rank _ 1 b l)
-    go (suc (suc zero)) l few a b c d = ltb-true _ 64 (or-left rank _ 2 c l)
-    go (suc (suc (suc zero))) l few a b c d = ltb-true _ 64 (or-left rank _ 3 d l)
-    go (suc (suc (suc (suc k)))) l few a b c d = absurd (omega arith)
+    go : (k : ℕ) → k < 4 → bit u k ≡ 1 → (eqb (bit u 0) 0 || ltb (at L 0) 64) ≡ true → (eqb (bit u 1) 0 || ltb (at L 1) 64) ≡ true → (eqb (bit u 2) 0 || ltb (at L 2) 64) ≡ true → (eqb (bit u 3) 0 || ltb (at L 3) 64) ≡ true
+        → at L k < 64
+    go zero few e a b c d = ltb-true _ 64 (used-placed (bit u 0) _ e a)
+    go (suc zero) few e a b c d = ltb-true _ 64 (used-placed (bit u 1) _ e b)
+    go (suc (suc zero)) few e a b c d = ltb-true _ 64 (used-placed (bit u 2) _ e c)
+    go (suc (suc (suc zero))) few e a b c d = ltb-true _ 64 (used-placed (bit u 3) _ e d)
+    go (suc (suc (suc (suc k)))) few e a b c d = absurd (omega arith)
 
-module _ (g pivots : List ℕ) (x : Record) (ok : regularOf g pivots x ≡ true) where
+module _ (pivots : List ℕ) (x : Record) (ok : regularOf pivots x ≡ true) where
   pub regular-active : eqb (x .kind) 0 ≡ true → nodeOf (pivotIn pivots (x .of) (x .plan)) < 8 → at (x .nodes) (nodeOf (pivotIn pivots (x .of) (x .plan))) < 64
   unfolding regularOf
   regular-active e h =
       let w = pivotIn pivots (x .of) (x .plan) in
       omega (arith, image-there w (x .nodes) h, ltb-true (imageOf w (x .nodes)) 64 (or-left 8 (ltb (imageOf w (x .nodes)) 64) (nodeOf w) (rw e at ok) h))
 
-  pub regular-passive : eqb (x .kind) 0 ≡ false → (k : ℕ) → k < rankAt g (x .of) → at (x .nodes) k < 64
+  pub regular-passive : eqb (x .kind) 0 ≡ false → (k : ℕ) → k < 4 → bit (usesIn pivots (x .of)) k ≡ 1 → at (x .nodes) k < 64
   unfolding regularOf
-  regular-passive e k h = placed-at (rankAt g (x .of)) (x .nodes) (rw e at ok) k h (omega arith)
+  regular-passive e k h b = placed-at (usesIn pivots (x .of)) (x .nodes) (rw e at ok) k h b

@@ -2,11 +2,13 @@
 use mathlib.Core.Path.{_≡_, refl, sym, ap, ap₂, _∙_, subst}
 use mathlib.Core.Bool.{Bool, true, false}
 use mathlib.Core.List.{List, []}
-use Prim.Native.Nat.{ℕ, _+_, _%_, _<_}
+use Prim.Native.Nat.{ℕ, _+_, _%_, _≤_, _<_}
 use native.Mathlib.Omega.{arith}
 use lib.ListN.{length, getD, take}
 use lib.Seq.{getD-take}
 use lib.Dec.{eqb}
+use Rattle.masks.specs.Masks.{bit}
+use Rattle.masks.specs.Laws.{member-true}
 use Rattle.hrg.specs.Grammars.{Graph, Grammar, introduce, join, ruleOf, rankOf, rightOf, planOf, planNode, edgeAt}
 use Rattle.hrg.specs.Trees.{at}
 use Rattle.hrg.specs.Items.{active, passive, attach}
@@ -25,7 +27,7 @@ use Rattle.joins.proofs.EdgeMaps.{edge-ok}
 use Rattle.rules.specs.Wants.{wantOf, wantIn, WantTable}
 use Rattle.rules.proofs.RuleItems.{item-active, item-passive, pair-passive}
 use Rattle.rules.proofs.Meeting.{rule, label-few, want-label, few, want-first, want-second}
-use Rattle.pivots.specs.Pivots.{positionOf, nodeOf, pivotIn, EdgePivot, JoinPivot, PivotTable}
+use Rattle.pivots.specs.Pivots.{positionOf, nodeOf, pivotIn, usesIn, EdgePivot, JoinPivot, PivotTable}
 use Rattle.pivots.specs.Keys.{imageOf, activeKey, listedKeys, keysOf, queryOf, regularOf}
 use Rattle.pivots.proofs.Differing.{differ-none, attach-at, edges-none, joins-none}
 use Rattle.pivots.proofs.KeyLaws.{bucket-positive, key-edge, key-join, edge-differ, join-node, join-differ, active-keys, passive-keys, active-query, passive-query, regular-active, regular-passive}
@@ -43,8 +45,8 @@ module _ (g wants pivots : List ℕ) (checked : checkGrammar g ≡ true) (want-t
   -- tag: the one that the active record's key and the passive one's have in common
   module _ (tag r p r′ p′ m m′ s : ℕ) (f L : List ℕ)
       (placed : nodeOf (pivotIn pivots r p) < 8 → at f (nodeOf (pivotIn pivots r p)) < 64)
-      (listed : (k : ℕ) → k < rankAt g s → at L k < 64)
-      (apart : (i : ℕ) → i < 5 → wantIn wants r p ≡ s → s < 64 → activeKey tag s (pivotIn pivots r p) r′ p′ f ≡ getD (listedKeys g tag s L) i 0 → ⊥) where
+      (listed : (k : ℕ) → k < 4 → bit (usesIn pivots s) k ≡ 1 → at L k < 64)
+      (apart : (i : ℕ) → i < 5 → wantIn wants r p ≡ s → s < 64 → activeKey tag s (pivotIn pivots r p) r′ p′ f ≡ getD (listedKeys (usesIn pivots s) tag s L) i 0 → ⊥) where
     pub edge-keyless : binaryOf G H (active r p m (take (rightOf G r .nodes) f)) (passive s m′ (take (rankOf G s) L)) ≡ []
     edge-keyless = edges-none G H r p m _ s m′ _ (λ q c i l node e t. at-edge q c i l node e t)
       where
@@ -63,7 +65,9 @@ module _ (g wants pivots : List ℕ) (checked : checkGrammar g ≡ true) (want-t
             = λ k h. ok .listed .inside (at (edgeNodes g r i) k) (occurs-at (edgeNodes g r i) k h) in
             let pivot : EdgePivot (edgeNodes g r i) (pivotIn pivots r p) = subst (λ p. EdgePivot (edgeNodes g r i) (pivotIn pivots r p)) e (table .edge r q c i l node) in
             let w = pivotIn pivots r p in
-            let x = edge-differ g tag s w r′ p′ (edgeNodes g r i) f L small (size ∙ rank) (λ k h. omega (arith, inside k h, nodes-few g r checked d)) pivot (λ j h z. apart j h wanted small z) in
+            let four : length (edgeNodes g r i) ≤ 4 = omega (arith, size, rank) in
+            let used : bit (usesIn pivots s) (positionOf w) ≡ 1 = member-true (usesIn pivots s) (positionOf w) (table .used r p s (sym (want-table .each r p) ∙ wanted) small) in
+            let x = edge-differ (usesIn pivots s) tag s w r′ p′ (edgeNodes g r i) f L small four (λ k h. omega (arith, inside k h, nodes-few g r checked d)) pivot used (λ j h z. apart j h wanted small z) in
             let low : nodeOf w < rightOf G r .nodes = omega (arith, x .node, inside (positionOf w) (x .position), nodes) in
             let own : at (take (rightOf G r .nodes) f) (nodeOf w) ≡ at f (nodeOf w) = getD-take (rightOf G r .nodes) f (nodeOf w) 64 low in
             let other : at (attach (rightOf G r .nodes) (edgeNodes g r i) (take (rankOf G s) L)) (nodeOf w) ≡ at L (positionOf w) =
@@ -72,7 +76,7 @@ module _ (g wants pivots : List ℕ) (checked : checkGrammar g ≡ true) (want-t
             ∙ getD-take (rankOf G s) L (positionOf w) 64 (omega (arith, x .position, size)) in
             differ-none H (ruleOf G r) r q m m′ _ _ (nodeOf w) low
             (omega (arith, own, placed (omega (arith, low, nodes, nodes-few g r checked d))))
-            (omega (arith, other, listed (positionOf w) (omega (arith, x .position, size, rank))))
+            (omega (arith, other, listed (positionOf w) (omega (arith, x .position, four)) used))
             (λ z. x .differ (sym own ∙ z ∙ other))
 
   -- ---- two active records
@@ -138,39 +142,39 @@ module _ (g wants pivots : List ℕ) (checked : checkGrammar g ≡ true) (want-t
     back-none = differ-none H (ruleOf G r) r q m′ m _ _ v v-known there here (λ z. differ (sym z))
 
   -- ---- two records
-  module _ (x y : Record) (ok : regularOf g pivots x ≡ true) (ok′ : regularOf g pivots y ≡ true)
-      (apart : (i i′ : ℕ) → i < 5 → i′ < 5 → 0 < getD (queryOf g wants pivots x) i 0 → getD (queryOf g wants pivots x) i 0 ≡ getD (keysOf g wants pivots y) i′ 0 → ⊥) where
+  module _ (x y : Record) (ok : regularOf pivots x ≡ true) (ok′ : regularOf pivots y ≡ true)
+      (apart : (i i′ : ℕ) → i < 5 → i′ < 5 → 0 < getD (queryOf wants pivots x) i 0 → getD (queryOf wants pivots x) i 0 ≡ getD (keysOf wants pivots y) i′ 0 → ⊥) where
     with-passive : eqb (x .kind) 0 ≡ true → eqb (y .kind) 0 ≡ false → Unjoined G H x y
     with-passive a b = record {
       forth =
           ap₂ (binaryOf G H) (item-active G x a) (item-passive G y b)
-          ∙ edge-keyless 1 (x .of) (x .plan) (x .of) (wantIn wants (x .of) (x .plan) % 64) _ _ (y .of) (x .nodes) (y .nodes) (regular-active g pivots x ok a) (regular-passive g pivots y ok′ b)
+          ∙ edge-keyless 1 (x .of) (x .plan) (x .of) (wantIn wants (x .of) (x .plan) % 64) _ _ (y .of) (x .nodes) (y .nodes) (regular-active pivots x ok a) (regular-passive pivots y ok′ b)
           (λ i h e l z. met i h e l z);
       back = pair-passive G H y x b;
     }
       where
         met : (i : ℕ) → i < 5 → wantIn wants (x .of) (x .plan) ≡ y .of → y .of < 64
-            → activeKey 1 (y .of) (pivotIn pivots (x .of) (x .plan)) (x .of) (wantIn wants (x .of) (x .plan) % 64) (x .nodes) ≡ getD (listedKeys g 1 (y .of) (y .nodes)) i 0 → ⊥
+            → activeKey 1 (y .of) (pivotIn pivots (x .of) (x .plan)) (x .of) (wantIn wants (x .of) (x .plan) % 64) (x .nodes) ≡ getD (listedKeys (usesIn pivots (y .of)) 1 (y .of) (y .nodes)) i 0 → ⊥
         met i h e l z =
-            let q = active-query g wants pivots x a ∙ ap (λ s. activeKey 1 s (pivotIn pivots (x .of) (x .plan)) (x .of) (wantIn wants (x .of) (x .plan) % 64) (x .nodes)) e in
+            let q = active-query wants pivots x a ∙ ap (λ s. activeKey 1 s (pivotIn pivots (x .of) (x .plan)) (x .of) (wantIn wants (x .of) (x .plan) % 64) (x .nodes)) e in
             apart 0 i (omega arith) h
             (omega (arith, q, key-edge 1 (y .of) (pivotIn pivots (x .of) (x .plan)) (x .of) (wantIn wants (x .of) (x .plan) % 64) (x .nodes) l, bucket-positive 1 (y .of) (positionOf (pivotIn pivots (x .of) (x .plan))) (imageOf (pivotIn pivots (x .of) (x .plan)) (x .nodes))))
-            (q ∙ z ∙ ap (λ (l : List ℕ). getD l i 0) (sym (passive-keys g wants pivots y b)))
+            (q ∙ z ∙ ap (λ (l : List ℕ). getD l i 0) (sym (passive-keys wants pivots y b)))
 
     passive-with : eqb (x .kind) 0 ≡ false → eqb (y .kind) 0 ≡ true → Unjoined G H x y
     passive-with a b = record {
       forth = pair-passive G H x y a;
       back =
           ap₂ (binaryOf G H) (item-active G y b) (item-passive G x a)
-          ∙ edge-keyless 2 (y .of) (y .plan) (y .of) (y .plan) _ _ (x .of) (y .nodes) (x .nodes) (regular-active g pivots y ok′ b) (regular-passive g pivots x ok a)
+          ∙ edge-keyless 2 (y .of) (y .plan) (y .of) (y .plan) _ _ (x .of) (y .nodes) (x .nodes) (regular-active pivots y ok′ b) (regular-passive pivots x ok a)
           (λ i h e l z. met i h e l z);
     }
       where
         met : (i : ℕ) → i < 5 → wantIn wants (y .of) (y .plan) ≡ x .of → x .of < 64
-            → activeKey 2 (x .of) (pivotIn pivots (y .of) (y .plan)) (y .of) (y .plan) (y .nodes) ≡ getD (listedKeys g 2 (x .of) (x .nodes)) i 0 → ⊥
+            → activeKey 2 (x .of) (pivotIn pivots (y .of) (y .plan)) (y .of) (y .plan) (y .nodes) ≡ getD (listedKeys (usesIn pivots (x .of)) 2 (x .of) (x .nodes)) i 0 → ⊥
         met i h e l z =
-            let q : getD (queryOf g wants pivots x) i 0 ≡ getD (listedKeys g 2 (x .of) (x .nodes)) i 0 = ap (λ (l : List ℕ). getD l i 0) (passive-query g wants pivots x a) in
-            let k = active-keys g wants pivots y b ∙ ap (λ s. activeKey 2 s (pivotIn pivots (y .of) (y .plan)) (y .of) (y .plan) (y .nodes)) e in
+            let q : getD (queryOf wants pivots x) i 0 ≡ getD (listedKeys (usesIn pivots (x .of)) 2 (x .of) (x .nodes)) i 0 = ap (λ (l : List ℕ). getD l i 0) (passive-query wants pivots x a) in
+            let k = active-keys wants pivots y b ∙ ap (λ s. activeKey 2 s (pivotIn pivots (y .of) (y .plan)) (y .of) (y .plan) (y .nodes)) e in
             apart i 0 h (omega arith)
             (omega (arith, q, z, key-edge 2 (x .of) (pivotIn pivots (y .of) (y .plan)) (y .of) (y .plan) (y .nodes) l, bucket-positive 2 (x .of) (positionOf (pivotIn pivots (y .of) (y .plan))) (imageOf (pivotIn pivots (y .of) (y .plan)) (y .nodes))))
             (q ∙ sym z ∙ sym k)
@@ -180,15 +184,15 @@ module _ (g wants pivots : List ℕ) (checked : checkGrammar g ≡ true) (want-t
       met-join : x .of ≡ y .of → Siblings (x .of) (x .plan) (y .plan)
           → activeKey 1 (64 + y .plan) (pivotIn pivots (x .of) (x .plan)) (x .of) ((64 + y .plan) % 64) (x .nodes) ≡ activeKey 2 (64 + x .plan) (pivotIn pivots (x .of) (y .plan)) (x .of) (y .plan) (y .nodes) → ⊥
       met-join e s z =
-          let q = active-query g wants pivots x a ∙ ap (λ w. activeKey 1 w (pivotIn pivots (x .of) (x .plan)) (x .of) (w % 64) (x .nodes)) (s .wanted) in
-          let k = active-keys g wants pivots y b ∙ ap (λ r. activeKey 2 (wantIn wants r (y .plan)) (pivotIn pivots r (y .plan)) r (y .plan) (y .nodes)) (sym e) ∙ ap (λ w. activeKey 2 w (pivotIn pivots (x .of) (y .plan)) (x .of) (y .plan) (y .nodes)) (s .wanted′) in
+          let q = active-query wants pivots x a ∙ ap (λ w. activeKey 1 w (pivotIn pivots (x .of) (x .plan)) (x .of) (w % 64) (x .nodes)) (s .wanted) in
+          let k = active-keys wants pivots y b ∙ ap (λ r. activeKey 2 (wantIn wants r (y .plan)) (pivotIn pivots r (y .plan)) r (y .plan) (y .nodes)) (sym e) ∙ ap (λ w. activeKey 2 w (pivotIn pivots (x .of) (y .plan)) (x .of) (y .plan) (y .nodes)) (s .wanted′) in
           let low = s .low′ in
           apart 0 0 (omega arith) (omega arith)
           (omega (arith, q, key-join 1 (64 + y .plan) (pivotIn pivots (x .of) (x .plan)) (x .of) ((64 + y .plan) % 64) (x .nodes) (omega arith) (λ e. omega arith), bucket-positive 3 (x .of) ((64 + y .plan) % 64) (imageOf (pivotIn pivots (x .of) (x .plan)) (x .nodes))))
           (q ∙ z ∙ sym k)
 
       kept : x .of ≡ y .of → nodeOf (pivotIn pivots (x .of) (y .plan)) < 8 → at (y .nodes) (nodeOf (pivotIn pivots (x .of) (y .plan))) < 64
-      kept e = subst (λ r. nodeOf (pivotIn pivots r (y .plan)) < 8 → at (y .nodes) (nodeOf (pivotIn pivots r (y .plan))) < 64) (sym e) (regular-active g pivots y ok′ b)
+      kept e = subst (λ r. nodeOf (pivotIn pivots r (y .plan)) < 8 → at (y .nodes) (nodeOf (pivotIn pivots r (y .plan))) < 64) (sym e) (regular-active pivots y ok′ b)
 
       with-active : Unjoined G H x y
       with-active = record {
@@ -210,13 +214,13 @@ module _ (g wants pivots : List ℕ) (checked : checkGrammar g ≡ true) (want-t
               → combine H (ruleOf G (x .of)) (x .of) q (x .edges) (y .edges) (take (rightOf G (x .of) .nodes) (x .nodes)) (take (rightOf G (y .of) .nodes) (y .nodes)) ≡ []
           first q s e =
               ap (λ r. combine H (ruleOf G (x .of)) (x .of) q (x .edges) (y .edges) (take (rightOf G (x .of) .nodes) (x .nodes)) (take (rightOf G r .nodes) (y .nodes))) (sym e)
-              ∙ forth-none (x .of) (x .plan) (y .plan) q (x .edges) (y .edges) (x .nodes) (y .nodes) s (regular-active g pivots x ok a) (kept e) (met-join e s)
+              ∙ forth-none (x .of) (x .plan) (y .plan) q (x .edges) (y .edges) (x .nodes) (y .nodes) s (regular-active pivots x ok a) (kept e) (met-join e s)
 
           second : (q : ℕ) → Siblings (x .of) (x .plan) (y .plan) → y .of ≡ x .of
               → combine H (ruleOf G (y .of)) (y .of) q (y .edges) (x .edges) (take (rightOf G (y .of) .nodes) (y .nodes)) (take (rightOf G (x .of) .nodes) (x .nodes)) ≡ []
           second q s e =
               ap (λ r. combine H (ruleOf G r) r q (y .edges) (x .edges) (take (rightOf G r .nodes) (y .nodes)) (take (rightOf G (x .of) .nodes) (x .nodes))) e
-              ∙ back-none (x .of) (x .plan) (y .plan) q (x .edges) (y .edges) (x .nodes) (y .nodes) s (regular-active g pivots x ok a) (kept (sym e)) (met-join (sym e) s)
+              ∙ back-none (x .of) (x .plan) (y .plan) q (x .edges) (y .edges) (x .nodes) (y .nodes) s (regular-active pivots x ok a) (kept (sym e)) (met-join (sym e) s)
 
     -- x asks for no key that y has
     pub keyless : Unjoined G H x y

@@ -1,15 +1,16 @@
 -- The pivots that are taken are pivots, and read off a table word by word.
 use mathlib.Core.Path.{_≡_, refl, sym, ap, ap₂, _∙_, subst}
-use mathlib.Core.Bool.{Bool, true, false, _&&_, cond}
+use mathlib.Core.Bool.{Bool, true, false, _&&_, _||_, cond, true≢false}
 use mathlib.Core.List.{List}
 use Prim.Native.Nat.{ℕ, zero, suc, _+_, _-_, _*_, _/_, _%_, _≤_, _<_}
 use native.Mathlib.Omega.{arith}
-use native.Mathlib.Decide.{decLt}
+use native.Mathlib.Decide.{decLt, ℕ-discrete}
 use native.Mathlib.Numerals.{add-one}
-use lib.ListN.{length, getD, set, replicate, getD-replicate}
+use lib.ListN.{length, length-set, getD, set, replicate, getD-replicate}
 use lib.Seq.{getD-set-same, getD-set-other}
-use borrow.Author.Tests.{lt-ltb, le-ltb}
-use Rattle.masks.specs.Masks.{member}
+use lib.Dec.{eqb}
+use borrow.Author.Tests.{eq-eqb, lt-ltb, le-ltb}
+use Rattle.masks.specs.Masks.{member, Added}
 use Rattle.hrg.specs.Counts.{occurs}
 use Rattle.hrg.specs.Grammars.{Edge, Rule, Grammar, PlanNode, leaf, introduce, join, ruleOf, rightOf, planOf, planNode, edgeAt}
 use Rattle.hrg.specs.Trees.{at}
@@ -27,8 +28,10 @@ use Rattle.joins.proofs.EdgeMaps.{edge-rank, edge-node-few}
 use Rattle.joins.proofs.PlanMasks.{node-is, introduced-is, joined-is}
 use Rattle.rules.specs.declared.Place.{Place}
 use Rattle.rules.specs.Rules.{Above}
+use Rattle.rules.specs.Wants.{wantOf, WantTable}
+use Rattle.rules.proofs.WantLaws.{want-nowhere, word-past as want-past, word-there as want-there}
 use Rattle.rules.proofs.Meeting.{rule, few}
-use Rattle.pivots.specs.Pivots.{nodeOf, pivotIn, EdgePivot, PivotTable, lastTo, sharedNode, PivotBelow, PivotOf}
+use Rattle.pivots.specs.Pivots.{positionOf, nodeOf, pivotIn, usesIn, EdgePivot, PivotTable, lastTo, sharedNode, PivotBelow, PivotOf}
 
 -- ---- an edge
 pub no-edge-pivot : (A : List ℕ) → EdgePivot A 72 × (72 ≤ 72)
@@ -257,24 +260,114 @@ module _ (g : List ℕ) (r p : ℕ) (x : Place) (above : Above g r p x) where
       }
 
 -- ---- the table
--- the words before i are pivots, the others are as they were made
-pub record Filled (g : List ℕ) (t : List ℕ) (i : ℕ) : Type 0 where
-  pub size : length t ≡ 1024
+-- the pivots before i are there, those that want a symbol among its uses, and the pivots from i on as they were made
+pub record Filled (g wants t : List ℕ) (i : ℕ) : Type 0 where
+  pub size : length t ≡ 1088
   pub before : (k : ℕ) → k < i → k < 1024 → PivotOf g (k / 16) (k % 16) (getD t k 0)
-  pub after : (k : ℕ) → i ≤ k → k < 1024 → getD t k 0 ≡ 72
+  pub after : (k : ℕ) → i ≤ k → k < 1024 → getD t k 0 ≡ 0
+  pub used : (k : ℕ) → k < i → k < 1024 → getD wants k 0 < 64 → member (getD t (1024 + getD wants k 0) 0) (positionOf (getD t k 0)) ≡ true
 
-pub filled-none : (g : List ℕ) → Filled g (replicate 1024 72) 0
-filled-none g = record { size = refl; before = λ k l. absurd (omega arith); after = λ k l m. getD-replicate 1024 k 72 0 m }
+pub filled-none : (g wants : List ℕ) → Filled g wants (replicate 1088 0) 0
+filled-none g wants = record { size = refl; before = λ k l. absurd (omega arith); after = λ k l m. getD-replicate 1088 k 0 0 (omega arith); used = λ k l. absurd (omega arith) }
 
-module _ (g t : List ℕ) (i w : ℕ) (f : Filled g t i) (l : i < 1024) (is : PivotOf g (i / 16) (i % 16) w) where
-  pub filled-more : (m : ℕ) → m ≡ i + 1 → length (set t i w) ≡ 1024 → Filled g (set t i w) m
-  filled-more m e size = record { size = size; before = λ k d b. go k d b (decLt k i); after = λ k d b. getD-set-other t i k w 0 (λ q. omega arith) ∙ f .after k (omega arith) b }
-    where
-      go : (k : ℕ) → k < m → k < 1024 → Dec (k < i) → PivotOf g (k / 16) (k % 16) (getD (set t i w) k 0)
-      go k d b (no n) =
-          let q : i ≡ k = omega arith in
-          subst (λ k. PivotOf g (k / 16) (k % 16) (getD (set t i w) k 0)) q (subst (λ v. PivotOf g (i / 16) (i % 16) v) (sym (getD-set-same t i w 0 (omega (arith, f .size)))) is)
-      go k d b (yes q) = subst (λ v. PivotOf g (k / 16) (k % 16) v) (sym (getD-set-other t i k w 0 (λ e. omega arith))) (f .before k q b)
+-- one pivot more: t′ has it, keeps the others, and has its position and the former ones among the uses
+record Grown (wants t t′ : List ℕ) (i w : ℕ) : Type 0 where
+  size : length t′ ≡ 1088
+  here : getD t′ i 0 ≡ w
+  others : (k : ℕ) → k < 1024 → (k ≡ i → ⊥) → getD t′ k 0 ≡ getD t k 0
+  kept : (s e : ℕ) → s < 64 → e < 64 → member (getD t (1024 + s) 0) e ≡ true → member (getD t′ (1024 + s) 0) e ≡ true
+  used : getD wants i 0 < 64 → member (getD t′ (1024 + getD wants i 0) 0) (positionOf w) ≡ true
+
+filled-grown : (g wants t t′ : List ℕ) (i w m : ℕ) → m ≡ i + 1 → Filled g wants t i → PivotOf g (i / 16) (i % 16) w → Grown wants t t′ i w → Filled g wants t′ m
+filled-grown g wants t t′ i w m e f is n = record {
+  size = n .size;
+  before = λ k d b. pivot k d b (decLt k i);
+  after = λ k d b. n .others k b (λ q. omega arith) ∙ f .after k (omega arith) b;
+  used = λ k d b h. among k d b h (decLt k i);
+}
+  where
+    pivot : (k : ℕ) → k < m → k < 1024 → Dec (k < i) → PivotOf g (k / 16) (k % 16) (getD t′ k 0)
+    pivot k d b (no h) = let q : i ≡ k = omega arith in subst (λ k. PivotOf g (k / 16) (k % 16) (getD t′ k 0)) q (subst (λ v. PivotOf g (i / 16) (i % 16) v) (sym (n .here)) is)
+    pivot k d b (yes h) = subst (λ v. PivotOf g (k / 16) (k % 16) v) (sym (n .others k b (λ q. omega arith))) (f .before k h b)
+
+    among : (k : ℕ) → k < m → k < 1024 → getD wants k 0 < 64 → Dec (k < i) → member (getD t′ (1024 + getD wants k 0) 0) (positionOf (getD t′ k 0)) ≡ true
+    among k d b low (no h) =
+        let q : i ≡ k = omega arith in
+        let here : member (getD t′ (1024 + getD wants i 0) 0) (positionOf (getD t′ i 0)) ≡ true
+        = ap (λ v. member (getD t′ (1024 + getD wants i 0) 0) (positionOf v)) (n .here) ∙ n .used (omega (arith, ap (λ k. getD wants k 0) q)) in
+        subst (λ k. member (getD t′ (1024 + getD wants k 0) 0) (positionOf (getD t′ k 0)) ≡ true) q here
+    among k d b low (yes h) =
+        ap (λ v. member (getD t′ (1024 + getD wants k 0) 0) (positionOf v)) (n .others k b (λ q. omega arith))
+        ∙ n .kept (getD wants k 0) (positionOf (getD t k 0)) low (omega (arith, f .before k h b .small)) (f .used k h b low)
+
+or-first : (a b : Bool) → a ≡ true → (a || b) ≡ true
+or-first true b h = refl
+or-first false b h = absurd (true≢false (sym h))
+
+or-second : (a b : Bool) → b ≡ true → (a || b) ≡ true
+or-second true b h = refl
+or-second false b h = h
+
+module _ (g wants t : List ℕ) (i w : ℕ) (f : Filled g wants t i) (l : i < 1024) (is : PivotOf g (i / 16) (i % 16) w) where
+  here : getD (set t i w) i 0 ≡ w
+  here = getD-set-same t i w 0 (omega (arith, f .size))
+
+  size-set : length (set t i w) ≡ 1088
+  size-set = simp length-set (f .size)
+
+  -- of one that wants no symbol
+  pub filled-more : (m : ℕ) → m ≡ i + 1 → 64 ≤ getD wants i 0 → (new : List ℕ) → new ≡ set t i w → Filled g wants new m
+  filled-more m e none new is-new =
+      subst (λ t. Filled g wants t m) (sym is-new)
+      (filled-grown g wants t (set t i w) i w m e f is
+      (record {
+        size = size-set;
+        here = here;
+        others = λ k b n. getD-set-other t i k w 0 n;
+        kept = λ s e a b h. ap (λ u. member u e) (getD-set-other t i (1024 + s) w 0 (λ q. omega arith)) ∙ h;
+        used = λ h. absurd (omega arith);
+      }))
+
+  -- of one that wants a symbol, whose uses are u now
+  module _ (u : ℕ) (known : getD wants i 0 < 64) (added : Added (getD (set t i w) (1024 + getD wants i 0) 0) (positionOf w) u) where
+    abbrev s : ℕ
+    s = getD wants i 0
+
+    abbrev t′ : List ℕ
+    t′ = set (set t i w) (1024 + s) u
+
+    pub filled-used : (m : ℕ) → m ≡ i + 1 → (new : List ℕ) → new ≡ t′ → Filled g wants new m
+    filled-used m e new is-new =
+        subst (λ t. Filled g wants t m) (sym is-new)
+        (filled-grown g wants t t′ i w m e f is
+        (record {
+          size = simp length-set (f .size);
+          here = getD-set-other (set t i w) (1024 + s) i u 0 (λ q. omega arith) ∙ here;
+          others = λ k b n. getD-set-other (set t i w) (1024 + s) k u 0 (λ q. omega arith) ∙ getD-set-other t i k w 0 n;
+          kept = λ s′ e a b h. kept s′ e a b h (ℕ-discrete s′ s);
+          used = λ h. among;
+        }))
+      where
+        now-is : getD t′ (1024 + s) 0 ≡ u
+        now-is = getD-set-same (set t i w) (1024 + s) u 0 (omega (arith, size-set))
+
+        among : member (getD t′ (1024 + s) 0) (positionOf w) ≡ true
+        among =
+            ap (λ u. member u (positionOf w)) now-is
+            ∙ added .members (positionOf w) (omega (arith, is .small))
+            ∙ or-second (member (getD (set t i w) (1024 + s) 0) (positionOf w)) (eqb (positionOf w) (positionOf w)) (eq-eqb (positionOf w) (positionOf w) refl)
+
+        kept : (s′ e : ℕ) → s′ < 64 → e < 64 → member (getD t (1024 + s′) 0) e ≡ true → Dec (s′ ≡ s) → member (getD t′ (1024 + s′) 0) e ≡ true
+        kept s′ e a b h (yes q) =
+            ap (λ s′. member (getD t′ (1024 + s′) 0) e) q
+            ∙ ap (λ u. member u e) now-is
+            ∙ added .members e b
+            ∙ or-first (member (getD (set t i w) (1024 + s) 0) e) (eqb e (positionOf w))
+            (ap (λ u. member u e) (getD-set-other t i (1024 + s) w 0 (λ z. omega arith)) ∙ ap (λ s. member (getD t (1024 + s) 0) e) (sym q) ∙ h)
+        kept s′ e a b h (no q) =
+            ap (λ u. member u e)
+            (getD-set-other (set t i w) (1024 + s) (1024 + s′) u 0 (λ z. q (omega arith)) ∙ getD-set-other t i (1024 + s′) w 0 (λ z. omega arith))
+            ∙ h
 
 -- a word of it
 module _ (t : List ℕ) (r p : ℕ) where
@@ -290,7 +383,20 @@ module _ (t : List ℕ) (r p : ℕ) where
   unfolding pivotIn
   word-there a b = rw (lt-ltb r 64 a, lt-ltb p 16 b)
 
-module _ (g : List ℕ) (checked : checkGrammar g ≡ true) (t : List ℕ) (n i : ℕ) (e : n ≡ 16 * ruleCount g) (l : n ≤ i) (f : Filled g t i) where
+module _ (t : List ℕ) (s : ℕ) where
+  pub uses-far : 64 ≤ s → 0 ≡ usesIn t s
+  unfolding usesIn
+  uses-far h = rw (le-ltb s 64 h)
+
+  pub uses-there : s < 64 → getD t (1024 + s) 0 ≡ usesIn t s
+  unfolding usesIn
+  uses-there h = rw (lt-ltb s 64 h)
+
+-- a rule that is not there wants nothing
+wants-none : (g : List ℕ) → checkGrammar g ≡ true → (r p : ℕ) → ruleCount g ≤ r → wantOf (grammarOf g) r p ≡ 80
+wants-none g checked r p h = want-nowhere (grammarOf g) r p (λ q l. absurd (omega (arith, rule g checked r q l)))
+
+module _ (g : List ℕ) (checked : checkGrammar g ≡ true) (wants : List ℕ) (want-table : WantTable g wants) (t : List ℕ) (n i : ℕ) (e : n ≡ 16 * ruleCount g) (l : n ≤ i) (f : Filled g wants t i) where
   small-word : (r p : ℕ) → Dec (r < 64) → Dec (p < 16) → pivotIn t r p ≤ 72
   small-word r p (no a) b = omega (arith, word-far t r p (omega arith))
   small-word r p (yes a) (no b) = omega (arith, word-past t r p a (omega arith))
@@ -309,6 +415,18 @@ module _ (g : List ℕ) (checked : checkGrammar g ≡ true) (t : List ℕ) (n i 
       (subst (λ p′. PivotOf g r p′ (getD t (16 * r + p) 0)) s
       (subst (λ r′. PivotOf g r′ ((16 * r + p) % 16) (getD t (16 * r + p) 0)) q (f .before (16 * r + p) (omega arith) (omega arith))))
 
+  -- an item that wants a symbol stands in the table
+  used-word : (r p s : ℕ) → wantOf (grammarOf g) r p ≡ s → s < 64 → Dec (r < ruleCount g) → Dec (p < 16) → member (usesIn t s) (positionOf (pivotIn t r p)) ≡ true
+  used-word r p s q h (no a) b = absurd (omega (arith, wants-none g checked r p (omega arith)))
+  used-word r p s q h (yes a) (no b) = absurd (omega (arith, want-table .each r p, want-past wants r p (rule-few g r checked a) (omega arith)))
+  used-word r p s q h (yes a) (yes b) =
+      let few : r < 64 = rule-few g r checked a in
+      let word : getD wants (16 * r + p) 0 ≡ s = want-there wants r p few b ∙ want-table .each r p ∙ q in
+      ap₂ (λ u w. member u (positionOf w))
+      (sym (uses-there t s h) ∙ ap (λ s. getD t (1024 + s) 0) (sym word))
+      (sym (word-there t r p few b))
+      ∙ f .used (16 * r + p) (omega arith) (omega arith) (omega arith)
+
   pub filled-all : PivotTable g t
   filled-all = record {
     small = λ r p. small-word r p (decLt r 64) (decLt p 16);
@@ -325,4 +443,5 @@ module _ (g : List ℕ) (checked : checkGrammar g ≡ true) (t : List ℕ) (n i 
           same = here ∙ shared-comm (grammarOf g) r a b ∙ sym there;
           known = λ h. omega (arith, here, shared-known (grammarOf g) r a b (omega (arith, here)));
         };
+    used = λ r p s q h. used-word r p s q h (decLt r (ruleCount g)) (decLt p 16);
   }

@@ -3,11 +3,11 @@ use mathlib.Core.Bool.{Bool, _&&_, _||_, cond}
 use mathlib.Core.List.{List, [], _∷_}
 use Prim.Native.Nat.{ℕ, _+_, _*_, _/_, _%_}
 use lib.Dec.{eqb, ltb, leb}
+use Rattle.masks.specs.Masks.{bit}
 use Rattle.hrg.specs.Trees.{at}
 use Rattle.agenda.specs.declared.Record.{Record}
-use Rattle.questions.specs.Layout.{rankAt}
 use Rattle.rules.specs.Wants.{wantIn}
-use Rattle.pivots.specs.Pivots.{positionOf, nodeOf, pivotIn}
+use Rattle.pivots.specs.Pivots.{positionOf, nodeOf, pivotIn, usesIn}
 
 -- Four numbers mixed into 1 .. 2,048. Each is brought below a bound first, so that the sum stays in a word whatever they are; bits 21 to 31 are those on which every lower bit has an effect.
 unfoldable pub bucketOf : ℕ → ℕ → ℕ → ℕ → ℕ
@@ -33,48 +33,47 @@ unfolding bucketOf imageOf
 activeKey tag want w r p f =
     cond (eqb want 80) 0 (cond (ltb want 64) (bucketOf tag want (positionOf w) (imageOf w f)) (bucketOf joinTag r p (imageOf w f)))
 
--- of a passive record of symbol s with the nodes L: for place i
+-- of a passive record of symbol s: for position i with the node a, if it is used
 unfoldable pub placeKey : ℕ → ℕ → ℕ → ℕ → ℕ → ℕ
 unfolding bucketOf
-placeKey rank tag s i a = cond (ltb i rank) (bucketOf tag s i a) 0
+placeKey used tag s i a = cond (eqb used 0) 0 (bucketOf tag s i a)
 
--- for each of its places, and one for where there is no pivot
-unfoldable pub listedKeys : List ℕ → ℕ → ℕ → List ℕ → List ℕ
-unfolding placeKey bucketOf
-listedKeys g tag s L =
-    cond (ltb s 64)
-    (placeKey (rankAt g s) tag s 0 (at L 0)
-    ∷ placeKey (rankAt g s) tag s 1 (at L 1)
-    ∷ placeKey (rankAt g s) tag s 2 (at L 2)
-    ∷ placeKey (rankAt g s) tag s 3 (at L 3)
-    ∷ bucketOf tag s 4 64
-    ∷ [])
-    (0 ∷ 0 ∷ 0 ∷ 0 ∷ 0 ∷ [])
+-- with the nodes L: for each of four positions, and one for where there is no pivot; u is the set of those that are used
+unfoldable pub listedKeys : ℕ → ℕ → ℕ → List ℕ → List ℕ
+unfolding placeKey bit
+listedKeys u tag s L =
+    placeKey (bit u 0) tag s 0 (at L 0)
+    ∷ placeKey (bit u 1) tag s 1 (at L 1)
+    ∷ placeKey (bit u 2) tag s 2 (at L 2)
+    ∷ placeKey (bit u 3) tag s 3 (at L 3)
+    ∷ placeKey (bit u 4) tag s 4 64
+    ∷ []
 
 -- the keys that a record has, 0 for none
-unfoldable pub keysOf : List ℕ → List ℕ → List ℕ → Record → List ℕ
-unfolding wantIn pivotIn activeKey listedKeys
-keysOf g wants pivots x =
+unfoldable pub keysOf : List ℕ → List ℕ → Record → List ℕ
+unfolding wantIn pivotIn usesIn activeKey listedKeys
+keysOf wants pivots x =
     cond (eqb (x .kind) 0)
     (activeKey edgeTag (wantIn wants (x .of) (x .plan)) (pivotIn pivots (x .of) (x .plan)) (x .of) (x .plan) (x .nodes) ∷ 0 ∷ 0 ∷ 0 ∷ 0 ∷ [])
-    (listedKeys g passiveTag (x .of) (x .nodes))
+    (listedKeys (usesIn pivots (x .of)) passiveTag (x .of) (x .nodes))
 
 -- the keys that its partners have, 0 for none: those of a join stand at the other child, which `want` tells
-unfoldable pub queryOf : List ℕ → List ℕ → List ℕ → Record → List ℕ
-unfolding wantIn pivotIn activeKey listedKeys
-queryOf g wants pivots x =
+unfoldable pub queryOf : List ℕ → List ℕ → Record → List ℕ
+unfolding wantIn pivotIn usesIn activeKey listedKeys
+queryOf wants pivots x =
     cond (eqb (x .kind) 0)
     (activeKey passiveTag (wantIn wants (x .of) (x .plan)) (pivotIn pivots (x .of) (x .plan)) (x .of) (wantIn wants (x .of) (x .plan) % 64) (x .nodes) ∷ 0 ∷ 0 ∷ 0 ∷ 0 ∷ [])
-    (listedKeys g edgeTag (x .of) (x .nodes))
+    (listedKeys (usesIn pivots (x .of)) edgeTag (x .of) (x .nodes))
 
--- whether a node stands in each of the first `rank` places, of four
+-- whether a node stands in each of the first four places that is in u
 unfoldable pub allPlaced : ℕ → List ℕ → Bool
-allPlaced rank L = (leb rank 0 || ltb (at L 0) 64) && (leb rank 1 || ltb (at L 1) 64) && (leb rank 2 || ltb (at L 2) 64) && (leb rank 3 || ltb (at L 3) 64)
+unfolding bit
+allPlaced u L = (eqb (bit u 0) 0 || ltb (at L 0) 64) && (eqb (bit u 1) 0 || ltb (at L 1) 64) && (eqb (bit u 2) 0 || ltb (at L 2) 64) && (eqb (bit u 3) 0 || ltb (at L 3) 64)
 
 -- whether the nodes by which a record is keyed are there
-unfoldable pub regularOf : List ℕ → List ℕ → Record → Bool
-unfolding pivotIn imageOf allPlaced
-regularOf g pivots x =
+unfoldable pub regularOf : List ℕ → Record → Bool
+unfolding pivotIn usesIn imageOf allPlaced
+regularOf pivots x =
     cond (eqb (x .kind) 0)
     (leb 8 (nodeOf (pivotIn pivots (x .of) (x .plan))) || ltb (imageOf (pivotIn pivots (x .of) (x .plan)) (x .nodes)) 64)
-    (allPlaced (rankAt g (x .of)) (x .nodes))
+    (allPlaced (usesIn pivots (x .of)) (x .nodes))

@@ -1,13 +1,16 @@
 // Keys by which records of a chart that can be joined find each other: the image of one rule node, the pivot, is part of the key.
+// A record comes as its sixteen words, in the order of crate `records`.
 ghost use mathlib.Core.Path.{_≡_};
 ghost use mathlib.Core.Bool.{true};
 ghost use Prim.Native.Nat.{_≤_};
+ghost use lib.ListN.{length};
 ghost use Rattle.questions.specs.Checking.{checkGrammar};
 ghost use Rattle.questions.specs.Abstract.{grammarOf};
+ghost use Rattle.records.specs.Words.{ofWords};
 ghost use Rattle.joins.specs.Joins.{KnownNode, KnownEdge, edgeNodes};
-ghost use Rattle.pivots.specs.Pivots.{pivotIn, sharedNode, EdgePivot, PivotBelow, PivotOf, PivotTable};
+ghost use Rattle.rules.specs.Wants.{WantTable};
+ghost use Rattle.pivots.specs.Pivots.{pivotIn, usesIn, sharedNode, EdgePivot, PivotBelow, PivotOf, PivotTable};
 ghost use Rattle.pivots.specs.Keys.{bucketOf, imageOf, activeKey, placeKey, listedKeys, keysOf, queryOf, allPlaced, regularOf};
-use agenda::Record;
 
 // ---- pivots
 // Below a plan node that introduces edge i: the first position of the edge whose node is open at p, with that node.
@@ -83,24 +86,30 @@ fn pivot(g: &[u64], r: u64, p: u64) -> u64
     pivot_below(g, r, p, above.node)
 }
 
-// The table for all rules and plan nodes; where there are none it stays as it is made.
-pub fn table(g: &[u64]) -> [u64; 1024]
-    requires { ⌜ checkGrammar (now g) ≡ true ⌝ }
+// The table: the pivots of all rules and plan nodes, then for each symbol the set of the positions at which it is wanted. What no rule and no want fills stays as it is made.
+pub fn table(g: &[u64], wants: &[u64; 1024]) -> [u64; 1088]
+    requires { ⌜ (checkGrammar (now g) ≡ true) × WantTable (now g) (now wants) ⌝ }
     ensures { λ t. ⌜ PivotTable (now (g .entry)) t ⌝ }
 {
-    let mut t = [72u64; 1024];
+    let mut t = [0u64; 1088];
     let n = 16 * layout::rule_count(g);
     let mut i: u64 = 0;
     while i < n {
         let w = pivot(g, i / 16, i % 16);
+        let s = wants[i as usize];
         t[i as usize] = w;
+        if s < 64 {
+            let at = (1024 + s) as usize;
+            let u = masks::with(t[at], w / 16);
+            t[at] = u;
+        }
         i += 1;
     }
     t
 }
 
-// A pivot read off a table: none where there is no such rule or plan node.
-pub fn pivot_of(t: &[u64; 1024], r: u64, p: u64) -> u64
+// A pivot read off a table: none where it has no word for the rule and the plan node.
+fn pivot_of(t: &[u64; 1088], r: u64, p: u64) -> u64
     ensures { λ w. ⌜ w ≡ pivotIn (now (t .entry)) r p ⌝ }
 {
     if r >= 64 {
@@ -110,6 +119,16 @@ pub fn pivot_of(t: &[u64; 1024], r: u64, p: u64) -> u64
         return 72;
     }
     t[(16 * r + p) as usize]
+}
+
+// The positions at which records of symbol s are asked for, read off a table.
+fn uses_of(t: &[u64; 1088], s: u64) -> u64
+    ensures { λ u. ⌜ u ≡ usesIn (now (t .entry)) s ⌝ }
+{
+    if s >= 64 {
+        return 0;
+    }
+    t[(1024 + s) as usize]
 }
 
 // ---- keys
@@ -124,105 +143,114 @@ fn bucket(tag: u64, s: u64, k: u64, a: u64) -> u64
     mix % 4294967296 / 2097152 + 1
 }
 
-// The image of a pivot's node.
-fn image(w: u64, f: [u64; 8]) -> u64
-    ensures { λ x. ⌜ x ≡ imageOf w f ⌝ }
+// The image of a pivot's node by the map of an active record.
+fn image(w: u64, x: &[u64]) -> u64
+    requires { ⌜ length (now x) ≡ 16 ⌝ }
+    ensures { λ a. ⌜ a ≡ imageOf w (ofWords (now (x .entry)) .nodes) ⌝ }
 {
     let v = w % 16;
     if v >= 8 {
         return 64;
     }
-    f[v as usize]
+    x[(6 + v) as usize]
 }
 
-// The key of an active record that wants `want`.
-fn active_key(tag: u64, want: u64, w: u64, r: u64, p: u64, f: [u64; 8]) -> u64
-    ensures { λ x. ⌜ x ≡ activeKey tag want w r p f ⌝ }
+// The key of an active record that wants `want`; a join's stands at plan node p.
+fn active_key(pivots: &[u64; 1088], tag: u64, want: u64, p: u64, x: &[u64]) -> u64
+    requires { ⌜ length (now x) ≡ 16 ⌝ }
+    ensures { λ k. ⌜ k ≡ activeKey tag want (pivotIn (now (pivots .entry)) (ofWords (now (x .entry)) .of) (ofWords (now (x .entry)) .plan)) (ofWords (now (x .entry)) .of) p (ofWords (now (x .entry)) .nodes) ⌝ }
 {
     if want == 80 {
         return 0;
     }
-    let a = image(w, f);
+    let r = x[1];
+    let w = pivot_of(pivots, r, x[2]);
+    let a = image(w, x);
     if want < 64 {
         return bucket(tag, want, w / 16, a);
     }
     bucket(3, r, p, a)
 }
 
-// The key of place i of a passive record, if its symbol has such a place.
-fn place_key(rank: u64, tag: u64, s: u64, i: u64, a: u64) -> u64
-    ensures { λ x. ⌜ x ≡ placeKey rank tag s i a ⌝ }
+// The key of position i of a passive record, if that is used.
+fn place_key(used: u64, tag: u64, s: u64, i: u64, a: u64) -> u64
+    ensures { λ x. ⌜ x ≡ placeKey used tag s i a ⌝ }
 {
-    if i >= rank {
+    if used == 0 {
         return 0;
     }
     bucket(tag, s, i, a)
 }
 
-// The keys of a passive record of symbol s.
-fn listed_keys(g: &[u64], tag: u64, s: u64, l: [u64; 8]) -> [u64; 5]
-    ensures { λ x. ⌜ x ≡ listedKeys (now (g .entry)) tag s l ⌝ }
+// The keys of a passive record.
+fn listed_keys(pivots: &[u64; 1088], tag: u64, x: &[u64]) -> [u64; 5]
+    requires { ⌜ length (now x) ≡ 16 ⌝ }
+    ensures { λ ks. ⌜ ks ≡ listedKeys (usesIn (now (pivots .entry)) (ofWords (now (x .entry)) .of)) tag (ofWords (now (x .entry)) .of) (ofWords (now (x .entry)) .nodes) ⌝ }
 {
-    if s >= 64 {
+    let s = x[1];
+    let u = uses_of(pivots, s);
+    if u == 0 {
         return [0u64; 5];
     }
-    let rank = layout::rank_at(g, s);
     [
-        place_key(rank, tag, s, 0, l[0]),
-        place_key(rank, tag, s, 1, l[1]),
-        place_key(rank, tag, s, 2, l[2]),
-        place_key(rank, tag, s, 3, l[3]),
-        bucket(tag, s, 4, 64),
+        place_key(u % 2, tag, s, 0, x[6]),
+        place_key(u / 2 % 2, tag, s, 1, x[7]),
+        place_key(u / 4 % 2, tag, s, 2, x[8]),
+        place_key(u / 8 % 2, tag, s, 3, x[9]),
+        place_key(u / 16 % 2, tag, s, 4, 64),
     ]
 }
 
 // The keys that a record has, 0 for none.
-pub fn keys(g: &[u64], wants: &[u64; 1024], pivots: &[u64; 1024], x: Record) -> [u64; 5]
-    ensures { λ ks. ⌜ ks ≡ keysOf (now (g .entry)) (now (wants .entry)) (now (pivots .entry)) x ⌝ }
+pub fn keys(wants: &[u64; 1024], pivots: &[u64; 1088], x: &[u64]) -> [u64; 5]
+    requires { ⌜ length (now x) ≡ 16 ⌝ }
+    ensures { λ ks. ⌜ ks ≡ keysOf (now (wants .entry)) (now (pivots .entry)) (ofWords (now (x .entry))) ⌝ }
 {
-    let nodes = x.nodes;
-    if x.kind != 0 {
-        return listed_keys(g, 1, x.of, nodes);
+    if x[0] != 0 {
+        return listed_keys(pivots, 1, x);
     }
-    let want = rules::wants::want_of(wants, x.of, x.plan);
-    let w = pivot_of(pivots, x.of, x.plan);
-    let key = active_key(2, want, w, x.of, x.plan, nodes);
+    let p = x[2];
+    let want = rules::wants::want_of(wants, x[1], p);
+    let key = active_key(pivots, 2, want, p, x);
     [key, 0, 0, 0, 0]
 }
 
 // The keys that its partners have, 0 for none.
-pub fn query(g: &[u64], wants: &[u64; 1024], pivots: &[u64; 1024], x: Record) -> [u64; 5]
-    ensures { λ ks. ⌜ ks ≡ queryOf (now (g .entry)) (now (wants .entry)) (now (pivots .entry)) x ⌝ }
+pub fn query(wants: &[u64; 1024], pivots: &[u64; 1088], x: &[u64]) -> [u64; 5]
+    requires { ⌜ length (now x) ≡ 16 ⌝ }
+    ensures { λ ks. ⌜ ks ≡ queryOf (now (wants .entry)) (now (pivots .entry)) (ofWords (now (x .entry))) ⌝ }
 {
-    let nodes = x.nodes;
-    if x.kind != 0 {
-        return listed_keys(g, 2, x.of, nodes);
+    if x[0] != 0 {
+        return listed_keys(pivots, 2, x);
     }
-    let want = rules::wants::want_of(wants, x.of, x.plan);
-    let w = pivot_of(pivots, x.of, x.plan);
-    let key = active_key(1, want, w, x.of, want % 64, nodes);
+    let p = x[2];
+    let want = rules::wants::want_of(wants, x[1], p);
+    let key = active_key(pivots, 1, want, want % 64, x);
     [key, 0, 0, 0, 0]
 }
 
-// Whether a node stands in each of the first `rank` places, of four.
-fn all_placed(rank: u64, l: [u64; 8]) -> bool
-    ensures { λ x. ⌜ x ≡ allPlaced rank l ⌝ }
+// Whether a node stands in each of a passive record's first four places that is in u.
+fn all_placed(u: u64, x: &[u64]) -> bool
+    requires { ⌜ length (now x) ≡ 16 ⌝ }
+    ensures { λ t. ⌜ t ≡ allPlaced u (ofWords (now (x .entry)) .nodes) ⌝ }
 {
-    ((rank <= 0) | (l[0] < 64))
-        & ((rank <= 1) | (l[1] < 64))
-        & ((rank <= 2) | (l[2] < 64))
-        & ((rank <= 3) | (l[3] < 64))
+    ((u % 2 == 0) | (x[6] < 64))
+        & ((u / 2 % 2 == 0) | (x[7] < 64))
+        & ((u / 4 % 2 == 0) | (x[8] < 64))
+        & ((u / 8 % 2 == 0) | (x[9] < 64))
 }
 
 // Whether the nodes by which a record is keyed are there.
-pub fn regular(g: &[u64], pivots: &[u64; 1024], x: Record) -> bool
-    ensures { λ b. ⌜ b ≡ regularOf (now (g .entry)) (now (pivots .entry)) x ⌝ }
+pub fn regular(pivots: &[u64; 1088], x: &[u64]) -> bool
+    requires { ⌜ length (now x) ≡ 16 ⌝ }
+    ensures { λ b. ⌜ b ≡ regularOf (now (pivots .entry)) (ofWords (now (x .entry))) ⌝ }
 {
-    let nodes = x.nodes;
-    if x.kind != 0 {
-        return all_placed(layout::rank_at(g, x.of), nodes);
+    let of = x[1];
+    if x[0] != 0 {
+        let u = uses_of(pivots, of);
+        return all_placed(u, x);
     }
-    let w = pivot_of(pivots, x.of, x.plan);
-    let a = image(w, nodes);
+    let w = pivot_of(pivots, of, x[2]);
+    let a = image(w, x);
     (8 <= w % 16) | (a < 64)
 }

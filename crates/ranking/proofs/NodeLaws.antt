@@ -1,170 +1,173 @@
--- Nodes in words: one is stored, its ancestors are left to settle, and one turn of each loop.
-use Prim.Native.Nat.{ℕ, _+_, _-_, _*_, _/_, _≤_, _<_}
+-- The words of a tree: a leaf is stored, the words above it are left to settle, and one turn of each loop.
+use Prim.Native.Nat.{ℕ, zero, suc, _+_, _-_, _*_, _/_, _%_, _≤_, _<_, max}
 use mathlib.Core.Path.{_≡_, refl, sym, ap, ap₂, _∙_}
 use mathlib.Core.List.{List, []}
 use mathlib.Core.Bool.{Bool, true, false, _&&_}
-use lib.Dec.{eqb}
-use borrow.Author.Tests.{eqb-true}
 use native.Mathlib.Omega.{arith}
 use native.Mathlib.Decide.{ℕ-discrete}
+use lib.Bits.{bitXor, xor-step, xor-zero-r, differ}
+use lib.Dec.{leb}
+use borrow.Author.Tests.{leb-false}
 use lib.ListN.{length, getD, set, length-set}
 use lib.Seq.{getD-set-same, getD-set-other}
 use Rattle.agenda.specs.declared.Record.{Record}
-use Rattle.ranking.specs.Ranking.{Player, playerOf, better, leafOf, nodeAt, withNode, Settled, Ranked, Replaces, Blank, noPlayer}
-use Rattle.ranking.proofs.Tournament.{better-first, better-only, better-less, better-tie, leaf-past}
+use Rattle.ranking.specs.Ranking.{playerOf, keyOf, leafOf, Settled, AllSettled, Ranked, Replaces, Followed, Blank}
+use Rattle.ranking.proofs.Tournament.{key-none, key-some, leaf-past}
 
--- ---- one node is stored
-pub length-with : (w : List ℕ) (i : ℕ) (p : Player) → length (withNode w i p) ≡ length w
-unfolding withNode
-length-with w i p = simp length-set
+-- ---- the other child of a word's parent
+differ-one : (r : ℕ) → r < 2 → differ r 1 ≡ 1 - r
+differ-one zero h = refl
+differ-one (suc zero) h = refl
+differ-one (suc (suc r)) h = absurd (omega arith)
 
-pub node-same : (w : List ℕ) (i : ℕ) (p : Player) → 2 * i + 1 < length w → nodeAt (withNode w i p) i ≡ p
-unfolding nodeAt withNode
-node-same w i p h =
-    let place : getD (withNode w i p) (2 * i) 0 ≡ p .place = getD-set-other (set w (2 * i) (p .place)) (2 * i + 1) (2 * i) (p .count) 0 (λ e. omega arith) ∙ getD-set-same w (2 * i) (p .place) 0 (omega arith) in
-    let count : getD (withNode w i p) (2 * i + 1) 0 ≡ p .count = getD-set-same (set w (2 * i) (p .place)) (2 * i + 1) (p .count) 0 (simp length-set h) in
-    ap₂ (λ (a b : ℕ). record { place = a; count = b }) place count
-
-pub node-other : (w : List ℕ) (i k : ℕ) (p : Player) → (k ≡ i → ⊥) → nodeAt (withNode w i p) k ≡ nodeAt w k
-unfolding nodeAt withNode
-node-other w i k p h =
-    let place : getD (withNode w i p) (2 * k) 0 ≡ getD w (2 * k) 0 =
-    getD-set-other (set w (2 * i) (p .place)) (2 * i + 1) (2 * k) (p .count) 0 (λ e. omega arith) ∙ getD-set-other w (2 * i) (2 * k) (p .place) 0 (λ e. h (omega arith)) in
-    let count : getD (withNode w i p) (2 * k + 1) 0 ≡ getD w (2 * k + 1) 0 =
-    getD-set-other (set w (2 * i) (p .place)) (2 * i + 1) (2 * k + 1) (p .count) 0 (λ e. h (omega arith)) ∙ getD-set-other w (2 * i) (2 * k + 1) (p .place) 0 (λ e. omega arith) in
-    ap₂ (λ (a b : ℕ). record { place = a; count = b }) place count
-
--- a node whose own words and children are left as they are
-kept : (w : List ℕ) (i k : ℕ) (p : Player) → (k ≡ i → ⊥) → (2 * k ≡ i → ⊥) → (2 * k + 1 ≡ i → ⊥) → Settled w k → Settled (withNode w i p) k
-kept w i k p a b d s = node-other w i k p a ∙ s ∙ sym (ap₂ better (node-other w i (2 * k) p b) (node-other w i (2 * k + 1) p d))
-
--- ---- a node becomes the better of its children
-abbrev pub settled : List ℕ → ℕ → List ℕ
-settled w i = withNode w i (better (nodeAt w (2 * i)) (nodeAt w (2 * i + 1)))
-
-settled-now : (w : List ℕ) (i : ℕ) → 1 ≤ i → 2 * i + 1 < length w → Settled (settled w i) i
-settled-now w i l h =
-    node-same w i _ h ∙ sym (ap₂ better (node-other w i (2 * i) _ (λ e. omega arith)) (node-other w i (2 * i + 1) _ (λ e. omega arith)))
+pub sibling : (i : ℕ) → bitXor i 1 + i ≡ 4 * (i / 2) + 1
+sibling i =
+    let e : bitXor i 1 ≡ i / 2 * 2 + differ (i % 2) 1 = xor-step i 1 ∙ ap (λ n. n * 2 + differ (i % 2) 1) (xor-zero-r (i / 2)) in
+    omega (arith, e, differ-one (i % 2) (omega arith))
 
 -- ---- the way up from a leaf
--- the inner nodes of w are settled, but for one
+-- the inner words of w are settled, but for one
 abbrev SettledBut : List ℕ → ℕ → Type 0
 SettledBut w i = (k : ℕ) → 1 ≤ k → k < 4096 → (k ≡ i → ⊥) → Settled w k
 
--- the leaves are those of v, and where only the parent of h was left to settle only that of i is
-pub record Climbing (v : List ℕ) (h : ℕ) (w : List ℕ) (i : ℕ) : Type 0 where
-  pub size : length w ≡ 16384
+-- a word whose own value and children are left as they are
+kept : (w : List ℕ) (i k v : ℕ) → (k ≡ i → ⊥) → (2 * k ≡ i → ⊥) → (2 * k + 1 ≡ i → ⊥) → Settled w k → Settled (set w i v) k
+kept w i k v a b d s = getD-set-other w i k v 0 a ∙ s ∙ sym (ap₂ max (getD-set-other w i (2 * k) v 0 b) (getD-set-other w i (2 * k + 1) v 0 d))
+
+-- the leaves are those of v, and where only the parent of h was left to settle only that of i is; word i is key
+pub record Climbing (v : List ℕ) (h : ℕ) (w : List ℕ) (i key : ℕ) : Type 0 where
+  pub size : length w ≡ 8192
   pub least : 1 ≤ i
   pub most : i < 8192
-  pub leaf : (k : ℕ) → k < 4096 → nodeAt w (4096 + k) ≡ nodeAt v (4096 + k)
+  pub here : getD w i 0 ≡ key
+  pub mark : getD w 0 0 ≡ getD v 0 0
+  pub leaf : (k : ℕ) → k < 4096 → getD w (4096 + k) 0 ≡ getD v (4096 + k) 0
   pub inner : SettledBut v (h / 2) → SettledBut w (i / 2)
 
-pub climb-start : (v : List ℕ) (i : ℕ) → length v ≡ 16384 → 1 ≤ i → i < 8192 → Climbing v i v i
-climb-start v i e l h = record { size = e; least = l; most = h; leaf = λ k b. refl; inner = λ s. s }
+pub climb-start : (v : List ℕ) (i key : ℕ) → length v ≡ 8192 → 1 ≤ i → i < 8192 → Climbing (set v i key) i (set v i key) i key
+climb-start v i key e l h = record {
+  size = length-set v i key ∙ e;
+  least = l;
+  most = h;
+  here = getD-set-same v i key 0 (omega arith);
+  mark = refl;
+  leaf = λ k b. refl;
+  inner = λ s. s;
+}
 
-pub climb-next : (v w u : List ℕ) (h i m : ℕ) → 1 < i → Climbing v h w i → nodeAt w m ≡ better (nodeAt w (2 * (i / 2))) (nodeAt w (2 * (i / 2) + 1)) → u ≡ withNode w (i / 2) (nodeAt w m)
-    → Climbing v h u (i / 2)
-climb-next v w u h i m l C e q = rw (q, e) (record {
-  size = length-with w (i / 2) _ ∙ C .size;
-  least = omega arith;
-  most = omega arith;
-  leaf = λ k b. node-other w (i / 2) (4096 + k) _ (λ t. omega arith) ∙ C .leaf k b;
-  inner = λ s k a b n. go k a b n (C .inner s k a b) (ℕ-discrete k (i / 2));
-})
-  where
-    go : (k : ℕ) → 1 ≤ k → k < 4096 → (k ≡ i / 2 / 2 → ⊥) → ((k ≡ i / 2 → ⊥) → Settled w k) → Dec (k ≡ i / 2) → Settled (settled w (i / 2)) k
-    go k a b n s (yes d) = rw d (settled-now w (i / 2) (omega arith) (omega (arith, C .size)))
-    go k a b n s (no d) = kept w (i / 2) k _ d (λ t. n (omega arith)) (λ t. n (omega arith)) (s d)
+-- the parent's children are the word and its sibling
+module _ (v w : List ℕ) (h i key best : ℕ) (l : 1 < i) (C : Climbing v h w i key) (e : best ≡ max key (getD w (bitXor i 1) 0)) where
+  children : best ≡ max (getD w (2 * (i / 2)) 0) (getD w (2 * (i / 2) + 1) 0)
+  children = go (ℕ-discrete (i % 2) 0)
+    where
+      go : Dec (i % 2 ≡ 0) → best ≡ max (getD w (2 * (i / 2)) 0) (getD w (2 * (i / 2) + 1) 0)
+      go (yes p) =
+          let a : getD w (2 * (i / 2)) 0 ≡ key = ap (λ k. getD w k 0) (omega arith) ∙ C .here in
+          let b : getD w (2 * (i / 2) + 1) 0 ≡ getD w (bitXor i 1) 0 = ap (λ k. getD w k 0) (omega (arith, sibling i)) in
+          e ∙ sym (ap₂ max a b)
+      go (no p) =
+          let a : getD w (2 * (i / 2) + 1) 0 ≡ key = ap (λ k. getD w k 0) (omega arith) ∙ C .here in
+          let b : getD w (2 * (i / 2)) 0 ≡ getD w (bitXor i 1) 0 = ap (λ k. getD w k 0) (omega (arith, sibling i)) in
+          e ∙ (let q : max key (getD w (bitXor i 1) 0) ≡ max (getD w (bitXor i 1) 0) key = omega arith in q) ∙ sym (ap₂ max b a)
 
--- the leaves are those of v, and where only the parent of h was left to settle none is
-pub record Climbed (v : List ℕ) (h : ℕ) (w : List ℕ) : Type 0 where
-  pub size : length w ≡ 16384
-  pub leaf : (k : ℕ) → k < 4096 → nodeAt w (4096 + k) ≡ nodeAt v (4096 + k)
-  pub inner : SettledBut v (h / 2) → (k : ℕ) → 1 ≤ k → k < 4096 → Settled w k
+  settled-now : Settled (set w (i / 2) best) (i / 2)
+  settled-now =
+      getD-set-same w (i / 2) best 0 (omega (arith, C .size, C .most)) ∙ children ∙ sym (ap₂ max (getD-set-other w (i / 2) (2 * (i / 2)) best 0 (λ t. omega arith)) (getD-set-other w (i / 2) (2 * (i / 2) + 1) best 0 (λ t. omega arith)))
 
--- at the root
-pub climb-root : (v w : List ℕ) (h i : ℕ) → i ≤ 1 → Climbing v h w i → Climbed v h w
-climb-root v w h i l C = record { size = C .size; leaf = C .leaf; inner = λ s k a b. C .inner s k a b (λ t. omega arith) }
-
--- at a node that stays as it is
-pub climb-same : (v w : List ℕ) (h i m : ℕ) → Climbing v h w i → nodeAt w m ≡ better (nodeAt w (2 * (i / 2))) (nodeAt w (2 * (i / 2) + 1)) → nodeAt w m ≡ nodeAt w (i / 2) → Climbed v h w
-climb-same v w h i m C e q = record { size = C .size; leaf = C .leaf; inner = λ s k a b. go k (C .inner s k a b) (ℕ-discrete k (i / 2)) }
-  where
-    go : (k : ℕ) → ((k ≡ i / 2 → ⊥) → Settled w k) → Dec (k ≡ i / 2) → Settled w k
-    go k s (yes d) = rw d (sym q ∙ e)
-    go k s (no d) = s d
-
--- from the leaf that was stored
-module _ (u v w : List ℕ) (j : ℕ) (p : Player) (e : length u ≡ 16384) (l : j < 4096) (q : v ≡ withNode u (4096 + j) p) (C : Climbed v (4096 + j) w) where
-  leaf-stored : ((k : ℕ) → 1 ≤ k → k < 4096 → Settled u k) → SettledBut v ((4096 + j) / 2)
-  leaf-stored s k a b n = rw q (kept u (4096 + j) k p (λ t. omega arith) (λ t. n (omega arith)) (λ t. n (omega arith)) (s k a b))
-
-  pub climb-end : (rs rs′ : List Record) → Ranked u rs → Replaces j p rs rs′ → Ranked w rs′
-  climb-end rs rs′ R E = record {
-    size = C .size;
-    leaf = λ k b. C .leaf k b ∙ rw q (go k b (ℕ-discrete k j));
-    inner = C .inner (leaf-stored (R .inner));
+  pub climb-next : Climbing v h (set w (i / 2) best) (i / 2) best
+  climb-next = record {
+    size = length-set w (i / 2) best ∙ C .size;
+    least = omega arith;
+    most = omega (arith, C .most);
+    here = getD-set-same w (i / 2) best 0 (omega (arith, C .size, C .most));
+    mark = getD-set-other w (i / 2) 0 best 0 (λ t. omega arith) ∙ C .mark;
+    leaf = λ k b. getD-set-other w (i / 2) (4096 + k) best 0 (λ t. omega (arith, C .most)) ∙ C .leaf k b;
+    inner = λ s k a b n. go k a b n (C .inner s k a b) (ℕ-discrete k (i / 2));
   }
     where
-      go : (k : ℕ) → k < 4096 → Dec (k ≡ j) → nodeAt (withNode u (4096 + j) p) (4096 + k) ≡ leafOf rs′ k
-      go k b (yes d) = rw d (node-same u (4096 + j) p (omega arith) ∙ sym (E .given))
-      go k b (no n) = node-other u (4096 + j) (4096 + k) p (λ t. n (omega arith)) ∙ R .leaf k b ∙ sym (E .others k n)
+      go : (k : ℕ) → 1 ≤ k → k < 4096 → (k ≡ i / 2 / 2 → ⊥) → ((k ≡ i / 2 → ⊥) → Settled w k) → Dec (k ≡ i / 2) → Settled (set w (i / 2) best) k
+      go k a b n s (yes d) = rw d settled-now
+      go k a b n s (no d) = kept w (i / 2) k best d (λ t. n (omega arith)) (λ t. n (omega arith)) (s d)
 
--- ---- no records
-blank-node : (w : List ℕ) → Blank w → (i : ℕ) → nodeAt w i ≡ noPlayer
-unfolding nodeAt
-blank-node w b i = ap₂ (λ (m n : ℕ). record { place = m; count = n }) (b .empty (2 * i)) (b .empty (2 * i + 1))
+  -- at a word that stays as it is
+  pub same-settled : getD w (i / 2) 0 ≡ best → SettledBut w (i / 2) → AllSettled w
+  same-settled q s k a b = go (ℕ-discrete k (i / 2))
+    where
+      go : Dec (k ≡ i / 2) → Settled w k
+      go (yes d) = rw d (q ∙ children)
+      go (no d) = s k a b d
+
+-- ---- the end of the way
+module _ (v w : List ℕ) (h i key now : ℕ) (from : 4096 ≤ h) (C : Climbing (set v h key) h w i now) where
+  -- where only the parent of the stored leaf is left to settle
+  stored-but : AllSettled v → SettledBut (set v h key) (h / 2)
+  stored-but s k a b n = kept v h k key (λ t. omega arith) (λ t. n (omega arith)) (λ t. n (omega arith)) (s k a b)
+
+  pub climb-end : (SettledBut w (i / 2) → AllSettled w) → Followed v h key w
+  climb-end f = record {
+    size = C .size;
+    mark = C .mark ∙ getD-set-other v h 0 key 0 (λ t. omega arith);
+    leaf = C .leaf;
+    inner = λ s. f (C .inner (stored-but s));
+  }
+
+  -- at the root
+  pub climb-root : i ≤ 1 → Followed v h key w
+  climb-root l = climb-end (λ s k a b. s k a b (λ t. omega arith))
+
+-- ---- in the records' terms
+pub placed-leaf : (u w : List ℕ) (j p key : ℕ) → length u ≡ 8192 → j < 4096 → p ≤ 4294963200 → key ≡ keyOf p → Followed u (4096 + j) key w
+    → (rs rs′ : List Record) → Ranked u rs → Replaces j p rs rs′ → Ranked w rs′
+placed-leaf u w j p key e l small q F rs rs′ R E = record {
+  size = F .size;
+  keyed = λ z k b. small-at z k b (ℕ-discrete k j);
+  leaf = λ z k b. F .leaf k b ∙ leaf-at z k b (ℕ-discrete k j);
+  inner = λ z. F .inner (R .inner (sym (F .mark) ∙ z));
+}
+  where
+    small-at : getD w 0 0 ≡ 0 → (k : ℕ) → k < 4096 → Dec (k ≡ j) → leafOf rs′ k ≤ 4294963200
+    small-at z k b (yes d) = rw (d, E .given) small
+    small-at z k b (no n) = rw (E .others k n) (R .keyed (sym (F .mark) ∙ z) k b)
+
+    leaf-at : getD w 0 0 ≡ 0 → (k : ℕ) → k < 4096 → Dec (k ≡ j) → getD (set u (4096 + j) key) (4096 + k) 0 ≡ keyOf (leafOf rs′ k)
+    leaf-at z k b (yes d) = rw d (getD-set-same u (4096 + j) key 0 (omega arith) ∙ q ∙ sym (ap keyOf (E .given)))
+    leaf-at z k b (no n) = getD-set-other u (4096 + j) (4096 + k) key 0 (λ t. n (omega arith)) ∙ R .leaf (sym (F .mark) ∙ z) k b ∙ sym (ap keyOf (E .others k n))
+
+-- a tree that is marked says nothing
+pub ranked-marked : (u : List ℕ) → length u ≡ 8192 → (rs′ : List Record) → Ranked (set u 0 1) rs′
+ranked-marked u e rs′ = record {
+  size = length-set u 0 1 ∙ e;
+  keyed = λ z. absurd (no-zero z);
+  leaf = λ z. absurd (no-zero z);
+  inner = λ z. absurd (no-zero z);
+}
+  where
+    no-zero : getD (set u 0 1) 0 0 ≡ 0 → ⊥
+    no-zero z = let q : getD (set u 0 1) 0 0 ≡ 1 = getD-set-same u 0 1 0 (omega arith) in omega arith
 
 pub ranked-none : (w : List ℕ) → Blank w → Ranked w []
 ranked-none w b = record {
   size = b .size;
-  leaf = λ j h. blank-node w b (4096 + j) ∙ sym (leaf-past [] j (omega arith));
-  inner = λ i l h. blank-node w b i ∙ sym (ap₂ better (blank-node w b (2 * i)) (blank-node w b (2 * i + 1)) ∙ better-first noPlayer noPlayer refl);
+  keyed = λ z j h. rw (leaf-past [] j (omega arith)) (omega arith);
+  leaf = λ z j h. b .empty (4096 + j) ∙ sym (ap keyOf (leaf-past [] j (omega arith)) ∙ key-none);
+  inner = λ z i l h. b .empty i ∙ sym (ap₂ max (b .empty (2 * i)) (b .empty (2 * i + 1)));
 }
 
--- ---- in the code's terms
-pub put-some : (w : List ℕ) (j n : ℕ) (t : Bool) → t ≡ true → set (set w (8192 + 2 * j) (j + 1)) (8192 + 2 * j + 1) n ≡ withNode w (4096 + j) (playerOf t j n)
-unfolding withNode playerOf
-put-some w j n t e = rw e (ap (λ k. set (set w k (j + 1)) (k + 1) n) (let q : 8192 + 2 * j ≡ 2 * (4096 + j) = omega arith in q))
+-- ---- the key of a record
+-- a waiting record of a count that is too large does not come so far
+pub small-count : (t : Bool) (n : ℕ) → t && leb 1048575 n ≡ false → t ≡ true → n < 1048575
+small-count true n h e = leb-false 1048575 n h
+small-count false n h e = absurd (let z : _≡_ {A = ℕ} 0 1 = cc in omega arith)
 
-pub put-none : (w : List ℕ) (j n : ℕ) (t : Bool) → t ≡ false → set (set w (8192 + 2 * j) 0) (8192 + 2 * j + 1) 0 ≡ withNode w (4096 + j) (playerOf t j n)
-unfolding withNode playerOf
-put-none w j n t e = rw e (ap (λ k. set (set w k 0) (k + 1) 0) (let q : 8192 + 2 * j ≡ 2 * (4096 + j) = omega arith in q))
+pub player-small : (t : Bool) (j n : ℕ) → j < 4096 → (t ≡ true → n < 1048575) → playerOf t j n ≤ 4294963200
+unfolding playerOf
+player-small true j n l h = let s : n < 1048575 = h refl in omega arith
+player-small false j n l h = omega arith
 
-pub same-nodes : (w : List ℕ) (m i : ℕ) → eqb (getD w (2 * m) 0) (getD w (2 * i) 0) && eqb (getD w (2 * m + 1) 0) (getD w (2 * i + 1) 0) ≡ true → nodeAt w m ≡ nodeAt w i
-unfolding nodeAt
-same-nodes w m i h =
-    let t = both (eqb (getD w (2 * m) 0) (getD w (2 * i) 0)) (eqb (getD w (2 * m + 1) 0) (getD w (2 * i + 1) 0)) h in
-    ap₂ (λ (a b : ℕ). record { place = a; count = b }) (eqb-true _ _ (t .0)) (eqb-true _ _ (t .1))
-  where
-    both : (a b : Bool) → a && b ≡ true → (a ≡ true) × (b ≡ true)
-    both true b e = (refl, e)
-    both false b e = absurd (let z : _≡_ {A = ℕ} 0 1 = cc in omega arith)
+pub key-waits : (t : Bool) (j n : ℕ) → t ≡ true → n < 1048575 → j < 4096 → 4294967295 - (4096 * n + j) ≡ keyOf (playerOf t j n)
+unfolding playerOf
+key-waits t j n e h l = rw e ((let q : 4294967295 - (4096 * n + j) ≡ 4294967296 - (4096 * n + j + 1) = omega arith in q) ∙ sym (key-some (4096 * n + j + 1) (omega arith)))
 
--- the child that wins
-module _ (w : List ℕ) (i : ℕ) where
-  word : (a b n : ℕ) → b ≡ a → getD w a 0 ≡ n → getD w b 0 ≡ n
-  word a b n e h = ap (λ k. getD w k 0) e ∙ h
-
-  absent : (a b : ℕ) → b ≡ a → (getD w a 0 ≡ 0 → ⊥) → getD w b 0 ≡ 0 → ⊥
-  absent a b e h z = h (word b a 0 (sym e) z)
-
-  pub win-alone : getD w (4 * i + 2) 0 ≡ 0 → nodeAt w (2 * i) ≡ better (nodeAt w (2 * i)) (nodeAt w (2 * i + 1))
-  unfolding nodeAt
-  win-alone h = sym (better-first (nodeAt w (2 * i)) (nodeAt w (2 * i + 1)) (word (4 * i + 2) (2 * (2 * i + 1)) 0 (omega arith) h))
-
-  pub win-only : (getD w (4 * i + 2) 0 ≡ 0 → ⊥) → getD w (4 * i) 0 ≡ 0 → nodeAt w (2 * i + 1) ≡ better (nodeAt w (2 * i)) (nodeAt w (2 * i + 1))
-  unfolding nodeAt
-  win-only h l = sym (better-only (nodeAt w (2 * i)) (nodeAt w (2 * i + 1)) (absent (4 * i + 2) (2 * (2 * i + 1)) (omega arith) h) (word (4 * i) (2 * (2 * i)) 0 (omega arith) l))
-
-  -- the counts, as the code and as the nodes have them
-  counts : (getD w (2 * (2 * i) + 1) 0 ≡ getD w (4 * i + 1) 0) × (getD w (2 * (2 * i + 1) + 1) 0 ≡ getD w (4 * i + 3) 0)
-  counts = (word (4 * i + 1) (2 * (2 * i) + 1) _ (omega arith) refl, word (4 * i + 3) (2 * (2 * i + 1) + 1) _ (omega arith) refl)
-
-  pub win-less : (getD w (4 * i + 2) 0 ≡ 0 → ⊥) → getD w (4 * i + 3) 0 < getD w (4 * i + 1) 0 → nodeAt w (2 * i + 1) ≡ better (nodeAt w (2 * i)) (nodeAt w (2 * i + 1))
-  unfolding nodeAt
-  win-less h l = sym (better-less (nodeAt w (2 * i)) (nodeAt w (2 * i + 1)) (absent (4 * i + 2) (2 * (2 * i + 1)) (omega arith) h) (omega (arith, counts)))
-
-  pub win-tie : (getD w (4 * i) 0 ≡ 0 → ⊥) → getD w (4 * i + 1) 0 ≤ getD w (4 * i + 3) 0 → nodeAt w (2 * i) ≡ better (nodeAt w (2 * i)) (nodeAt w (2 * i + 1))
-  unfolding nodeAt
-  win-tie h l = sym (better-tie (nodeAt w (2 * i)) (nodeAt w (2 * i + 1)) (absent (4 * i) (2 * (2 * i)) (omega arith) h) (omega (arith, counts)))
+pub key-handled : (t : Bool) (j n : ℕ) → t ≡ false → 0 ≡ keyOf (playerOf t j n)
+unfolding playerOf
+key-handled t j n e = rw e (sym key-none)

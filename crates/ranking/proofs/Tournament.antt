@@ -1,196 +1,174 @@
--- The root of a tree: the first waiting record of least count.
-use Prim.Native.Nat.{ℕ, zero, suc, _+_, _-_, _*_, _≤_, _<_}
+-- The root of a tree: the key of the first waiting record of least count.
+use Prim.Native.Nat.{ℕ, zero, suc, _+_, _-_, _*_, _%_, _≤_, _<_, max}
 use mathlib.Core.Path.{_≡_, refl, sym, ap, ap₂, _∙_}
 use mathlib.Core.List.{List}
 use mathlib.Core.Bool.{Bool, true, false, cond, not, _&&_}
 use native.Mathlib.Omega.{arith}
-use native.Mathlib.Decide.{decLt, ℕ-discrete}
+use native.Mathlib.Decide.{decLt}
 use native.Mathlib.Nat.{mul-add, add-mul}
 use lib.Dec.{eqb, ltb, leb}
 use lib.ListN.{length, getD}
-use borrow.Author.Tests.{lt-ltb, le-ltb, le-leb, lt-leb, eq-eqb, ne-eqb}
+use borrow.Author.Tests.{lt-ltb, le-ltb, le-leb, lt-leb, ne-eqb}
 use Rattle.agenda.specs.declared.Record.{Record}
 use Rattle.agenda.specs.declared.Found.{Found}
 use Rattle.agenda.specs.declared.Found.the-variants.{At, Nowhere}
 use Rattle.agenda.specs.Records.{isHandled}
 use Rattle.agenda.specs.Consequences.{recordIn}
 use Rattle.agenda.specs.Steps.{lesser, leastWaiting}
-use Rattle.ranking.specs.Ranking.{Player, noPlayer, playerOf, better, waitsAt, leafOf, nodeAt, Ranked}
+use Rattle.records.specs.Words.{itemCount, recordsAt, chartOf}
+use Rattle.records.proofs.WordLaws.{length-records}
+use Rattle.ranking.specs.Ranking.{playerOf, keyOf, waitsAt, leafOf, Ranked}
 
--- ---- the better of two
-module _ (a b : Player) where
-  pub better-first : b .place ≡ 0 → better a b ≡ a
-  unfolding better
-  better-first h = rw (eq-eqb (b .place) 0 h)
+-- ---- keys
+pub key-none : keyOf 0 ≡ 0
+unfolding keyOf
+key-none = refl
 
-  pub better-only : (b .place ≡ 0 → ⊥) → a .place ≡ 0 → better a b ≡ b
-  unfolding better
-  better-only h l = rw (ne-eqb (b .place) 0 h, eq-eqb (a .place) 0 l)
+pub key-some : (p : ℕ) → 1 ≤ p → keyOf p ≡ 4294967296 - p
+unfolding keyOf
+key-some p h = rw (ne-eqb p 0 (λ e. omega arith))
 
-  pub better-less : (b .place ≡ 0 → ⊥) → b .count < a .count → better a b ≡ b
-  unfolding better
-  better-less h l = go (eqb (a .place) 0)
-    where
-      go : (t : Bool) → cond (eqb (b .place) 0) a (cond t b (cond (ltb (b .count) (a .count)) b a)) ≡ b
-      go true = rw (ne-eqb (b .place) 0 h)
-      go false = rw (ne-eqb (b .place) 0 h, lt-ltb (b .count) (a .count) l)
+max-assoc : (a b c : ℕ) → max (max a b) c ≡ max a (max b c)
+max-assoc a b c = omega arith
 
-  pub better-tie : (a .place ≡ 0 → ⊥) → a .count ≤ b .count → better a b ≡ a
-  unfolding better
-  better-tie h l = go (eqb (b .place) 0)
-    where
-      go : (t : Bool) → cond t a (cond (eqb (a .place) 0) b (cond (ltb (b .count) (a .count)) b a)) ≡ a
-      go true = refl
-      go false = rw (ne-eqb (a .place) 0 h, le-ltb (b .count) (a .count) l)
-
--- the first of three is found by either order of matches
-pub better-assoc : (a b c : Player) → better (better a b) c ≡ better a (better b c)
-better-assoc a b c = go (ℕ-discrete (c .place) 0) (ℕ-discrete (b .place) 0) (ℕ-discrete (a .place) 0) (decLt (b .count) (a .count)) (decLt (c .count) (b .count)) (decLt (c .count) (a .count))
-  where
-    go : Dec (c .place ≡ 0) → Dec (b .place ≡ 0) → Dec (a .place ≡ 0) → Dec (b .count < a .count) → Dec (c .count < b .count) → Dec (c .count < a .count)
-        → better (better a b) c ≡ better a (better b c)
-    go (yes z) y x ba cb ca = better-first (better a b) c z ∙ ap (better a) (sym (better-first b c z))
-    go (no z) (yes y) x ba cb ca = ap (λ p. better p c) (better-first a b y) ∙ ap (better a) (sym (better-only b c z y))
-    go (no z) (no y) (yes x) ba (yes cb) ca = ap (λ p. better p c) (better-only a b y x) ∙ better-less b c z cb ∙ sym (ap (better a) (better-less b c z cb) ∙ better-only a c z x)
-    go (no z) (no y) (yes x) ba (no cb) ca =
-        ap (λ p. better p c) (better-only a b y x) ∙ better-tie b c y (omega arith) ∙ sym (ap (better a) (better-tie b c y (omega arith)) ∙ better-only a b y x)
-    go (no z) (no y) (no x) (yes ba) (yes cb) ca =
-        ap (λ p. better p c) (better-less a b y ba) ∙ better-less b c z cb ∙ sym (ap (better a) (better-less b c z cb) ∙ better-less a c z (omega arith))
-    go (no z) (no y) (no x) (yes ba) (no cb) ca =
-        ap (λ p. better p c) (better-less a b y ba) ∙ better-tie b c y (omega arith) ∙ sym (ap (better a) (better-tie b c y (omega arith)) ∙ better-less a b y ba)
-    go (no z) (no y) (no x) (no ba) (yes cb) ca = ap (λ p. better p c) (better-tie a b x (omega arith)) ∙ sym (ap (better a) (better-less b c z cb))
-    go (no z) (no y) (no x) (no ba) (no cb) ca =
-        ap (λ p. better p c) (better-tie a b x (omega arith)) ∙ better-tie a c x (omega arith) ∙ sym (ap (better a) (better-tie b c y (omega arith)) ∙ better-tie a b x (omega arith))
-
--- ---- the best of a range of leaves
+-- ---- the largest of a range of leaves
 module _ (rs : List Record) where
+  abbrev leafKey : ℕ → ℕ
+  leafKey j = keyOf (leafOf rs j)
+
   -- of the n leaves from the place at on
-  pub best : ℕ → ℕ → Player
-  best at zero = noPlayer
-  best at (suc n) = better (best at n) (leafOf rs (at + n))
+  pub best : ℕ → ℕ → ℕ
+  best at zero = 0
+  best at (suc n) = max (best at n) (leafKey (at + n))
 
-  -- a leaf is none exactly as noPlayer is
-  leaf-known : (j : ℕ) → better noPlayer (leafOf rs j) ≡ leafOf rs j
-  unfolding leafOf playerOf
-  leaf-known j = go (waitsAt rs j)
-    where
-      go : (t : Bool) → better noPlayer (playerOf t j (recordIn rs j .count)) ≡ playerOf t j (recordIn rs j .count)
-      go true = better-only noPlayer _ (λ e. omega arith) refl
-      go false = better-first noPlayer noPlayer refl
-
-  best-one : (at : ℕ) → best at 1 ≡ leafOf rs at
+  best-one : (at : ℕ) → best at 1 ≡ leafKey at
   unfolding best
-  best-one at = leaf-known (at + 0) ∙ ap (leafOf rs) (omega arith)
+  best-one at = (let e : max 0 (leafKey (at + 0)) ≡ leafKey (at + 0) = omega arith in e) ∙ ap leafKey (omega arith)
 
   -- two ranges, one behind the other
-  best-split : (at m n : ℕ) → best at (m + n) ≡ better (best at m) (best (at + m) n)
+  best-split : (at m n : ℕ) → best at (m + n) ≡ max (best at m) (best (at + m) n)
   unfolding best
-  best-split at m zero = ap (best at) (let e : m + 0 ≡ m = omega arith in e) ∙ sym (better-first (best at m) noPlayer refl)
+  best-split at m zero = ap (best at) (let e : m + 0 ≡ m = omega arith in e) ∙ (let z : best at m ≡ max (best at m) 0 = omega arith in z)
   best-split at m (suc n) =
-      ap (best at) (let e : m + suc n ≡ suc (m + n) = omega arith in e) ∙ ap₂ better (best-split at m n) (ap (leafOf rs) (omega arith)) ∙ better-assoc (best at m) (best (at + m) n) (leafOf rs (at + m + n))
+      ap (best at) (let e : m + suc n ≡ suc (m + n) = omega arith in e) ∙ ap₂ max (best-split at m n) (ap leafKey (omega arith)) ∙ max-assoc (best at m) (best (at + m) n) (leafKey (at + m + n))
 
-  -- ---- the nodes of one level
-  -- n nodes, each the best of w leaves
+  -- ---- the words of one level
+  -- n words, each the largest of w leaves
   Level : List ℕ → ℕ → ℕ → Type 0
-  Level ranks n w = (k : ℕ) → k < n → nodeAt ranks (n + k) ≡ best (k * w) w
+  Level ranks n w = (k : ℕ) → k < n → getD ranks (n + k) 0 ≡ best (k * w) w
 
-  level-leaves : (ranks : List ℕ) → Ranked ranks rs → Level ranks 4096 1
-  unfolding Level
-  level-leaves ranks R k h = R .leaf k h ∙ sym (best-one k) ∙ ap (λ i. best i 1) (omega arith)
+  module _ (ranks : List ℕ) (R : Ranked ranks rs) (z : getD ranks 0 0 ≡ 0) where
+    level-leaves : Level ranks 4096 1
+    unfolding Level
+    level-leaves k h = R .leaf z k h ∙ sym (best-one k) ∙ ap (λ i. best i 1) (omega arith)
 
-  level-above : (ranks : List ℕ) (n w : ℕ) → Ranked ranks rs → 1 ≤ n → n + n ≤ 4096 → Level ranks (n + n) w → Level ranks n (w + w)
-  unfolding Level
-  level-above ranks n w R l h L k b =
-      let left : nodeAt ranks (2 * (n + k)) ≡ best (k * (w + w)) w = ap (nodeAt ranks) (omega arith) ∙ L (k + k) (omega arith) ∙ ap (λ i. best i w) (omega (arith, mul-add k w w, add-mul k k w)) in
-      let right : nodeAt ranks (2 * (n + k) + 1) ≡ best (k * (w + w) + w) w = ap (nodeAt ranks) (omega arith) ∙ L (k + k + 1) (omega arith) ∙ ap (λ i. best i w) (omega (arith, mul-add k w w, add-mul k k w, add-mul (k + k) 1 w)) in
-      R .inner (n + k) (omega arith) (omega arith) ∙ ap₂ better left right ∙ sym (best-split (k * (w + w)) w w)
+    level-above : (n w : ℕ) → 1 ≤ n → n + n ≤ 4096 → Level ranks (n + n) w → Level ranks n (w + w)
+    unfolding Level
+    level-above n w l h L k b =
+        let left : getD ranks (2 * (n + k)) 0 ≡ best (k * (w + w)) w = ap (λ i. getD ranks i 0) (omega arith) ∙ L (k + k) (omega arith) ∙ ap (λ i. best i w) (omega (arith, mul-add k w w, add-mul k k w)) in
+        let right : getD ranks (2 * (n + k) + 1) 0 ≡ best (k * (w + w) + w) w = ap (λ i. getD ranks i 0) (omega arith) ∙ L (k + k + 1) (omega arith) ∙ ap (λ i. best i w) (omega (arith, mul-add k w w, add-mul k k w, add-mul (k + k) 1 w)) in
+        R .inner z (n + k) (omega arith) (omega arith) ∙ ap₂ max left right ∙ sym (best-split (k * (w + w)) w w)
 
-  root-best : (ranks : List ℕ) → Ranked ranks rs → nodeAt ranks 1 ≡ best 0 4096
-  unfolding Level
-  root-best ranks R =
-      let l₁ = level-above ranks 2048 1 R (omega arith) (omega arith) (level-leaves ranks R) in
-      let l₂ = level-above ranks 1024 2 R (omega arith) (omega arith) l₁ in
-      let l₃ = level-above ranks 512 4 R (omega arith) (omega arith) l₂ in
-      let l₄ = level-above ranks 256 8 R (omega arith) (omega arith) l₃ in
-      let l₅ = level-above ranks 128 16 R (omega arith) (omega arith) l₄ in
-      let l₆ = level-above ranks 64 32 R (omega arith) (omega arith) l₅ in
-      let l₇ = level-above ranks 32 64 R (omega arith) (omega arith) l₆ in
-      let l₈ = level-above ranks 16 128 R (omega arith) (omega arith) l₇ in
-      let l₉ = level-above ranks 8 256 R (omega arith) (omega arith) l₈ in
-      let m₁ = level-above ranks 4 512 R (omega arith) (omega arith) l₉ in
-      let m₂ = level-above ranks 2 1024 R (omega arith) (omega arith) m₁ in
-      level-above ranks 1 2048 R (omega arith) (omega arith) m₂ 0 (omega arith)
+    root-best : getD ranks 1 0 ≡ best 0 4096
+    unfolding Level
+    root-best =
+        let l₁ = level-above 2048 1 (omega arith) (omega arith) level-leaves in
+        let l₂ = level-above 1024 2 (omega arith) (omega arith) l₁ in
+        let l₃ = level-above 512 4 (omega arith) (omega arith) l₂ in
+        let l₄ = level-above 256 8 (omega arith) (omega arith) l₃ in
+        let l₅ = level-above 128 16 (omega arith) (omega arith) l₄ in
+        let l₆ = level-above 64 32 (omega arith) (omega arith) l₅ in
+        let l₇ = level-above 32 64 (omega arith) (omega arith) l₆ in
+        let l₈ = level-above 16 128 (omega arith) (omega arith) l₇ in
+        let l₉ = level-above 8 256 (omega arith) (omega arith) l₈ in
+        let m₁ = level-above 4 512 (omega arith) (omega arith) l₉ in
+        let m₂ = level-above 2 1024 (omega arith) (omega arith) m₁ in
+        level-above 1 2048 (omega arith) (omega arith) m₂ 0 (omega arith)
 
   -- ---- the choice of a step
-  -- the node of the one found
-  abbrev playerFor : Found → Player
-  playerFor Nowhere = noPlayer
-  playerFor (At j) = record { place = j + 1; count = recordIn rs j .count }
-
-  leaf-handled : (j : ℕ) → isHandled (recordIn rs j) ≡ true → leafOf rs j ≡ noPlayer
+  leaf-handled : (j : ℕ) → isHandled (recordIn rs j) ≡ true → leafOf rs j ≡ 0
   unfolding leafOf playerOf waitsAt
   leaf-handled j h = go (ltb j (length rs))
     where
-      go : (t : Bool) → playerOf (t && not (isHandled (recordIn rs j))) j (recordIn rs j .count) ≡ noPlayer
+      go : (t : Bool) → playerOf (t && not (isHandled (recordIn rs j))) j (recordIn rs j .count) ≡ 0
       go true = rw h
       go false = refl
 
-  leaf-waits : (j : ℕ) → j < length rs → isHandled (recordIn rs j) ≡ false → leafOf rs j ≡ playerFor (At j)
+  leaf-waits : (j : ℕ) → j < length rs → isHandled (recordIn rs j) ≡ false → leafOf rs j ≡ 4096 * recordIn rs j .count + j + 1
   unfolding leafOf playerOf waitsAt
   leaf-waits j l h = rw (lt-ltb j (length rs) l, h)
 
-  pub leaf-past : (j : ℕ) → length rs ≤ j → leafOf rs j ≡ noPlayer
+  pub leaf-past : (j : ℕ) → length rs ≤ j → leafOf rs j ≡ 0
   unfolding leafOf playerOf waitsAt
   leaf-past j l = rw (le-ltb j (length rs) l)
 
-  -- one record more
-  next-best : (n : ℕ) (f : Found) → n < length rs → better (playerFor f) (leafOf rs n) ≡ playerFor (lesser rs n f)
-  unfolding lesser
-  next-best n f l = go f (isHandled (recordIn rs n)) refl
-    where
-      stays : (g : Found) → isHandled (recordIn rs n) ≡ true → playerFor g ≡ playerFor (lesser rs n g)
-      stays Nowhere h = rw h
-      stays (At j) h = rw h
+  -- the key k tells the one found among the first n
+  data Tells (k : ℕ) (n : ℕ) : Found → Type 0 where
+    tells-none : k ≡ 0 → Tells k n Nowhere
+    tells-at : (j : ℕ) → j < n → k ≡ 4294967296 - (4096 * recordIn rs j .count + j + 1) → 4096 * recordIn rs j .count + j + 1 ≤ 4294963200 → Tells k n (At j)
 
-      tie : (j : ℕ) → Dec (recordIn rs n .count < recordIn rs j .count)
-          → better (playerFor (At j)) (playerFor (At n)) ≡ playerFor (cond (leb (recordIn rs j .count) (recordIn rs n .count)) (At j) (At n))
-      tie j (yes d) = better-less (playerFor (At j)) (playerFor (At n)) (λ e. omega arith) d ∙ rw (lt-leb (recordIn rs j .count) (recordIn rs n .count) d)
-      tie j (no d) = better-tie (playerFor (At j)) (playerFor (At n)) (λ e. omega arith) (omega arith) ∙ rw (le-leb (recordIn rs j .count) (recordIn rs n .count) (omega arith))
+  module _ (most : length rs ≤ 4096) (keyed : (j : ℕ) → j < 4096 → leafOf rs j ≤ 4294963200) where
+    -- one record more
+    tells-handled : (k m n : ℕ) (f : Found) → isHandled (recordIn rs n) ≡ true → m ≡ 0 → Tells k n f → Tells (max k m) (suc n) (lesser rs n f)
+    unfolding lesser
+    tells-handled k m n Nowhere h e (tells-none a) = rw h (tells-none (omega arith))
+    tells-handled k m n (At j) h e (tells-at i a b c) = rw h (tells-at i (omega arith) (omega arith) c)
 
-      go : (g : Found) (t : Bool) → isHandled (recordIn rs n) ≡ t → better (playerFor g) (leafOf rs n) ≡ playerFor (lesser rs n g)
-      go g true h = better-first (playerFor g) (leafOf rs n) (ap (λ (p : Player). p .place) (leaf-handled n h)) ∙ stays g h
-      go Nowhere false h = ap (better noPlayer) (leaf-waits n l h) ∙ better-only noPlayer (playerFor (At n)) (λ e. omega arith) refl ∙ rw h
-      go (At j) false h = ap (better (playerFor (At j))) (leaf-waits n l h) ∙ tie j (decLt (recordIn rs n .count) (recordIn rs j .count)) ∙ rw h
+    tells-waits : (k m n : ℕ) (f : Found) → n < 4096 → isHandled (recordIn rs n) ≡ false → m ≡ 4294967296 - (4096 * recordIn rs n .count + n + 1) → 4096 * recordIn rs n .count + n + 1 ≤ 4294963200
+        → Tells k n f → Tells (max k m) (suc n) (lesser rs n f)
+    unfolding lesser
+    tells-waits k m n Nowhere l h e q (tells-none a) = rw h (tells-at n (omega arith) (omega arith) q)
+    tells-waits k m n (At j) l h e q (tells-at i a b c) = rw h (go (decLt (recordIn rs n .count) (recordIn rs j .count)))
+      where
+        go : Dec (recordIn rs n .count < recordIn rs j .count) → Tells (max k m) (suc n) (cond (leb (recordIn rs j .count) (recordIn rs n .count)) (At j) (At n))
+        go (yes d) = rw (lt-leb (recordIn rs j .count) (recordIn rs n .count) d) (tells-at n (omega arith) (omega arith) q)
+        go (no d) = rw (le-leb (recordIn rs j .count) (recordIn rs n .count) (omega arith)) (tells-at j (omega arith) (omega arith) c)
 
-  prefix-best : (n : ℕ) → n ≤ length rs → best 0 n ≡ playerFor (leastWaiting rs n)
-  unfolding leastWaiting best
-  prefix-best zero h = refl
-  prefix-best (suc n) h = ap₂ better (prefix-best n (omega arith)) (ap (leafOf rs) (omega arith)) ∙ next-best n (leastWaiting rs n) (omega arith)
+    tells-next : (k n : ℕ) (f : Found) → n < length rs → Tells k n f → Tells (max k (leafKey n)) (suc n) (lesser rs n f)
+    tells-next k n f l T = go (isHandled (recordIn rs n)) refl
+      where
+        go : (t : Bool) → isHandled (recordIn rs n) ≡ t → Tells (max k (leafKey n)) (suc n) (lesser rs n f)
+        go true h = tells-handled k (leafKey n) n f h (ap keyOf (leaf-handled n h) ∙ key-none) T
+        go false h =
+            let e = leaf-waits n l h in
+            tells-waits k (leafKey n) n f (omega arith) h (ap keyOf e ∙ key-some _ (omega arith)) (rw e at (keyed n (omega arith))) T
+
+    tells-prefix : (n : ℕ) → n ≤ length rs → Tells (best 0 n) n (leastWaiting rs n)
+    unfolding leastWaiting best
+    tells-prefix zero h = tells-none refl
+    tells-prefix (suc n) h = rw (let e : 0 + n ≡ n = omega arith in e) (tells-next (best 0 n) n (leastWaiting rs n) (omega arith) (tells-prefix n (omega arith)))
 
   -- past the last record nothing changes
   best-past : (n : ℕ) → best 0 (length rs + n) ≡ best 0 (length rs)
   unfolding best
   best-past zero = ap (best 0) (let e : length rs + 0 ≡ length rs = omega arith in e)
-  best-past (suc n) = ap (best 0) (let e : length rs + suc n ≡ suc (length rs + n) = omega arith in e) ∙ better-first (best 0 (length rs + n)) (leafOf rs (0 + (length rs + n))) (ap (λ (p : Player). p .place) (leaf-past _ (omega arith))) ∙ best-past n
+  best-past (suc n) =
+      let none : leafKey (0 + (length rs + n)) ≡ 0 = ap keyOf (leaf-past _ (omega arith)) ∙ key-none in
+      let same : max (best 0 (length rs + n)) (leafKey (0 + (length rs + n))) ≡ best 0 (length rs + n) = omega arith in
+      ap (best 0) (let e : length rs + suc n ≡ suc (length rs + n) = omega arith in e) ∙ same ∙ best-past n
+
+  found-none : (k n : ℕ) (f : Found) → k ≡ 0 → Tells k n f → Nowhere ≡ f
+  found-none k n Nowhere e (tells-none a) = refl
+  found-none k n (At j) e (tells-at i a b c) = absurd (omega arith)
+
+  found-at : (k n : ℕ) (f : Found) → n ≤ 4096 → (k ≡ 0 → ⊥) → Tells k n f → At ((4294967295 - k) % 4096) ≡ f
+  found-at k n Nowhere l h (tells-none a) = absurd (h a)
+  found-at k n (At j) l h (tells-at i a b c) = ap At (let e : 4294967295 - k ≡ 4096 * recordIn rs j .count + j = omega arith in omega arith)
 
   -- the root stands for the first waiting record of least count
-  root-least : (ranks : List ℕ) → Ranked ranks rs → length rs ≤ 4096 → nodeAt ranks 1 ≡ playerFor (leastWaiting rs (length rs))
-  root-least ranks R h =
-      root-best ranks R ∙ ap (best 0) (omega arith) ∙ best-past (4096 - length rs) ∙ prefix-best (length rs) (omega arith)
+  module _ (ranks : List ℕ) (R : Ranked ranks rs) (z : getD ranks 0 0 ≡ 0) (h : length rs ≤ 4096) where
+    root-tells : Tells (getD ranks 1 0) (length rs) (leastWaiting rs (length rs))
+    root-tells =
+        let e : getD ranks 1 0 ≡ best 0 (length rs) = root-best ranks R z ∙ ap (best 0) (omega arith) ∙ best-past (4096 - length rs) in
+        rw e (tells-prefix h (R .keyed z) (length rs) (omega arith))
 
-  found-none : (f : Found) → playerFor f .place ≡ 0 → Nowhere ≡ f
-  found-none Nowhere e = refl
-  found-none (At j) e = absurd (omega arith)
+    pub least-none : getD ranks 1 0 ≡ 0 → Nowhere ≡ leastWaiting rs (length rs)
+    least-none e = found-none (getD ranks 1 0) (length rs) (leastWaiting rs (length rs)) e root-tells
 
-  found-at : (f : Found) (n : ℕ) → playerFor f .place ≡ n → (n ≡ 0 → ⊥) → At (n - 1) ≡ f
-  found-at Nowhere n e h = absurd (h (sym e))
-  found-at (At j) n e h = ap At (omega arith)
+    pub least-at : (getD ranks 1 0 ≡ 0 → ⊥) → At ((4294967295 - getD ranks 1 0) % 4096) ≡ leastWaiting rs (length rs)
+    least-at e = found-at (getD ranks 1 0) (length rs) (leastWaiting rs (length rs)) h e root-tells
 
-  module _ (ranks : List ℕ) (R : Ranked ranks rs) (h : length rs ≤ 4096) where
-    pub least-none : getD ranks 2 0 ≡ 0 → Nowhere ≡ leastWaiting rs (length rs)
-    unfolding nodeAt
-    least-none e = found-none (leastWaiting rs (length rs)) (sym (ap (λ (p : Player). p .place) (root-least ranks R h)) ∙ e)
-
-    pub least-at : (getD ranks 2 0 ≡ 0 → ⊥) → At (getD ranks 2 0 - 1) ≡ leastWaiting rs (length rs)
-    unfolding nodeAt
-    least-at e = found-at (leastWaiting rs (length rs)) (getD ranks 2 0) (sym (ap (λ (p : Player). p .place) (root-least ranks R h))) e
+-- the records looked through
+pub least-all : (w : List ℕ) (n : ℕ) (r : Found) → n ≡ itemCount w → r ≡ leastWaiting (recordsAt w n) n → r ≡ leastWaiting (chartOf w .records) (length (chartOf w .records))
+unfolding chartOf
+least-all w n r e q = q ∙ ap (λ k. leastWaiting (recordsAt w k) k) e ∙ ap (leastWaiting (recordsAt w (itemCount w))) (sym (length-records w (itemCount w)))

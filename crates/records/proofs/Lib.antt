@@ -5,3 +5,5 @@ pub mod WordLaws
 pub mod Written
 pub mod Rewritten
 pub mod Grown
+-- the words that change where a record is improved
+pub mod Improved

@@ -7,8 +7,8 @@ use native.Mathlib.Omega.{arith}
 use native.Mathlib.Decide.{decLt}
 use native.Mathlib.Numerals.{add-one}
 use lib.Dec.{eqb, leb}
-use lib.ListN.{length, length-append, getD, set, List·getD-eq-default, List·getD-append}
-use lib.Seq.{set-out, getD-at, paste-suc, paste-zero, getD-set-same, getD-set-other, ext-getD}
+use lib.ListN.{length, length-append, length-drop, length-take, getD, set, take, drop, List·getD-eq-default, List·getD-append}
+use lib.Seq.{getD-take, getD-drop, set-out, getD-at, paste-suc, paste-zero, getD-set-same, getD-set-other, ext-getD}
 use borrow.Author.Tests.{lt-ltb, le-ltb, le-leb, lt-leb, eq-eqb, ne-eqb}
 use Rattle.hrg.specs.Counts.{tabulate, flag}
 use Rattle.hrg.specs.ClosureRun.{sameList}
@@ -18,7 +18,7 @@ use Rattle.agenda.specs.declared.Found.the-variants.{At, Nowhere}
 use Rattle.agenda.specs.Records.{sameRecord, isHandled}
 use Rattle.agenda.specs.Consequences.{recordIn, noRecord}
 use Rattle.agenda.specs.Steps.{improved, lastSame, lesser, leastWaiting, handledCount}
-use Rattle.records.specs.Words.{itemCount, improvedAt, appendedTo, placedIn, addedTo, markedAt, recordsAt, lesserAt, capacity, fieldAt, blockAt, ofWords, recordAt, wordsOf, pasted, saved}
+use Rattle.records.specs.Words.{itemCount, improvedAt, appendedTo, placedIn, addedTo, markedAt, recordsAt, lesserAt, capacity, fieldAt, blockAt, fourSame, ofWords, recordAt, wordsOf, pasted, saved}
 
 -- ---- reading
 pub past-end : (w : List ℕ) (i : ℕ) → length w ≤ i → 0 ≡ getD w i 0
@@ -56,17 +56,13 @@ pub length-block : (w : List ℕ) (j : ℕ) → length (blockAt w j) ≡ 16
 unfolding blockAt
 length-block w j = length-tabulate 16 (λ k. getD w (2 + 16 * j + k) 0)
 
--- sixteen words that are read
+pub block-word : (w : List ℕ) (j k : ℕ) → k < 16 → getD (blockAt w j) k 0 ≡ getD w (2 + 16 * j + k) 0
+unfolding blockAt
+block-word w j k h = getD-tabulate 16 (λ i. getD w (2 + 16 * j + i) 0) k h
+
 pub first-word : (w : List ℕ) (j : ℕ) → getD w (2 + 16 * j) 0 ≡ fieldAt w j 0
 unfolding fieldAt
 first-word w j = ap (λ i. getD w i 0) (let e : 2 + 16 * j ≡ 2 + 16 * j + 0 = omega arith in e)
-
-pub whole-block : (w : List ℕ) (j h : ℕ) → h ≡ fieldAt w j 0
-    → h ∷ getD w (2 + 16 * j + 1) 0 ∷ getD w (2 + 16 * j + 2) 0 ∷ getD w (2 + 16 * j + 3) 0 ∷ getD w (2 + 16 * j + 4) 0 ∷ getD w (2 + 16 * j + 5) 0 ∷ getD w (2 + 16 * j + 6) 0 ∷ getD w (2 + 16 * j + 7) 0
-    ∷ getD w (2 + 16 * j + 8) 0 ∷ getD w (2 + 16 * j + 9) 0 ∷ getD w (2 + 16 * j + 10) 0 ∷ getD w (2 + 16 * j + 11) 0 ∷ getD w (2 + 16 * j + 12) 0 ∷ getD w (2 + 16 * j + 13) 0
-    ∷ getD w (2 + 16 * j + 14) 0 ∷ getD w (2 + 16 * j + 15) 0 ∷ [] ≡ blockAt w j
-unfolding blockAt fieldAt tabulate
-whole-block w j h e = rw e
 
 pub copied-all : (ws w : List ℕ) (j k : ℕ) → length ws ≡ 16 → 16 ≤ k → ((i : ℕ) → i < k → getD ws i 0 ≡ fieldAt w j i) → ws ≡ blockAt w j
 unfolding blockAt fieldAt
@@ -76,6 +72,80 @@ copied-all ws w j k e h p =
 pub record-of-block : (w b : List ℕ) (j : ℕ) (r : Record) → b ≡ blockAt w j → r ≡ ofWords b → r ≡ recordAt w j
 unfolding recordAt
 record-of-block w b j r e p = p ∙ ap ofWords e
+
+-- ---- a record as its sixteen words
+module _ (w : List ℕ) where
+  pub kind-words : ofWords w .kind ≡ getD w 0 0
+  unfolding ofWords
+  kind-words = refl
+
+  pub rule-words : ofWords w .of ≡ getD w 1 0
+  unfolding ofWords
+  rule-words = refl
+
+  pub plan-words : ofWords w .plan ≡ getD w 2 0
+  unfolding ofWords
+  plan-words = refl
+
+  pub edges-words : ofWords w .edges ≡ getD w 3 0
+  unfolding ofWords
+  edges-words = refl
+
+  pub count-words : ofWords w .count ≡ getD w 4 0
+  unfolding ofWords
+  count-words = refl
+
+  pub handled-words : ofWords w .handled ≡ getD w 5 0
+  unfolding ofWords
+  handled-words = refl
+
+  pub first-words : ofWords w .first ≡ getD w 14 0
+  unfolding ofWords
+  first-words = refl
+
+  pub second-words : ofWords w .second ≡ getD w 15 0
+  unfolding ofWords
+  second-words = refl
+
+  -- place k of its nodes
+  pub node-words : (k : ℕ) → k < 8 → getD (ofWords w .nodes) k 0 ≡ getD w (6 + k) 0
+  unfolding ofWords tabulate
+  node-words k h = getD-tabulate 8 (λ i. getD w (6 + i) 0) k h
+
+  pub eight-words : length (ofWords w .nodes) ≡ 8
+  unfolding ofWords
+  eight-words = refl
+
+  -- the record's words are those that it was made of
+  pub words-of-words : length w ≡ 16 → wordsOf (ofWords w) ≡ w
+  unfolding wordsOf ofWords tabulate
+  words-of-words e =
+      ext-getD 0 (tabulate 16 (λ k. getD w k 0)) w (sym e) (λ i l. getD-tabulate 16 (λ k. getD w k 0) i (omega arith))
+
+  pub nodes-words : length w ≡ 16 → ofWords w .nodes ≡ take 8 (drop 6 w)
+  unfolding wordsOf ofWords
+  nodes-words e = ap (λ (l : List ℕ). take 8 (drop 6 l)) (words-of-words e)
+
+pub words-record : (w : List ℕ) (j : ℕ) → ofWords (blockAt w j) ≡ recordAt w j
+unfolding recordAt
+words-record w j = refl
+
+-- a part of the chart that is a record's words, by its start and its length
+pub part-block : (w : List ℕ) (j at n : ℕ) → at ≡ 2 + 16 * j → n ≡ 16 → 2 + 16 * j + 16 ≤ length w → take n (drop at w) ≡ blockAt w j
+unfolding fieldAt
+part-block w j at n p q h =
+    ap (λ m. take m (drop at w)) q
+    ∙ ap (λ m. take 16 (drop m w)) p
+    ∙ (let rest : List ℕ = drop (2 + 16 * j) w in copied-all (take 16 rest) w j 16 (simp (length-take, length-drop) (omega arith)) (omega arith) (λ i l. getD-take 16 rest i 0 l ∙ getD-drop (2 + 16 * j) w i 0))
+
+pub part-length : (w : List ℕ) (j at n : ℕ) → at ≡ 2 + 16 * j → n ≡ 16 → 2 + 16 * j + 16 ≤ length w → length (take n (drop at w)) ≡ 16
+part-length w j at n p q h = ap length (part-block w j at n p q h) ∙ length-block w j
+
+pub part-record-at : (w : List ℕ) (j at n : ℕ) → at ≡ 2 + 16 * j → n ≡ 16 → 2 + 16 * j + 16 ≤ length w → ofWords (take n (drop at w)) ≡ recordAt w j
+part-record-at w j at n p q h = ap ofWords (part-block w j at n p q h) ∙ words-record w j
+
+pub part-record : (w : List ℕ) (j : ℕ) → 2 + 16 * j + 16 ≤ length w → ofWords (take 16 (drop (2 + 16 * j) w)) ≡ recordAt w j
+part-record w j h = part-record-at w j (2 + 16 * j) 16 refl refl h
 
 -- ---- writing
 -- a list of eight is its eight elements
@@ -112,10 +182,6 @@ paste-next d s e at i h l p = rw (p, add-one) (paste-suc d at s i 0 h l)
 pub paste-done : (d s e : List ℕ) (at k : ℕ) → k ≤ 16 → 16 ≤ k → e ≡ pasted d at s k → e ≡ pasted d at s 16
 paste-done d s e at k a b p = p ∙ ap (λ n. pasted d at s n) (let q : k ≡ 16 = omega arith in q)
 
-pub save-none : (w : List ℕ) (j : ℕ) (x : Record) → capacity w ≤ j → w ≡ saved w j x
-unfolding saved
-save-none w j x h = rw (le-ltb _ _ h)
-
 pub save-some : (w v : List ℕ) (j : ℕ) (x : Record) → j < capacity w → v ≡ pasted w (2 + 16 * j) (wordsOf x) 16 → v ≡ saved w j x
 unfolding saved
 save-some w v j x h e = rw (lt-ltb _ _ h) e
@@ -124,6 +190,15 @@ pub place-fits : (w : List ℕ) (j : ℕ) → j < capacity w → 2 + 16 * j + 16
 unfolding capacity
 place-fits w j h = omega arith
 
+pub fits-place : (w : List ℕ) (j : ℕ) → 2 + 16 * j + 16 ≤ length w → j < capacity w
+unfolding capacity
+fits-place w j h = omega arith
+
+-- the items of the words lie inside them
+pub item-fits : (w : List ℕ) (j : ℕ) → j < itemCount w → 2 + 16 * j + 16 ≤ length w
+unfolding itemCount
+item-fits w j h = place-fits w j (omega arith)
+
 -- .. by the number of items that the code has read
 pub beyond : (w : List ℕ) (j n : ℕ) → n ≡ capacity w → n ≤ j → capacity w ≤ j
 beyond w j n e h = omega arith
@@ -131,8 +206,8 @@ beyond w j n e h = omega arith
 pub within : (w : List ℕ) (j n : ℕ) → n ≡ capacity w → j < n → j < capacity w
 within w j n e h = omega arith
 
-pub pasted-words : (w v l : List ℕ) (place : ℕ) (x : Record) → l ≡ wordsOf x → v ≡ pasted w place l 16 → v ≡ pasted w place (wordsOf x) 16
-pasted-words w v l place x e h = rw e at h
+pub save-words : (w v xs : List ℕ) (j : ℕ) → length xs ≡ 16 → j < capacity w → v ≡ pasted w (2 + 16 * j) xs 16 → v ≡ saved w j (ofWords xs)
+save-words w v xs j e h p = save-some w v j (ofWords xs) h (p ∙ ap (λ (l : List ℕ). pasted w (2 + 16 * j) l 16) (sym (words-of-words xs e)))
 
 -- ---- comparing
 and-all : (a b c d : Bool) → a && b && c && d ≡ a && (b && (c && (d && true)))
@@ -159,11 +234,6 @@ same-places ms ns p q =
     ∙ ap (λ (l : List ℕ). sameList l (getD ns 0 0 ∷ getD ns 1 0 ∷ getD ns 2 0 ∷ getD ns 3 0 ∷ getD ns 4 0 ∷ getD ns 5 0 ∷ getD ns 6 0 ∷ getD ns 7 0 ∷ [])) (eight ms p)
     ∙ ap (λ (l : List ℕ). sameList ms l) (eight ns q)
 
-pub same-by : (x y : Record) (p : Bool) → p ≡ sameList (x .nodes) (y .nodes)
-    → eqb (x .edges) (y .edges) && eqb (x .kind) (y .kind) && eqb (x .of) (y .of) && eqb (x .plan) (y .plan) && p ≡ sameRecord x y
-unfolding sameRecord
-same-by x y p e = ap (λ (b : Bool). eqb (x .edges) (y .edges) && eqb (x .kind) (y .kind) && eqb (x .of) (y .of) && eqb (x .plan) (y .plan) && b) e
-
 pub kind-of : (w : List ℕ) (j : ℕ) → recordAt w j .kind ≡ fieldAt w j 0
 unfolding recordAt ofWords blockAt fieldAt tabulate
 kind-of w j = refl
@@ -187,9 +257,6 @@ count-of w j = refl
 pub handled-of : (w : List ℕ) (j : ℕ) → recordAt w j .handled ≡ fieldAt w j 5
 unfolding recordAt ofWords blockAt fieldAt tabulate
 handled-of w j = refl
-
-pub same-loaded : (x y : Record) (w : List ℕ) (j : ℕ) (b : Bool) → y ≡ recordAt w j → b ≡ sameRecord x y → b ≡ sameRecord x (recordAt w j)
-same-loaded x y w j b e h = rw e at h
 
 -- word by word, where the record lies inside
 pub same-inside : (ms w : List ℕ) (j : ℕ) → length ms ≡ 8
@@ -240,6 +307,11 @@ module _ (x : Record) (w : List ℕ) (j : ℕ) where
   unfolding sameRecord fieldAt
   same-rest a b d e t p =
       rw (eq-eqb (x .edges) (recordAt w j .edges) (sym (edges-of w j ∙ a)), eq-eqb (x .kind) (recordAt w j .kind) (sym (kind-of w j ∙ sym (first-word w j) ∙ e)), eq-eqb (x .of) (recordAt w j .of) (sym (rule-of w j ∙ b)), eq-eqb (x .plan) (recordAt w j .plan) (sym (plan-of w j ∙ d))) p
+
+-- the nodes of a record that is lent as sixteen words, in two halves
+pub same-lent : (xs w : List ℕ) (j : ℕ) (a b : Bool) → a ≡ fourSame xs w j 6 → b ≡ fourSame xs w j 10 → a && b ≡ sameList (ofWords xs .nodes) (recordAt w j .nodes)
+unfolding ofWords fourSame
+same-lent xs w j a b p q = ap₂ (λ (s t : Bool). s && t) p q ∙ same-inside (ofWords xs .nodes) w j refl
 
 -- ---- records of the words
 pub length-records : (w : List ℕ) (n : ℕ) → length (recordsAt w n) ≡ n

@@ -14,19 +14,19 @@ use Rattle.hrg.specs.Counts.{tabulate}
 use Rattle.agenda.specs.declared.Record.{Record}
 use Rattle.agenda.specs.declared.Found.{Found}
 use Rattle.agenda.specs.declared.Found.the-variants.{At, Nowhere}
-use Rattle.agenda.specs.Records.{isHandled}
+use Rattle.agenda.specs.Records.{isHandled, sameRecord}
 use Rattle.agenda.specs.Consequences.{recordIn, noRecord}
 use Rattle.agenda.specs.Steps.{Chart, improved, handledNow, lastSame, placed, added}
 use Rattle.records.specs.Words.{Fits, capacity, itemCount, fieldAt, blockAt, ofWords, recordAt, recordsAt, chartOf, wordsOf, pasted, saved, allWords, written, improvedAt, appendedTo, placedIn, addedTo, markedAt}
-use Rattle.records.proofs.WordLaws.{eight, words-by, copied-all, length-records, record-in, place-fits, Below, one, last-below}
+use Rattle.records.proofs.WordLaws.{eight, words-by, length-block, copied-all, length-records, record-in, place-fits, item-fits, Below, one, last-below}
 
 -- ---- what was pasted, and what stays
 module _ (d s : List ℕ) (at n : ℕ) (hd : at + n ≤ length d) (hs : n ≤ length s) where
-  length-pasted : length (pasted d at s n) ≡ length d
+  pub length-pasted : length (pasted d at s n) ≡ length d
   unfolding pasted
   length-pasted = length-paste d at s n hd hs
 
-  pasted-at : (k : ℕ) → k < n → getD (pasted d at s n) (at + k) 0 ≡ getD s k 0
+  pub pasted-at : (k : ℕ) → k < n → getD (pasted d at s n) (at + k) 0 ≡ getD s k 0
   unfolding pasted
   pasted-at k h =
       sym (getD-take (at + n) (paste d at s n) (at + k) 0 (omega arith))
@@ -35,7 +35,7 @@ module _ (d s : List ℕ) (at n : ℕ) (hd : at + n ≤ length d) (hs : n ≤ le
       ∙ getD-append-add (take at d) (take n s) k 0
       ∙ getD-take n s k 0 h
 
-  pasted-below : (j : ℕ) → j < at → getD (pasted d at s n) j 0 ≡ getD d j 0
+  pub pasted-below : (j : ℕ) → j < at → getD (pasted d at s n) j 0 ≡ getD d j 0
   unfolding pasted
   pasted-below j h =
       sym (getD-take (at + n) (paste d at s n) j 0 (omega arith))
@@ -43,7 +43,7 @@ module _ (d s : List ℕ) (at n : ℕ) (hd : at + n ≤ length d) (hs : n ≤ le
       ∙ List·getD-append (take at d) (take n s) 0 j (omega (arith, length-take-le at d (omega arith)))
       ∙ getD-take at d j 0 h
 
-  pasted-past : (j : ℕ) → at + n ≤ j → getD (pasted d at s n) j 0 ≡ getD d j 0
+  pub pasted-past : (j : ℕ) → at + n ≤ j → getD (pasted d at s n) j 0 ≡ getD d j 0
   unfolding pasted
   pasted-past j h =
       let e : j ≡ at + n + (j - (at + n)) = omega arith in
@@ -62,6 +62,9 @@ unfolding ofWords
 of-words x e =
     sym (ap ofWords (words-by x e))
     ∙ (λ i. record { kind = x .kind; of = x .of; plan = x .plan; edges = x .edges; count = x .count; handled = x .handled; nodes = eight (x .nodes) e i; first = x .first; second = x .second })
+
+pub own-words : (x : Record) (ws : List ℕ) → length (x .nodes) ≡ 8 → ws ≡ wordsOf x → ofWords ws ≡ x
+own-words x ws e p = ap ofWords p ∙ of-words x e
 
 words-again : (w : List ℕ) (j : ℕ) → wordsOf (recordAt w j) ≡ blockAt w j
 unfolding wordsOf recordAt ofWords blockAt tabulate
@@ -123,6 +126,28 @@ module _ (w : List ℕ) (j : ℕ) (x : Record) (h : j < capacity w) (e : length 
 -- a word of the header leaves the records
 pub header-records : (w : List ℕ) (i a k : ℕ) → i < 2 → recordAt (set w i a) k ≡ recordAt w k
 header-records w i a k h = record-by (set w i a) w k (λ m l. getD-set-other w i (2 + 16 * k + m) a 0 (omega arith))
+
+-- a record that was found among the items lies inside
+at-below : (n j : ℕ) → Below n (At j) → j < n
+at-below n j (one h) = h
+
+pub found-fits : (w : List ℕ) (x : Record) (n j : ℕ) (f : Found) → n ≡ itemCount w → f ≡ lastSame x (recordsAt w n) n → f ≡ At j → 2 + 16 * j + 16 ≤ length w
+found-fits w x n j f e p q =
+    let b : j < n = at-below n j (subst (λ (g : Found). Below n g) (sym p ∙ q) (last-below x (recordsAt w n) n)) in
+    item-fits w j (omega arith)
+
+pub improved-own : (w v : List ℕ) (j : ℕ) (x y : Record) → v ≡ improvedAt w j y → y ≡ x → v ≡ improvedAt w j x
+improved-own w v j x y p e = p ∙ ap (improvedAt w j) e
+
+-- a record that is compared in words of its own
+pub same-alone : (x : Record) (w d b v : List ℕ) (j : ℕ) (t : Bool) → length d ≡ 18 → b ≡ blockAt w j → v ≡ pasted d 2 b 16 → t ≡ sameRecord x (recordAt v 0) → t ≡ sameRecord x (recordAt w j)
+unfolding fieldAt recordAt
+same-alone x w d b v j t l e p q =
+    let n : length b ≡ 16 = ap length e ∙ length-block w j in
+    let again : b ≡ blockAt v 0 =
+    copied-all b v 0 16 n (omega arith) (λ i h. sym (ap (λ (a : List ℕ). getD a (2 + i) 0) p ∙ pasted-at d b 2 16 (omega arith) (omega arith) i h))
+    in
+    q ∙ ap (λ (a : List ℕ). sameRecord x (ofWords a)) (sym again ∙ e)
 
 -- ---- words and the chart that they stand for
 words-append : (xs ys : List Record) → allWords (xs ++ ys) ≡ allWords xs ++ allWords ys

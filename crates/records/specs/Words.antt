@@ -4,7 +4,7 @@ use Prim.Native.Nat.{ℕ, zero, suc, _+_, _-_, _*_, _/_, _≤_, min}
 use lib.ListN.{length, getD, drop, set}
 use lib.Seq.{paste}
 use lib.Dec.{eqb, ltb, leb}
-use mathlib.Core.Bool.{cond, _||_}
+use mathlib.Core.Bool.{Bool, cond, _&&_, _||_}
 use Rattle.hrg.specs.Counts.{tabulate}
 use Rattle.agenda.specs.Records.{isHandled}
 use Rattle.agenda.specs.Steps.{Chart, improved, lastSame, addedAll}
@@ -29,6 +29,14 @@ fieldAt w j k = getD w (2 + 16 * j + k) 0
 unfoldable pub blockAt : List ℕ → ℕ → List ℕ
 unfolding tabulate fieldAt
 blockAt w j = tabulate 16 (λ k. fieldAt w j k)
+
+-- whether the four words from k on are those of the record at place j
+unfoldable pub fourSame : List ℕ → List ℕ → ℕ → ℕ → Bool
+fourSame x w j k =
+    eqb (getD x k 0) (getD w (2 + 16 * j + k) 0)
+    && eqb (getD x (k + 1) 0) (getD w (2 + 16 * j + (k + 1)) 0)
+    && eqb (getD x (k + 2) 0) (getD w (2 + 16 * j + (k + 2)) 0)
+    && eqb (getD x (k + 3) 0) (getD w (2 + 16 * j + (k + 3)) 0)
 
 -- the record of sixteen words
 unfoldable pub ofWords : List ℕ → Record

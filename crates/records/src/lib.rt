@@ -2,9 +2,8 @@
 ghost use mathlib.Core.Path.{_≡_};
 ghost use Prim.Native.Nat.{_≤_, _<_, _+_, _*_};
 ghost use lib.ListN.{length, getD};
-ghost use Rattle.records.specs.Words.{capacity, itemCount, fieldAt, blockAt, ofWords, recordAt, recordsAt, wordsOf, pasted, saved, lesserAt, improvedAt, appendedTo, addedTo, markedAt};
-ghost use Rattle.hrg.specs.ClosureRun.{sameList};
-ghost use Rattle.agenda.specs.Records.{sameRecord, isHandled};
+ghost use Rattle.records.specs.Words.{capacity, itemCount, fieldAt, blockAt, ofWords, recordAt, recordsAt, wordsOf, pasted, fourSame, lesserAt, improvedAt, appendedTo, addedTo, markedAt};
+ghost use Rattle.agenda.specs.Records.{sameRecord};
 ghost use Rattle.agenda.specs.Steps.{lastSame, leastWaiting, handledCount};
 use agenda::Found;
 use agenda::Record;
@@ -60,30 +59,19 @@ pub fn field(chart: &[u64], j: u64, k: u64) -> u64
     word(chart, 2 + 16 * j + k)
 }
 
-// The sixteen words of the record at place j, which lies inside the chart.
-fn whole_block(chart: &[u64], j: u64) -> [u64; 16]
+// The sixteen words of the record at place j, which lies inside the chart: a plain copy, which takes few instructions.
+pub fn words_in(chart: &[u64], j: u64) -> [u64; 16]
     requires { ⌜ 2 + 16 * j + 16 ≤ length (now chart) ⌝ }
     ensures { λ r. ⌜ r ≡ blockAt (now (chart .entry)) j ⌝ }
 {
     let at = (2 + 16 * j) as usize;
-    [
-        chart[at],
-        chart[at + 1],
-        chart[at + 2],
-        chart[at + 3],
-        chart[at + 4],
-        chart[at + 5],
-        chart[at + 6],
-        chart[at + 7],
-        chart[at + 8],
-        chart[at + 9],
-        chart[at + 10],
-        chart[at + 11],
-        chart[at + 12],
-        chart[at + 13],
-        chart[at + 14],
-        chart[at + 15],
-    ]
+    let mut ws = [0u64; 16];
+    let mut k = 0;
+    while k < 16 {
+        ws[k] = chart[at + k];
+        k += 1;
+    }
+    ws
 }
 
 // The same where the chart may end before or inside the record.
@@ -100,11 +88,11 @@ fn cut_block(chart: &[u64], j: u64) -> [u64; 16]
 }
 
 // The sixteen words of the record at place j.
-fn block(chart: &[u64], j: u64) -> [u64; 16]
+pub fn words_at(chart: &[u64], j: u64) -> [u64; 16]
     ensures { λ r. ⌜ r ≡ blockAt (now (chart .entry)) j ⌝ }
 {
     if j < capacity_of(chart) {
-        return whole_block(chart, j);
+        return words_in(chart, j);
     }
     cut_block(chart, j)
 }
@@ -155,112 +143,85 @@ fn words_of(x: Record) -> [u64; 16]
 pub fn load(chart: &[u64], j: u64) -> Record
     ensures { λ r. ⌜ r ≡ recordAt (now (chart .entry)) j ⌝ }
 {
-    record_of(block(chart, j))
+    record_of(words_at(chart, j))
 }
 
-// Sixteen words from the place at on.
-fn put_block(chart: &mut [u64], at: usize, ws: [u64; 16])
-    requires { ⌜ at + 16 ≤ length (now chart) ⌝ }
-    ensures { λ r. ⌜ now (chart .exit) ≡ pasted (now (chart .entry)) at ws 16 ⌝ }
+// Sixteen words, copied to the place at on.
+fn put_words(chart: &mut [u64], at: usize, x: &[u64])
+    requires { ⌜ (at + 16 ≤ length (now chart)) × (length (now x) ≡ 16) ⌝ }
+    ensures { λ r. ⌜ now (chart .exit) ≡ pasted (now (chart .entry)) at (now (x .entry)) 16 ⌝ }
 {
     let mut k = 0;
     while k < 16 {
-        chart[at + k] = ws[k];
+        chart[at + k] = x[k];
         k += 1;
     }
 }
 
-// The record x at place j; nothing where the chart has no such place.
-fn save(chart: &mut [u64], j: u64, x: Record)
-    ensures { λ r. ⌜ now (chart .exit) ≡ saved (now (chart .entry)) j x ⌝ }
-{
-    if j >= capacity_of(chart) {
-        return;
-    }
-    let at = (2 + 16 * j) as usize;
-    put_block(chart, at, words_of(x));
-}
-
-// Whether two records are of the same item.
-fn same(x: Record, y: Record) -> bool
-    ensures { λ r. ⌜ r ≡ sameRecord x y ⌝ }
-{
-    let item = (x.edges == y.edges) & (x.kind == y.kind) & (x.of == y.of) & (x.plan == y.plan);
-    let low = (x.nodes[0] == y.nodes[0])
-        & (x.nodes[1] == y.nodes[1])
-        & (x.nodes[2] == y.nodes[2])
-        & (x.nodes[3] == y.nodes[3]);
-    let high = (x.nodes[4] == y.nodes[4])
-        & (x.nodes[5] == y.nodes[5])
-        & (x.nodes[6] == y.nodes[6])
-        & (x.nodes[7] == y.nodes[7]);
-    item & (low & high)
-}
-
-// Whether the item of a record is handled.
-pub fn is_handled(x: Record) -> bool
-    ensures { λ r. ⌜ r ≡ isHandled x ⌝ }
-{
-    x.handled != 0
-}
-
-// Whether the nodes of the record at place j, which lies inside the chart, are these.
-fn same_nodes(chart: &[u64], j: u64, nodes: [u64; 8]) -> bool
-    requires { ⌜ 2 + 16 * j + 16 ≤ length (now chart) ⌝ }
-    ensures { λ r. ⌜ r ≡ sameList nodes (recordAt (now (chart .entry)) j .nodes) ⌝ }
+// Whether the four words from k on are those of the record at place j, which lies inside the chart.
+fn same_four(chart: &[u64], j: u64, x: &[u64], k: usize) -> bool
+    requires { ⌜ (2 + 16 * j + 16 ≤ length (now chart)) × (length (now x) ≡ 16) × (k ≤ 12) ⌝ }
+    ensures { λ r. ⌜ r ≡ fourSame (now (x .entry)) (now (chart .entry)) j k ⌝ }
 {
     let at = (2 + 16 * j) as usize;
-    let low = (nodes[0] == chart[at + 6])
-        & (nodes[1] == chart[at + 7])
-        & (nodes[2] == chart[at + 8])
-        & (nodes[3] == chart[at + 9]);
-    let high = (nodes[4] == chart[at + 10])
-        & (nodes[5] == chart[at + 11])
-        & (nodes[6] == chart[at + 12])
-        & (nodes[7] == chart[at + 13]);
-    low & high
+    (x[k] == chart[at + k])
+        & (x[k + 1] == chart[at + (k + 1)])
+        & (x[k + 2] == chart[at + (k + 2)])
+        & (x[k + 3] == chart[at + (k + 3)])
 }
 
-// Whether the record at place j, which lies inside the chart, is of the same item as x. The edges, which differ most, come first.
-fn same_inside(chart: &[u64], j: u64, x: Record) -> bool
-    requires { ⌜ 2 + 16 * j + 16 ≤ length (now chart) ⌝ }
-    ensures { λ r. ⌜ r ≡ sameRecord x (recordAt (now (chart .entry)) j) ⌝ }
+// Whether the record at place j, which lies inside the chart, is of the same item as the record of sixteen words.
+pub fn same_words(chart: &[u64], j: u64, x: &[u64]) -> bool
+    requires { ⌜ (2 + 16 * j + 16 ≤ length (now chart)) × (length (now x) ≡ 16) ⌝ }
+    ensures { λ r. ⌜ r ≡ sameRecord (ofWords (now (x .entry))) (recordAt (now (chart .entry)) j) ⌝ }
 {
     let at = (2 + 16 * j) as usize;
-    if chart[at + 3] != x.edges {
+    if chart[at + 3] != x[3] {
         return false;
     }
-    if chart[at + 1] != x.of {
+    if chart[at + 1] != x[1] {
         return false;
     }
-    if chart[at + 2] != x.plan {
+    if chart[at + 2] != x[2] {
         return false;
     }
-    if chart[at] != x.kind {
+    if chart[at] != x[0] {
         return false;
     }
-    let nodes = x.nodes;
-    same_nodes(chart, j, nodes)
+    same_four(chart, j, x, 6) & same_four(chart, j, x, 10)
 }
 
-// Whether the record at place j is of the same item as x.
-pub fn same_at(chart: &[u64], j: u64, x: Record) -> bool
-    ensures { λ r. ⌜ r ≡ sameRecord x (recordAt (now (chart .entry)) j) ⌝ }
+// The same of a place past the chart's end, whose words are 0 there: over a chart of that record alone.
+fn same_past(chart: &[u64], j: u64, x: &[u64]) -> bool
+    requires { ⌜ length (now x) ≡ 16 ⌝ }
+    ensures { λ r. ⌜ r ≡ sameRecord (ofWords (now (x .entry))) (recordAt (now (chart .entry)) j) ⌝ }
+{
+    let ws = cut_block(chart, j);
+    let mut alone = [0u64; 18];
+    put_words(&mut alone, 2, &ws);
+    same_words(&alone, 0, x)
+}
+
+// The same of any place.
+fn same_at(chart: &[u64], j: u64, x: &[u64]) -> bool
+    requires { ⌜ length (now x) ≡ 16 ⌝ }
+    ensures { λ r. ⌜ r ≡ sameRecord (ofWords (now (x .entry))) (recordAt (now (chart .entry)) j) ⌝ }
 {
     if j < capacity_of(chart) {
-        return same_inside(chart, j, x);
+        return same_words(chart, j, x);
     }
-    same(x, load(chart, j))
+    same_past(chart, j, x)
 }
 
 // The last of the first n records that is of the same item as x.
 pub fn find(chart: &[u64], x: Record, n: u64) -> Found
     ensures { λ r. ⌜ r ≡ lastSame x (recordsAt (now (chart .entry)) n) n ⌝ }
 {
+    let ws = words_of(x);
     let mut i = n;
     while 0 < i {
         i -= 1;
-        if same_at(chart, i, x) {
+        if same_at(chart, i, &ws) {
             return Found::At(i);
         }
     }
@@ -313,35 +274,27 @@ pub fn handled_steps(chart: &[u64], n: u64) -> u64
     done
 }
 
-// The record at place j takes the count and the partners of x, unless it is handled or its count is no greater.
-pub fn improve(chart: &mut [u64], j: u64, x: Record)
-    ensures { λ r. ⌜ now (chart .exit) ≡ improvedAt (now (chart .entry)) j x ⌝ }
+// The record at place j, which lies inside the chart, takes the count and the partners of the record of sixteen words, unless it is handled or its count is no greater: only three words change.
+pub fn improve_words(chart: &mut [u64], j: u64, x: &[u64])
+    requires { ⌜ (2 + 16 * j + 16 ≤ length (now chart)) × (length (now x) ≡ 16) ⌝ }
+    ensures { λ r. ⌜ now (chart .exit) ≡ improvedAt (now (chart .entry)) j (ofWords (now (x .entry))) ⌝ }
 {
-    if field(chart, j, 5) != 0 {
+    let at = (2 + 16 * j) as usize;
+    if chart[at + 5] != 0 {
         return;
     }
-    if field(chart, j, 4) <= x.count {
+    if chart[at + 4] <= x[4] {
         return;
     }
-    let y = load(chart, j);
-    let nodes = y.nodes;
-    let z = Record {
-        kind: y.kind,
-        of: y.of,
-        plan: y.plan,
-        edges: y.edges,
-        count: x.count,
-        handled: y.handled,
-        nodes,
-        first: x.first,
-        second: x.second,
-    };
-    save(chart, j, z);
+    chart[at + 4] = x[4];
+    chart[at + 14] = x[14];
+    chart[at + 15] = x[15];
 }
 
-// The record x behind the n that there are; where no place is left the chart is marked.
-pub fn append(chart: &mut [u64], n: u64, x: Record)
-    ensures { λ r. ⌜ now (chart .exit) ≡ appendedTo (now (chart .entry)) n x ⌝ }
+// The record of sixteen words behind the n that there are; where no place is left the chart is marked.
+pub fn append_words(chart: &mut [u64], n: u64, x: &[u64])
+    requires { ⌜ length (now x) ≡ 16 ⌝ }
+    ensures { λ r. ⌜ now (chart .exit) ≡ appendedTo (now (chart .entry)) n (ofWords (now (x .entry))) ⌝ }
 {
     if chart.len() < 2 {
         return;
@@ -350,7 +303,8 @@ pub fn append(chart: &mut [u64], n: u64, x: Record)
         chart[1] = 1;
         return;
     }
-    save(chart, n, x);
+    let at = (2 + 16 * n) as usize;
+    put_words(chart, at, x);
     chart[0] = n + 1;
 }
 
@@ -362,9 +316,10 @@ pub fn add(chart: &mut [u64], x: Record)
         return;
     }
     let n = item_count(chart);
+    let ws = words_of(x);
     match find(chart, x, n) {
-        Found::At(j) => improve(chart, j, x),
-        Found::Nowhere => append(chart, n, x),
+        Found::At(j) => improve_words(chart, j, &ws),
+        Found::Nowhere => append_words(chart, n, &ws),
     }
 }
 

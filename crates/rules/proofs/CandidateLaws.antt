@@ -1,18 +1,16 @@
 -- A graph edge that makes nothing with a record: of another label, in the record's set, or on another node than the map has at a place.
-use mathlib.Core.Path.{_≡_, refl, sym, ap, ap₂, _∙_}
+use mathlib.Core.Path.{_≡_, refl, sym, ap, _∙_}
 use mathlib.Core.Bool.{Bool, true, false, _&&_, not, cond, false≢true, or-true}
 use mathlib.Core.List.{List, [], _∷_, _++_, map}
-use Prim.Native.Nat.{ℕ, zero, suc, _+_, _-_, _*_, _/_, _%_, _^_, _≤_, _<_}
-use native.Mathlib.Nat.{pow-suc}
+use Prim.Native.Nat.{ℕ, _+_, _-_, _*_, _^_, _≤_, _<_}
 use native.Mathlib.Omega.{arith}
 use lib.ListN.{length, getD, take}
 use lib.Seq.{getD-take}
 use lib.Bits.{bitAnd}
-use lib.Pow.{shr-shr}
 use lib.Dec.{eqb, ltb}
 use borrow.Author.Tests.{eq-eqb, ne-eqb, eqb-true, eqb-false, lt-ltb, le-ltb, ltb-true, not-false}
-use Rattle.masks.specs.Masks.{bit, member, disjoint, single}
-use Rattle.masks.specs.Laws.{member-true, true-member, member-false, false-member, bit-single-self, disjoint-holds, disjoint-sum}
+use Rattle.masks.specs.Masks.{member, disjoint, single}
+use Rattle.masks.specs.Laws.{member-true, bit-single-self, disjoint-holds, disjoint-sum}
 use Rattle.hrg.specs.Grammars.{Edge, Graph, Grammar, Rule, PlanNode, leaf, introduce, join, ruleOf, rightOf, planOf, planNode, kindOf, edgeAt}
 use Rattle.hrg.specs.Trees.{unplaced, at}
 use Rattle.hrg.specs.Items.{Item, active, passive, attach}
@@ -30,6 +28,7 @@ use Rattle.joins.specs.Graphs.{nodesOf, marksTo, marks, GraphTable}
 use Rattle.joins.proofs.Known.{right-nodes, nodes-few, plan-ok, plan-size, graph-ok, graph-size}
 use Rattle.joins.proofs.PlanMasks.{node-is, member-none}
 use Rattle.joins.proofs.Touching.{member-both}
+use Rattle.joins.proofs.Openness.{member-others}
 use Rattle.joins.proofs.MapLaws.{getD-any}
 use Rattle.joins.proofs.EdgeMaps.{edge-ok, edge-rank, edge-label, node-there, edge-node-known, attach-place}
 use Rattle.joins.proofs.GraphLaws.{edge-nodes, edge-few, label-few, node-few, some-in}
@@ -46,24 +45,8 @@ use Rattle.rules.proofs.WantLaws.{want-missing, want-found}
 use Rattle.rules.proofs.Meeting.{passive-none}
 
 -- ---- the numbers of a set that are not in another
-bit-flip : (k m e : ℕ) → m < 2 ^ k → e < k → bit (2 ^ k - 1 - m) e + bit m e ≡ 1
-unfolding bit
-bit-flip zero m e h l = absurd (omega arith)
-bit-flip (suc k) m zero h l = omega (arith, pow-suc 2 k)
-bit-flip (suc k) m (suc e) h l =
-    let s : suc e ≡ 1 + e = omega arith in
-    let half : (2 ^ suc k - 1 - m) / 2 ≡ 2 ^ k - 1 - m / 2 = omega (arith, pow-suc 2 k) in
-    ap₂ (λ a b. a % 2 + b % 2)
-    (ap (λ j. (2 ^ suc k - 1 - m) / 2 ^ j) s ∙ sym (shr-shr (2 ^ suc k - 1 - m) 1 e) ∙ ap (λ n. n / 2 ^ e) half)
-    (ap (λ j. m / 2 ^ j) s ∙ sym (shr-shr m 1 e))
-    ∙ bit-flip k (m / 2) e (omega (arith, pow-suc 2 k)) (omega arith)
-
 without : (a b e : ℕ) → b < 2 ^ 64 → e < 64 → member (bitAnd a (2 ^ 64 - 1 - b)) e ≡ (member a e && not (member b e))
-without a b e h l = member-both a (2 ^ 64 - 1 - b) e ∙ ap (λ t. member a e && t) (go (member b e) refl)
-  where
-    go : (t : Bool) → member b e ≡ t → member (2 ^ 64 - 1 - b) e ≡ not t
-    go true t = false-member (2 ^ 64 - 1 - b) e (omega (arith, bit-flip 64 b e h l, member-true b e t))
-    go false t = true-member (2 ^ 64 - 1 - b) e (omega (arith, bit-flip 64 b e h l, member-false b e t))
+without a b e h l = member-both a (2 ^ 64 - 1 - b) e ∙ ap (λ t. member a e && t) (member-others b e h l)
 
 -- ---- the plan node above introduces the edge that is wanted
 second-is : (kind first second c j : ℕ) → planFrom kind first second ≡ introduce c j → second ≡ j

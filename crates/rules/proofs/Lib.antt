@@ -5,6 +5,8 @@ pub mod NodeLists
 -- what a rule makes, as at most one item
 pub mod RuleItems
 pub mod RuleAnswers
+-- a record as its sixteen words
+pub mod RecordWords
 -- what an item wants, and what meets at no plan node
 pub mod WantLaws
 pub mod Meeting

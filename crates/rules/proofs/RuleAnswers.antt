@@ -5,9 +5,10 @@ use mathlib.Core.List.{List, [], map}
 use Prim.Native.Nat.{ℕ, zero, suc, _≤_, _<_}
 use native.Mathlib.Omega.{arith}
 use lib.ListN.{length, take}
+use lib.Bits.{bitOr}
 use lib.Dec.{eqb}
 use borrow.Author.Tests.{eq-eqb, ne-eqb, eqb-true, not-true}
-use Rattle.masks.specs.Masks.{disjoint, single, Added}
+use Rattle.masks.specs.Masks.{_∪_, disjoint, single, Added}
 use Rattle.masks.specs.Laws.{bit-empty, union-of}
 use Rattle.hrg.specs.Counts.{occurs}
 use Rattle.hrg.specs.Grammars.{Edge, Graph, PlanNode, leaf, introduce, join, Rule, Grammar, rankOf, ruleOf, rightOf, planOf, planNode, edgeAt}
@@ -26,14 +27,15 @@ use Rattle.questions.proofs.WellFormedLent.{checked-grammar-ok}
 use Rattle.joins.specs.declared.Joined.{Joined}
 use Rattle.rules.specs.declared.Made.{Made}
 use Rattle.rules.specs.declared.Place.{Place}
-use Rattle.joins.specs.Joins.{Accepted, KnownEdge, edgeNodes, joinedOf}
-use Rattle.rules.specs.Rules.{noItem, madeOf, madeAt, madeRecords, terminalItems, binaryAt, Above, ActiveAt}
+use Rattle.joins.specs.Joins.{Accepted, KnownEdge, Spans, edgeNodes}
+use Rattle.rules.specs.Rules.{noItem, madeAs, Answer, madeAt, madeRecords, terminalItems, binaryAt, Above, ActiveAt}
 use Rattle.joins.proofs.Known.{right-nodes, nodes-few, plan-ok, plan-size, graph-size, graph-ok, graph-edges-few}
 use Rattle.joins.proofs.PlanMasks.{node-is, introduced-is, joined-is}
 use Rattle.joins.proofs.EdgeMaps.{edge-ok, edge-label as rule-label, edge-rank, take-padded, length-attach}
+use Rattle.joins.proofs.Openness.{spans-left, spans-right}
 use Rattle.rules.proofs.NodeLists.{label-is}
 use Rattle.rules.proofs.Parents.{place-exists}
-use Rattle.rules.proofs.RuleItems.{guard-none, AtMostOne, none, binary-nowhere, binary-place, terminal-nowhere, terminal-place, place-none, at-place-one, terminal-place-one, one-records, nothing-made, made-combined, item-active, item-passive, item-edges, binary-apart, pair-apart, pair-rules, pair-passive, edge-pair}
+use Rattle.rules.proofs.RuleItems.{guard-none, AtMostOne, none, binary-nowhere, binary-place, terminal-nowhere, terminal-place, place-none, at-place-one, terminal-place-one, one-records, nothing-made, answer-same, Combined, made-combined, item-active, item-passive, item-edges, binary-apart, pair-apart, pair-rules, pair-passive, edge-pair}
 
 -- ---- the one plan node above
 module _ (g : List ℕ) (H : Graph) (r p m : ℕ) (f : List ℕ) (x : Place) (above : Above g r p x) where
@@ -85,6 +87,10 @@ two-or-more (suc (suc kind)) word e a b = omega arith
 single-added : (e m : ℕ) → e < 64 → Added 0 e m → m ≡ single e
 single-added e m h added = added .value h ∙ sym (union-of (single e) 0 (single e) (λ k. omega (arith, bit-empty k)))
 
+pub near-more : (g h : List ℕ) (m near o : ℕ) → Spans g h m near → Spans g h m (bitOr near o)
+unfolding _∪_
+near-more g h m near o s = spans-left g h m near o s
+
 -- ---- over accepted tables
 module _ (g h : List ℕ) where
   abbrev G : Grammar
@@ -110,13 +116,13 @@ module _ (g h : List ℕ) where
         (terminal-by g H (x .of) (x .plan) (x .edges) (take (rightOf G (x .of) .nodes) (x .nodes)) (place .0) (place .1) e (place .0 .found) refl)
     edge-one e false k = subst (AtMostOne (x .of)) (sym (terminal-passive G H x e k)) none
 
-    pub pair-records : (y : Record) (n a b : ℕ)
-        → map (λ (i : Item). recordOf i n a b) (binaryOf G H (itemOf G x) (itemOf G y)) ≡ madeRecords (x .of) (madeOf (binaryOf G H (itemOf G x) (itemOf G y))) n a b
-    pair-records y n a b = one-records (x .of) n a b (binaryOf G H (itemOf G x) (itemOf G y)) (pair-one y (eqb (x .kind) 0) refl)
+    pub pair-records : (y : Record) (n a b o : ℕ)
+        → map (λ (i : Item). recordOf i n a b) (binaryOf G H (itemOf G x) (itemOf G y)) ≡ madeRecords (x .of) (madeAs (binaryOf G H (itemOf G x) (itemOf G y)) o) n a b
+    pair-records y n a b o = one-records (x .of) n a b (binaryOf G H (itemOf G x) (itemOf G y)) o (pair-one y (eqb (x .kind) 0) refl)
 
-    pub terminal-records : (e n a b : ℕ)
-        → map (λ (i : Item). recordOf i n a b) (terminalItems G H (itemOf G x) e) ≡ madeRecords (x .of) (madeOf (terminalItems G H (itemOf G x) e)) n a b
-    terminal-records e n a b = one-records (x .of) n a b (terminalItems G H (itemOf G x) e) (edge-one e (eqb (x .kind) 0) refl)
+    pub terminal-records : (e n a b o : ℕ)
+        → map (λ (i : Item). recordOf i n a b) (terminalItems G H (itemOf G x) e) ≡ madeRecords (x .of) (madeAs (terminalItems G H (itemOf G x) e) o) n a b
+    terminal-records e n a b o = one-records (x .of) n a b (terminalItems G H (itemOf G x) e) o (edge-one e (eqb (x .kind) 0) refl)
 
   -- ---- the rules at one plan node
   module _ (x y : Record) (q : ℕ) (here : ActiveAt g h x q) where
@@ -145,13 +151,13 @@ module _ (g h : List ℕ) where
     unfolding binaryAt
     with-passive e = ap₂ (λ (a b : Item). binaryAt G H a b q) x-is (item-passive G y (ne-eqb (y .kind) 0 e))
 
-    childless : (n : PlanNode) → planNode (planOf G (x .of)) q ≡ n → occurs (x .plan) (children n) ≡ 0 → noItem ≡ madeOf items
+    childless : (n : PlanNode) → planNode (planOf G (x .of)) q ≡ n → occurs (x .plan) (children n) ≡ 0 → Answer g h items noItem
     childless n e o =
-        nothing-made items
+        nothing-made g h items
         (ap (λ (i : Item). binaryAt G H i (itemOf G y) q) x-is
         ∙ place-none G H (x .of) (x .plan) (x .edges) (take (ruleNodes g (x .of)) (x .nodes)) (itemOf G y) q (ap (λ (n : PlanNode). occurs (x .plan) (children n)) e ∙ o))
 
-    pub at-leaf : (kind : ℕ) → kind ≡ planKind g (x .of) q → kind ≡ 0 → noItem ≡ madeOf items
+    pub at-leaf : (kind : ℕ) → kind ≡ planKind g (x .of) q → kind ≡ 0 → Answer g h items noItem
     unfolding occurs
     at-leaf kind a e = childless leaf (node-is g (x .of) q (here .node) kind a ∙ rw e) refl
 
@@ -171,15 +177,15 @@ module _ (g h : List ℕ) where
       edge-label : edge .label ≡ edgeLabel g (x .of) i
       edge-label = rule-label g (x .of) i filled-known
 
-      pub filled-active : y .kind ≡ 0 → noItem ≡ madeOf items
+      pub filled-active : y .kind ≡ 0 → Answer g h items noItem
       unfolding joinAt
       filled-active e =
-          nothing-made items
+          nothing-made g h items
           (with-active e
           ∙ ap (λ (n : PlanNode). guard (eqb (x .of) (y .of)) (joinAt H R (x .of) (x .plan) (x .edges) (take (ruleNodes g (x .of)) (x .nodes)) (y .plan) (y .edges) (take (rightOf G (y .of) .nodes) (y .nodes)) q n)) node
           ∙ guard-none (eqb (x .of) (y .of)))
 
-      pub filled-other : (c ≡ x .plan → ⊥) → noItem ≡ madeOf items
+      pub filled-other : (c ≡ x .plan → ⊥) → Answer g h items noItem
       unfolding occurs
       filled-other e = childless (introduce c i) node (omega (arith, hit-ne (x .plan) c (λ s. e (sym s))))
 
@@ -193,19 +199,19 @@ module _ (g h : List ℕ) where
           ∙ ap (λ (n : PlanNode). nonterminalAt H R (x .of) (x .plan) (x .edges) (take (ruleNodes g (x .of)) (x .nodes)) (y .of) (y .edges) (take (rankOf G (y .of)) (y .nodes)) q n) node
 
       module _ (l : ℕ) (label : l ≡ edgeLabel g (x .of) i) (isPassive : y .kind ≡ 0 → ⊥) where
-        pub filled-label : (l ≡ y .of → ⊥) → noItem ≡ madeOf items
+        pub filled-label : (l ≡ y .of → ⊥) → Answer g h items noItem
         filled-label e =
-            nothing-made items
+            nothing-made g h items
             (filled-items isPassive
             ∙ ap (λ b. guard b joint) (and-no (eqb c (x .plan)) (eqb (y .of) (edge .label)) (ne-eqb (y .of) (edge .label) (λ s. e (label ∙ sym (s ∙ edge-label))))))
 
         pub filled-made : c ≡ x .plan → l ≡ y .of → (k : List ℕ) (j : Joined) (z : Made)
             → k ≡ padded (attach n (edgeNodes g (x .of) i) (take (rankAt g (edgeLabel g (x .of) i)) (y .nodes)))
-            → j ≡ joinedOf (combine H R (x .of) q (x .edges) (y .edges) (take n (x .nodes)) (take n k)) → z ≡ madeAt q j → z ≡ madeOf items
+            → Combined g h (combine H R (x .of) q (x .edges) (y .edges) (take n (x .nodes)) (take n k)) j → z ≡ madeAt q j → Answer g h items z
         filled-made d s k j z k-is j-is z-is =
-            z-is
-            ∙ made-combined H R (x .of) q (x .edges) (y .edges) (take n (x .nodes)) (take n k) j j-is
-            ∙ sym (ap madeOf (filled-items isPassive ∙ ap₂ (λ a b. guard (a && b) joint) (eq-eqb c (x .plan) d) (eq-eqb (y .of) (edge .label) same) ∙ ap (combine H R (x .of) q (x .edges) (y .edges) (take n (x .nodes))) map-is))
+            answer-same g h (combine H R (x .of) q (x .edges) (y .edges) (take n (x .nodes)) (take n k)) items z
+            (sym (filled-items isPassive ∙ ap₂ (λ a b. guard (a && b) joint) (eq-eqb c (x .plan) d) (eq-eqb (y .of) (edge .label) same) ∙ ap (combine H R (x .of) q (x .edges) (y .edges) (take n (x .nodes))) map-is))
+            (made-combined g h H R (x .of) q (x .edges) (y .edges) (take n (x .nodes)) (take n k) j z j-is z-is)
           where
             same : y .of ≡ edge .label
             same = sym s ∙ label ∙ sym edge-label
@@ -224,10 +230,10 @@ module _ (g h : List ℕ) where
       join-node : planNode (planOf G (x .of)) q ≡ join c d
       join-node = joined-is g (x .of) q (here .node) (planKind g (x .of) q) c d refl first second (λ e. omega arith) (λ e. omega arith)
 
-      pub joined-passive : (y .kind ≡ 0 → ⊥) → noItem ≡ madeOf items
+      pub joined-passive : (y .kind ≡ 0 → ⊥) → Answer g h items noItem
       unfolding nonterminalAt
       joined-passive e =
-          nothing-made items
+          nothing-made g h items
           (with-passive e
           ∙ ap (λ (n : PlanNode). nonterminalAt H R (x .of) (x .plan) (x .edges) (take (ruleNodes g (x .of)) (x .nodes)) (y .of) (y .edges) (take (rankOf G (y .of)) (y .nodes)) q n) join-node)
 
@@ -240,55 +246,55 @@ module _ (g h : List ℕ) where
           with-active e
           ∙ ap (λ (n : PlanNode). guard (eqb (x .of) (y .of)) (joinAt H R (x .of) (x .plan) (x .edges) (take (ruleNodes g (x .of)) (x .nodes)) (y .plan) (y .edges) (take (rightOf G (y .of) .nodes) (y .nodes)) q n)) join-node
 
-      joined-not : y .kind ≡ 0 → (eqb c (x .plan) && eqb d (y .plan)) ≡ false → noItem ≡ madeOf items
+      joined-not : y .kind ≡ 0 → (eqb c (x .plan) && eqb d (y .plan)) ≡ false → Answer g h items noItem
       joined-not e t =
-          nothing-made items
+          nothing-made g h items
           (joined-items e
           ∙ ap (λ b. guard (eqb (x .of) (y .of)) (guard b (both (take (rightOf G (y .of) .nodes) (y .nodes))))) t
           ∙ guard-none (eqb (x .of) (y .of)))
 
-      pub joined-first : y .kind ≡ 0 → (c ≡ x .plan → ⊥) → noItem ≡ madeOf items
+      pub joined-first : y .kind ≡ 0 → (c ≡ x .plan → ⊥) → Answer g h items noItem
       joined-first e s = joined-not e (ap (λ b. b && eqb d (y .plan)) (ne-eqb c (x .plan) s))
 
-      pub joined-second : y .kind ≡ 0 → (d ≡ y .plan → ⊥) → noItem ≡ madeOf items
+      pub joined-second : y .kind ≡ 0 → (d ≡ y .plan → ⊥) → Answer g h items noItem
       joined-second e s = joined-not e (and-no (eqb c (x .plan)) (eqb d (y .plan)) (ne-eqb d (y .plan) s))
 
       pub joined-made : y .kind ≡ 0 → x .of ≡ y .of → c ≡ x .plan → d ≡ y .plan → (j : Joined) (z : Made)
-          → j ≡ joinedOf (both (take n (y .nodes))) → z ≡ madeAt q j → z ≡ madeOf items
+          → Combined g h (both (take n (y .nodes))) j → z ≡ madeAt q j → Answer g h items z
       joined-made e s a b j z j-is z-is =
-          z-is
-          ∙ made-combined H R (x .of) q (x .edges) (y .edges) (take n (x .nodes)) (take n (y .nodes)) j j-is
-          ∙ sym (ap madeOf (joined-items e
+          answer-same g h (both (take n (y .nodes))) items z
+          (sym (joined-items e
           ∙ ap (λ t. guard t (guard (eqb c (x .plan) && eqb d (y .plan)) (both (take (rightOf G (y .of) .nodes) (y .nodes))))) (eq-eqb (x .of) (y .of) s)
           ∙ ap₂ (λ t u. guard (t && u) (both (take (rightOf G (y .of) .nodes) (y .nodes)))) (eq-eqb c (x .plan) a) (eq-eqb d (y .plan) b)
           ∙ ap both (ap (λ i. take (rightOf G i .nodes) (y .nodes)) (sym s) ∙ ap (λ i. take i (y .nodes)) size)))
+          (made-combined g h H R (x .of) q (x .edges) (y .edges) (take n (x .nodes)) (take n (y .nodes)) j z j-is z-is)
 
   -- ---- a pair
   module _ (x y : Record) where
     abbrev pairs : List Item
     pairs = binaryOf G H (itemOf G x) (itemOf G y)
 
-    pub answer-passive : (x .kind ≡ 0 → ⊥) → noItem ≡ madeOf pairs
-    answer-passive k = nothing-made pairs (pair-passive G H x y (ne-eqb (x .kind) 0 k))
+    pub answer-passive : (x .kind ≡ 0 → ⊥) → Answer g h pairs noItem
+    answer-passive k = nothing-made g h pairs (pair-passive G H x y (ne-eqb (x .kind) 0 k))
 
-    pub answer-rules : x .kind ≡ 0 → (eqb (y .kind) 0 && not (eqb (x .of) (y .of))) ≡ true → noItem ≡ madeOf pairs
+    pub answer-rules : x .kind ≡ 0 → (eqb (y .kind) 0 && not (eqb (x .of) (y .of))) ≡ true → Answer g h pairs noItem
     answer-rules k t =
         let (a, b) = and-true (eqb (y .kind) 0) (not (eqb (x .of) (y .of))) t in
-        nothing-made pairs (pair-rules G H x y (eq-eqb (x .kind) 0 k) a (not-true (eqb (x .of) (y .of)) b))
+        nothing-made g h pairs (pair-rules G H x y (eq-eqb (x .kind) 0 k) a (not-true (eqb (x .of) (y .of)) b))
 
-    pub answer-apart : (b : Bool) → b ≡ disjoint (x .edges) (y .edges) → b ≡ false → noItem ≡ madeOf pairs
-    answer-apart b e t = nothing-made pairs (pair-apart G H x y (sym e ∙ t))
+    pub answer-apart : (b : Bool) → b ≡ disjoint (x .edges) (y .edges) → b ≡ false → Answer g h pairs noItem
+    answer-apart b e t = nothing-made g h pairs (pair-apart G H x y (sym e ∙ t))
 
     module _ (k : x .kind ≡ 0) (p : Place) (above : Above g (x .of) (x .plan) p) where
       is : itemOf G x ≡ active (x .of) (x .plan) (x .edges) (take (rightOf G (x .of) .nodes) (x .nodes))
       is = item-active G x (eq-eqb (x .kind) 0 k)
 
-      pub answer-nowhere : p .found ≡ false → noItem ≡ madeOf pairs
-      answer-nowhere t = nothing-made pairs (ap (λ (i : Item). binaryOf G H i (itemOf G y)) is ∙ binary-missing g H _ _ _ _ p above t (itemOf G y))
+      pub answer-nowhere : p .found ≡ false → Answer g h pairs noItem
+      answer-nowhere t = nothing-made g h pairs (ap (λ (i : Item). binaryOf G H i (itemOf G y)) is ∙ binary-missing g H _ _ _ _ p above t (itemOf G y))
 
-      pub answer-at : p .found ≡ true → madeOf (binaryAt G H (itemOf G x) (itemOf G y) (p .node)) ≡ madeOf pairs
-      answer-at t =
-          ap madeOf
+      pub answer-at : p .found ≡ true → (z : Made) → Answer g h (binaryAt G H (itemOf G x) (itemOf G y) (p .node)) z → Answer g h pairs z
+      answer-at t z =
+          answer-same g h (binaryAt G H (itemOf G x) (itemOf G y) (p .node)) pairs z
           (sym (ap (λ (i : Item). binaryOf G H i (itemOf G y)) is ∙ binary-above g H _ _ _ _ p above t (itemOf G y) ∙ sym (ap (λ (i : Item). binaryAt G H i (itemOf G y) (p .node)) is)))
 
   -- ---- a graph edge
@@ -305,16 +311,21 @@ module _ (g h : List ℕ) where
     as-pair : edge-items ≡ binaryOf G H (itemOf G x) (passive (graph-edge .label) (single e) (graph-edge .attachment))
     as-pair = edge-pair G H e (graph-ok g h accepted .terminals e edge-inside) (itemOf G x)
 
-    pub edge-passive : (x .kind ≡ 0 → ⊥) → noItem ≡ madeOf edge-items
-    edge-passive k = nothing-made edge-items (terminal-passive G H x e (ne-eqb (x .kind) 0 k))
+    pub edge-passive : (x .kind ≡ 0 → ⊥) → Answer g h edge-items noItem
+    edge-passive k = nothing-made g h edge-items (terminal-passive G H x e (ne-eqb (x .kind) 0 k))
 
     module _ (m : ℕ) (added : Added 0 e m) where
       set-is : m ≡ single e
       set-is = single-added e m (omega (arith, graph-edges-few g h accepted)) added
 
-      pub edge-apart : (b : Bool) → b ≡ disjoint (x .edges) m → b ≡ false → noItem ≡ madeOf edge-items
+      -- the open nodes of the record's set and of the edge
+      pub edge-near : (near o : ℕ) → Spans g h (single e) o → Spans g h m (bitOr near o)
+      unfolding _∪_
+      edge-near near o s = spans-right g h m near o (subst (λ k. Spans g h k o) (sym set-is) s)
+
+      pub edge-apart : (b : Bool) → b ≡ disjoint (x .edges) m → b ≡ false → Answer g h edge-items noItem
       edge-apart b t f =
-          nothing-made edge-items
+          nothing-made g h edge-items
           (as-pair ∙ binary-apart G H (itemOf G x) (passive (graph-edge .label) (single e) (graph-edge .attachment)) (ap₂ disjoint (item-edges G x) (sym set-is) ∙ sym t ∙ f))
 
       -- the record of the edge stands for the passive item
@@ -338,5 +349,5 @@ module _ (g h : List ℕ) where
             ∙ ap₂ (λ (s m : ℕ). passive s m (take (rankOf G (y .of)) l)) (label ∙ sym (label-is g h e known)) set-is
             ∙ ap (passive (graph-edge .label) (single e)) list-is
 
-        pub edge-answer : (z : Made) → z ≡ madeOf (binaryOf G H (itemOf G x) (itemOf G y)) → z ≡ madeOf edge-items
-        edge-answer z a = a ∙ ap madeOf (ap (binaryOf G H (itemOf G x)) y-is ∙ sym as-pair)
+        pub edge-answer : (z : Made) → Answer g h (binaryOf G H (itemOf G x) (itemOf G y)) z → Answer g h edge-items z
+        edge-answer z = answer-same g h (binaryOf G H (itemOf G x) (itemOf G y)) edge-items z (ap (binaryOf G H (itemOf G x)) y-is ∙ sym as-pair)

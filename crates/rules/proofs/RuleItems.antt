@@ -19,9 +19,11 @@ use Rattle.agenda.specs.Records.{recordOf, itemOf}
 use Rattle.agenda.specs.Consequences.{terminalAt, withTerminal}
 use Rattle.agenda.specs.declared.Record.{Record}
 use Rattle.joins.specs.declared.Joined.{Joined}
-use Rattle.joins.specs.Joins.{joinedOf}
-use Rattle.rules.specs.Rules.{noItem, madeOf, madeAt, madeRecords, terminalItems, binaryAt}
+use Rattle.joins.specs.Joins.{Spans, joinedAs}
+use Rattle.rules.specs.declared.Made.{Made}
+use Rattle.rules.specs.Rules.{noItem, madeAs, Answer, madeAt, madeRecords, terminalItems, binaryAt}
 use Rattle.joins.proofs.EdgeMaps.{length-padded}
+use Rattle.joins.proofs.Openness.{spans-none}
 use Rattle.joins.proofs.Combining.{answer-none, answer-one}
 
 -- ---- lists by tests
@@ -122,11 +124,11 @@ combine-one : (H : Graph) (R : Rule) (r q m₁ m₂ : ℕ) (f k : List ℕ) → 
 combine-one H R r q m₁ m₂ f k = go (j .found) refl
   where
     j : Joined
-    j = joinedOf (combine H R r q m₁ m₂ f k)
+    j = joinedAs (combine H R r q m₁ m₂ f k) 0
 
     go : (b : Bool) → j .found ≡ b → AtMostOne r (combine H R r q m₁ m₂ f k)
-    go true h = let o = answer-one H R r q m₁ m₂ f k j refl h in subst (AtMostOne r) (sym (o .item)) (one q (j .edges) (o .map))
-    go false h = subst (AtMostOne r) (sym (answer-none H R r q m₁ m₂ f k j refl h)) none
+    go true h = let o = answer-one H R r q m₁ m₂ f k j 0 refl h in subst (AtMostOne r) (sym (o .item)) (one q (j .edges) (o .map))
+    go false h = subst (AtMostOne r) (sym (answer-none H R r q m₁ m₂ f k j 0 refl h)) none
 
 terminal-one : (G : Grammar) (H : Graph) (r p m : ℕ) (f : List ℕ) (e q : ℕ) (n : PlanNode) → AtMostOne r (terminalAt G H r p m f e q n)
 unfolding terminalAt withEdge
@@ -165,33 +167,43 @@ pub terminal-place-one : (G : Grammar) (H : Graph) (r p m : ℕ) (f : List ℕ) 
 terminal-place-one G H r p m f e q = terminal-one G H r p m f e q (planNode (planOf G r) q)
 
 -- its record is that of the answer
-pub one-records : (r n a b : ℕ) (l : List Item) → AtMostOne r l → map (λ (i : Item). recordOf i n a b) l ≡ madeRecords r (madeOf l) n a b
-unfolding madeOf madeRecords
-one-records r n a b _ none = refl
-one-records r n a b _ (one p m t) = refl
+pub one-records : (r n a b : ℕ) (l : List Item) (o : ℕ) → AtMostOne r l → map (λ (i : Item). recordOf i n a b) l ≡ madeRecords r (madeAs l o) n a b
+unfolding madeAs madeRecords
+one-records r n a b _ o none = refl
+one-records r n a b _ o (one p m t) = refl
 
 -- the answer where nothing is made
-pub nothing-made : (l : List Item) → l ≡ [] → noItem ≡ madeOf l
-unfolding madeOf
-nothing-made l e = sym (ap madeOf e)
+pub nothing-made : (g h : List ℕ) (l : List Item) → l ≡ [] → Answer g h l noItem
+unfolding madeAs
+nothing-made g h l e = (sym (ap (λ (l : List Item). madeAs l 0) e), spans-none g h 0)
+
+-- an answer for the same list
+pub answer-same : (g h : List ℕ) (l k : List Item) (z : Made) → l ≡ k → Answer g h l z → Answer g h k z
+answer-same g h l k z e a = (a .0 ∙ ap (λ (l : List Item). madeAs l (z .images)) e, a .1)
 
 -- an answer has eight places
-pub made-eight : (l : List Item) → length (madeOf l .nodes) ≡ 8
-unfolding madeOf
-made-eight [] = refl
-made-eight (active r p m t ∷ is) = length-padded t
-made-eight (passive s m L ∷ is) = refl
+pub made-eight : (l : List Item) (o : ℕ) → length (madeAs l o .nodes) ≡ 8
+unfolding madeAs
+made-eight [] o = refl
+made-eight (active r p m t ∷ is) o = length-padded t
+made-eight (passive s m L ∷ is) o = refl
+
+-- what `combine` promises of its answer
+abbrev pub Combined : List ℕ → List ℕ → List Item → Joined → Type 0
+Combined g h l j = (j ≡ joinedAs l (j .images)) × Spans g h (j .edges) (j .images)
 
 -- what `combine` made, as an item at its plan node
-pub made-combined : (H : Graph) (R : Rule) (r q m₁ m₂ : ℕ) (f k : List ℕ) (j : Joined) → j ≡ joinedOf (combine H R r q m₁ m₂ f k) → madeAt q j ≡ madeOf (combine H R r q m₁ m₂ f k)
-unfolding madeOf
-made-combined H R r q m₁ m₂ f k j e = go (j .found) refl
+pub made-combined : (g h : List ℕ) (H : Graph) (R : Rule) (r q m₁ m₂ : ℕ) (f k : List ℕ) (j : Joined) (z : Made) → Combined g h (combine H R r q m₁ m₂ f k) j → z ≡ madeAt q j
+    → Answer g h (combine H R r q m₁ m₂ f k) z
+unfolding madeAs
+made-combined g h H R r q m₁ m₂ f k j z e is = subst (λ (z : Made). Answer g h (combine H R r q m₁ m₂ f k) z) (sym is) (go (j .found) refl)
   where
-    go : (b : Bool) → j .found ≡ b → cond b (record { found = true; plan = q; edges = j .edges; nodes = j .nodes }) noItem ≡ madeOf (combine H R r q m₁ m₂ f k)
-    go true h =
-        let o = answer-one H R r q m₁ m₂ f k j e h in
-        sym (ap madeOf (o .item) ∙ ap (λ (t : List ℕ). record { found = true; plan = q; edges = j .edges; nodes = t }) (sym (o .nodes)))
-    go false h = sym (ap madeOf (answer-none H R r q m₁ m₂ f k j e h))
+    go : (b : Bool) → j .found ≡ b
+        → Answer g h (combine H R r q m₁ m₂ f k) (cond b (record { found = true; plan = q; edges = j .edges; nodes = j .nodes; images = j .images }) noItem)
+    go true p =
+        let o = answer-one H R r q m₁ m₂ f k j (j .images) (e .0) p in
+        (sym (ap (λ (l : List Item). madeAs l (j .images)) (o .item) ∙ ap (λ (t : List ℕ). record { found = true; plan = q; edges = j .edges; nodes = t; images = j .images }) (sym (o .nodes))), e .1)
+    go false p = nothing-made g h (combine H R r q m₁ m₂ f k) (answer-none H R r q m₁ m₂ f k j (j .images) (e .0) p)
 
 -- ---- records and items
 pub item-active : (G : Grammar) (x : Record) → eqb (x .kind) 0 ≡ true → itemOf G x ≡ active (x .of) (x .plan) (x .edges) (take (rightOf G (x .of) .nodes) (x .nodes))

@@ -15,24 +15,28 @@ use Rattle.agenda.specs.Consequences.{terminalAt}
 use Rattle.agenda.specs.declared.Record.{Record}
 use Rattle.questions.specs.Layout.{rulePlan}
 use Rattle.questions.specs.Abstract.{grammarOf}
-use Rattle.joins.specs.Joins.{Accepted, KnownNode}
+use Rattle.joins.specs.Joins.{Accepted, KnownNode, Spans}
 use Rattle.joins.specs.declared.Joined.{Joined}
 use Rattle.rules.specs.declared.Made.{Made}
 use Rattle.rules.specs.declared.Place.{Place}
 
 -- ---- the item that a rule makes
 abbrev pub noItem : Made
-noItem = record { found = false; plan = 0; edges = 0; nodes = replicate 8 unplaced }
+noItem = record { found = false; plan = 0; edges = 0; nodes = replicate 8 unplaced; images = 0 }
 
--- the first item of a list, which is active and has its map in eight places
-unfoldable pub madeOf : List Item → Made
-madeOf [] = noItem
-madeOf (active r p m t ∷ is) = record { found = true; plan = p; edges = m; nodes = padded t }
-madeOf (passive s m L ∷ is) = noItem
+-- the first item of a list, which is active and has its map in eight places, and o for the images
+unfoldable pub madeAs : List Item → ℕ → Made
+madeAs [] o = noItem
+madeAs (active r p m t ∷ is) o = record { found = true; plan = p; edges = m; nodes = padded t; images = o }
+madeAs (passive s m L ∷ is) o = noItem
+
+-- z is that item, and its images have the open graph nodes of its set
+abbrev pub Answer : List ℕ → List ℕ → List Item → Made → Type 0
+Answer g h l z = (z ≡ madeAs l (z .images)) × Spans g h (z .edges) (z .images)
 
 -- what `combine` makes at plan node q
 abbrev pub madeAt : ℕ → Joined → Made
-madeAt q j = cond (j .found) (record { found = true; plan = q; edges = j .edges; nodes = j .nodes }) noItem
+madeAt q j = cond (j .found) (record { found = true; plan = q; edges = j .edges; nodes = j .nodes; images = j .images }) noItem
 
 -- its record, with count n and partners a and b
 unfoldable pub madeRecords : ℕ → Made → ℕ → ℕ → ℕ → List Record

@@ -2,7 +2,7 @@
 ghost use mathlib.Core.Path.{_≡_};
 ghost use mathlib.Core.Bool.{true, cond};
 ghost use Prim.Native.Nat.{_+_, _*_, _≤_, _<_};
-ghost use lib.ListN.{getD, take};
+ghost use lib.ListN.{length, getD, take};
 ghost use lib.Bits.{bitAnd};
 ghost use lib.Dec.{ltb};
 ghost use Rattle.hrg.specs.Counts.{occurs};
@@ -11,27 +11,28 @@ ghost use Rattle.hrg.specs.Trees.{padded, images};
 ghost use Rattle.hrg.specs.WellFormed.{children};
 ghost use Rattle.hrg.specs.ClosureRun.{binaryOf};
 ghost use Rattle.agenda.specs.Records.{itemOf};
+ghost use Rattle.records.specs.Words.{ofWords};
 ghost use Rattle.questions.specs.Layout.{ruleCount, ruleNodes, planKind, graphEdges};
 ghost use Rattle.questions.specs.Checking.{checkGrammar};
 ghost use Rattle.questions.specs.Abstract.{grammarOf, graphOf};
-ghost use Rattle.joins.specs.Joins.{KnownNode, Accepted, OpenAt};
+ghost use Rattle.joins.specs.Joins.{KnownNode, Accepted, OpenAt, Spans};
 ghost use Rattle.joins.specs.Graphs.{GraphTable};
-ghost use Rattle.rules.specs.Rules.{madeOf, madeAt, terminalItems, binaryAt, ParentOf, Above, ActiveAt};
+ghost use Rattle.rules.specs.Rules.{Answer, madeAt, terminalItems, binaryAt, ParentOf, Above, ActiveAt};
 ghost use Rattle.rules.specs.Wants.{wantOf};
 ghost use Rattle.rules.specs.Plans.{PlanTable};
 ghost use Rattle.rules.specs.Candidates.{Introduces, Candidates};
-use agenda::Record;
 use joins::Joined;
 
 pub mod plans;
 pub mod wants;
 
-// The active item that a rule makes: nothing where found is false.
+// The active item that a rule makes: nothing where found is false. The images are the graph nodes of its map.
 pub struct Made {
     pub found: bool,
     pub plan: u64,
     pub edges: u64,
     pub nodes: [u64; 8],
+    pub images: u64,
 }
 
 // A plan node: none where found is false.
@@ -100,9 +101,9 @@ pub fn place_above(g: &[u64], r: u64, p: u64) -> Place
 
 // ---- lists of graph nodes: eight places, 64 where there is none
 // The images of a rule's external nodes by a map.
-pub fn root_nodes(g: &[u64], r: u64, f: [u64; 8]) -> [u64; 8]
-    requires { ⌜ (checkGrammar (now g) ≡ true) × (r < ruleCount (now g)) ⌝ }
-    ensures { λ x. ⌜ x ≡ padded (images (take (ruleNodes (now (g .entry)) r) f) (rightOf (grammarOf (now (g .entry))) r .externals)) ⌝ }
+pub fn root_nodes(g: &[u64], r: u64, f: &[u64]) -> [u64; 8]
+    requires { ⌜ (checkGrammar (now g) ≡ true) × (r < ruleCount (now g)) × (length (now f) ≡ 8) ⌝ }
+    ensures { λ x. ⌜ x ≡ padded (images (take (ruleNodes (now (g .entry)) r) (now (f .entry))) (rightOf (grammarOf (now (g .entry))) r .externals)) ⌝ }
 {
     let rank = layout::rank_at(g, layout::rule_symbol(g, r));
     let mut l = [64u64; 8];
@@ -120,11 +121,11 @@ pub fn edge_nodes(g: &[u64], h: &[u64], e: u64) -> [u64; 8]
     requires { ⌜ Accepted (now g) (now h) × (e < graphEdges (now h)) ⌝ }
     ensures { λ x. ⌜ x ≡ padded (edgeAt (graphOf (now (g .entry)) (now (h .entry)) .edges) e .attachment) ⌝ }
 {
-    let rank = layout::rank_at(g, layout::graph_label(h, e));
+    let rank = joins::rank_of(g, layout::word_in(h, 1 + e, 0));
     let mut l = [64u64; 8];
     let mut k: u64 = 0;
     while k < rank {
-        l[k as usize] = layout::graph_node(h, e, k);
+        l[k as usize] = layout::word_in(h, 1 + e, 1 + k);
         k += 1;
     }
     l
@@ -141,6 +142,7 @@ fn made_at(q: u64, j: Joined) -> Made
             plan: 0,
             edges: 0,
             nodes: [64u64; 8],
+            images: 0,
         };
     }
     let nodes = j.nodes;
@@ -149,42 +151,44 @@ fn made_at(q: u64, j: Joined) -> Made
         plan: q,
         edges: j.edges,
         nodes,
+        images: j.images,
     }
 }
 
-// The nonterminal rule: plan node q introduces an edge above x's, and y is passive and has the edge's symbol.
+// The nonterminal rule: plan node q introduces an edge above x's, and y is passive and has the edge's symbol. The maps are lent as parts of the words.
 fn filled_edge(
     g: &[u64],
     h: &[u64],
     graph: &[u64; 577],
-    x: Record,
-    y: Record,
+    x: &[u64],
+    y: &[u64],
+    near: u64,
     q: u64,
     stays: u64,
 ) -> Made
-    requires { ⌜ ActiveAt (now g) (now h) x q × (planKind (now g) (x .of) q ≡ 1) × GraphTable (now g) (now h) (now graph) × OpenAt (now g) (x .of) q stays ⌝ }
-    ensures { λ z. ⌜ z ≡ madeOf (binaryAt (grammarOf (now (g .entry))) (graphOf (now (g .entry)) (now (h .entry))) (itemOf (grammarOf (now (g .entry))) x) (itemOf (grammarOf (now (g .entry))) y) q) ⌝ }
+    requires { ⌜ (length (now x) ≡ 16) × (length (now y) ≡ 16) × ActiveAt (now g) (now h) (ofWords (now x)) q × (planKind (now g) (ofWords (now x) .of) q ≡ 1) × GraphTable (now g) (now h) (now graph) × OpenAt (now g) (ofWords (now x) .of) q stays × Spans (now g) (now h) (ofWords (now x) .edges) near × Spans (now g) (now h) (ofWords (now y) .edges) near ⌝ }
+    ensures { λ z. ⌜ Answer (now (g .entry)) (now (h .entry)) (binaryAt (grammarOf (now (g .entry))) (graphOf (now (g .entry)) (now (h .entry))) (itemOf (grammarOf (now (g .entry))) (ofWords (now (x .entry)))) (itemOf (grammarOf (now (g .entry))) (ofWords (now (y .entry)))) q) z ⌝ }
 {
     let none = Made {
         found: false,
         plan: 0,
         edges: 0,
         nodes: [64u64; 8],
+        images: 0,
     };
-    if y.kind == 0 {
+    if y[0] == 0 {
         return none;
     }
-    if layout::plan_first(g, x.of, q) != x.plan {
+    let of = x[1];
+    if plans::first_at(g, of, q) != x[2] {
         return none;
     }
-    let i = layout::plan_second(g, x.of, q);
-    if layout::edge_label(g, x.of, i) != y.of {
+    let i = plans::second_at(g, of, q);
+    if plans::label_at(g, of, i) != y[1] {
         return none;
     }
-    let l = y.nodes;
-    let k = joins::attach(g, x.of, i, l);
-    let f = x.nodes;
-    let j = joins::combine(g, h, graph, x.of, q, stays, x.edges, y.edges, f, k);
+    let k = joins::attach(g, of, i, &y[6..14]);
+    let j = joins::combine(g, h, graph, of, q, stays, x[3], y[3], near, &x[6..14], &k);
     made_at(q, j)
 }
 
@@ -193,72 +197,88 @@ fn joined_pair(
     g: &[u64],
     h: &[u64],
     graph: &[u64; 577],
-    x: Record,
-    y: Record,
+    x: &[u64],
+    y: &[u64],
+    near: u64,
     q: u64,
     stays: u64,
 ) -> Made
-    requires { ⌜ ActiveAt (now g) (now h) x q × (2 ≤ planKind (now g) (x .of) q) × (y .kind ≡ 0 → x .of ≡ y .of) × GraphTable (now g) (now h) (now graph) × OpenAt (now g) (x .of) q stays ⌝ }
-    ensures { λ z. ⌜ z ≡ madeOf (binaryAt (grammarOf (now (g .entry))) (graphOf (now (g .entry)) (now (h .entry))) (itemOf (grammarOf (now (g .entry))) x) (itemOf (grammarOf (now (g .entry))) y) q) ⌝ }
+    requires { ⌜ (length (now x) ≡ 16) × (length (now y) ≡ 16) × ActiveAt (now g) (now h) (ofWords (now x)) q × (2 ≤ planKind (now g) (ofWords (now x) .of) q) × (ofWords (now y) .kind ≡ 0 → ofWords (now x) .of ≡ ofWords (now y) .of) × GraphTable (now g) (now h) (now graph) × OpenAt (now g) (ofWords (now x) .of) q stays × Spans (now g) (now h) (ofWords (now x) .edges) near × Spans (now g) (now h) (ofWords (now y) .edges) near ⌝ }
+    ensures { λ z. ⌜ Answer (now (g .entry)) (now (h .entry)) (binaryAt (grammarOf (now (g .entry))) (graphOf (now (g .entry)) (now (h .entry))) (itemOf (grammarOf (now (g .entry))) (ofWords (now (x .entry)))) (itemOf (grammarOf (now (g .entry))) (ofWords (now (y .entry)))) q) z ⌝ }
 {
     let none = Made {
         found: false,
         plan: 0,
         edges: 0,
         nodes: [64u64; 8],
+        images: 0,
     };
-    if y.kind != 0 {
+    if y[0] != 0 {
         return none;
     }
-    if layout::plan_first(g, x.of, q) != x.plan {
+    let of = x[1];
+    if plans::first_at(g, of, q) != x[2] {
         return none;
     }
-    if layout::plan_second(g, x.of, q) != y.plan {
+    if plans::second_at(g, of, q) != y[2] {
         return none;
     }
-    let f = x.nodes;
-    let k = y.nodes;
-    let j = joins::combine(g, h, graph, x.of, q, stays, x.edges, y.edges, f, k);
+    let j = joins::combine(
+        g,
+        h,
+        graph,
+        of,
+        q,
+        stays,
+        x[3],
+        y[3],
+        near,
+        &x[6..14],
+        &y[6..14],
+    );
     made_at(q, j)
 }
 
-// What x first and y second make. Records may hold any words: an unknown rule or plan node makes nothing.
+// What x first and y second make, each given as its sixteen words. Records may hold any words: an unknown rule or plan node makes nothing.
 pub fn pair(
     g: &[u64],
     h: &[u64],
     plans: &[u64; 2048],
     graph: &[u64; 577],
-    x: Record,
-    y: Record,
+    x: &[u64],
+    y: &[u64],
+    near: u64,
 ) -> Made
-    requires { ⌜ Accepted (now g) (now h) × PlanTable (now g) (now plans) × GraphTable (now g) (now h) (now graph) ⌝ }
-    ensures { λ z. ⌜ z ≡ madeOf (binaryOf (grammarOf (now (g .entry))) (graphOf (now (g .entry)) (now (h .entry))) (itemOf (grammarOf (now (g .entry))) x) (itemOf (grammarOf (now (g .entry))) y)) ⌝ }
+    requires { ⌜ Accepted (now g) (now h) × PlanTable (now g) (now plans) × GraphTable (now g) (now h) (now graph) × (length (now x) ≡ 16) × (length (now y) ≡ 16) × Spans (now g) (now h) (ofWords (now x) .edges) near × Spans (now g) (now h) (ofWords (now y) .edges) near ⌝ }
+    ensures { λ z. ⌜ Answer (now (g .entry)) (now (h .entry)) (binaryOf (grammarOf (now (g .entry))) (graphOf (now (g .entry)) (now (h .entry))) (itemOf (grammarOf (now (g .entry))) (ofWords (now (x .entry)))) (itemOf (grammarOf (now (g .entry))) (ofWords (now (y .entry))))) z ⌝ }
 {
     let none = Made {
         found: false,
         plan: 0,
         edges: 0,
         nodes: [64u64; 8],
+        images: 0,
     };
-    if x.kind != 0 {
+    if x[0] != 0 {
         return none;
     }
-    if (y.kind == 0) & (x.of != y.of) {
+    let of = x[1];
+    if (y[0] == 0) & (of != y[1]) {
         return none;
     }
-    if !masks::disjoint(x.edges, y.edges) {
+    if !masks::disjoint(x[3], y[3]) {
         return none;
     }
-    let above = plans::parent_in(g, plans, x.of, x.plan);
+    let above = plans::parent_in(g, plans, of, x[2]);
     if above.node >= 16 {
         return none;
     }
     let q = above.node;
-    let kind = layout::plan_kind(g, x.of, q);
+    let kind = plans::kind_at(g, of, q);
     match kind {
         0 => none,
-        1 => filled_edge(g, h, graph, x, y, q, above.stays),
-        _ => joined_pair(g, h, graph, x, y, q, above.stays),
+        1 => filled_edge(g, h, graph, x, y, near, q, above.stays),
+        _ => joined_pair(g, h, graph, x, y, near, q, above.stays),
     }
 }
 
@@ -268,39 +288,49 @@ pub fn terminal(
     h: &[u64],
     plans: &[u64; 2048],
     graph: &[u64; 577],
-    x: Record,
+    x: &[u64],
     e: u64,
+    near: u64,
 ) -> Made
-    requires { ⌜ Accepted (now g) (now h) × (e < graphEdges (now h)) × PlanTable (now g) (now plans) × GraphTable (now g) (now h) (now graph) ⌝ }
-    ensures { λ z. ⌜ z ≡ madeOf (terminalItems (grammarOf (now (g .entry))) (graphOf (now (g .entry)) (now (h .entry))) (itemOf (grammarOf (now (g .entry))) x) e) ⌝ }
+    requires { ⌜ Accepted (now g) (now h) × (e < graphEdges (now h)) × PlanTable (now g) (now plans) × GraphTable (now g) (now h) (now graph) × (length (now x) ≡ 16) × Spans (now g) (now h) (ofWords (now x) .edges) near ⌝ }
+    ensures { λ z. ⌜ Answer (now (g .entry)) (now (h .entry)) (terminalItems (grammarOf (now (g .entry))) (graphOf (now (g .entry)) (now (h .entry))) (itemOf (grammarOf (now (g .entry))) (ofWords (now (x .entry)))) e) z ⌝ }
 {
     let none = Made {
         found: false,
         plan: 0,
         edges: 0,
         nodes: [64u64; 8],
+        images: 0,
     };
-    if x.kind != 0 {
+    if x[0] != 0 {
         return none;
     }
     let edges = masks::with(0, e);
-    if !masks::disjoint(x.edges, edges) {
+    if !masks::disjoint(x[3], edges) {
         return none;
     }
     let of = layout::graph_label(h, e);
-    let nodes = edge_nodes(g, h, e);
-    let y = Record {
-        kind: 1,
+    let l = edge_nodes(g, h, e);
+    let y = [
+        1,
         of,
-        plan: 0,
+        0,
         edges,
-        count: 0,
-        handled: 0,
-        nodes,
-        first: 0,
-        second: 0,
-    };
-    pair(g, h, plans, graph, x, y)
+        0,
+        0,
+        l[0],
+        l[1],
+        l[2],
+        l[3],
+        l[4],
+        l[5],
+        l[6],
+        l[7],
+        0,
+        0,
+    ];
+    let all = near | joins::edge_span(g, h, graph, e);
+    pair(g, h, plans, graph, x, &y, all)
 }
 
 // Those of the edges m whose node at place k is a, if that is one.
@@ -315,17 +345,17 @@ fn with_node(graph: &[u64; 577], k: u64, a: u64, m: u64) -> u64
 }
 
 // Those of the candidates m whose nodes are the images that x has for the nodes of rule edge i, place by place.
-fn fitting(g: &[u64], h: &[u64], graph: &[u64; 577], want: u64, x: Record, i: u64, m: u64) -> u64
-    requires { ⌜ Introduces (now g) (now h) x want i × GraphTable (now g) (now h) (now graph) × Candidates (now g) (now h) x m ⌝ }
-    ensures { λ r. ⌜ Candidates (now (g .entry)) (now (h .entry)) x r ⌝ }
+fn fitting(g: &[u64], h: &[u64], graph: &[u64; 577], want: u64, x: &[u64], i: u64, m: u64) -> u64
+    requires { ⌜ (length (now x) ≡ 16) × Introduces (now g) (now h) (ofWords (now x)) want i × GraphTable (now g) (now h) (now graph) × Candidates (now g) (now h) (ofWords (now x)) m ⌝ }
+    ensures { λ r. ⌜ Candidates (now (g .entry)) (now (h .entry)) (ofWords (now (x .entry))) r ⌝ }
 {
-    let f = x.nodes;
+    let of = x[1];
     let rank = layout::rank_at(g, want);
     let mut rest = m;
     let mut k: u64 = 0;
     while k < rank {
-        let y = layout::edge_node(g, x.of, i, k);
-        rest = with_node(graph, k, f[y as usize], rest);
+        let y = plans::node_at(g, of, i, k);
+        rest = with_node(graph, k, x[(6 + y) as usize], rest);
         k += 1;
     }
     rest
@@ -338,22 +368,23 @@ pub fn candidates(
     plans: &[u64; 2048],
     graph: &[u64; 577],
     want: u64,
-    x: Record,
+    x: &[u64],
 ) -> u64
-    requires { ⌜ Accepted (now g) (now h) × PlanTable (now g) (now plans) × GraphTable (now g) (now h) (now graph) × (want ≡ wantOf (grammarOf (now g)) (x .of) (x .plan)) ⌝ }
-    ensures { λ m. ⌜ Candidates (now (g .entry)) (now (h .entry)) x m ⌝ }
+    requires { ⌜ Accepted (now g) (now h) × PlanTable (now g) (now plans) × GraphTable (now g) (now h) (now graph) × (want ≡ wantOf (grammarOf (now g)) (ofWords (now x) .of) (ofWords (now x) .plan)) × (length (now x) ≡ 16) ⌝ }
+    ensures { λ m. ⌜ Candidates (now (g .entry)) (now (h .entry)) (ofWords (now (x .entry))) m ⌝ }
 {
-    if x.kind != 0 {
+    if x[0] != 0 {
         return 0;
     }
     if want >= 64 {
         return 0;
     }
-    let above = plans::parent_in(g, plans, x.of, x.plan);
+    let of = x[1];
+    let above = plans::parent_in(g, plans, of, x[2]);
     if above.node >= 16 {
         return 0;
     }
-    let i = layout::plan_second(g, x.of, above.node);
-    let m = graph[(257 + want) as usize] & !x.edges;
+    let i = plans::second_at(g, of, above.node);
+    let m = graph[(257 + want) as usize] & !x[3];
     fitting(g, h, graph, want, x, i, m)
 }

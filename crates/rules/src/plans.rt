@@ -1,7 +1,10 @@
 // The plan node above each, and the rule nodes that are open there: worked out once, for all pairs.
 ghost use mathlib.Core.Path.{_≡_};
 ghost use mathlib.Core.Bool.{true};
+ghost use Prim.Native.Nat.{_<_};
 ghost use Rattle.questions.specs.Checking.{checkGrammar};
+ghost use Rattle.questions.specs.Layout.{planKind, planFirst, planSecond, edgeLabel, edgeNode};
+ghost use Rattle.joins.specs.Joins.{KnownNode, KnownEdge};
 ghost use Rattle.rules.specs.Plans.{ParentAt, PlanTable};
 
 // A plan node, 16 where there is none, and the rule nodes that are open there.
@@ -58,4 +61,40 @@ pub(crate) fn parent_in(g: &[u64], t: &[u64; 2048], r: u64, p: u64) -> Parent
         node: t[i],
         stays: t[1024 + i],
     }
+}
+
+// ---- words of a plan node and an edge that are there, read with no test of the table's end
+pub(crate) fn kind_at(g: &[u64], r: u64, q: u64) -> u64
+    requires { ⌜ KnownNode (now g) r q ⌝ }
+    ensures { λ x. ⌜ x ≡ planKind (now (g .entry)) r q ⌝ }
+{
+    layout::word_in(g, 74 + 25 * r + q, 0)
+}
+
+pub(crate) fn first_at(g: &[u64], r: u64, q: u64) -> u64
+    requires { ⌜ KnownNode (now g) r q ⌝ }
+    ensures { λ x. ⌜ x ≡ planFirst (now (g .entry)) r q ⌝ }
+{
+    layout::word_in(g, 74 + 25 * r + q, 1)
+}
+
+pub(crate) fn second_at(g: &[u64], r: u64, q: u64) -> u64
+    requires { ⌜ KnownNode (now g) r q ⌝ }
+    ensures { λ x. ⌜ x ≡ planSecond (now (g .entry)) r q ⌝ }
+{
+    layout::word_in(g, 74 + 25 * r + q, 2)
+}
+
+pub(crate) fn label_at(g: &[u64], r: u64, i: u64) -> u64
+    requires { ⌜ KnownEdge (now g) r i ⌝ }
+    ensures { λ x. ⌜ x ≡ edgeLabel (now (g .entry)) r i ⌝ }
+{
+    layout::word_in(g, 66 + 25 * r + i, 0)
+}
+
+pub(crate) fn node_at(g: &[u64], r: u64, i: u64, k: u64) -> u64
+    requires { ⌜ KnownEdge (now g) r i × (k < 4) ⌝ }
+    ensures { λ x. ⌜ x ≡ edgeNode (now (g .entry)) r i k ⌝ }
+{
+    layout::word_in(g, 66 + 25 * r + i, 1 + k)
 }

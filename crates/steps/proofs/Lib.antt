@@ -1,6 +1,8 @@
 -- The root of the laws.
 pub mod LeafLoops
 pub mod RootLaws
+-- records as words
+pub mod RecordWords
 pub mod PartnerLaws
 pub mod ReadyLaws
 pub mod StepLaws

@@ -16,7 +16,7 @@ use Rattle.agenda.specs.Consequences.{withTerminal, pair}
 use Rattle.questions.specs.Checking.{checkGrammar}
 use Rattle.questions.specs.Abstract.{grammarOf, graphOf}
 use Rattle.joins.specs.Joins.{Accepted}
-use Rattle.rules.specs.Rules.{madeOf, madeRecords, terminalItems}
+use Rattle.rules.specs.Rules.{madeAs, madeRecords, terminalItems}
 use Rattle.rules.specs.Wants.{wantIn, WantTable, meets}
 use Rattle.rules.specs.declared.Made.{Made}
 use Rattle.rules.proofs.RuleItems.{with-terminal, pair-apart}
@@ -46,18 +46,18 @@ module _ (w : List ℕ) (o : Fits w) (made : Made) (r n a b : ℕ) where
 
 -- ---- a graph edge, and a record
 module _ (g h : List ℕ) (accepted : Accepted g h) (x : Record) (w v : List ℕ) (made : Made) where
-  pub terminal-added : (j e : ℕ) → made ≡ madeOf (terminalItems (grammarOf g) (graphOf g h) (itemOf (grammarOf g) x) e) → v ≡ grownBy w (madeRecords (x .of) made (x .count) j e)
+  pub terminal-added : (j e : ℕ) → made ≡ madeAs (terminalItems (grammarOf g) (graphOf g h) (itemOf (grammarOf g) x) e) (made .images) → v ≡ grownBy w (madeRecords (x .of) made (x .count) j e)
       → v ≡ grownBy w (withTerminal (grammarOf g) (graphOf g h) (itemOf (grammarOf g) x) (x .count) j e)
   terminal-added j e q p =
       p
       ∙ ap (λ (m : Made). grownBy w (madeRecords (x .of) m (x .count) j e)) q
-      ∙ ap (grownBy w) (sym (with-terminal (grammarOf g) (graphOf g h) (itemOf (grammarOf g) x) (x .count) j e ∙ terminal-records g h accepted x e (x .count) j e))
+      ∙ ap (grownBy w) (sym (with-terminal (grammarOf g) (graphOf g h) (itemOf (grammarOf g) x) (x .count) j e ∙ terminal-records g h accepted x e (x .count) j e (made .images)))
 
-  pair-is : (y : Record) (j k : ℕ) → pair (grammarOf g) (graphOf g h) x j y k ≡ madeRecords (x .of) (madeOf (binaryOf (grammarOf g) (graphOf g h) (itemOf (grammarOf g) x) (itemOf (grammarOf g) y))) (plus (x .count) (y .count)) j k
+  pair-is : (y : Record) (j k : ℕ) → pair (grammarOf g) (graphOf g h) x j y k ≡ madeRecords (x .of) (madeAs (binaryOf (grammarOf g) (graphOf g h) (itemOf (grammarOf g) x) (itemOf (grammarOf g) y)) (made .images)) (plus (x .count) (y .count)) j k
   unfolding pair
-  pair-is y j k = pair-records g h accepted x y (plus (x .count) (y .count)) j k
+  pair-is y j k = pair-records g h accepted x y (plus (x .count) (y .count)) j k (made .images)
 
-  pub pair-added : (y : Record) (n j k : ℕ) → made ≡ madeOf (binaryOf (grammarOf g) (graphOf g h) (itemOf (grammarOf g) x) (itemOf (grammarOf g) y)) → n ≡ plus (x .count) (y .count)
+  pub pair-added : (y : Record) (n j k : ℕ) → made ≡ madeAs (binaryOf (grammarOf g) (graphOf g h) (itemOf (grammarOf g) x) (itemOf (grammarOf g) y)) (made .images) → n ≡ plus (x .count) (y .count)
       → v ≡ grownBy w (madeRecords (x .of) made n j k) → v ≡ grownBy w (pair (grammarOf g) (graphOf g h) x j y k)
   pair-added y n j k q c p =
       p

@@ -1,25 +1,31 @@
 -- Words and index stay ready as records are added and handled.
-use Prim.Native.Nat.{ℕ, _≤_, _<_}
-use mathlib.Core.Path.{_≡_, sym, ap, _∙_, subst}
+use Prim.Native.Nat.{ℕ, _+_, _-_, _*_, _/_, _≤_, _<_, min}
+use mathlib.Core.Path.{_≡_, sym, ap, ap₂, _∙_, subst}
 use mathlib.Core.List.{List, [], _∷_, List·Memᴰ·head as here, List·Memᴰ·tail as there, List·Memᴰ·not-nil as in-nil}
 use native.Mathlib.Omega.{arith}
-use lib.ListN.{length}
+use lib.ListN.{length, set, length-set}
+use lib.Seq.{getD-set-other}
+use Rattle.masks.specs.Masks.{_∪_}
+use Rattle.agenda.specs.Consequences.{recordIn}
+use Rattle.joins.specs.Joins.{Spans}
+use Rattle.joins.proofs.Openness.{spans-left, spans-right}
 use Rattle.agenda.specs.declared.Record.{Record}
-use Rattle.records.specs.Words.{Fits, capacity, itemCount, chartOf, addedTo, markedAt, grownBy}
-use Rattle.records.proofs.WordLaws.{length-records}
+use Rattle.records.specs.Words.{Fits, ofWords, capacity, itemCount, recordAt, recordsAt, chartOf, addedTo, markedAt, grownBy}
+use Rattle.records.proofs.WordLaws.{eight-words, length-records, record-in, mark-some}
 use Rattle.records.proofs.Written.{handle-written, capacity-written, fits-written}
 use Rattle.records.proofs.Rewritten.{handledIn, grown-handled}
 use Rattle.records.proofs.Grown.{Whole, holds-own, grown-one, grown-fits, grown-capacity}
-use Rattle.index.specs.Index.{Indexed}
+use Rattle.index.specs.Index.{Indexed, nearOf, Spanned}
 use Rattle.steps.specs.Ready.{Ready}
 
-module _ (g wants pivots w ix : List ℕ) (R : Ready g wants pivots w ix) (v jx : List ℕ) (I : Indexed g wants pivots jx (chartOf v .records)) where
+module _ (g h wants pivots w ix : List ℕ) (R : Ready g h wants pivots w ix) (v jx : List ℕ) (I : Indexed wants pivots jx (chartOf v .records)) (S : Spanned g h jx (chartOf v .records)) where
   -- a record is added
-  pub added-ready : (x : Record) → length (x .nodes) ≡ 8 → v ≡ addedTo w x → Ready g wants pivots v jx
+  added-ready : (x : Record) → length (x .nodes) ≡ 8 → v ≡ addedTo w x → Ready g h wants pivots v jx
   added-ready x e p = record {
     fits = subst Fits (sym is) (grown-fits w (R .fits) (x ∷ []) whole);
     small = omega (arith, ap capacity is, grown-capacity w (R .fits) (x ∷ []) whole, R .small);
     indexed = I;
+    spanned = S;
   }
     where
       is : v ≡ grownBy w (x ∷ [])
@@ -29,8 +35,11 @@ module _ (g wants pivots w ix : List ℕ) (R : Ready g wants pivots w ix) (v jx 
       whole y (here q) = rw q e
       whole y (there m) = absurd (in-nil m)
 
+  pub words-ready : (xs : List ℕ) → v ≡ addedTo w (ofWords xs) → Ready g h wants pivots v jx
+  words-ready xs = added-ready (ofWords xs) (eight-words xs)
+
   -- a record is handled
-  pub handled-ready : (j : ℕ) → j < itemCount w → v ≡ markedAt w j → Ready g wants pivots v jx
+  pub handled-ready : (j : ℕ) → j < itemCount w → v ≡ markedAt w j → Ready g h wants pivots v jx
   handled-ready j l p =
       let is = p ∙ handle-written w j (R .fits) l in
       let held = grown-handled w (chartOf w) (holds-own w (R .fits)) j .holds in
@@ -38,11 +47,12 @@ module _ (g wants pivots w ix : List ℕ) (R : Ready g wants pivots w ix) (v jx 
         fits = subst Fits (sym is) (fits-written w (handledIn j (chartOf w)) held);
         small = omega (arith, ap capacity is, capacity-written w (handledIn j (chartOf w)) held, R .small);
         indexed = I;
+        spanned = S;
       }
 
 -- the index of a chart that question 8 passed
-pub built-ready : (g wants pivots w ix : List ℕ) → Fits w → capacity w ≤ 4096 → Indexed g wants pivots ix (chartOf w .records) → Ready g wants pivots w ix
-built-ready g wants pivots w ix f s i = record { fits = f; small = s; indexed = i }
+pub built-ready : (g h wants pivots w ix : List ℕ) → Fits w → capacity w ≤ 4096 → Indexed wants pivots ix (chartOf w .records) → Spanned g h ix (chartOf w .records) → Ready g h wants pivots w ix
+built-ready g h wants pivots w ix f s i n = record { fits = f; small = s; indexed = i; spanned = n }
 
 pub count-small : (w : List ℕ) → capacity w ≤ 4096 → itemCount w ≤ 4096
 unfolding itemCount
@@ -54,3 +64,25 @@ handled-small w j h l = omega (arith, count-small w h)
 pub records-small : (w : List ℕ) → capacity w ≤ 4096 → length (chartOf w .records) ≤ 4096
 unfolding chartOf
 records-small w h = omega (arith, length-records w (itemCount w), count-small w h)
+
+-- ---- the sets that span the edges of records
+pub span-own : (g h : List ℕ) (m a b u : ℕ) → u ≡ a ∪ b → Spans g h m a → Spans g h m u
+span-own g h m a b u e s = subst (Spans g h m) (sym e) (spans-left g h m a b s)
+
+pub span-other : (g h : List ℕ) (m a b u : ℕ) → u ≡ a ∪ b → Spans g h m b → Spans g h m u
+span-other g h m a b u e s = subst (Spans g h m) (sym e) (spans-right g h m a b s)
+
+-- that of the record at place k
+pub span-of : (g h w ix : List ℕ) (k : ℕ) → Spanned g h ix (chartOf w .records) → k < itemCount w → (x : Record) → x ≡ recordAt w k → (o : ℕ) → o ≡ nearOf ix k → Spans g h (x .edges) o
+unfolding chartOf
+span-of g h w ix k S l x e o q =
+    let here : recordIn (recordsAt w (itemCount w)) k ≡ x = record-in w (itemCount w) k l ∙ sym e in
+    subst (Spans g h (x .edges)) (sym q)
+    (subst (λ (y : Record). Spans g h (y .edges) (nearOf ix k)) here (S .each k (omega (arith, length-records w (itemCount w)))))
+
+-- a handled record leaves the number of items
+pub marked-count : (w v : List ℕ) (j : ℕ) → j < itemCount w → v ≡ markedAt w j → itemCount v ≡ itemCount w
+unfolding itemCount capacity
+marked-count w v j l p =
+    let is : v ≡ set w (2 + 16 * j + 5) 1 = p ∙ sym (mark-some w j (omega arith)) in
+    rw is (ap₂ (λ a b. min a ((b - 2) / 16)) (getD-set-other w (2 + 16 * j + 5) 0 1 0 (λ e. omega arith)) (length-set w (2 + 16 * j + 5) 1))

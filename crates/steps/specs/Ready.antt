@@ -13,7 +13,7 @@ use Rattle.rules.specs.Plans.{PlanTable}
 use Rattle.pivots.specs.Pivots.{PivotTable}
 use Rattle.pivots.specs.Keys.{regularOf}
 use Rattle.records.specs.Words.{Fits, capacity, chartOf}
-use Rattle.index.specs.Index.{Indexed}
+use Rattle.index.specs.Index.{Indexed, Spanned}
 
 -- accepted tables, and what a run works out from them once
 pub record Tables (g h wants plans pivots graph : List ℕ) : Type 0 where
@@ -23,12 +23,13 @@ pub record Tables (g h wants plans pivots graph : List ℕ) : Type 0 where
   pub pivoted : PivotTable g pivots
   pub graphed : GraphTable g h graph
 
--- words of a chart that question 8 passed, and the index of its records
-pub record Ready (g wants pivots w ix : List ℕ) : Type 0 where
+-- words of a chart that question 8 passed, the index of its records, and the set beside each that spans its edges
+pub record Ready (g h wants pivots w ix : List ℕ) : Type 0 where
   pub fits : Fits w
   pub small : capacity w ≤ 4096
-  pub indexed : Indexed g wants pivots ix (chartOf w .records)
+  pub indexed : Indexed wants pivots ix (chartOf w .records)
+  pub spanned : Spanned g h ix (chartOf w .records)
 
 -- records whose keys tell what they can be joined with
-abbrev pub Regular : List ℕ → List ℕ → List Record → Type 0
-Regular g pivots rs = (j : ℕ) → j < length rs → regularOf g pivots (recordIn rs j) ≡ true
+abbrev pub Regular : List ℕ → List Record → Type 0
+Regular pivots rs = (j : ℕ) → j < length rs → regularOf pivots (recordIn rs j) ≡ true

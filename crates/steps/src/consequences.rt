@@ -10,14 +10,15 @@ ghost use Rattle.agenda.specs.Consequences.{gather, atRoot, withTerminal, pair}
 ghost use Rattle.questions.specs.Layout.{graphEdges};
 ghost use Rattle.questions.specs.Checking.{checkGrammar};
 ghost use Rattle.questions.specs.Abstract.{grammarOf, graphOf};
+ghost use Rattle.joins.specs.Joins.{Spans};
 ghost use Rattle.rules.specs.Rules.{madeRecords};
 ghost use Rattle.rules.specs.Wants.{wantIn};
 ghost use Rattle.rules.specs.Candidates.{Candidates};
-ghost use Rattle.pivots.specs.Keys.{regularOf};
-ghost use Rattle.records.specs.Words.{itemCount, recordAt, chartOf, grownBy};
+ghost use Rattle.lists.specs.Cursors.{alone};
+ghost use Rattle.pivots.specs.Keys.{queryOf, regularOf};
+ghost use Rattle.records.specs.Words.{ofWords, itemCount, recordAt, chartOf, grownBy};
 ghost use Rattle.steps.specs.Partners.{withRecord, mayMeet};
 ghost use Rattle.steps.specs.Ready.{Tables, Ready, Regular};
-use agenda::Record;
 use rules::Made;
 use rules::wants;
 
@@ -34,77 +35,95 @@ fn plus(a: u64, b: u64) -> u64
 // The passive item of a root item, made of the record x at place j.
 pub(crate) fn add_root(
     g: &[u64],
+    h: &[u64],
     wants: &[u64; 1024],
-    pivots: &[u64; 1024],
+    pivots: &[u64; 1088],
     chart: &mut [u64],
-    index: &mut [u64],
-    x: Record,
+    index: &mut [u32],
+    x: &[u64],
     j: u64,
+    near: u64,
 )
-    requires { ⌜ (checkGrammar (now g) ≡ true) × Ready (now g) (now wants) (now pivots) (now chart) (now index) ⌝ }
-    ensures { λ r. ⌜ (now (chart .exit) ≡ grownBy (now (chart .entry)) (atRoot (grammarOf (now (g .entry))) (itemOf (grammarOf (now (g .entry))) x) (x .count) j)) × Ready (now (g .entry)) (now (wants .entry)) (now (pivots .entry)) (now (chart .exit)) (now (index .exit)) ⌝ }
+    requires { ⌜ (checkGrammar (now g) ≡ true) × Ready (now g) (now h) (now wants) (now pivots) (now chart) (now index) × (length (now x) ≡ 16) × Spans (now g) (now h) (ofWords (now x) .edges) near ⌝ }
+    ensures { λ r. ⌜ (now (chart .exit) ≡ grownBy (now (chart .entry)) (atRoot (grammarOf (now (g .entry))) (itemOf (grammarOf (now (g .entry))) (ofWords (now (x .entry)))) (ofWords (now (x .entry)) .count) j)) × Ready (now (g .entry)) (now (h .entry)) (now (wants .entry)) (now (pivots .entry)) (now (chart .exit)) (now (index .exit)) ⌝ }
 {
-    if x.kind != 0 {
+    if x[0] != 0 {
         return;
     }
-    if x.of >= layout::rule_count(g) {
+    let of = x[1];
+    if of >= layout::rule_count(g) {
         return;
     }
-    let n = layout::rule_plan(g, x.of);
-    if x.plan >= n {
+    let n = layout::rule_plan(g, of);
+    if x[2] >= n {
         return;
     }
-    if x.plan + 1 != n {
+    if x[2] + 1 != n {
         return;
     }
-    let map = x.nodes;
-    let nodes = rules::root_nodes(g, x.of, map);
-    let y = Record {
-        kind: 1,
-        of: layout::rule_symbol(g, x.of),
-        plan: 0,
-        edges: x.edges,
-        count: plus(x.count, 1),
-        handled: 0,
-        nodes,
-        first: j,
-        second: 0,
-    };
-    index::add(g, wants, pivots, chart, index, y);
+    let l = rules::root_nodes(g, of, &x[6..14]);
+    let y = [
+        1,
+        layout::rule_symbol(g, of),
+        0,
+        x[3],
+        plus(x[4], 1),
+        0,
+        l[0],
+        l[1],
+        l[2],
+        l[3],
+        l[4],
+        l[5],
+        l[6],
+        l[7],
+        j,
+        0,
+    ];
+    index::add(wants, pivots, chart, index, &y, near);
 }
 
 // The active item of rule r that was made, if one was.
 fn add_made(
     g: &[u64],
+    h: &[u64],
     wants: &[u64; 1024],
-    pivots: &[u64; 1024],
+    pivots: &[u64; 1088],
     chart: &mut [u64],
-    index: &mut [u64],
+    index: &mut [u32],
     made: Made,
     r: u64,
     count: u64,
     first: u64,
     second: u64,
 )
-    requires { ⌜ Ready (now g) (now wants) (now pivots) (now chart) (now index) ⌝ }
-    ensures { λ x. ⌜ (now (chart .exit) ≡ grownBy (now (chart .entry)) (madeRecords r made count first second)) × Ready (now (g .entry)) (now (wants .entry)) (now (pivots .entry)) (now (chart .exit)) (now (index .exit)) ⌝ }
+    requires { ⌜ Ready (now g) (now h) (now wants) (now pivots) (now chart) (now index) × Spans (now g) (now h) (made .edges) (made .images) ⌝ }
+    ensures { λ x. ⌜ (now (chart .exit) ≡ grownBy (now (chart .entry)) (madeRecords r made count first second)) × Ready (now (g .entry)) (now (h .entry)) (now (wants .entry)) (now (pivots .entry)) (now (chart .exit)) (now (index .exit)) ⌝ }
 {
     if !made.found {
         return;
     }
-    let nodes = made.nodes;
-    let x = Record {
-        kind: 0,
-        of: r,
-        plan: made.plan,
-        edges: made.edges,
+    let l = made.nodes;
+    let images = made.images;
+    let x = [
+        0,
+        r,
+        made.plan,
+        made.edges,
         count,
-        handled: 0,
-        nodes,
+        0,
+        l[0],
+        l[1],
+        l[2],
+        l[3],
+        l[4],
+        l[5],
+        l[6],
+        l[7],
         first,
         second,
-    };
-    index::add(g, wants, pivots, chart, index, x);
+    ];
+    index::add(wants, pivots, chart, index, &x, images);
 }
 
 // What x makes with graph edge e, if that is one of the candidates m.
@@ -113,23 +132,24 @@ fn add_candidate(
     h: &[u64],
     wants: &[u64; 1024],
     plans: &[u64; 2048],
-    pivots: &[u64; 1024],
+    pivots: &[u64; 1088],
     graph: &[u64; 577],
     chart: &mut [u64],
-    index: &mut [u64],
-    x: Record,
+    index: &mut [u32],
+    x: &[u64],
     j: u64,
     m: u64,
     e: u64,
+    near: u64,
 )
-    requires { ⌜ Tables (now g) (now h) (now wants) (now plans) (now pivots) (now graph) × Ready (now g) (now wants) (now pivots) (now chart) (now index) × Candidates (now g) (now h) x m × (e < graphEdges (now h)) ⌝ }
-    ensures { λ r. ⌜ (now (chart .exit) ≡ grownBy (now (chart .entry)) (withTerminal (grammarOf (now (g .entry))) (graphOf (now (g .entry)) (now (h .entry))) (itemOf (grammarOf (now (g .entry))) x) (x .count) j e)) × Ready (now (g .entry)) (now (wants .entry)) (now (pivots .entry)) (now (chart .exit)) (now (index .exit)) ⌝ }
+    requires { ⌜ Tables (now g) (now h) (now wants) (now plans) (now pivots) (now graph) × Ready (now g) (now h) (now wants) (now pivots) (now chart) (now index) × Candidates (now g) (now h) (ofWords (now x)) m × (e < graphEdges (now h)) × (length (now x) ≡ 16) × Spans (now g) (now h) (ofWords (now x) .edges) near ⌝ }
+    ensures { λ r. ⌜ (now (chart .exit) ≡ grownBy (now (chart .entry)) (withTerminal (grammarOf (now (g .entry))) (graphOf (now (g .entry)) (now (h .entry))) (itemOf (grammarOf (now (g .entry))) (ofWords (now (x .entry)))) (ofWords (now (x .entry)) .count) j e)) × Ready (now (g .entry)) (now (h .entry)) (now (wants .entry)) (now (pivots .entry)) (now (chart .exit)) (now (index .exit)) ⌝ }
 {
     if !masks::has(m, e) {
         return;
     }
-    let made = rules::terminal(g, h, plans, graph, x, e);
-    add_made(g, wants, pivots, chart, index, made, x.of, x.count, j, e);
+    let made = rules::terminal(g, h, plans, graph, x, e, near);
+    add_made(g, h, wants, pivots, chart, index, made, x[1], x[4], j, e);
 }
 
 // What x makes with each graph edge: only those of the label that it wants, and that fit its map, are tried.
@@ -138,17 +158,18 @@ pub(crate) fn add_terminals(
     h: &[u64],
     wants: &[u64; 1024],
     plans: &[u64; 2048],
-    pivots: &[u64; 1024],
+    pivots: &[u64; 1088],
     graph: &[u64; 577],
     chart: &mut [u64],
-    index: &mut [u64],
-    x: Record,
+    index: &mut [u32],
+    x: &[u64],
     j: u64,
+    near: u64,
 )
-    requires { ⌜ Tables (now g) (now h) (now wants) (now plans) (now pivots) (now graph) × Ready (now g) (now wants) (now pivots) (now chart) (now index) ⌝ }
-    ensures { λ r. ⌜ (now (chart .exit) ≡ grownBy (now (chart .entry)) (gather (length (graphOf (now (g .entry)) (now (h .entry)) .edges)) (λ e. withTerminal (grammarOf (now (g .entry))) (graphOf (now (g .entry)) (now (h .entry))) (itemOf (grammarOf (now (g .entry))) x) (x .count) j e))) × Ready (now (g .entry)) (now (wants .entry)) (now (pivots .entry)) (now (chart .exit)) (now (index .exit)) ⌝ }
+    requires { ⌜ Tables (now g) (now h) (now wants) (now plans) (now pivots) (now graph) × Ready (now g) (now h) (now wants) (now pivots) (now chart) (now index) × (length (now x) ≡ 16) × Spans (now g) (now h) (ofWords (now x) .edges) near ⌝ }
+    ensures { λ r. ⌜ (now (chart .exit) ≡ grownBy (now (chart .entry)) (gather (length (graphOf (now (g .entry)) (now (h .entry)) .edges)) (λ e. withTerminal (grammarOf (now (g .entry))) (graphOf (now (g .entry)) (now (h .entry))) (itemOf (grammarOf (now (g .entry))) (ofWords (now (x .entry)))) (ofWords (now (x .entry)) .count) j e))) × Ready (now (g .entry)) (now (h .entry)) (now (wants .entry)) (now (pivots .entry)) (now (chart .exit)) (now (index .exit)) ⌝ }
 {
-    let want = wants::want_of(wants, x.of, x.plan);
+    let want = wants::want_of(wants, x[1], x[2]);
     let m = rules::candidates(g, h, plans, graph, want, x);
     if m == 0 {
         return;
@@ -156,59 +177,85 @@ pub(crate) fn add_terminals(
     let n = layout::graph_edges(h);
     let mut e: u64 = 0;
     while e < n {
-        add_candidate(g, h, wants, plans, pivots, graph, chart, index, x, j, m, e);
+        add_candidate(
+            g,
+            h,
+            wants,
+            plans,
+            pivots,
+            graph,
+            chart,
+            index,
+            x,
+            j,
+            m,
+            e,
+            near,
+        );
         e += 1;
     }
 }
 
-// What x at place j makes with y at place k, x first.
+// What x at place j makes with y at place k, x first: nothing where x is passive.
 fn add_pair(
     g: &[u64],
     h: &[u64],
     wants: &[u64; 1024],
     plans: &[u64; 2048],
-    pivots: &[u64; 1024],
+    pivots: &[u64; 1088],
     graph: &[u64; 577],
     chart: &mut [u64],
-    index: &mut [u64],
-    x: Record,
+    index: &mut [u32],
+    x: &[u64],
     j: u64,
-    y: Record,
+    y: &[u64],
     k: u64,
+    near: u64,
 )
-    requires { ⌜ Tables (now g) (now h) (now wants) (now plans) (now pivots) (now graph) × Ready (now g) (now wants) (now pivots) (now chart) (now index) ⌝ }
-    ensures { λ r. ⌜ (now (chart .exit) ≡ grownBy (now (chart .entry)) (pair (grammarOf (now (g .entry))) (graphOf (now (g .entry)) (now (h .entry))) x j y k)) × Ready (now (g .entry)) (now (wants .entry)) (now (pivots .entry)) (now (chart .exit)) (now (index .exit)) ⌝ }
+    requires { ⌜ Tables (now g) (now h) (now wants) (now plans) (now pivots) (now graph) × Ready (now g) (now h) (now wants) (now pivots) (now chart) (now index) × (length (now x) ≡ 16) × (length (now y) ≡ 16) × Spans (now g) (now h) (ofWords (now x) .edges) near × Spans (now g) (now h) (ofWords (now y) .edges) near ⌝ }
+    ensures { λ r. ⌜ (now (chart .exit) ≡ grownBy (now (chart .entry)) (pair (grammarOf (now (g .entry))) (graphOf (now (g .entry)) (now (h .entry))) (ofWords (now (x .entry))) j (ofWords (now (y .entry))) k)) × Ready (now (g .entry)) (now (h .entry)) (now (wants .entry)) (now (pivots .entry)) (now (chart .exit)) (now (index .exit)) ⌝ }
 {
-    let made = rules::pair(g, h, plans, graph, x, y);
+    if x[0] != 0 {
+        return;
+    }
+    let made = rules::pair(g, h, plans, graph, x, y, near);
     add_made(
         g,
+        h,
         wants,
         pivots,
         chart,
         index,
         made,
-        x.of,
-        plus(x.count, y.count),
+        x[1],
+        plus(x[4], y[4]),
         j,
         k,
     );
 }
 
 // Whether the record at place k may make something with x, which wants `want` if it is active. Only the words that tell are read, first those that tell the most.
-fn may_meet(wants: &[u64; 1024], chart: &[u64], k: u64, x: Record, want: u64) -> bool
-    ensures { λ r. ⌜ r ≡ mayMeet (now (wants .entry)) want x (recordAt (now (chart .entry)) k) ⌝ }
+fn may_meet(wants: &[u64; 1024], chart: &[u64], k: u64, x: &[u64], want: u64) -> bool
+    requires { ⌜ (k < itemCount (now chart)) × (itemCount (now chart) ≤ 4096) × (length (now x) ≡ 16) ⌝ }
+    ensures { λ r. ⌜ r ≡ mayMeet (now (wants .entry)) want (ofWords (now (x .entry))) (recordAt (now (chart .entry)) k) ⌝ }
 {
-    let edges = records::field(chart, k, 3);
-    if !masks::disjoint(x.edges, edges) {
+    let at = (2 + 16 * k) as usize;
+    let edges = chart[at + 3];
+    if !masks::disjoint(x[3], edges) {
         return false;
     }
-    if records::field(chart, k, 5) == 0 {
+    if chart[at + 5] == 0 {
         return false;
     }
-    let kind = records::field(chart, k, 0);
-    let of = records::field(chart, k, 1);
-    let plan = records::field(chart, k, 2);
-    wants::meet(wants, x.kind, x.of, want, kind, of, plan)
+    wants::meet(
+        wants,
+        x[0],
+        x[1],
+        want,
+        chart[at],
+        chart[at + 1],
+        chart[at + 2],
+    )
 }
 
 // What x at place j makes with the record at place k, in both orders, if that one is handled.
@@ -217,24 +264,54 @@ fn add_partner(
     h: &[u64],
     wants: &[u64; 1024],
     plans: &[u64; 2048],
-    pivots: &[u64; 1024],
+    pivots: &[u64; 1088],
     graph: &[u64; 577],
     chart: &mut [u64],
-    index: &mut [u64],
-    x: Record,
+    index: &mut [u32],
+    x: &[u64],
     want: u64,
     j: u64,
     k: u64,
+    near: u64,
 )
-    requires { ⌜ Tables (now g) (now h) (now wants) (now plans) (now pivots) (now graph) × Ready (now g) (now wants) (now pivots) (now chart) (now index) × (want ≡ wantIn (now wants) (x .of) (x .plan)) ⌝ }
-    ensures { λ r. ⌜ (now (chart .exit) ≡ grownBy (now (chart .entry)) (withRecord (grammarOf (now (g .entry))) (graphOf (now (g .entry)) (now (h .entry))) x j (recordAt (now (chart .entry)) k) k)) × Ready (now (g .entry)) (now (wants .entry)) (now (pivots .entry)) (now (chart .exit)) (now (index .exit)) ⌝ }
+    requires { ⌜ Tables (now g) (now h) (now wants) (now plans) (now pivots) (now graph) × Ready (now g) (now h) (now wants) (now pivots) (now chart) (now index) × (want ≡ wantIn (now wants) (ofWords (now x) .of) (ofWords (now x) .plan)) × (k < itemCount (now chart)) × (length (now x) ≡ 16) × Spans (now g) (now h) (ofWords (now x) .edges) near ⌝ }
+    ensures { λ r. ⌜ (now (chart .exit) ≡ grownBy (now (chart .entry)) (withRecord (grammarOf (now (g .entry))) (graphOf (now (g .entry)) (now (h .entry))) (ofWords (now (x .entry))) j (recordAt (now (chart .entry)) k) k)) × Ready (now (g .entry)) (now (h .entry)) (now (wants .entry)) (now (pivots .entry)) (now (chart .exit)) (now (index .exit)) ⌝ }
 {
     if !may_meet(wants, chart, k, x, want) {
         return;
     }
-    let y = records::load(chart, k);
-    add_pair(g, h, wants, plans, pivots, graph, chart, index, x, j, y, k);
-    add_pair(g, h, wants, plans, pivots, graph, chart, index, y, k, x, j);
+    let y = records::words_in(chart, k);
+    let both = masks::union(near, index::near(index, k));
+    add_pair(
+        g,
+        h,
+        wants,
+        plans,
+        pivots,
+        graph,
+        chart,
+        index,
+        x,
+        j,
+        &y,
+        k,
+        both,
+    );
+    add_pair(
+        g,
+        h,
+        wants,
+        plans,
+        pivots,
+        graph,
+        chart,
+        index,
+        &y,
+        k,
+        x,
+        j,
+        both,
+    );
 }
 
 // What x at place j makes with each of the first n records, gone through one by one.
@@ -243,17 +320,18 @@ fn add_each(
     h: &[u64],
     wants: &[u64; 1024],
     plans: &[u64; 2048],
-    pivots: &[u64; 1024],
+    pivots: &[u64; 1088],
     graph: &[u64; 577],
     chart: &mut [u64],
-    index: &mut [u64],
-    x: Record,
+    index: &mut [u32],
+    x: &[u64],
     want: u64,
     j: u64,
     n: u64,
+    near: u64,
 )
-    requires { ⌜ Tables (now g) (now h) (now wants) (now plans) (now pivots) (now graph) × Ready (now g) (now wants) (now pivots) (now chart) (now index) × (n ≤ itemCount (now chart)) × (want ≡ wantIn (now wants) (x .of) (x .plan)) ⌝ }
-    ensures { λ r. ⌜ (now (chart .exit) ≡ grownBy (now (chart .entry)) (gather n (λ k. withRecord (grammarOf (now (g .entry))) (graphOf (now (g .entry)) (now (h .entry))) x j (recordAt (now (chart .entry)) k) k))) × Ready (now (g .entry)) (now (wants .entry)) (now (pivots .entry)) (now (chart .exit)) (now (index .exit)) ⌝ }
+    requires { ⌜ Tables (now g) (now h) (now wants) (now plans) (now pivots) (now graph) × Ready (now g) (now h) (now wants) (now pivots) (now chart) (now index) × (n ≤ itemCount (now chart)) × (want ≡ wantIn (now wants) (ofWords (now x) .of) (ofWords (now x) .plan)) × (length (now x) ≡ 16) × Spans (now g) (now h) (ofWords (now x) .edges) near ⌝ }
+    ensures { λ r. ⌜ (now (chart .exit) ≡ grownBy (now (chart .entry)) (gather n (λ k. withRecord (grammarOf (now (g .entry))) (graphOf (now (g .entry)) (now (h .entry))) (ofWords (now (x .entry))) j (recordAt (now (chart .entry)) k) k))) × Ready (now (g .entry)) (now (h .entry)) (now (wants .entry)) (now (pivots .entry)) (now (chart .exit)) (now (index .exit)) ⌝ }
 {
     let mut k: u64 = 0;
     while k < n {
@@ -270,6 +348,7 @@ fn add_each(
             want,
             j,
             k,
+            near,
         );
         k += 1;
     }
@@ -281,18 +360,19 @@ fn add_next(
     h: &[u64],
     wants: &[u64; 1024],
     plans: &[u64; 2048],
-    pivots: &[u64; 1024],
+    pivots: &[u64; 1088],
     graph: &[u64; 577],
     chart: &mut [u64],
-    index: &mut [u64],
-    x: Record,
+    index: &mut [u32],
+    x: &[u64],
     want: u64,
     j: u64,
     k: u64,
     done: u64,
+    near: u64,
 ) -> u64
-    requires { ⌜ Tables (now g) (now h) (now wants) (now plans) (now pivots) (now graph) × Ready (now g) (now wants) (now pivots) (now chart) (now index) × (want ≡ wantIn (now wants) (x .of) (x .plan)) × (k < itemCount (now chart)) ⌝ }
-    ensures { λ r. ⌜ (now (chart .exit) ≡ grownBy (now (chart .entry)) (guard (leb done k) (withRecord (grammarOf (now (g .entry))) (graphOf (now (g .entry)) (now (h .entry))) x j (recordAt (now (chart .entry)) k) k))) × Ready (now (g .entry)) (now (wants .entry)) (now (pivots .entry)) (now (chart .exit)) (now (index .exit)) × (r ≡ max done (k + 1)) ⌝ }
+    requires { ⌜ Tables (now g) (now h) (now wants) (now plans) (now pivots) (now graph) × Ready (now g) (now h) (now wants) (now pivots) (now chart) (now index) × (want ≡ wantIn (now wants) (ofWords (now x) .of) (ofWords (now x) .plan)) × (k < itemCount (now chart)) × (length (now x) ≡ 16) × Spans (now g) (now h) (ofWords (now x) .edges) near ⌝ }
+    ensures { λ r. ⌜ (now (chart .exit) ≡ grownBy (now (chart .entry)) (guard (leb done k) (withRecord (grammarOf (now (g .entry))) (graphOf (now (g .entry)) (now (h .entry))) (ofWords (now (x .entry))) j (recordAt (now (chart .entry)) k) k))) × Ready (now (g .entry)) (now (h .entry)) (now (wants .entry)) (now (pivots .entry)) (now (chart .exit)) (now (index .exit)) × (r ≡ max done (k + 1)) ⌝ }
 {
     if k < done {
         return done;
@@ -310,8 +390,56 @@ fn add_next(
         want,
         j,
         k,
+        near,
     );
     k + 1
+}
+
+// The same as add_each, where the records that can meet x are on the list of one key: one cursor goes through it.
+fn add_alone(
+    g: &[u64],
+    h: &[u64],
+    wants: &[u64; 1024],
+    plans: &[u64; 2048],
+    pivots: &[u64; 1088],
+    graph: &[u64; 577],
+    chart: &mut [u64],
+    index: &mut [u32],
+    x: &[u64],
+    want: u64,
+    j: u64,
+    n: u64,
+    near: u64,
+    key: u64,
+)
+    requires { ⌜ Tables (now g) (now h) (now wants) (now plans) (now pivots) (now graph) × Ready (now g) (now h) (now wants) (now pivots) (now chart) (now index) × (n ≤ itemCount (now chart)) × (want ≡ wantIn (now wants) (ofWords (now x) .of) (ofWords (now x) .plan)) × Regular (now pivots) (chartOf (now chart) .records) × (regularOf (now pivots) (ofWords (now x)) ≡ true) × (length (now x) ≡ 16) × Spans (now g) (now h) (ofWords (now x) .edges) near × (queryOf (now wants) (now pivots) (ofWords (now x)) ≡ alone key) ⌝ }
+    ensures { λ r. ⌜ (now (chart .exit) ≡ grownBy (now (chart .entry)) (gather n (λ k. withRecord (grammarOf (now (g .entry))) (graphOf (now (g .entry)) (now (h .entry))) (ofWords (now (x .entry))) j (recordAt (now (chart .entry)) k) k))) × Ready (now (g .entry)) (now (h .entry)) (now (wants .entry)) (now (pivots .entry)) (now (chart .exit)) (now (index .exit)) ⌝ }
+{
+    let b = index::first(index, key);
+    let mut c = index::sought(chart, index, x[3], n, b);
+    let mut k = lists::record_of(c);
+    let mut past: u64 = 0;
+    while k < n {
+        past = add_next(
+            g,
+            h,
+            wants,
+            plans,
+            pivots,
+            graph,
+            chart,
+            index,
+            x,
+            want,
+            j,
+            k,
+            past,
+            near,
+        );
+        let d = index::after(index, c);
+        c = index::sought(chart, index, x[3], n, d);
+        k = lists::record_of(c);
+    }
 }
 
 // The same as add_each, with those of the first n records that can meet x: they are on the lists of its keys, in rising order. Cursors skim over quiet records, most of what is listed.
@@ -320,21 +448,41 @@ fn add_listed(
     h: &[u64],
     wants: &[u64; 1024],
     plans: &[u64; 2048],
-    pivots: &[u64; 1024],
+    pivots: &[u64; 1088],
     graph: &[u64; 577],
     chart: &mut [u64],
-    index: &mut [u64],
-    x: Record,
+    index: &mut [u32],
+    x: &[u64],
     want: u64,
     j: u64,
     n: u64,
+    near: u64,
 )
-    requires { ⌜ Tables (now g) (now h) (now wants) (now plans) (now pivots) (now graph) × Ready (now g) (now wants) (now pivots) (now chart) (now index) × (n ≤ itemCount (now chart)) × (want ≡ wantIn (now wants) (x .of) (x .plan)) × Regular (now g) (now pivots) (chartOf (now chart) .records) × (regularOf (now g) (now pivots) x ≡ true) ⌝ }
-    ensures { λ r. ⌜ (now (chart .exit) ≡ grownBy (now (chart .entry)) (gather n (λ k. withRecord (grammarOf (now (g .entry))) (graphOf (now (g .entry)) (now (h .entry))) x j (recordAt (now (chart .entry)) k) k))) × Ready (now (g .entry)) (now (wants .entry)) (now (pivots .entry)) (now (chart .exit)) (now (index .exit)) ⌝ }
+    requires { ⌜ Tables (now g) (now h) (now wants) (now plans) (now pivots) (now graph) × Ready (now g) (now h) (now wants) (now pivots) (now chart) (now index) × (n ≤ itemCount (now chart)) × (want ≡ wantIn (now wants) (ofWords (now x) .of) (ofWords (now x) .plan)) × Regular (now pivots) (chartOf (now chart) .records) × (regularOf (now pivots) (ofWords (now x)) ≡ true) × (length (now x) ≡ 16) × Spans (now g) (now h) (ofWords (now x) .edges) near ⌝ }
+    ensures { λ r. ⌜ (now (chart .exit) ≡ grownBy (now (chart .entry)) (gather n (λ k. withRecord (grammarOf (now (g .entry))) (graphOf (now (g .entry)) (now (h .entry))) (ofWords (now (x .entry))) j (recordAt (now (chart .entry)) k) k))) × Ready (now (g .entry)) (now (h .entry)) (now (wants .entry)) (now (pivots .entry)) (now (chart .exit)) (now (index .exit)) ⌝ }
 {
-    let query = pivots::query(g, wants, pivots, x);
+    let query = pivots::query(wants, pivots, x);
+    if (query[1] == 0) & (query[2] == 0) & (query[3] == 0) & (query[4] == 0) {
+        add_alone(
+            g,
+            h,
+            wants,
+            plans,
+            pivots,
+            graph,
+            chart,
+            index,
+            x,
+            want,
+            j,
+            n,
+            near,
+            query[0],
+        );
+        return;
+    }
     let bs = index::starts(index, query);
-    let mut cs = index::skimmed(chart, index, x.edges, n, bs);
+    let mut cs = index::skimmed(chart, index, x[3], n, bs);
     let mut k = lists::least(cs);
     let mut done: u64 = 0;
     while k < n {
@@ -352,9 +500,10 @@ fn add_listed(
             j,
             k,
             done,
+            near,
         );
         let ds = index::passed(index, cs, k);
-        let es = index::skimmed(chart, index, x.edges, n, ds);
+        let es = index::skimmed(chart, index, x[3], n, ds);
         cs = es;
         k = lists::least(cs);
     }
@@ -366,19 +515,20 @@ pub(crate) fn add_partners(
     h: &[u64],
     wants: &[u64; 1024],
     plans: &[u64; 2048],
-    pivots: &[u64; 1024],
+    pivots: &[u64; 1088],
     graph: &[u64; 577],
     chart: &mut [u64],
-    index: &mut [u64],
-    x: Record,
+    index: &mut [u32],
+    x: &[u64],
     j: u64,
     n: u64,
+    near: u64,
 )
-    requires { ⌜ Tables (now g) (now h) (now wants) (now plans) (now pivots) (now graph) × Ready (now g) (now wants) (now pivots) (now chart) (now index) × (n ≤ itemCount (now chart)) ⌝ }
-    ensures { λ r. ⌜ (now (chart .exit) ≡ grownBy (now (chart .entry)) (gather n (λ k. withRecord (grammarOf (now (g .entry))) (graphOf (now (g .entry)) (now (h .entry))) x j (recordAt (now (chart .entry)) k) k))) × Ready (now (g .entry)) (now (wants .entry)) (now (pivots .entry)) (now (chart .exit)) (now (index .exit)) ⌝ }
+    requires { ⌜ Tables (now g) (now h) (now wants) (now plans) (now pivots) (now graph) × Ready (now g) (now h) (now wants) (now pivots) (now chart) (now index) × (n ≤ itemCount (now chart)) × (length (now x) ≡ 16) × Spans (now g) (now h) (ofWords (now x) .edges) near ⌝ }
+    ensures { λ r. ⌜ (now (chart .exit) ≡ grownBy (now (chart .entry)) (gather n (λ k. withRecord (grammarOf (now (g .entry))) (graphOf (now (g .entry)) (now (h .entry))) (ofWords (now (x .entry))) j (recordAt (now (chart .entry)) k) k))) × Ready (now (g .entry)) (now (h .entry)) (now (wants .entry)) (now (pivots .entry)) (now (chart .exit)) (now (index .exit)) ⌝ }
 {
-    let want = wants::want_of(wants, x.of, x.plan);
-    if (x.kind == 0) & (want == 80) {
+    let want = wants::want_of(wants, x[1], x[2]);
+    if (x[0] == 0) & (want == 80) {
         return;
     }
     if !index::regular(index) {
@@ -395,10 +545,11 @@ pub(crate) fn add_partners(
             want,
             j,
             n,
+            near,
         );
         return;
     }
-    if !pivots::regular(g, pivots, x) {
+    if !pivots::regular(pivots, x) {
         add_each(
             g,
             h,
@@ -412,6 +563,7 @@ pub(crate) fn add_partners(
             want,
             j,
             n,
+            near,
         );
         return;
     }
@@ -428,5 +580,6 @@ pub(crate) fn add_partners(
         want,
         j,
         n,
+        near,
     );
 }

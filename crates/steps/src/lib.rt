@@ -28,7 +28,7 @@ pub fn restart(g: &[u64], chart: &mut [u64])
 }
 
 // The record that the next step takes: none where nothing waits or the chart is marked.
-fn next(chart: &[u64], index: &[u64]) -> Found
+fn next(chart: &[u64], index: &[u32]) -> Found
     requires { ⌜ (length (now index) ≡ indexWords) × Ranked (ranksOf (now index)) (chartOf (now chart) .records) × (length (chartOf (now chart) .records) ≤ 4096) ⌝ }
     ensures { λ r. ⌜ r ≡ nextIn (chartOf (now (chart .entry))) ⌝ }
 {
@@ -44,21 +44,35 @@ fn step(
     h: &[u64],
     wants: &[u64; 1024],
     plans: &[u64; 2048],
-    pivots: &[u64; 1024],
+    pivots: &[u64; 1088],
     graph: &[u64; 577],
     chart: &mut [u64],
-    index: &mut [u64],
+    index: &mut [u32],
     j: u64,
 )
-    requires { ⌜ Tables (now g) (now h) (now wants) (now plans) (now pivots) (now graph) × Ready (now g) (now wants) (now pivots) (now chart) (now index) × (j < itemCount (now chart)) ⌝ }
-    ensures { λ r. ⌜ (now (chart .exit) ≡ written (now (chart .entry)) (handledAt (grammarOf (now (g .entry))) (graphOf (now (g .entry)) (now (h .entry))) (capacity (now (chart .entry))) j (chartOf (now (chart .entry))))) × Ready (now (g .entry)) (now (wants .entry)) (now (pivots .entry)) (now (chart .exit)) (now (index .exit)) ⌝ }
+    requires { ⌜ Tables (now g) (now h) (now wants) (now plans) (now pivots) (now graph) × Ready (now g) (now h) (now wants) (now pivots) (now chart) (now index) × (j < itemCount (now chart)) ⌝ }
+    ensures { λ r. ⌜ (now (chart .exit) ≡ written (now (chart .entry)) (handledAt (grammarOf (now (g .entry))) (graphOf (now (g .entry)) (now (h .entry))) (capacity (now (chart .entry))) j (chartOf (now (chart .entry))))) × Ready (now (g .entry)) (now (h .entry)) (now (wants .entry)) (now (pivots .entry)) (now (chart .exit)) (now (index .exit)) ⌝ }
 {
     index::handle(chart, index, j);
     let n = records::item_count(chart);
-    let x = records::load(chart, j);
-    consequences::add_root(g, wants, pivots, chart, index, x, j);
-    consequences::add_terminals(g, h, wants, plans, pivots, graph, chart, index, x, j);
-    consequences::add_partners(g, h, wants, plans, pivots, graph, chart, index, x, j, n);
+    let x = records::words_in(chart, j);
+    let near = index::near(index, j);
+    consequences::add_root(g, h, wants, pivots, chart, index, &x, j, near);
+    consequences::add_terminals(g, h, wants, plans, pivots, graph, chart, index, &x, j, near);
+    consequences::add_partners(
+        g,
+        h,
+        wants,
+        plans,
+        pivots,
+        graph,
+        chart,
+        index,
+        &x,
+        j,
+        n,
+        near,
+    );
 }
 
 // So many steps, or as many as are left, with an index of the chart's records.
@@ -67,13 +81,13 @@ fn advance_by(
     h: &[u64],
     wants: &[u64; 1024],
     plans: &[u64; 2048],
-    pivots: &[u64; 1024],
+    pivots: &[u64; 1088],
     graph: &[u64; 577],
     chart: &mut [u64],
-    index: &mut [u64],
+    index: &mut [u32],
     steps: u64,
 )
-    requires { ⌜ Tables (now g) (now h) (now wants) (now plans) (now pivots) (now graph) × Ready (now g) (now wants) (now pivots) (now chart) (now index) ⌝ }
+    requires { ⌜ Tables (now g) (now h) (now wants) (now plans) (now pivots) (now graph) × Ready (now g) (now h) (now wants) (now pivots) (now chart) (now index) ⌝ }
     ensures { λ r. ⌜ now (chart .exit) ≡ written (now (chart .entry)) (runChart (grammarOf (now (g .entry))) (graphOf (now (g .entry)) (now (h .entry))) (capacity (now (chart .entry))) steps (chartOf (now (chart .entry)))) ⌝ }
 {
     let mut i: u64 = 0;
@@ -93,10 +107,10 @@ pub fn advance(g: &[u64], h: &[u64], chart: &mut [u64], steps: u64)
 {
     let wants = rules::wants::table(g);
     let plans = rules::plans::table(g);
-    let pivots = pivots::table(g);
+    let pivots = pivots::table(g, &wants);
     let graph = joins::graphs::table(g, h);
-    let mut index = [0u64; 49155];
-    index::build(g, &wants, &pivots, chart, &mut index);
+    let mut index = [0u32; 49155];
+    index::build(g, h, &graph, &wants, &pivots, chart, &mut index);
     advance_by(
         g,
         h,

@@ -1,17 +1,17 @@
 -- Question 8's tests on words, one law per way that a function can go: each is the definition's test on the grammar and the graph of accepted tables.
 use mathlib.Core.Path.{_≡_, refl, sym, ap, ap₂, _∙_}
-use mathlib.Core.Bool.{Bool, true, false, _&&_, _||_, not, cond, false≢true}
+use mathlib.Core.Bool.{Bool, true, false, _&&_, _||_, not, cond}
 use mathlib.Core.List.{List, [], _∷_}
-use Prim.Native.Nat.{ℕ, _+_, _*_, _≤_, _<_, min}
+use Prim.Native.Nat.{ℕ, _+_, _*_, _%_, _≤_, _<_, min}
 use native.Mathlib.Omega.{arith}
 use native.Mathlib.Decide.{decLt}
 use lib.ListN.{length, getD}
 use lib.Dec.{eqb, ltb, leb}
-use lib.Bits.{bitAnd}
+use lib.Bits.{bitAnd, bitOr, or-mod, or-add-and, and-le-l, and-le-r}
 use borrow.Author.Tests.{eq-eqb, ne-eqb, lt-ltb, le-ltb, le-leb, lt-leb}
 use Rattle.masks.specs.Masks.{full, within, Filled}
 use Rattle.hrg.specs.Counts.{occurs, tabulate}
-use Rattle.hrg.specs.Grammars.{terminal, nonterminal, Edge, Rule, PlanNode, leaf, introduce, join, kindOf, rightOf, planOf, planNode, edgeAt}
+use Rattle.hrg.specs.Grammars.{terminal, nonterminal, Grammar, Graph, Edge, Rule, PlanNode, leaf, introduce, join, kindOf, rightOf, planOf, planNode, edgeAt}
 use Rattle.hrg.specs.Trees.{unplaced, at}
 use Rattle.hrg.specs.Items.{below}
 use Rattle.hrg.specs.ClosureRun.{isTerminal}
@@ -26,12 +26,12 @@ use Rattle.questions.proofs.WellFormedLent.{checked-grammar-ok}
 use Rattle.questions.proofs.WellFormedAccepted.{symbols-length, rules-length, kind-is, rule-is, edge-is}
 use Rattle.layout.proofs.Sizes.{grammar-length}
 use Rattle.joins.specs.Joins.{KnownNode, KnownEdge, Accepted}
-use Rattle.joins.proofs.Known.{rule-ok, rule-few, right-edges, plan-size, plan-ok, edges-few, plan-few, plan-node, graph-size, graph-nodes, graph-edges-few}
+use Rattle.joins.proofs.Known.{rule-ok, rule-few, right-edges, plan-size, plan-ok, edges-few, plan-few, plan-node, graph-ok, graph-size, graph-nodes, graph-edges-few}
 use Rattle.joins.proofs.PlanMasks.{alone}
 use Rattle.joins.proofs.MapLaws.{getD-any, every-true}
 use Rattle.agenda.specs.declared.Record.{Record}
 use Rattle.records.specs.Words.{capacity, fieldAt, blockAt, ofWords, recordAt}
-use Rattle.validity.specs.Checking.{knownEdges, knownNode, knownNodes, inGraph, knownSecond, knownPartners, knownActive, knownPassive, knownRecord, knownChart}
+use Rattle.validity.specs.Checking.{knownEdges, knownNode, fourIn, knownNodes, inGraph, knownSecond, knownPartners, knownActive, knownPassive, knownRecord, knownChart}
 
 pub getD-past : (w : List ℕ) → length w ≡ 0 → 0 ≡ getD w 0 0
 getD-past [] e = refl
@@ -97,6 +97,9 @@ nodes-by n ns a b size p q =
       getD-any ns 7 0 unplaced (omega arith),
     )
 
+and-last : (a b c d : Bool) → a ≡ true → b ≡ true → c ≡ true → a && b && c && d ≡ d
+and-last a b c d x y z = rw (x, y, z)
+
 and-no : (a b : Bool) → a ≡ false → a && b ≡ false
 and-no a b e = rw e
 
@@ -107,32 +110,121 @@ and-so a b e = rw e
 pub all-graph-edges : (g h : List ℕ) → Accepted g h → (n all : ℕ) → n ≡ graphEdges h → Filled n all → all ≡ full (graphEdges h)
 all-graph-edges g h ok n all e f = f .value ∙ ap full (let whole : min n 64 ≡ graphEdges h = omega (arith, graph-edges-few g h ok) in whole)
 
--- places without a node are known
-none-known : (p q r s a b c d : Bool) → (p && q && r && s) ≡ true → ((p || a) && (q || b) && (r || c) && (s || d)) ≡ true
-none-known true true true true a b c d e = refl
-none-known true true true false a b c d e = absurd (false≢true e)
-none-known true true false s a b c d e = absurd (false≢true e)
-none-known true false r s a b c d e = absurd (false≢true e)
-none-known false q r s a b c d e = absurd (false≢true e)
+or-true : (a : Bool) → a || true ≡ true
+or-true true = refl
+or-true false = refl
 
-and-yes : (b : Bool) → b && true ≡ b
-and-yes true = refl
-and-yes false = refl
+-- no node counts as node 0
+pub placed-none : (v : ℕ) → v ≡ 64 → 0 ≡ cond (eqb v 64) 0 v
+placed-none v e = rw (eq-eqb v 64 e)
 
-pub nodes-low : (n : ℕ) (ns : List ℕ) (a t : Bool) → length ns ≡ 8 → a ≡ fourAt n ns 0
-    → t ≡ (eqb (getD ns 4 0) 64 && eqb (getD ns 5 0) 64 && eqb (getD ns 6 0) 64 && eqb (getD ns 7 0) 64) → t ≡ true → a ≡ knownNodes n ns
+pub placed-some : (v : ℕ) → (v ≡ 64 → ⊥) → v ≡ cond (eqb v 64) 0 v
+placed-some v h = sym (ap (λ (t : Bool). cond t 0 v) (ne-eqb v 64 h))
+
+pub node-by : (n v p : ℕ) → 1 ≤ n → p ≡ cond (eqb v 64) 0 v → ltb p n ≡ knownNode n v
 unfolding knownNode
-nodes-low n ns a t size p q y =
-    let none : true ≡ fourAt n ns 4 =
-    sym (none-known (eqb (getD ns 4 0) 64) (eqb (getD ns 5 0) 64) (eqb (getD ns 6 0) 64) (eqb (getD ns 7 0) 64)
-    (ltb (getD ns 4 0) n) (ltb (getD ns 5 0) n) (ltb (getD ns 6 0) n) (ltb (getD ns 7 0) n) (sym q ∙ y))
-    in
-    sym (and-yes a) ∙ nodes-by n ns a true size p none
+node-by n v p l e = ap (λ m. ltb m n) e ∙ go (eqb v 64)
+  where
+    go : (t : Bool) → ltb (cond t 0 v) n ≡ t || ltb v n
+    go true = lt-ltb 0 n (omega arith)
+    go false = refl
 
-pub graph-test : (h : List ℕ) (x : Record) (nodes all : ℕ) (b : Bool) → nodes ≡ graphNodes h → all ≡ full (graphEdges h) → b ≡ knownNodes nodes (x .nodes)
-    → eqb (bitAnd (x .edges) all) (x .edges) && b ≡ inGraph (graphNodes h) (graphEdges h) x
-unfolding inGraph knownEdges within
-graph-test h x nodes all b p q t = ap₂ _&&_ (ap (λ m. eqb (bitAnd (x .edges) m) (x .edges)) q) (t ∙ ap (λ m. knownNodes m (x .nodes)) p)
+-- numbers that make 64 together are 64 or 0
+module _ (a b : ℕ) (h : bitOr a b ≤ 64) (e : bitOr a b % 64 ≡ 0) where
+  rest : bitOr (a % 64) (b % 64) ≡ 0
+  rest = let m : bitOr a b % 64 ≡ bitOr (a % 64) (b % 64) = or-mod a b 6 in sym m ∙ e
+
+  left-few : a ≤ 64
+  left-few = omega (arith, or-add-and a b, and-le-r a b)
+
+  left-rest : a % 64 ≡ 0
+  left-rest = omega (arith, rest, or-add-and (a % 64) (b % 64), and-le-r (a % 64) (b % 64))
+
+  right-few : b ≤ 64
+  right-few = omega (arith, or-add-and a b, and-le-l a b)
+
+  right-rest : b % 64 ≡ 0
+  right-rest = omega (arith, rest, or-add-and (a % 64) (b % 64), and-le-l (a % 64) (b % 64))
+
+none-known : (n v : ℕ) → 1 ≤ n → v ≤ 64 → v % 64 ≡ 0 → knownNode n v ≡ true
+unfolding knownNode
+none-known n v l h e = go (decLt v 64)
+  where
+    go : Dec (v < 64) → eqb v unplaced || ltb v n ≡ true
+    go (yes d) = let z : v < n = omega arith in rw (lt-ltb v n z) (or-true (eqb v unplaced))
+    go (no d) = let z : v ≡ 64 = omega arith in rw (eq-eqb v 64 z)
+
+and-all : (a b c d : Bool) → a ≡ true → b ≡ true → c ≡ true → d ≡ true → true ≡ a && b && c && d
+and-all a b c d p q r s = rw (p, q, r, s)
+
+-- ---- words of the record at a place
+module _ (n : ℕ) (w : List ℕ) (j : ℕ) where
+  abbrev nodeIn : ℕ → Bool
+  nodeIn k = knownNode n (getD w (2 + 16 * j + k) 0)
+
+  pub low-by : (b : Bool) → b ≡ (nodeIn 6 && nodeIn 7 && nodeIn 8 && nodeIn 9) → b ≡ fourIn n w j 6
+  unfolding fourIn
+  low-by b e = e
+
+  pub high-none : 1 ≤ n → bitOr (bitOr (bitOr (getD w (2 + 16 * j + 10) 0) (getD w (2 + 16 * j + 11) 0)) (getD w (2 + 16 * j + 12) 0)) (getD w (2 + 16 * j + 13) 0) ≡ 64 → true ≡ fourIn n w j 10
+  unfolding fourIn
+  high-none l e =
+      let a : ℕ = getD w (2 + 16 * j + 10) 0 in
+      let b : ℕ = getD w (2 + 16 * j + 11) 0 in
+      let c : ℕ = getD w (2 + 16 * j + 12) 0 in
+      let d : ℕ = getD w (2 + 16 * j + 13) 0 in
+      let two : ℕ = bitOr a b in
+      let three : ℕ = bitOr two c in
+      let h : bitOr three d ≤ 64 = omega arith in
+      let z : bitOr three d % 64 ≡ 0 = omega arith in
+      let h3 : three ≤ 64 = left-few three d h z in
+      let z3 : three % 64 ≡ 0 = left-rest three d h z in
+      let h2 : two ≤ 64 = left-few two c h3 z3 in
+      let z2 : two % 64 ≡ 0 = left-rest two c h3 z3 in
+      and-all (nodeIn 10) (nodeIn 11) (nodeIn 12) (nodeIn 13)
+      (none-known n a l (left-few a b h2 z2) (left-rest a b h2 z2))
+      (none-known n b l (right-few a b h2 z2) (right-rest a b h2 z2))
+      (none-known n c l (right-few two c h3 z3) (right-rest two c h3 z3))
+      (none-known n d l (right-few three d h z) (right-rest three d h z))
+
+  pub high-by : (b : Bool) → b ≡ (nodeIn 10 && nodeIn 11 && nodeIn 12 && nodeIn 13) → b ≡ fourIn n w j 10
+  unfolding fourIn
+  high-by b e = e
+
+  both-halves : (a b : Bool) → a ≡ fourIn n w j 6 → b ≡ fourIn n w j 10 → a && b ≡ knownNodes n (recordAt w j .nodes)
+  unfolding fourIn recordAt ofWords blockAt fieldAt tabulate
+  both-halves a b p q = nodes-by n (recordAt w j .nodes) a b refl p q
+
+module _ (h w : List ℕ) (j nodes all : ℕ) (n : nodes ≡ graphNodes h) (e : all ≡ full (graphEdges h)) where
+  abbrev edgesIn : ℕ
+  edgesIn = getD w (2 + 16 * j + 3) 0
+
+  graph-test : (t b : Bool) → t ≡ eqb (bitAnd edgesIn all) edgesIn → b ≡ knownNodes nodes (recordAt w j .nodes) → t && b ≡ inGraph (graphNodes h) (graphEdges h) (recordAt w j)
+  unfolding inGraph knownEdges within recordAt ofWords blockAt fieldAt tabulate
+  graph-test t b p q = ap₂ _&&_ (p ∙ ap (λ m. eqb (bitAnd edgesIn m) edgesIn) e) (q ∙ ap (λ m. knownNodes m (recordAt w j .nodes)) n)
+
+  pub graph-edges-not : (bitAnd edgesIn all ≡ edgesIn → ⊥) → false ≡ inGraph (graphNodes h) (graphEdges h) (recordAt w j)
+  graph-edges-not f = graph-test false (knownNodes nodes (recordAt w j .nodes)) (sym (ne-eqb (bitAnd edgesIn all) edgesIn f)) refl
+
+  module _ (y : bitAnd edgesIn all ≡ edgesIn) (t : Bool) (p : t ≡ fourIn nodes w j 6) where
+    graph-nodes-by : (b : Bool) → b ≡ fourIn nodes w j 10 → t && b ≡ inGraph (graphNodes h) (graphEdges h) (recordAt w j)
+    graph-nodes-by b q = graph-test true (t && b) (sym (eq-eqb (bitAnd edgesIn all) edgesIn y)) (both-halves nodes w j t b p q)
+
+    pub graph-nodes-not : t ≡ false → false ≡ inGraph (graphNodes h) (graphEdges h) (recordAt w j)
+    graph-nodes-not f = sym (and-no t (fourIn nodes w j 10) f) ∙ graph-nodes-by (fourIn nodes w j 10) refl
+
+    pub graph-by : (b : Bool) → t ≡ true → b ≡ fourIn nodes w j 10 → b ≡ inGraph (graphNodes h) (graphEdges h) (recordAt w j)
+    graph-by b f q = sym (and-so t b f) ∙ graph-nodes-by b q
+
+-- a graph has a node
+pub some-node : (g h : List ℕ) → Accepted g h → (n : ℕ) → n ≡ graphNodes h → 1 ≤ n
+some-node g h ok n e = omega (arith, graph-ok g h ok .side .node-count .lower, graph-nodes g h)
+
+pub inside-of : (nodes edges : ℕ) (x y : Record) (t : Bool) → x ≡ y → t ≡ inGraph nodes edges y → t ≡ true → inGraph nodes edges x ≡ true
+inside-of nodes edges x y t e p q = ap (inGraph nodes edges) e ∙ sym p ∙ q
+
+pub record-same : (G : Grammar) (H : Graph) (n : ℕ) (x y : Record) (b : Bool) → x ≡ y → b ≡ knownRecord G H n x → b ≡ knownRecord G H n y
+record-same G H n x y b e p = p ∙ ap (knownRecord G H n) e
 
 -- ---- a record of its words
 abbrev recordFrom : List ℕ → ℕ → ℕ → List ℕ → Record
@@ -260,8 +352,15 @@ module _ (g h : List ℕ) (n : ℕ) (x : Record) where
     partners-join u v = sym (ap partners (joined-is g (x .of) (x .plan) known kind a u v))
 
 -- ---- records
-and-last : (a b c d : Bool) → a ≡ true → b ≡ true → c ≡ true → a && b && c && d ≡ d
-and-last a b c d x y z = rw (x, y, z)
+and-third : (a b d : Bool) → false ≡ a && b && false && d
+and-third true true d = refl
+and-third true false d = refl
+and-third false b d = refl
+
+outside : (s t a b d e f i : Bool) → false ≡ cond s (a && b && false && d) (cond t (e && f && false && i) false)
+outside true t a b d e f i = and-third a b d
+outside false true a b d e f i = and-third e f i
+outside false false a b d e f i = refl
 
 module _ (g h : List ℕ) (ok : Accepted g h) (n : ℕ) (x : Record) where
   in-tables : inGraph (graphOf g h .nodes) (length (graphOf g h .edges)) x ≡ inGraph (graphNodes h) (graphEdges h) x
@@ -291,10 +390,6 @@ module _ (g h : List ℕ) (ok : Accepted g h) (n : ℕ) (x : Record) where
         has-node = lt-ltb (x .plan) (length (planOf (grammarOf g) (x .of))) (omega (arith, plan-is))
 
         module _ (t : Bool) (c : t ≡ inGraph (graphNodes h) (graphEdges h) x) where
-          pub active-outside : t ≡ false → false ≡ active
-          unfolding knownActive
-          active-outside f = simp (has-rule, has-node, in-tables ∙ sym c ∙ f)
-
           pub active-by : (p : Bool) → t ≡ true → p ≡ knownPartners (grammarOf g) (graphOf g h) n x (planNode (planOf (grammarOf g) (x .of)) (x .plan)) → p ≡ active
           unfolding knownActive
           active-by p f e = e ∙ sym (and-last _ _ _ _ has-rule has-node (in-tables ∙ sym c ∙ f))
@@ -319,10 +414,6 @@ module _ (g h : List ℕ) (ok : Accepted g h) (n : ℕ) (x : Record) where
       passive-terminal e = simp (has-symbol, kind-by ∙ ap not (eq-eqb kind 0 e))
 
       module _ (other : kind ≡ 0 → ⊥) (t : Bool) (c : t ≡ inGraph (graphNodes h) (graphEdges h) x) where
-        pub passive-outside : t ≡ false → false ≡ passive
-        unfolding knownPassive
-        passive-outside f = simp (has-symbol, kind-by ∙ ap not (ne-eqb kind 0 other), in-tables ∙ sym c ∙ f)
-
         pub passive-by : t ≡ true → ltb (x .first) n ≡ passive
         unfolding knownPassive
         passive-by f = sym (and-last _ _ _ _ has-symbol (kind-by ∙ ap not (ne-eqb kind 0 other)) (in-tables ∙ sym c ∙ f))
@@ -341,6 +432,14 @@ module _ (g h : List ℕ) (ok : Accepted g h) (n : ℕ) (x : Record) where
   pub record-other : (x .kind ≡ 0 → ⊥) → (x .kind ≡ 1 → ⊥) → false ≡ tested
   unfolding knownRecord
   record-other u v = sym (rw (ne-eqb (x .kind) 0 u, ne-eqb (x .kind) 1 v))
+
+  pub record-outside : (t : Bool) → t ≡ inGraph (graphNodes h) (graphEdges h) x → t ≡ false → false ≡ tested
+  unfolding knownRecord knownActive knownPassive
+  record-outside t c f =
+      rw (in-tables ∙ sym c ∙ f)
+      (outside (eqb (x .kind) 0) (eqb (x .kind) 1)
+      (ltb (x .of) (length (grammarOf g .rules))) (ltb (x .plan) (length (planOf (grammarOf g) (x .of)))) (knownPartners (grammarOf g) (graphOf g h) n x (planNode (planOf (grammarOf g) (x .of)) (x .plan)))
+      (ltb (x .of) (length (grammarOf g .symbols))) (not (isTerminal (kindOf (grammarOf g) (x .of)))) (ltb (x .first) n))
 
 -- ---- the chart
 -- the test of the record at a place

@@ -1,7 +1,7 @@
 -- Question 8 for a lent chart (01): 'does each chart item name a rule, plan node, symbol, graph nodes, edges and partner items that exist, with no more items than it holds?'
 use mathlib.Core.Bool.{Bool, true, false, _&&_, _||_, not, cond}
 use mathlib.Core.List.{List}
-use Prim.Native.Nat.{ℕ}
+use Prim.Native.Nat.{ℕ, _+_, _*_}
 use lib.ListN.{length, getD}
 use lib.Dec.{eqb, ltb, leb}
 use Rattle.masks.specs.Masks.{full, within}
@@ -24,6 +24,14 @@ knownEdges edges m = within m (full edges)
 -- of so many nodes: a place has none (64) or one that exists
 unfoldable pub knownNode : ℕ → ℕ → Bool
 knownNode nodes v = eqb v unplaced || ltb v nodes
+
+-- four words of the record at place j, from word k on
+unfoldable pub fourIn : ℕ → List ℕ → ℕ → ℕ → Bool
+fourIn nodes w j k =
+    knownNode nodes (getD w (2 + 16 * j + k) 0)
+    && knownNode nodes (getD w (2 + 16 * j + (k + 1)) 0)
+    && knownNode nodes (getD w (2 + 16 * j + (k + 2)) 0)
+    && knownNode nodes (getD w (2 + 16 * j + (k + 3)) 0)
 
 -- all eight places
 unfoldable pub knownNodes : ℕ → List ℕ → Bool

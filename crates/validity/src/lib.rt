@@ -1,6 +1,6 @@
 // Question 8 for a lent chart: how many items it holds, and whether each of its items names what exists.
 ghost use mathlib.Core.Path.{_≡_};
-ghost use mathlib.Core.Bool.{_&&_};
+ghost use mathlib.Core.Bool.{true, _&&_, cond};
 ghost use Prim.Native.Nat.{_+_, _*_, _≤_};
 ghost use lib.ListN.{length, getD};
 ghost use lib.Dec.{eqb};
@@ -10,7 +10,7 @@ ghost use Rattle.questions.specs.Layout.{graphNodes, graphEdges};
 ghost use Rattle.questions.specs.Abstract.{grammarOf, graphOf};
 ghost use Rattle.joins.specs.Joins.{KnownNode, KnownEdge, Accepted};
 ghost use Rattle.records.specs.Words.{recordAt};
-ghost use Rattle.validity.specs.Checking.{holds, knownNode, knownNodes, inGraph, knownSecond, knownPartners, knownActive, knownPassive, knownRecord, knownChart};
+ghost use Rattle.validity.specs.Checking.{holds, knownNode, fourIn, inGraph, knownSecond, knownPartners, knownActive, knownPassive, knownRecord, knownChart};
 ghost use Rattle.validity.specs.Sizes.{Sized};
 use agenda::Record;
 
@@ -46,45 +46,76 @@ fn sizes_of(g: &[u64], h: &[u64]) -> Sizes
 }
 
 // ---- edges and nodes
-// Whether v is no node or one below n.
+// Node 0 in the place of no node: a number below n is then all that is left to ask, which takes fewer instructions than two tests.
+fn placed(v: u64) -> u64
+    ensures { λ r. ⌜ r ≡ cond (eqb v 64) 0 v ⌝ }
+{
+    if v == 64 {
+        return 0;
+    }
+    v
+}
+
+// Whether v is no node or one below n, where there is a node.
 fn known_node(n: u64, v: u64) -> bool
+    requires { ⌜ 1 ≤ n ⌝ }
     ensures { λ r. ⌜ r ≡ knownNode n v ⌝ }
 {
-    (v == 64) | (v < n)
+    placed(v) < n
 }
 
 // Whether that holds of each of four.
 fn known_four(n: u64, a: u64, b: u64, c: u64, d: u64) -> bool
+    requires { ⌜ 1 ≤ n ⌝ }
     ensures { λ r. ⌜ r ≡ (knownNode n a && knownNode n b && knownNode n c && knownNode n d) ⌝ }
 {
     known_node(n, a) & known_node(n, b) & known_node(n, c) & known_node(n, d)
 }
 
-// Whether all four are no nodes.
-fn no_nodes(a: u64, b: u64, c: u64, d: u64) -> bool
-    ensures { λ r. ⌜ r ≡ (eqb a 64 && eqb b 64 && eqb c 64 && eqb d 64) ⌝ }
+// Whether the first four places of the record at place j, which lies inside the chart, are known.
+fn known_low(chart: &[u64], j: u64, n: u64) -> bool
+    requires { ⌜ (2 + 16 * j + 16 ≤ length (now chart)) × (1 ≤ n) ⌝ }
+    ensures { λ r. ⌜ r ≡ fourIn n (now (chart .entry)) j 6 ⌝ }
 {
-    (a == 64) & (b == 64) & (c == 64) & (d == 64)
+    let at = (2 + 16 * j) as usize;
+    known_four(
+        n,
+        chart[at + 6],
+        chart[at + 7],
+        chart[at + 8],
+        chart[at + 9],
+    )
 }
 
-// Whether each of eight places is known. Few items have more than four nodes.
-fn known_nodes(n: u64, ns: [u64; 8]) -> bool
-    ensures { λ r. ⌜ r ≡ knownNodes n ns ⌝ }
+// The same of the other four. Few items have nodes there: of four numbers that make 64 together each is 64 or 0, and a graph has a node 0.
+fn known_high(chart: &[u64], j: u64, n: u64) -> bool
+    requires { ⌜ (2 + 16 * j + 16 ≤ length (now chart)) × (1 ≤ n) ⌝ }
+    ensures { λ r. ⌜ r ≡ fourIn n (now (chart .entry)) j 10 ⌝ }
 {
-    let low = known_four(n, ns[0], ns[1], ns[2], ns[3]);
-    if no_nodes(ns[4], ns[5], ns[6], ns[7]) {
-        return low;
+    let at = (2 + 16 * j) as usize;
+    let a = chart[at + 10];
+    let b = chart[at + 11];
+    let c = chart[at + 12];
+    let d = chart[at + 13];
+    if a | b | c | d == 64 {
+        return true;
     }
-    low & known_four(n, ns[4], ns[5], ns[6], ns[7])
+    known_four(n, a, b, c, d)
 }
 
-// Whether the graph has the edges and the nodes that a record names.
-fn in_graph(g: &[u64], h: &[u64], s: Sizes, x: Record) -> bool
-    requires { ⌜ Sized (now g) (now h) s ⌝ }
-    ensures { λ r. ⌜ r ≡ inGraph (graphNodes (now (h .entry))) (graphEdges (now (h .entry))) x ⌝ }
+// Whether the graph has the edges and the nodes that the record at place j names, which lies inside the chart. The words are read where they are asked.
+fn in_graph(g: &[u64], h: &[u64], s: Sizes, chart: &[u64], j: u64) -> bool
+    requires { ⌜ Sized (now g) (now h) s × (2 + 16 * j + 16 ≤ length (now chart)) ⌝ }
+    ensures { λ r. ⌜ r ≡ inGraph (graphNodes (now (h .entry))) (graphEdges (now (h .entry))) (recordAt (now (chart .entry)) j) ⌝ }
 {
-    let nodes = x.nodes;
-    (x.edges & s.all == x.edges) & known_nodes(s.nodes, nodes)
+    let edges = chart[(2 + 16 * j + 3) as usize];
+    if edges & s.all != edges {
+        return false;
+    }
+    if !known_low(chart, j, s.nodes) {
+        return false;
+    }
+    known_high(chart, j, s.nodes)
 }
 
 // ---- partners, among n items
@@ -115,9 +146,9 @@ fn known_partners(g: &[u64], h: &[u64], s: Sizes, n: u64, x: Record) -> bool
     }
 }
 
-// ---- records
+// ---- records, whose edges and nodes the graph has
 fn known_active(g: &[u64], h: &[u64], s: Sizes, n: u64, x: Record) -> bool
-    requires { ⌜ Sized (now g) (now h) s ⌝ }
+    requires { ⌜ Sized (now g) (now h) s × (inGraph (graphNodes (now h)) (graphEdges (now h)) x ≡ true) ⌝ }
     ensures { λ r. ⌜ r ≡ knownActive (grammarOf (now (g .entry))) (graphOf (now (g .entry)) (now (h .entry))) n x ⌝ }
 {
     if s.rules <= x.of {
@@ -126,14 +157,11 @@ fn known_active(g: &[u64], h: &[u64], s: Sizes, n: u64, x: Record) -> bool
     if layout::word_in(g, 65 + 25 * x.of, 4) <= x.plan {
         return false;
     }
-    if !in_graph(g, h, s, x) {
-        return false;
-    }
     known_partners(g, h, s, n, x)
 }
 
 fn known_passive(g: &[u64], h: &[u64], s: Sizes, n: u64, x: Record) -> bool
-    requires { ⌜ Sized (now g) (now h) s ⌝ }
+    requires { ⌜ Sized (now g) (now h) s × (inGraph (graphNodes (now h)) (graphEdges (now h)) x ≡ true) ⌝ }
     ensures { λ r. ⌜ r ≡ knownPassive (grammarOf (now (g .entry))) (graphOf (now (g .entry)) (now (h .entry))) n x ⌝ }
 {
     if s.symbols <= x.of {
@@ -142,14 +170,11 @@ fn known_passive(g: &[u64], h: &[u64], s: Sizes, n: u64, x: Record) -> bool
     if layout::word_in(g, 1 + x.of, 1) == 0 {
         return false;
     }
-    if !in_graph(g, h, s, x) {
-        return false;
-    }
     x.first < n
 }
 
 fn known_record(g: &[u64], h: &[u64], s: Sizes, n: u64, x: Record) -> bool
-    requires { ⌜ Sized (now g) (now h) s ⌝ }
+    requires { ⌜ Sized (now g) (now h) s × (inGraph (graphNodes (now h)) (graphEdges (now h)) x ≡ true) ⌝ }
     ensures { λ r. ⌜ r ≡ knownRecord (grammarOf (now (g .entry))) (graphOf (now (g .entry)) (now (h .entry))) n x ⌝ }
 {
     let kind = x.kind;
@@ -197,6 +222,17 @@ fn record_in(chart: &[u64], j: u64) -> Record
     }
 }
 
+// Whether the item at a place that the chart has is known.
+fn known_item(g: &[u64], h: &[u64], s: Sizes, n: u64, chart: &[u64], j: u64) -> bool
+    requires { ⌜ Sized (now g) (now h) s × (2 + 16 * j + 16 ≤ length (now chart)) ⌝ }
+    ensures { λ r. ⌜ r ≡ knownRecord (grammarOf (now (g .entry))) (graphOf (now (g .entry)) (now (h .entry))) n (recordAt (now (chart .entry)) j) ⌝ }
+{
+    if !in_graph(g, h, s, chart, j) {
+        return false;
+    }
+    known_record(g, h, s, n, record_in(chart, j))
+}
+
 // The number of items that a chart's header names, which may be more than it holds.
 fn number_of(chart: &[u64]) -> u64
     ensures { λ r. ⌜ r ≡ getD (now (chart .entry)) 0 0 ⌝ }
@@ -219,7 +255,7 @@ pub fn known(g: &[u64], h: &[u64], chart: &[u64]) -> bool
     let s = sizes_of(g, h);
     let mut j: u64 = 0;
     while j < n {
-        if !known_record(g, h, s, n, record_in(chart, j)) {
+        if !known_item(g, h, s, n, chart, j) {
             return false;
         }
         j += 1;

@@ -1,10 +1,12 @@
 -- The first j records are chained.
 use native.Mathlib.Omega.{arith}
-use Prim.Native.Nat.{_-_, _≤_}
+use Prim.Native.Nat.{_+_, _-_, _*_, _≤_}
+use mathlib.Core.Path.{refl}
 use borrow.Author.Needs.{needs}
 use Rattle.records.specs.Words.{recordsAt}
+use Rattle.records.proofs.WordLaws.{item-fits, part-length}
 use Rattle.chains.specs.Chains.{Chained}
-use Rattle.chains.proofs.ChainLaws.{chained-first, chained-next, chained-all}
+use Rattle.chains.proofs.ChainLaws.{chained-first, chained-part, chained-all}
 use Rattle.chains.proofs.build.Statement.{statement}
 use Rattle.chains.proofs.build.Tie as tie
 
@@ -20,14 +22,68 @@ item-count-requires c κs = search needs
 loop-holds : tie.Need-loop-holds Inv-loop μ-loop
 loop-holds c = (omega arith, chained-first (c .before .before .before .args .chart .now) _ (c .before .before .before .pre .0))
 
-load-requires : tie.Need-load-requires Inv-loop μ-loop
-load-requires c κs = search needs
+mul-at : tie.Need-mul-at Inv-loop μ-loop
+mul-at c =
+    let s = c .before .before .before .before .before .args in
+    let l = c .before .loop in
+    let n = c .before .before .item-count in
+    omega (arith, item-fits (s .chart .now) (l .j) (omega (arith, c .loop-test .taken, n .ensures)))
+
+add-at : tie.Need-add-at Inv-loop μ-loop
+add-at c =
+    let s = c .before .before .before .before .before .args in
+    let l = c .before .loop in
+    let n = c .before .before .item-count in
+    omega (arith, item-fits (s .chart .now) (l .j) (omega (arith, c .loop-test .taken, n .ensures)))
+
+add-bucket : tie.Need-add-bucket Inv-loop μ-loop
+add-bucket c =
+    let s = c .before .before .before .before .before .args in
+    let l = c .before .loop in
+    let n = c .before .before .item-count in
+    omega (arith, item-fits (s .chart .now) (l .j) (omega (arith, c .loop-test .taken, n .ensures)))
+
+mul-bucket : tie.Need-mul-bucket Inv-loop μ-loop
+mul-bucket c =
+    let s = c .before .before .before .before .before .args in
+    let l = c .before .loop in
+    let n = c .before .before .item-count in
+    omega (arith, item-fits (s .chart .now) (l .j) (omega (arith, c .loop-test .taken, n .ensures)))
+
+sub-bucket : tie.Need-sub-bucket Inv-loop μ-loop
+sub-bucket c =
+    let s = c .before .before .before .before .before .args in
+    let l = c .before .loop in
+    let n = c .before .before .item-count in
+    omega (arith, item-fits (s .chart .now) (l .j) (omega (arith, c .loop-test .taken, n .ensures)))
+
+part-bucket-start : tie.Need-part-bucket-start Inv-loop μ-loop
+part-bucket-start c =
+    let s = c .before .before .before .before .before .args in
+    let l = c .before .loop in
+    let n = c .before .before .item-count in
+    omega (arith, item-fits (s .chart .now) (l .j) (omega (arith, c .loop-test .taken, n .ensures)))
+
+part-bucket-end : tie.Need-part-bucket-end Inv-loop μ-loop
+part-bucket-end c =
+    let s = c .before .before .before .before .before .args in
+    let l = c .before .loop in
+    let n = c .before .before .item-count in
+    omega (arith, item-fits (s .chart .now) (l .j) (omega (arith, c .loop-test .taken, n .ensures)))
 
 bucket-requires : tie.Need-bucket-requires Inv-loop μ-loop
-bucket-requires c κs = search needs
+bucket-requires c κs =
+    let s = c .before .before .before .before .before .before .args in
+    let l = c .before .before .loop in
+    let n = c .before .before .before .item-count in
+    part-length (s .chart .now) (l .j) (2 + 16 * l .j) (2 + 16 * l .j + 16 - (2 + 16 * l .j)) refl (omega arith) (item-fits (s .chart .now) (l .j) (omega (arith, c .before .loop-test .taken, n .ensures)))
 
 link-requires : tie.Need-link-requires Inv-loop μ-loop
-link-requires c κs = (c .before .before .before .before .loop .inv .1 .words, omega (arith, c .before .before .before .loop-test .taken, c .before .before .before .before .before .before .before .before .pre .1, c .before .before .before .before .before .item-count .ensures), c .before .bucket .ensures .1)
+link-requires c κs =
+    let l = c .before .before .before .before .loop in
+    let n = c .before .before .before .before .before .item-count in
+    let b = c .before .bucket in
+    (l .inv .1 .words, omega (arith, c .before .before .before .loop-test .taken, c .before .before .before .before .before .before .before .before .pre .1, n .ensures), b .ensures .1)
 
 add-j : tie.Need-add-j Inv-loop μ-loop
 add-j c = omega arith
@@ -39,18 +95,19 @@ loop-again : tie.Need-loop-again Inv-loop μ-loop
 loop-again c =
     let s = c .before .before .before .before .before .before .before .before .before .before .before .args in
     let l = c .before .before .before .before .before .before .before .loop in
-    let x = c .before .before .before .before .before .load in
+    let n = c .before .before .before .before .before .before .before .before .item-count in
     let b = c .before .before .before .before .bucket in
-    (omega arith, chained-next (s .chart .now) (l .links) _ (l .j) (b .result) (x .result) (l .inv .1) (omega (arith, c .before .before .before .before .before .before .loop-test .taken, c .before .before .before .before .before .before .before .before .before .before .before .pre .1, c .before .before .before .before .before .before .before .before .item-count .ensures)) (x .ensures) (b .ensures .0) (c .before .before .link .ensures))
+    (omega arith, chained-part (s .chart .now) (l .links) _ (n .result) (l .j) (b .result) (2 + 16 * l .j) (2 + 16 * l .j + 16 - (2 + 16 * l .j)) (l .inv .1) (n .ensures) (c .before .before .before .before .before .before .loop-test .taken) (omega (arith, c .before .before .before .before .before .before .before .before .before .before .before .pre .1, n .ensures)) refl (omega arith) (b .ensures .0) (c .before .before .link .ensures))
 
 same-length : tie.Need-same-length Inv-loop μ-loop
 same-length c = omega arith
 
 returns : tie.Need-returns Inv-loop μ-loop
 returns c =
+    let s = c .before .before .before .before .before .args in
     let l = c .before .loop in
     let n = c .before .before .item-count in
-    chained-all (c .before .before .before .before .before .args .chart .now) (l .links) (n .result) (l .j) (n .ensures) (l .inv .0) (c .loop-test .left) (l .inv .1)
+    chained-all (s .chart .now) (l .links) (n .result) (l .j) (n .ensures) (l .inv .0) (c .loop-test .left) (l .inv .1)
 
 pub build-spec : {M : Type 1} → statement M
 build-spec =
@@ -60,7 +117,13 @@ build-spec =
     μ-loop
     item-count-requires
     loop-holds
-    load-requires
+    mul-at
+    add-at
+    add-bucket
+    mul-bucket
+    sub-bucket
+    part-bucket-start
+    part-bucket-end
     bucket-requires
     link-requires
     add-j

@@ -1,38 +1,46 @@
 -- From the last record of the bucket back along its chain.
 use native.Mathlib.Omega.{arith}
+use Prim.Native.Nat.{ℕ}
+use mir.Syntax.{w32, w64}
+use mir.Val.{Fits}
 use mathlib.Core.Path.{refl}
-use borrow.Author.Needs.{needs}
-use Rattle.records.specs.Words.{chartOf}
-use Rattle.chains.proofs.ChainLaws.{OnChain, chain-start, chain-hit, chain-next, chain-less, chain-end, same-in}
+use Rattle.records.specs.Words.{ofWords, chartOf}
+use Rattle.chains.proofs.ChainLaws.{OnChain, chain-start, chain-hit, chain-next, chain-less, chain-end, inside, same-in}
 use Rattle.chains.proofs.find.Statement.{statement}
 use Rattle.chains.proofs.find.Tie as tie
 
+-- a word of the links, read as a wider number
+widened : (n : ℕ) → Fits w32 n → Fits w64 n
+widened n h = omega (arith, h)
+
 abbrev Inv-loop : tie.InvT-loop
-Inv-loop chart links x i₀ i = OnChain x (chartOf chart .records) i
+Inv-loop chart links x b i₀ i = OnChain (ofWords x) (chartOf chart .records) i
 
 abbrev μ-loop : tie.MeasureT-loop
-μ-loop chart links x i₀ i = i
-
-bucket-requires : tie.Need-bucket-requires Inv-loop μ-loop
-bucket-requires c κs = search needs
+μ-loop chart links x b i₀ i = i
 
 mul-i : tie.Need-mul-i Inv-loop μ-loop
-mul-i c = search needs
+mul-i c = omega arith
 
 shared-slice-read-i : tie.Need-shared-slice-read-i Inv-loop μ-loop
-shared-slice-read-i c = omega arith
+shared-slice-read-i c = omega (arith, c .before .before .before .before .pre .3, c .before .before .before .before .pre .0 .words)
+
+cast-i : tie.Need-cast-i Inv-loop μ-loop
+cast-i c = widened _ (c .shared-slice-known4 .given _)
 
 loop-holds : tie.Need-loop-holds Inv-loop μ-loop
 loop-holds c =
     let s = c .before .before .before .before .args in
-    let b = c .before .bucket in
-    chain-start (s .x) _ (s .links .now) (c .before .before .before .before .pre) (b .result) _ (b .ensures .0) refl
+    chain-start (ofWords (s .x .now)) _ (s .links .now) (c .before .before .before .before .pre .0) (s .b) _ (c .before .before .before .before .pre .2) refl
 
-sub-same-at : tie.Need-sub-same-at Inv-loop μ-loop
-sub-same-at c = omega arith
+sub-same-words : tie.Need-sub-same-words Inv-loop μ-loop
+sub-same-words c = omega arith
 
-same-at-requires : tie.Need-same-at-requires Inv-loop μ-loop
-same-at-requires c κs = search needs
+same-words-requires : tie.Need-same-words-requires Inv-loop μ-loop
+same-words-requires c κs =
+    let s = c .before .before .before .before .before .before .args in
+    let l = c .before .loop in
+    (inside (s .chart .now) (l .i) (l .inv .low) (c .loop-test .taken), c .before .before .before .before .before .before .pre .1)
 
 sub-t13 : tie.Need-sub-t13 Inv-loop μ-loop
 sub-t13 c = omega arith
@@ -41,9 +49,9 @@ returns : tie.Need-returns Inv-loop μ-loop
 returns c =
     let s = c .before .before .before .before .before .before .before .before .args in
     let l = c .before .before .before .loop in
-    let t = c .before .same-at in
-    let here = same-in (s .x) (s .chart .now) _ _ (omega arith) (t .ensures) in
-    chain-hit (s .x) _ (s .links .now) (c .before .before .before .before .before .before .before .before .pre) (l .i) (l .inv) (c .before .before .loop-test .taken) (t .result) here (c .if1 .taken)
+    let t = c .before .same-words in
+    let here = same-in (ofWords (s .x .now)) (s .chart .now) _ _ (omega arith) (t .ensures) in
+    chain-hit (ofWords (s .x .now)) _ (s .links .now) (c .before .before .before .before .before .before .before .before .pre .0) (l .i) (l .inv) (c .before .before .loop-test .taken) (t .result) here (c .if1 .taken)
 
 add-i : tie.Need-add-i Inv-loop μ-loop
 add-i c = omega arith
@@ -54,26 +62,30 @@ mul-i-2 c = omega arith
 shared-slice-read-i-2 : tie.Need-shared-slice-read-i-2 Inv-loop μ-loop
 shared-slice-read-i-2 c = omega arith
 
+cast-i-2 : tie.Need-cast-i-2 Inv-loop μ-loop
+cast-i-2 c = widened _ (c .shared-slice-known5 .given _)
+
 loop-less : tie.Need-loop-less Inv-loop μ-loop
 loop-less c =
     let s = c .before .before .before .before .before .before .before .before .before .args in
     let l = c .before .before .before .before .loop in
-    let t = c .before .before .same-at in
-    let here = same-in (s .x) (s .chart .now) _ _ (omega arith) (t .ensures) in
-    chain-less (s .x) _ (s .links .now) (c .before .before .before .before .before .before .before .before .before .pre) (l .i) (l .inv) (c .before .before .before .loop-test .taken) (t .result) here (c .before .if1 .left) _ refl
+    let t = c .before .before .same-words in
+    let here = same-in (ofWords (s .x .now)) (s .chart .now) _ _ (omega arith) (t .ensures) in
+    chain-less (ofWords (s .x .now)) _ (s .links .now) (c .before .before .before .before .before .before .before .before .before .pre .0) (l .i) (l .inv) (c .before .before .before .loop-test .taken) (t .result) here (c .before .if1 .left) _ refl
 
 loop-again : tie.Need-loop-again Inv-loop μ-loop
 loop-again c =
     let s = c .before .before .before .before .before .before .before .before .before .args in
     let l = c .before .before .before .before .loop in
-    let t = c .before .before .same-at in
-    let here = same-in (s .x) (s .chart .now) _ _ (omega arith) (t .ensures) in
-    chain-next (s .x) _ (s .links .now) (c .before .before .before .before .before .before .before .before .before .pre) (l .i) (l .inv) (c .before .before .before .loop-test .taken) (t .result) here (c .before .if1 .left) _ refl
+    let t = c .before .before .same-words in
+    let here = same-in (ofWords (s .x .now)) (s .chart .now) _ _ (omega arith) (t .ensures) in
+    chain-next (ofWords (s .x .now)) _ (s .links .now) (c .before .before .before .before .before .before .before .before .before .pre .0) (l .i) (l .inv) (c .before .before .before .loop-test .taken) (t .result) here (c .before .if1 .left) _ refl
 
 returns-2 : tie.Need-returns-2 Inv-loop μ-loop
 returns-2 c =
+    let s = c .before .before .before .before .before .before .args in
     let l = c .before .loop in
-    chain-end (c .before .before .before .before .before .before .args .x) _ (l .i) (l .inv) (c .loop-test .left)
+    chain-end (ofWords (s .x .now)) _ (l .i) (l .inv) (c .loop-test .left)
 
 pub find-spec : {M : Type 1} → statement M
 find-spec =
@@ -81,17 +93,18 @@ find-spec =
     (tie.spec
     Inv-loop
     μ-loop
-    bucket-requires
     mul-i
     shared-slice-read-i
+    cast-i
     loop-holds
-    sub-same-at
-    same-at-requires
+    sub-same-words
+    same-words-requires
     sub-t13
     returns
     add-i
     mul-i-2
     shared-slice-read-i-2
+    cast-i-2
     loop-less
     loop-again
     returns-2)

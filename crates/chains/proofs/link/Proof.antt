@@ -1,7 +1,7 @@
 -- Two words are set: the record before, then the bucket.
 use native.Mathlib.Omega.{arith}
 use mathlib.Core.Path.{refl}
-use lib.ListN.{set, length-set}
+use lib.ListN.{length-set}
 use borrow.Author.Needs.{needs}
 use Rattle.chains.specs.Chains.{linked}
 use Rattle.chains.proofs.link.Statement.{statement}
@@ -24,6 +24,9 @@ slice-write-links c = search needs
 
 add-links-2 : tie.Need-add-links-2
 add-links-2 c = search needs
+
+cast-links : tie.Need-cast-links
+cast-links c = omega arith
 
 mul-links-3 : tie.Need-mul-links-3
 mul-links-3 c = search needs
@@ -48,6 +51,7 @@ link-spec =
     mul-links-2
     slice-write-links
     add-links-2
+    cast-links
     mul-links-3
     slice-write-links-2
     same-length

@@ -1,6 +1,7 @@
--- Each part is built of zeros.
+-- Each part is built of zeros, then the sets come behind them.
 use Rattle.records.specs.Words.{chartOf}
 use Rattle.index.proofs.IndexLaws.{links-empty, blank-beside, both-size, unlisted-beside, built}
+use native.Mathlib.Omega.{arith}
 use borrow.Author.Needs.{needs}
 use Rattle.index.proofs.build.Statement.{statement}
 use Rattle.index.proofs.build.Tie as tie
@@ -8,60 +9,55 @@ use Rattle.index.proofs.build.Reads as reads
 use Rattle.index.proofs.build.Lts as lts
 use Rattle.chains.proofs.build.Reads as build-reads
 use Rattle.index.proofs.list_all.Reads as list-all-reads
+use Rattle.index.proofs.span_all.Reads as span-all-reads
 use Rattle.ranking.proofs.build.Reads as build-reads′
 
--- src/lib.rt:81:26
 sub-build : tie.Need-sub-build
 sub-build c = search needs
 
--- src/lib.rt:81:26
 part-build-start : tie.Need-part-build-start
 part-build-start c = search needs
 
--- src/lib.rt:81:26
 part-build-end : tie.Need-part-build-end
 part-build-end c = search needs
 
--- src/lib.rt:81:5
 build-requires : tie.Need-build-requires
 build-requires c κs =
-    let s = c .before .before .before .before .args in
-    (links-empty (s .index .now) (c .before .before .before .before .pre .0), c .before .before .before .before .pre .1)
+    let s = c .before .before .before .before .before .args in
+    (links-empty (s .index .now) (c .before .before .before .before .before .pre .0), c .before .before .before .before .before .pre .1)
 
--- src/lib.rt:82:27
 sub-build-2 : tie.Need-sub-build-2
 sub-build-2 c = search needs
 
--- src/lib.rt:82:27
 part-build-start-2 : tie.Need-part-build-start-2
 part-build-start-2 c = search needs
 
--- src/lib.rt:82:27
 part-build-end-2 : tie.Need-part-build-end-2
 part-build-end-2 c = search needs
 
--- src/lib.rt:82:5
 build-requires-2 : tie.Need-build-requires-2
 build-requires-2 c κs =
-    let s = c .before .before .before .before .before .before .before .before .args in
-    (blank-beside (s .index .now) _ (chartOf (s .chart .now) .records) (c .before .before .before .before .before .before .before .before .pre .0) (c .before .before .before .build .ensures), c .before .before .before .before .before .before .before .before .pre .1)
+    let s = c .before .before .before .before .before .before .before .before .before .args in
+    (blank-beside (s .index .now) _ (chartOf (s .chart .now) .records) (c .before .before .before .before .before .before .before .before .before .pre .0) (c .before .before .before .build .ensures), c .before .before .before .before .before .before .before .before .before .pre .1)
 
--- src/lib.rt:83:5
 list-all-requires : tie.Need-list-all-requires
 list-all-requires c κs =
-    let s = c .before .before .before .before .before .before .before .before .before .before .before .before .args in
+    let s = c .before .before .before .before .before .before .before .before .before .before .before .before .before .args in
     let rs = chartOf (s .chart .now) .records in
-    (both-size (s .index .now) _ rs (c .before .before .before .before .before .before .before .before .before .before .before .before .pre .0) (c .before .before .before .before .before .before .before .build .ensures) _ (c .before .before .before .build2 .ensures), unlisted-beside (s .index .now) _ rs (c .before .before .before .before .before .before .before .before .before .before .before .before .pre .0) (c .before .before .before .before .before .before .before .build .ensures) _ (c .before .before .before .build2 .ensures), c .before .before .before .before .before .before .before .before .before .before .before .before .pre .1)
+    (both-size (s .index .now) _ rs (c .before .before .before .before .before .before .before .before .before .before .before .before .before .pre .0) (c .before .before .before .before .before .before .before .build .ensures) _ (c .before .before .before .build2 .ensures), unlisted-beside (s .index .now) _ rs (c .before .before .before .before .before .before .before .before .before .before .before .before .before .pre .0) (c .before .before .before .before .before .before .before .build .ensures) _ (c .before .before .before .build2 .ensures), c .before .before .before .before .before .before .before .before .before .before .before .before .before .pre .1)
 
--- src/lib.rt:71:1
+span-all-requires : tie.Need-span-all-requires
+span-all-requires c κs = (c .before .before .before .list-all .ensures .0 .size, c .before .before .before .before .before .before .before .before .before .before .before .before .before .before .before .before .before .pre .1, c .before .before .before .before .before .before .before .before .before .before .before .before .before .before .before .before .before .pre .2, c .before .before .before .before .before .before .before .before .before .before .before .before .before .before .before .before .before .pre .3)
+
 same-length : tie.Need-same-length
-same-length c = search needs
+same-length c = let a = c .before .before .span-all .kept in omega (arith, c .before .before .before .before .before .before .list-all .ensures .0 .size, c .before .before .before .before .before .before .before .before .before .before .before .before .before .before .before .before .before .before .before .before .pre .0 .size)
 
--- src/lib.rt:71:1
 returns : tie.Need-returns
 returns c =
-    let s = c .before .before .before .before .before .before .before .before .before .before .before .before .before .before .before .args in
-    built (s .index .now) _ (chartOf (s .chart .now) .records) (c .before .before .before .before .before .before .before .before .before .before .before .before .before .before .before .pre .0) (c .before .before .before .before .before .before .before .before .before .before .build .ensures) _ (c .before .before .before .before .before .before .build2 .ensures) (s .g .now) (s .wants .now) (s .pivots .now) _ (c .before .before .list-all .ensures .0) (c .before .before .list-all .ensures .1)
+    let s = c .before .before .before .before .before .before .before .before .before .before .before .before .before .before .before .before .before .before .before .before .args in
+    let rs = chartOf (s .chart .now) .records in
+    let I = built (s .index .now) _ (chartOf (s .chart .now) .records) (c .before .before .before .before .before .before .before .before .before .before .before .before .before .before .before .before .before .before .before .before .pre .0) (c .before .before .before .before .before .before .before .before .before .before .before .before .before .before .build .ensures) _ (c .before .before .before .before .before .before .before .before .before .before .build2 .ensures) (s .wants .now) (s .pivots .now) _ (c .before .before .before .before .before .before .list-all .ensures .0) (c .before .before .before .before .before .before .list-all .ensures .1) in
+    (c .before .before .span-all .ensures .1 (s .wants .now) (s .pivots .now) rs I, c .before .before .span-all .ensures .0)
 
 pub build-spec : {M : Type 1} → statement M
 build-spec =
@@ -76,5 +72,6 @@ build-spec =
     part-build-end-2
     build-requires-2
     list-all-requires
+    span-all-requires
     same-length
     returns)

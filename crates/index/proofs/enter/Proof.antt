@@ -1,7 +1,8 @@
 -- The lists, the links, then the leaf.
 use mathlib.Core.List.{[], _∷_, _++_}
-use Rattle.index.proofs.IndexLaws.{length-both, entered}
+use Rattle.index.proofs.IndexLaws.{length-both, entered, entered-near}
 use native.Mathlib.Omega.{arith}
+use Rattle.records.specs.Words.{ofWords}
 use borrow.Author.Needs.{needs}
 use Rattle.index.proofs.enter.Statement.{statement}
 use Rattle.index.proofs.enter.Tie as tie
@@ -12,60 +13,55 @@ use Rattle.chains.proofs.link.Reads as link-reads
 use Rattle.index.proofs.list.Reads as list-reads
 use Rattle.ranking.proofs.place.Reads as place-reads
 
--- src/lib.rt:130:5
 list-requires : tie.Need-list-requires
-list-requires c κs = search needs
+list-requires c κs = (c .before .before .before .pre .0, c .before .before .before .pre .1, c .before .before .before .pre .2, c .before .before .before .pre .3)
 
--- src/lib.rt:131:18
 sub-link : tie.Need-sub-link
 sub-link c = search needs
 
--- src/lib.rt:131:18
 part-link-start : tie.Need-part-link-start
 part-link-start c = search needs
 
--- src/lib.rt:131:18
 part-link-end : tie.Need-part-link-end
 part-link-end c = search needs
 
--- src/lib.rt:131:42
-bucket-requires : tie.Need-bucket-requires
-bucket-requires c κs = search needs
-
--- src/lib.rt:131:5
 link-requires : tie.Need-link-requires
 link-requires c κs = search needs
 
--- src/lib.rt:132:20
 sub-place : tie.Need-sub-place
 sub-place c = search needs
 
--- src/lib.rt:132:20
 part-place-start : tie.Need-part-place-start
 part-place-start c = search needs
 
--- src/lib.rt:132:20
 part-place-end : tie.Need-part-place-end
 part-place-end c = search needs
 
--- src/lib.rt:132:5
-place-requires : tie.Need-place-requires
-place-requires c κs = (let a = c .before .before .before .before .before .before .before .before .before .list .kept in let b = c .before .before .before .before .link .kept in omega arith, c .before .before .before .before .before .before .before .before .before .before .before .before .before .pre .2)
+shared-slice-read-place : tie.Need-shared-slice-read-place
+shared-slice-read-place c = search needs
 
--- src/lib.rt:119:1
+shared-slice-read-place-2 : tie.Need-shared-slice-read-place-2
+shared-slice-read-place-2 c = search needs
+
+place-requires : tie.Need-place-requires
+place-requires c κs = (let a = c .before .before .before .before .before .before .before .before .before .list .kept in let b = c .before .before .before .before .before .link .kept in omega arith, c .before .before .before .before .before .before .before .before .before .before .before .before .before .pre .2)
+
 same-length : tie.Need-same-length
 same-length c =
     let s = c .before .before .before .before .before .before .before .before .before .before .before .before .before .before .before .before .args in
     let a = c .before .before .before .before .before .before .before .before .before .before .before .before .list .kept in
-    let b = c .before .before .before .before .before .before .before .link .kept in
+    let b = c .before .before .before .before .before .before .before .before .link .kept in
     let d = c .before .before .place .kept in
-    length-both (s .index .now) (c .before .before .before .before .before .before .before .before .before .before .before .before .list .last .1 .1 .1 .0) (c .before .before .before .before .before .before .before .link .last .0) (c .before .before .place .last .0) (c .before .before .before .before .before .before .before .before .before .before .before .before .before .before .before .before .pre .0) (omega arith) (omega arith) (omega arith)
+    length-both (s .index .now) (c .before .before .before .before .before .before .before .before .before .before .before .before .list .last .1 .1 .0) (c .before .before .before .before .before .before .before .before .link .last .0) (c .before .before .place .last .0) (c .before .before .before .before .before .before .before .before .before .before .before .before .before .before .before .before .pre .0) (omega arith) (omega arith) (omega arith)
 
--- src/lib.rt:119:1
 returns : tie.Need-returns
+unfolding ofWords
 returns c =
     let s = c .before .before .before .before .before .before .before .before .before .before .before .before .before .before .before .before .args in
-    λ rs I e. entered (s .g .now) (s .wants .now) (s .pivots .now) (s .index .now) _ (c .before .before .before .before .before .before .before .link .last .0) (c .before .before .place .last .0) (s .n) (c .before .before .before .before .before .before .before .before .bucket .result) (s .x) rs I e (c .before .before .before .before .before .before .before .before .before .before .before .before .before .before .before .before .pre .2) (c .before .before .before .before .before .before .before .before .before .before .before .before .list .ensures) (c .before .before .before .before .before .before .before .before .bucket .ensures .0) (c .before .before .before .before .before .before .before .link .ensures) (c .before .before .place .ensures rs (rs ++ ((s .x) ∷ [])))
+    let a = c .before .before .before .before .before .before .before .before .before .before .before .before .list .kept in
+    let b = c .before .before .before .before .before .before .before .before .link .kept in
+    let d = c .before .before .place .kept in
+    λ rs I e. (entered (s .wants .now) (s .pivots .now) (s .index .now) _ (c .before .before .before .before .before .before .before .before .link .last .0) (c .before .before .place .last .0) (s .n) (s .b) (ofWords (s .x .now)) rs I e (c .before .before .before .before .before .before .before .before .before .before .before .before .before .before .before .before .pre .2) (c .before .before .before .before .before .before .before .before .before .before .before .before .list .ensures) (c .before .before .before .before .before .before .before .before .before .before .before .before .before .before .before .before .pre .4) (c .before .before .before .before .before .before .before .before .link .ensures) (c .before .before .place .ensures rs (rs ++ ((ofWords (s .x .now)) ∷ []))), entered-near (s .wants .now) (s .pivots .now) (s .index .now) _ (c .before .before .before .before .before .before .before .before .link .last .0) (c .before .before .place .last .0) (s .n) (s .b) (ofWords (s .x .now)) rs I e (c .before .before .before .before .before .before .before .before .before .before .before .before .before .before .before .before .pre .2) (c .before .before .before .before .before .before .before .before .before .before .before .before .list .ensures) (omega arith) (omega arith))
 
 pub enter-spec : {M : Type 1} → statement M
 enter-spec =
@@ -75,11 +71,12 @@ enter-spec =
     sub-link
     part-link-start
     part-link-end
-    bucket-requires
     link-requires
     sub-place
     part-place-start
     part-place-end
+    shared-slice-read-place
+    shared-slice-read-place-2
     place-requires
     same-length
     returns)

@@ -1,6 +1,6 @@
 -- The index first, then the chart.
 use Rattle.records.specs.Words.{chartOf}
-use Rattle.index.proofs.AddLaws.{inside, handled-beside}
+use Rattle.index.proofs.AddLaws.{inside, handled-beside, handled-spanned}
 use borrow.Author.Needs.{needs}
 use Rattle.index.proofs.handle.Statement.{statement}
 use Rattle.index.proofs.handle.Tie as tie
@@ -9,29 +9,24 @@ use Rattle.index.proofs.handle.Lts as lts
 use Rattle.index.proofs.settle.Reads as settle-reads
 use Rattle.records.proofs.mark_handled.Reads as mark-handled-reads
 
--- src/lib.rt:213:5
 settle-requires : tie.Need-settle-requires
 settle-requires c κs = search needs
 
--- src/lib.rt:214:5
 mark-handled-requires : tie.Need-mark-handled-requires
 mark-handled-requires c κs = search needs
 
--- src/lib.rt:209:1
 same-length : tie.Need-same-length
 same-length c = search needs
 
--- src/lib.rt:209:1
 same-length-2 : tie.Need-same-length-2
 same-length-2 c = search needs
 
--- src/lib.rt:209:1
 returns : tie.Need-returns
 returns c =
     let s = c .before .before .before .before .before .before .before .before .before .before .args in
     let t = c .before .before .before .before .before .before .settle in
     let p = c .before .before .before .before .before .before .before .before .before .before .pre in
-    (c .before .before .mark-handled .ensures, λ g wants pivots I. handled-beside (s .chart .now) _ (s .j) (p .1) (p .2) (c .before .before .mark-handled .ensures) g wants pivots (t .last .0) (t .ensures g wants pivots (chartOf (s .chart .now) .records) I (inside (s .chart .now) (s .j) (p .2))))
+    (c .before .before .mark-handled .ensures, λ wants pivots I. handled-beside (s .chart .now) _ (s .j) (p .1) (p .2) (c .before .before .mark-handled .ensures) wants pivots (t .last .0) (t .ensures .0 wants pivots (chartOf (s .chart .now) .records) I (inside (s .chart .now) (s .j) (p .2))), λ g h S. handled-spanned (s .chart .now) _ (s .j) (p .1) (p .2) (c .before .before .mark-handled .ensures) g h (s .index .now) (t .last .0) (t .ensures .1) S)
 
 pub handle-spec : {M : Type 1} → statement M
 handle-spec =

@@ -1,6 +1,7 @@
 -- The lists, and the mark where the record is irregular.
 use native.Mathlib.Omega.{arith}
 use Rattle.index.proofs.IndexLaws.{keys-within, list-regular, list-irregular}
+use Rattle.records.specs.Words.{ofWords}
 use borrow.Author.Needs.{needs}
 use Rattle.index.proofs.list.Statement.{statement}
 use Rattle.index.proofs.list.Tie as tie
@@ -10,60 +11,48 @@ use Rattle.lists.proofs.enter_all.Reads as enter-all-reads
 use Rattle.pivots.proofs.keys.Reads as keys-reads
 use Rattle.pivots.proofs.regular.Reads as regular-reads
 
--- src/lib.rt:42:9
 keys-requires : tie.Need-keys-requires
 keys-requires c κs = search needs
 
--- src/lib.rt:43:22
 sub-enter-all : tie.Need-sub-enter-all
 sub-enter-all c = search needs
 
--- src/lib.rt:43:22
 part-enter-all-start : tie.Need-part-enter-all-start
 part-enter-all-start c = search needs
 
--- src/lib.rt:43:22
 part-enter-all-end : tie.Need-part-enter-all-end
 part-enter-all-end c = search needs
 
--- src/lib.rt:43:47
 mul-enter-all : tie.Need-mul-enter-all
 mul-enter-all c = search needs
 
--- src/lib.rt:43:5
 enter-all-requires : tie.Need-enter-all-requires
 enter-all-requires c κs =
     let s = c .before .before .before .before .args in
     let p = c .before .before .before .before .pre in
-    (p .1, omega arith, keys-within (s .g .now) (s .wants .now) (s .pivots .now) (s .x) (c .before .keys .result) (c .before .keys .ensures))
+    (p .1, omega arith, keys-within (s .wants .now) (s .pivots .now) (ofWords (s .x .now)) (c .before .keys .result) (c .before .keys .ensures))
 
--- src/lib.rt:44:8
 regular-requires : tie.Need-regular-requires
 regular-requires c κs = search needs
 
--- src/lib.rt:45:9
 same-length : tie.Need-same-length
 same-length c = search needs
 
--- src/lib.rt:45:9
 returns : tie.Need-returns
 returns c =
     let s = c .before .before .before .before .before .before .before .before .before .args in
-    list-regular (s .g .now) (s .wants .now) (s .pivots .now) (s .index .now) _ (c .before .before .before .before .before .before .keys .result) (s .n) (s .x) (c .before .regular .result) (c .before .before .before .before .before .before .keys .ensures) (c .before .before .before .before .enter-all .ensures) (c .before .regular .ensures) (c .if1 .taken)
+    list-regular (s .wants .now) (s .pivots .now) (s .index .now) _ (c .before .before .before .before .before .before .keys .result) (s .n) (ofWords (s .x .now)) (c .before .regular .result) (c .before .before .before .before .before .before .keys .ensures) (c .before .before .before .before .enter-all .ensures) (c .before .regular .ensures) (c .if1 .taken)
 
--- src/lib.rt:47:5
 slice-write-index : tie.Need-slice-write-index
 slice-write-index c = search needs
 
--- src/lib.rt:31:1
 same-length-2 : tie.Need-same-length-2
 same-length-2 c = search needs
 
--- src/lib.rt:31:1
 returns-2 : tie.Need-returns-2
 returns-2 c =
     let s = c .before .before .before .before .before .before .before .before .before .args in
-    list-irregular (s .g .now) (s .wants .now) (s .pivots .now) (s .index .now) _ (c .before .before .before .before .before .before .keys .result) (s .n) (s .x) (c .before .regular .result) (c .before .before .before .before .before .before .keys .ensures) (c .before .before .before .before .enter-all .ensures) (c .before .regular .ensures) (c .if1 .left)
+    list-irregular (s .wants .now) (s .pivots .now) (s .index .now) _ (c .before .before .before .before .before .before .keys .result) (s .n) (ofWords (s .x .now)) (c .before .regular .result) (c .before .before .before .before .before .before .keys .ensures) (c .before .before .before .before .enter-all .ensures) (c .before .regular .ensures) (c .if1 .left)
 
 pub list-spec : {M : Type 1} → statement M
 list-spec =

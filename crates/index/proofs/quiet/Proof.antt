@@ -2,7 +2,8 @@
 use native.Mathlib.Omega.{arith}
 use borrow.Author.Needs.{needs}
 use borrow.Author.Tests.{not-true, not-false}
-use Rattle.index.proofs.QuietLaws.{item-fits, quiet-edges, quiet-waits, quiet-not}
+use Rattle.index.proofs.QuietLaws.{quiet-edges, quiet-waits, quiet-not}
+use Rattle.records.proofs.WordLaws.{item-fits}
 use Rattle.index.proofs.quiet.Statement.{statement}
 use Rattle.index.proofs.quiet.Tie as tie
 

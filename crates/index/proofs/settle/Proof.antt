@@ -1,5 +1,7 @@
 -- One leaf is placed.
 use Rattle.index.proofs.IndexLaws.{settled}
+use Rattle.index.proofs.NearLaws.{near-put}
+use native.Mathlib.Omega.{arith}
 use borrow.Author.Needs.{needs}
 use Rattle.index.proofs.settle.Statement.{statement}
 use Rattle.index.proofs.settle.Tie as tie
@@ -23,7 +25,8 @@ returns : tie.Need-returns
 returns c =
     let s = c .before .before .before .before .before .args in
     let t = c .before .before .place in
-    λ g wants pivots rs I l. settled (s .index .now) (t .last .0) (s .j) g wants pivots rs I l (t .ensures rs _)
+    let d = t .kept in
+    (λ wants pivots rs I l. settled (s .index .now) (t .last .0) (s .j) wants pivots rs I l (t .ensures rs _), near-put 8192 8192 (s .index .now) (t .last .0) (c .before .before .before .before .before .pre .0) (omega arith) (omega arith))
 
 pub settle-spec : {M : Type 1} → statement M
 settle-spec =

@@ -1,6 +1,6 @@
 -- The cursor has come along its list, over quiet records only.
 use native.Mathlib.Omega.{arith}
-use Prim.Native.Nat.{_-_, _*_, _≤_, _<_}
+use Prim.Native.Nat.{_+_, _-_, _*_, _≤_, _<_}
 use mathlib.Core.Path.{_≡_, refl, sym}
 use borrow.Author.Needs.{needs}
 use borrow.Author.Tests.{not-false}
@@ -43,6 +43,9 @@ mul-d c = omega (arith, c .before .before .before .loop .inv .0, c .before .befo
 shared-slice-read-d : tie.Need-shared-slice-read-d Inv-loop μ-loop
 shared-slice-read-d c = omega (arith, c .before .before .before .before .loop .inv .0, c .before .before .before .before .loop .inv .1, c .before .before .before .loop-test .taken, c .before .before .before .before .before .before .before .before .pre .2, c .before .before .before .before .before .before .before .before .pre .0)
 
+cast-d : tie.Need-cast-d Inv-loop μ-loop
+cast-d c = omega (arith, c .shared-slice-known3 .given (4097 + c .before .before .before .before .loop .c))
+
 returns-3 : tie.Need-returns-3 Inv-loop μ-loop
 returns-3 c =
     let s = c .before .before .before .before .before .before .before .before .before .args in
@@ -74,6 +77,7 @@ skim-spec =
     add-d
     mul-d
     shared-slice-read-d
+    cast-d
     returns-3
     loop-less
     loop-again

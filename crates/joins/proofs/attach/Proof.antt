@@ -5,8 +5,8 @@ use lib.ListN.{take}
 use borrow.Author.Needs.{needs}
 use Rattle.questions.specs.Layout.{rankAt, edgeLabel}
 use Rattle.joins.specs.Joins.{edgeNodes}
-use Rattle.joins.proofs.Known.{rule-few, edges-few}
-use Rattle.joins.proofs.EdgeMaps.{MapFrom, edge-node-few, attach-none, attach-next, attach-done}
+use Rattle.joins.proofs.Known.{grammar-long, rule-few, edges-few}
+use Rattle.joins.proofs.EdgeMaps.{MapFrom, edge-label-few, edge-node-few, attach-none, attach-next, attach-done}
 use Rattle.joins.proofs.attach.Statement.{statement}
 use Rattle.joins.proofs.attach.Tie as tie
 
@@ -17,52 +17,52 @@ abbrev μ-loop : tie.MeasureT-loop
 μ-loop g r i l p f₀ k₀ f k = k
 
 mul-p : tie.Need-mul-p Inv-loop μ-loop
-mul-p c = omega (arith, c .before .pre .edge, rule-few _ _ (c .before .pre .grammar) (c .before .pre .rule), edges-few _ _ (c .before .pre .grammar) (c .before .pre .rule))
+mul-p c = omega (arith, c .before .before .pre .0 .edge, rule-few _ _ (c .before .before .pre .0 .grammar) (c .before .before .pre .0 .rule), edges-few _ _ (c .before .before .pre .0 .grammar) (c .before .before .pre .0 .rule))
 
 add-p : tie.Need-add-p Inv-loop μ-loop
-add-p c = omega (arith, c .before .pre .edge, rule-few _ _ (c .before .pre .grammar) (c .before .pre .rule), edges-few _ _ (c .before .pre .grammar) (c .before .pre .rule))
+add-p c = omega (arith, c .before .before .pre .0 .edge, rule-few _ _ (c .before .before .pre .0 .grammar) (c .before .before .pre .0 .rule), edges-few _ _ (c .before .before .pre .0 .grammar) (c .before .before .pre .0 .rule))
 
 add-p-2 : tie.Need-add-p-2 Inv-loop μ-loop
-add-p-2 c = omega (arith, c .before .pre .edge, rule-few _ _ (c .before .pre .grammar) (c .before .pre .rule), edges-few _ _ (c .before .pre .grammar) (c .before .pre .rule))
+add-p-2 c = omega (arith, c .before .before .pre .0 .edge, rule-few _ _ (c .before .before .pre .0 .grammar) (c .before .before .pre .0 .rule), edges-few _ _ (c .before .before .pre .0 .grammar) (c .before .before .pre .0 .rule))
 
-word-requires : tie.Need-word-requires Inv-loop μ-loop
-word-requires c κs = search needs
+word-in-requires : tie.Need-word-in-requires Inv-loop μ-loop
+word-in-requires c κs = omega (arith, c .before .before .pre .0 .edge, rule-few _ _ (c .before .before .pre .0 .grammar) (c .before .before .pre .0 .rule), edges-few _ _ (c .before .before .pre .0 .grammar) (c .before .before .pre .0 .rule), grammar-long _ (c .before .before .pre .0 .grammar))
 
-rank-at-requires : tie.Need-rank-at-requires Inv-loop μ-loop
-rank-at-requires c κs = search needs
+rank-of-requires : tie.Need-rank-of-requires Inv-loop μ-loop
+rank-of-requires c κs = (c .before .before .before .pre .0 .grammar, omega (arith, c .word-in .ensures, edge-label-few _ _ _ (c .before .before .before .pre .0)))
 
 loop-holds : tie.Need-loop-holds Inv-loop μ-loop
-loop-holds c = attach-none _ _ _ (c .before .before .before .pre) _ (c .before .before .before .good .1 .1 .1 .0 .1 .0 .1) _ _ (c .before .word .ensures) (c .rank-at .ensures .0)
+loop-holds c = attach-none _ _ _ (c .before .before .before .before .pre .0) _ (c .before .before .before .before .pre .1) _ _ (c .before .word-in .ensures) (c .rank-of .ensures .0)
 
 sub-k : tie.Need-sub-k Inv-loop μ-loop
 sub-k c = search needs
 
-add-word : tie.Need-add-word Inv-loop μ-loop
-add-word c = search needs
+add-word-in : tie.Need-add-word-in Inv-loop μ-loop
+add-word-in c = search needs
 
-word-requires-2 : tie.Need-word-requires-2 Inv-loop μ-loop
-word-requires-2 c κs = search needs
+word-in-requires-2 : tie.Need-word-in-requires-2 Inv-loop μ-loop
+word-in-requires-2 c κs = omega (arith, c .before .loop .inv .0, c .before .before .before .before .before .before .pre .0 .edge, rule-few _ _ (c .before .before .before .before .before .before .pre .0 .grammar) (c .before .before .before .before .before .before .pre .0 .rule), edges-few _ _ (c .before .before .before .before .before .before .pre .0 .grammar) (c .before .before .before .before .before .before .pre .0 .rule), grammar-long _ (c .before .before .before .before .before .before .pre .0 .grammar))
 
 mul-f : tie.Need-mul-f Inv-loop μ-loop
 mul-f c = omega (arith, c .before .before .loop .inv .0)
 
-array-read-f : tie.Need-array-read-f Inv-loop μ-loop
-array-read-f c = omega (arith, c .before .before .loop .inv .0)
+shared-slice-read-f : tie.Need-shared-slice-read-f Inv-loop μ-loop
+shared-slice-read-f c = omega (arith, c .before .before .before .loop .inv .0, c .before .before .before .before .before .before .before .before .pre .1)
 
 mul-f-2 : tie.Need-mul-f-2 Inv-loop μ-loop
-mul-f-2 c = omega (arith, edge-node-few _ _ _ (c .before .before .before .before .before .before .pre) _ _ (omega (arith, c .before .before .loop .inv .0)) (c .word2 .ensures))
+mul-f-2 c = omega (arith, edge-node-few _ _ _ (c .before .before .before .before .before .before .before .before .pre .0) _ _ (omega (arith, c .before .before .before .loop .inv .0)) (c .before .word-in2 .ensures))
 
 array-write-f : tie.Need-array-write-f Inv-loop μ-loop
-array-write-f c = omega (arith, edge-node-few _ _ _ (c .before .before .before .before .before .before .pre) _ _ (omega (arith, c .before .before .loop .inv .0)) (c .word2 .ensures))
+array-write-f c = omega (arith, edge-node-few _ _ _ (c .before .before .before .before .before .before .before .before .pre .0) _ _ (omega (arith, c .before .before .before .loop .inv .0)) (c .before .word-in2 .ensures))
 
 loop-less : tie.Need-loop-less Inv-loop μ-loop
 loop-less c = omega arith
 
 loop-again : tie.Need-loop-again Inv-loop μ-loop
-loop-again c = attach-next _ _ _ (c .before .before .before .before .before .before .pre) _ (c .before .before .before .before .before .before .good .1 .1 .1 .0 .1 .0 .1) _ _ _ (c .before .loop-test .taken) (c .word2 .ensures) (c .before .before .loop .inv)
+loop-again c = attach-next _ _ _ (c .before .before .before .before .before .before .before .before .pre .0) _ (c .before .before .before .before .before .before .before .before .pre .1) _ _ _ (c .before .before .loop-test .taken) (c .before .word-in2 .ensures) (c .before .before .before .loop .inv)
 
 returns : tie.Need-returns Inv-loop μ-loop
-returns c = attach-done _ _ _ (c .before .before .before .before .before .pre) _ (c .before .before .before .before .before .good .1 .1 .1 .0 .1 .0 .1) _ _ (c .loop-test .left) (c .before .loop .inv .1)
+returns c = attach-done _ _ _ (c .before .before .before .before .before .before .pre .0) _ (c .before .before .before .before .before .before .pre .1) _ _ (c .loop-test .left) (c .before .loop .inv .1)
 
 pub attach-spec : {M : Type 1} → statement M
 attach-spec =
@@ -73,14 +73,14 @@ attach-spec =
     mul-p
     add-p
     add-p-2
-    word-requires
-    rank-at-requires
+    word-in-requires
+    rank-of-requires
     loop-holds
     sub-k
-    add-word
-    word-requires-2
+    add-word-in
+    word-in-requires-2
     mul-f
-    array-read-f
+    shared-slice-read-f
     mul-f-2
     array-write-f
     loop-less

@@ -1,47 +1,59 @@
--- The places passed agree, have their images once, and stay where they are open.
+-- The places passed agree, have their images once, lose no open node, and stay where they are open.
 use native.Mathlib.Omega.{arith}
 use Prim.Native.Nat.{_-_}
 use mathlib.Core.Path.{refl}
 use borrow.Author.Needs.{needs}
-use Rattle.joins.proofs.MapLaws.{Joining, joining-none, joining-not, joining-next, joining-all}
+use Rattle.joins.proofs.MapLaws.{Joining, joining-none, joining-not, joining-lost, joining-next, joining-all}
 use Rattle.joins.proofs.merge_maps.Statement.{statement}
 use Rattle.joins.proofs.merge_maps.Tie as tie
 
 abbrev Inv-loop : tie.InvT-loop
-Inv-loop n nodes stays f k t₀ seen₀ images₀ i₀ t seen images i = Joining n nodes stays f k t seen images i
+Inv-loop n nodes stays graph m f k known t₀ seen₀ images₀ i₀ t seen images i = Joining n nodes stays graph m f k t seen images i
 
 abbrev μ-loop : tie.MeasureT-loop
-μ-loop n nodes stays f k t₀ seen₀ images₀ i₀ t seen images i = n - i
+μ-loop n nodes stays graph m f k known t₀ seen₀ images₀ i₀ t seen images i = n - i
+
+full-requires : tie.Need-full-requires Inv-loop μ-loop
+full-requires c κs = search needs
 
 loop-holds : tie.Need-loop-holds Inv-loop μ-loop
-loop-holds c = joining-none _ _ _ _ _ (c .pre .2) (c .pre .3)
+loop-holds c = joining-none _ _ _ _ _ _ _ (c .before .before .before .pre .2) (c .before .before .before .pre .3)
 
 mul-a : tie.Need-mul-a Inv-loop μ-loop
 mul-a c = search needs
 
-element-copy-out-a : tie.Need-element-copy-out-a Inv-loop μ-loop
-element-copy-out-a c = search needs
+shared-slice-read-a : tie.Need-shared-slice-read-a Inv-loop μ-loop
+shared-slice-read-a c = search needs
 
 mul-b : tie.Need-mul-b Inv-loop μ-loop
 mul-b c = search needs
 
-element-copy-out-b : tie.Need-element-copy-out-b Inv-loop μ-loop
-element-copy-out-b c = search needs
+shared-slice-read-b : tie.Need-shared-slice-read-b Inv-loop μ-loop
+shared-slice-read-b c = search needs
 
 first-of-requires : tie.Need-first-of-requires Inv-loop μ-loop
 first-of-requires c κs = search needs
 
-has-requires : tie.Need-has-requires Inv-loop μ-loop
-has-requires c κs = search needs
-
-returns : tie.Need-returns Inv-loop μ-loop
-returns c = joining-not _ _ _ _ _ (c .before .before .before .before .before .before .before .pre .2) (c .before .before .before .before .before .before .before .pre .3) (c .before .before .before .before .before .before .before .pre .0) (c .before .before .before .before .before .before .before .pre .1) _ _ _ _ _ _ _ _ (c .before .before .before .before .before .loop-test .taken) refl refl (c .before .before .first-of .ensures) (c .before .has .ensures) (c .before .before .before .before .before .before .loop .inv) (c .if1 .taken)
-
 with-requires : tie.Need-with-requires Inv-loop μ-loop
 with-requires c κs = search needs
 
-has-requires-2 : tie.Need-has-requires-2 Inv-loop μ-loop
-has-requires-2 c κs = search needs
+not-merged-requires : tie.Need-not-merged-requires Inv-loop μ-loop
+not-merged-requires c κs = search needs
+
+returns : tie.Need-returns Inv-loop μ-loop
+returns c = joining-not _ _ _ _ _ _ _ (c .before .before .before .before .before .before .before .before .before .before .before .pre .2) (c .before .before .before .before .before .before .before .before .before .before .before .pre .3) (c .before .before .before .before .before .before .before .before .before .before .before .pre .0) (c .before .before .before .before .before .before .before .before .before .before .before .pre .1) _ _ _ _ _ _ _ _ _ (c .before .before .before .before .before .before .loop-test .taken) refl refl (c .before .before .before .first-of .ensures) (c .before .before .with .ensures) (c .before .before .before .before .before .before .before .before .full .ensures) (c .before .before .before .before .before .before .before .loop .inv) (c .before .if1 .taken) _ (c .not-merged .ensures)
+
+has-requires : tie.Need-has-requires Inv-loop μ-loop
+has-requires c κs = search needs
+
+lost-requires : tie.Need-lost-requires Inv-loop μ-loop
+lost-requires c κs = search needs
+
+not-merged-requires-2 : tie.Need-not-merged-requires-2 Inv-loop μ-loop
+not-merged-requires-2 c κs = search needs
+
+returns-2 : tie.Need-returns-2 Inv-loop μ-loop
+returns-2 c = joining-lost _ _ _ _ _ _ _ (c .before .before .before .before .before .before .before .before .before .before .before .before .before .before .pre .2) (c .before .before .before .before .before .before .before .before .before .before .before .before .before .before .pre .3) (c .before .before .before .before .before .before .before .before .before .before .before .before .before .before .pre .0) (c .before .before .before .before .before .before .before .before .before .before .before .before .before .before .pre .1) _ _ _ _ _ _ _ _ _ (c .before .before .before .before .before .before .before .before .before .loop-test .taken) refl refl (c .before .before .before .before .before .before .first-of .ensures) (c .before .before .before .before .before .with .ensures) (c .before .before .before .before .before .before .before .before .before .before .before .full .ensures) (c .before .before .before .before .before .before .before .before .before .before .loop .inv) _ (c .before .before .before .has .ensures) _ (c .before .before .lost .ensures) (c .before .if2 .taken) _ (c .not-merged2 .ensures)
 
 kept-requires : tie.Need-kept-requires Inv-loop μ-loop
 kept-requires c κs = search needs
@@ -52,8 +64,8 @@ mul-t c = search needs
 array-write-t : tie.Need-array-write-t Inv-loop μ-loop
 array-write-t c = search needs
 
-with-requires-2 : tie.Need-with-requires-2 Inv-loop μ-loop
-with-requires-2 c κs = search needs
+chosen-requires : tie.Need-chosen-requires Inv-loop μ-loop
+chosen-requires c κs = search needs
 
 add-i : tie.Need-add-i Inv-loop μ-loop
 add-i c = search needs
@@ -62,10 +74,10 @@ loop-less : tie.Need-loop-less Inv-loop μ-loop
 loop-less c = omega arith
 
 loop-again : tie.Need-loop-again Inv-loop μ-loop
-loop-again c = joining-next _ _ _ _ _ (c .before .before .before .before .before .before .before .before .before .before .before .pre .2) (c .before .before .before .before .before .before .before .before .before .before .before .pre .3) (c .before .before .before .before .before .before .before .before .before .before .before .pre .0) (c .before .before .before .before .before .before .before .before .before .before .before .pre .1) _ _ _ _ _ _ _ _ (c .before .before .before .before .before .before .before .before .before .loop-test .taken) refl refl (c .before .before .before .before .before .before .first-of .ensures) (c .before .before .before .before .before .has .ensures) (c .before .before .before .before .before .before .before .before .before .before .loop .inv) (c .before .before .before .before .if1 .left) _ (c .before .before .before .with .ensures) _ (c .before .before .has2 .ensures) _ (c .before .kept .ensures) _ (c .with2 .ensures)
+loop-again c = joining-next _ _ _ _ _ _ _ (c .before .before .before .before .before .before .before .before .before .before .before .before .before .before .before .pre .2) (c .before .before .before .before .before .before .before .before .before .before .before .before .before .before .before .pre .3) (c .before .before .before .before .before .before .before .before .before .before .before .before .before .before .before .pre .0) (c .before .before .before .before .before .before .before .before .before .before .before .before .before .before .before .pre .1) _ _ _ _ _ _ _ _ _ (c .before .before .before .before .before .before .before .before .before .before .loop-test .taken) refl refl (c .before .before .before .before .before .before .before .first-of .ensures) (c .before .before .before .before .before .before .with .ensures) (c .before .before .before .before .before .before .before .before .before .before .before .before .full .ensures) (c .before .before .before .before .before .before .before .before .before .before .before .loop .inv) (c .before .before .before .before .before .if1 .left) _ (c .before .before .before .before .has .ensures) _ (c .before .before .before .lost .ensures) (c .before .before .if2 .left) _ (c .before .kept .ensures) _ (c .chosen .ensures)
 
-returns-2 : tie.Need-returns-2 Inv-loop μ-loop
-returns-2 c = joining-all _ _ _ _ _ (c .before .before .pre .2) (c .before .before .pre .3) (c .before .before .pre .0) (c .before .before .pre .1) _ _ _ _ (c .loop-test .left) (c .before .loop .inv)
+returns-3 : tie.Need-returns-3 Inv-loop μ-loop
+returns-3 c = joining-all _ _ _ _ _ _ _ (c .before .before .before .before .before .pre .2) (c .before .before .before .before .before .pre .3) (c .before .before .before .before .before .pre .0) (c .before .before .before .before .before .pre .1) _ _ _ _ (c .loop-test .left) (c .before .loop .inv)
 
 pub merge-maps-spec : {M : Type 1} → statement M
 merge-maps-spec =
@@ -73,21 +85,25 @@ merge-maps-spec =
     (tie.spec
     Inv-loop
     μ-loop
+    full-requires
     loop-holds
     mul-a
-    element-copy-out-a
+    shared-slice-read-a
     mul-b
-    element-copy-out-b
+    shared-slice-read-b
     first-of-requires
-    has-requires
-    returns
     with-requires
-    has-requires-2
+    not-merged-requires
+    returns
+    has-requires
+    lost-requires
+    not-merged-requires-2
+    returns-2
     kept-requires
     mul-t
     array-write-t
-    with-requires-2
+    chosen-requires
     add-i
     loop-less
     loop-again
-    returns-2)
+    returns-3)

@@ -12,6 +12,9 @@ tail-requires c κs = (c .before .before .pre .0 .size, c .before .before .pre .
 add-ws : tie.Need-add-ws
 add-ws c = search needs
 
+cast-ws : tie.Need-cast-ws
+cast-ws c = omega arith
+
 mul-ws : tie.Need-mul-ws
 mul-ws c = search needs
 
@@ -20,6 +23,9 @@ slice-write-ws c = search needs
 
 add-ws-2 : tie.Need-add-ws-2
 add-ws-2 c = search needs
+
+cast-ws-2 : tie.Need-cast-ws-2
+cast-ws-2 c = omega arith
 
 add-ws-3 : tie.Need-add-ws-3
 add-ws-3 c = search needs
@@ -51,9 +57,11 @@ append-spec =
     (tie.spec
     tail-requires
     add-ws
+    cast-ws
     mul-ws
     slice-write-ws
     add-ws-2
+    cast-ws-2
     add-ws-3
     mul-ws-2
     slice-write-ws-2

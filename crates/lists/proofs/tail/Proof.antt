@@ -15,6 +15,9 @@ mul-last c = search needs
 shared-slice-read-last : tie.Need-shared-slice-read-last
 shared-slice-read-last c = search needs
 
+cast-last : tie.Need-cast-last
+cast-last c = omega arith
+
 returns : tie.Need-returns
 returns c = (tail-first (c .before .before .args .ws .now) (c .before .before .args .b) _ refl (c .if1 .taken), omega arith)
 
@@ -26,4 +29,4 @@ returns-2 c = (tail-next (c .before .before .args .ws .now) (c .before .before .
 
 pub tail-spec : {M : Type 1} → statement M
 tail-spec =
-    tie.close (tie.spec add-last mul-last shared-slice-read-last returns add-result returns-2)
+    tie.close (tie.spec add-last mul-last shared-slice-read-last cast-last returns add-result returns-2)

@@ -9,14 +9,24 @@ use Rattle.pivots.proofs.image.Tie as tie
 returns : tie.Need-returns
 returns c = image-no _ _ (c .if1 .taken)
 
+add-result : tie.Need-add-result
+add-result c = search needs
+
 mul-result : tie.Need-mul-result
 mul-result c = search needs
 
-array-read-result : tie.Need-array-read-result
-array-read-result c = search needs
+shared-slice-read-result : tie.Need-shared-slice-read-result
+shared-slice-read-result c = omega (arith, c .before .before .pre, c .before .if1 .left)
 
 returns-2 : tie.Need-returns-2
-returns-2 c = image-read _ _ (c .before .good .1 .0 .1 .0 .1) (omega (arith, c .if1 .left))
+returns-2 c = image-read _ _ (omega (arith, c .before .if1 .left))
 
 pub image-spec : {M : Type 1} → statement M
-image-spec = tie.close (tie.spec returns mul-result array-read-result returns-2)
+image-spec =
+    tie.close
+    (tie.spec
+    returns
+    add-result
+    mul-result
+    shared-slice-read-result
+    returns-2)

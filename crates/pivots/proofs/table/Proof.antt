@@ -2,49 +2,78 @@
 use native.Mathlib.Omega.{arith}
 use Prim.Native.Nat.{_-_, _*_, _≤_}
 use mathlib.Core.Path.{ap}
+use mathlib.Core.Logic.{⊎-elim}
 use borrow.Author.Needs.{needs}
-use lib.ListN.{length-set}
 use Rattle.rules.proofs.WantLaws.{rules-few}
-use Rattle.pivots.proofs.TableLaws.{Filled, filled-none, filled-more, filled-all}
+use Rattle.pivots.proofs.TableLaws.{Filled, filled-none, filled-more, filled-used, filled-all}
 use Rattle.pivots.proofs.table.Statement.{statement}
 use Rattle.pivots.proofs.table.Tie as tie
 
 abbrev Inv-loop : tie.InvT-loop
-Inv-loop g t₀ n i₀ t i = (i ≤ n) × Filled g t i
+Inv-loop g wants t₀ n i₀ t i = (i ≤ n) × Filled g wants t i
 
 abbrev μ-loop : tie.MeasureT-loop
-μ-loop g t₀ n i₀ t i = n - i
+μ-loop g wants t₀ n i₀ t i = n - i
 
 rule-count-requires : tie.Need-rule-count-requires Inv-loop μ-loop
 rule-count-requires c κs = search needs
 
 mul-n : tie.Need-mul-n Inv-loop μ-loop
-mul-n c = omega (arith, rules-few _ (c .before .before .pre), c .rule-count .ensures)
+mul-n c = omega (arith, rules-few _ (c .before .before .pre .0), c .rule-count .ensures)
 
 loop-holds : tie.Need-loop-holds Inv-loop μ-loop
-loop-holds c = (omega arith, filled-none _)
+loop-holds c = (omega arith, filled-none _ _)
 
 pivot-requires : tie.Need-pivot-requires Inv-loop μ-loop
-pivot-requires c κs = c .before .before .before .before .pre
+pivot-requires c κs = c .before .before .before .before .pre .0
+
+mul-s : tie.Need-mul-s Inv-loop μ-loop
+mul-s c = omega (arith, rules-few _ (c .before .before .before .before .before .pre .0), c .before .before .before .rule-count .ensures, c .before .loop-test .taken)
+
+element-copy-out-s : tie.Need-element-copy-out-s Inv-loop μ-loop
+element-copy-out-s c = omega (arith, rules-few _ (c .before .before .before .before .before .pre .0), c .before .before .before .rule-count .ensures, c .before .loop-test .taken)
 
 mul-t : tie.Need-mul-t Inv-loop μ-loop
-mul-t c = omega (arith, rules-few _ (c .before .before .before .before .before .pre), c .before .before .before .rule-count .ensures, c .before .loop-test .taken)
+mul-t c = omega (arith, rules-few _ (c .before .before .before .before .before .before .pre .0), c .before .before .before .before .rule-count .ensures, c .before .before .loop-test .taken)
 
 array-write-t : tie.Need-array-write-t Inv-loop μ-loop
-array-write-t c = omega (arith, rules-few _ (c .before .before .before .before .before .pre), c .before .before .before .rule-count .ensures, c .before .loop-test .taken, c .before .before .loop .inv .1 .size)
+array-write-t c = omega (arith, rules-few _ (c .before .before .before .before .before .before .pre .0), c .before .before .before .before .rule-count .ensures, c .before .before .loop-test .taken, c .before .before .before .loop .inv .1 .size)
+
+add-at : tie.Need-add-at Inv-loop μ-loop
+add-at c = omega (arith, c .if1 .taken)
+
+mul-with : tie.Need-mul-with Inv-loop μ-loop
+mul-with c = omega (arith, c .if1 .taken)
+
+array-read-with : tie.Need-array-read-with Inv-loop μ-loop
+array-read-with c = omega (arith, c .if1 .taken)
+
+with-requires : tie.Need-with-requires Inv-loop μ-loop
+with-requires c κs = search needs
+
+mul-t-2 : tie.Need-mul-t-2 Inv-loop μ-loop
+mul-t-2 c = omega (arith, c .before .if1 .taken)
+
+array-write-t-2 : tie.Need-array-write-t-2 Inv-loop μ-loop
+array-write-t-2 c = omega (arith, c .before .if1 .taken)
 
 add-i : tie.Need-add-i Inv-loop μ-loop
-add-i c = omega (arith, rules-few _ (c .before .before .before .before .before .pre), c .before .before .before .rule-count .ensures, c .before .loop-test .taken)
+add-i c = omega (arith, rules-few _ (c .before .before .before .before .before .before .before .pre .0), c .before .before .before .before .before .rule-count .ensures, c .before .before .before .loop-test .taken)
 
 loop-less : tie.Need-loop-less Inv-loop μ-loop
-loop-less c = omega (arith, c .before .loop-test .taken)
+loop-less c = omega (arith, c .before .before .before .loop-test .taken)
 
 loop-again : tie.Need-loop-again Inv-loop μ-loop
-loop-again c =
-    (omega (arith, c .before .loop-test .taken), filled-more _ _ _ _ (c .before .before .loop .inv .1) (omega (arith, rules-few _ (c .before .before .before .before .before .pre), c .before .before .before .rule-count .ensures, c .before .loop-test .taken)) (c .pivot .ensures) _ (omega arith) (simp length-set (c .before .before .loop .inv .1 .size)))
+loop-again c = (
+  omega (arith, c .before .before .before .loop-test .taken),
+  ⊎-elim
+      (λ w. filled-used _ _ _ _ _ (c .before .before .before .before .loop .inv .1) (omega (arith, rules-few _ (c .before .before .before .before .before .before .before .pre .0), c .before .before .before .before .before .rule-count .ensures, c .before .before .before .loop-test .taken)) (c .before .before .pivot .ensures) _ (w .0 .taken) (w .1 .ensures) _ (omega arith) _ (w .2))
+      (λ w. filled-more _ _ _ _ _ (c .before .before .before .before .loop .inv .1) (omega (arith, rules-few _ (c .before .before .before .before .before .before .before .pre .0), c .before .before .before .before .before .rule-count .ensures, c .before .before .before .loop-test .taken)) (c .before .before .pivot .ensures) _ (omega arith) (omega (arith, w .0 .left)) _ (w .1))
+      (c .if1 .came),
+)
 
 returns : tie.Need-returns Inv-loop μ-loop
-returns c = filled-all _ (c .before .before .before .before .pre) _ (16 * c .before .before .rule-count .result) _ (ap (λ k. 16 * k) (c .before .before .rule-count .ensures)) (c .loop-test .left) (c .before .loop .inv .1)
+returns c = filled-all _ (c .before .before .before .before .pre .0) _ (c .before .before .before .before .pre .1) _ (16 * c .before .before .rule-count .result) _ (ap (λ k. 16 * k) (c .before .before .rule-count .ensures)) (c .loop-test .left) (c .before .loop .inv .1)
 
 pub table-spec : {M : Type 1} → statement M
 table-spec =
@@ -56,8 +85,16 @@ table-spec =
     mul-n
     loop-holds
     pivot-requires
+    mul-s
+    element-copy-out-s
     mul-t
     array-write-t
+    add-at
+    mul-with
+    array-read-with
+    with-requires
+    mul-t-2
+    array-write-t-2
     add-i
     loop-less
     loop-again

@@ -24,22 +24,22 @@ rank-at-requires : tie.Need-rank-at-requires Inv-loop μ-loop
 rank-at-requires c κs = search needs
 
 loop-holds : tie.Need-loop-holds Inv-loop μ-loop
-loop-holds c = (c .rank-at .ensures .0 ∙ ap (rankAt (c .before .before .before .args .g .now)) (c .before .rule-symbol .ensures), omega arith, placed-none _)
+loop-holds c = (c .rank-at .ensures .0 ∙ ap (rankAt (c .before .before .before .before .args .g .now)) (c .before .rule-symbol .ensures), omega arith, placed-none _)
 
 rule-external-requires : tie.Need-rule-external-requires Inv-loop μ-loop
 rule-external-requires c κs = search needs
 
 mul-l : tie.Need-mul-l Inv-loop μ-loop
-mul-l c = omega (arith, external-few _ _ (c .before .before .before .before .before .before .pre .0) (c .before .before .before .before .before .before .pre .1) _ _ (omega (arith, c .before .before .loop .inv .0, c .before .loop-test .taken)) (c .rule-external .ensures))
+mul-l c = omega (arith, external-few _ _ (c .before .before .before .before .before .before .before .pre .0) (c .before .before .before .before .before .before .before .pre .1) _ _ (omega (arith, c .before .before .loop .inv .0, c .before .loop-test .taken)) (c .rule-external .ensures))
 
-array-read-l : tie.Need-array-read-l Inv-loop μ-loop
-array-read-l c = omega (arith, external-few _ _ (c .before .before .before .before .before .before .pre .0) (c .before .before .before .before .before .before .pre .1) _ _ (omega (arith, c .before .before .loop .inv .0, c .before .loop-test .taken)) (c .rule-external .ensures))
+shared-slice-read-l : tie.Need-shared-slice-read-l Inv-loop μ-loop
+shared-slice-read-l c = omega (arith, c .before .before .before .before .before .before .before .before .pre .2, external-few _ _ (c .before .before .before .before .before .before .before .before .pre .0) (c .before .before .before .before .before .before .before .before .pre .1) _ _ (omega (arith, c .before .before .before .loop .inv .0, c .before .before .loop-test .taken)) (c .before .rule-external .ensures))
 
 mul-l-2 : tie.Need-mul-l-2 Inv-loop μ-loop
-mul-l-2 c = omega (arith, c .before .before .before .rank-at .ensures .1)
+mul-l-2 c = omega (arith, c .before .before .before .before .rank-at .ensures .1)
 
 array-write-l : tie.Need-array-write-l Inv-loop μ-loop
-array-write-l c = omega (arith, c .before .before .before .rank-at .ensures .1)
+array-write-l c = omega (arith, c .before .before .before .before .rank-at .ensures .1)
 
 add-k : tie.Need-add-k Inv-loop μ-loop
 add-k c = search needs
@@ -49,10 +49,10 @@ loop-less c = omega arith
 
 loop-again : tie.Need-loop-again Inv-loop μ-loop
 loop-again c =
-    (c .before .before .loop .inv .0, omega (arith, c .before .before .loop .inv .0, c .before .loop-test .taken), image-next _ _ (c .before .before .before .before .before .before .pre .0) (c .before .before .before .before .before .before .pre .1) _ (search needs) _ _ _ (omega (arith, c .before .before .loop .inv .0, c .before .loop-test .taken)) (omega arith) (c .rule-external .ensures) (c .before .before .loop .inv .2))
+    (c .before .before .before .loop .inv .0, omega (arith, c .before .before .before .loop .inv .0, c .before .before .loop-test .taken), image-next _ _ (c .before .before .before .before .before .before .before .before .pre .0) (c .before .before .before .before .before .before .before .before .pre .1) _ (c .before .before .before .before .before .before .before .before .pre .2) _ _ _ (omega (arith, c .before .before .before .loop .inv .0, c .before .before .loop-test .taken)) (omega arith) (c .before .rule-external .ensures) (c .before .before .before .loop .inv .2))
 
 returns : tie.Need-returns Inv-loop μ-loop
-returns c = image-all _ _ (c .before .before .before .before .before .pre .0) (c .before .before .before .before .before .pre .1) _ (search needs) _ _ (c .before .loop .inv .1) (omega (arith, c .before .loop .inv .0, c .loop-test .left)) (c .before .loop .inv .2)
+returns c = image-all _ _ (c .before .before .before .before .before .before .pre .0) (c .before .before .before .before .before .before .pre .1) _ (c .before .before .before .before .before .before .pre .2) _ _ (c .before .loop .inv .1) (omega (arith, c .before .loop .inv .0, c .loop-test .left)) (c .before .loop .inv .2)
 
 pub root-nodes-spec : {M : Type 1} → statement M
 root-nodes-spec =
@@ -65,7 +65,7 @@ root-nodes-spec =
     loop-holds
     rule-external-requires
     mul-l
-    array-read-l
+    shared-slice-read-l
     mul-l-2
     array-write-l
     add-k

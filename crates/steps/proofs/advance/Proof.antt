@@ -12,22 +12,22 @@ table-requires-2 : tie.Need-table-requires-2
 table-requires-2 c κs = c .before .before .before .before .pre .0 .grammar
 
 table-requires-3 : tie.Need-table-requires-3
-table-requires-3 c κs = c .before .before .before .before .before .pre .0 .grammar
+table-requires-3 c κs = (c .before .before .before .before .before .before .pre .0 .grammar, c .before .before .table .ensures)
 
 table-requires-4 : tie.Need-table-requires-4
-table-requires-4 c κs = c .before .before .before .before .before .before .pre .0
+table-requires-4 c κs = c .before .before .before .before .before .before .before .pre .0
 
 slice-aggregate-build : tie.Need-slice-aggregate-build
 slice-aggregate-build c = search needs
 
 build-requires : tie.Need-build-requires
-build-requires c κs = (empty-zeros, count-small _ (c .before .before .before .before .before .before .before .before .before .before .before .pre .2))
+build-requires c κs = (empty-zeros, count-small _ (c .before .before .before .before .before .before .before .before .before .before .before .before .before .pre .2), c .before .before .before .before .before .before .before .before .before .before .before .before .before .pre .0, c .before .before .before .before .before .table4 .ensures)
 
 slice-aggregate-advance-by : tie.Need-slice-aggregate-advance-by
 slice-aggregate-advance-by c = search needs
 
 advance-by-requires : tie.Need-advance-by-requires
-advance-by-requires c κs = (record { accepted = c .before .before .before .before .before .before .before .before .before .before .before .before .before .before .before .before .before .before .before .pre .0; wanted = c .before .before .before .before .before .before .before .before .before .before .before .before .before .before .before .table .ensures; planned = c .before .before .before .before .before .before .before .before .before .before .before .before .before .before .table2 .ensures; pivoted = c .before .before .before .before .before .before .before .before .before .before .before .before .before .table3 .ensures; graphed = c .before .before .before .before .before .before .before .before .before .before .before .before .table4 .ensures }, built-ready _ _ _ _ _ (c .before .before .before .before .before .before .before .before .before .before .before .before .before .before .before .before .before .before .before .pre .1) (c .before .before .before .before .before .before .before .before .before .before .before .before .before .before .before .before .before .before .before .pre .2) (c .before .before .before .before .before .before .before .build .ensures))
+advance-by-requires c κs = (record { accepted = c .before .before .before .before .before .before .before .before .before .before .before .before .before .before .before .before .before .before .before .before .before .pre .0; wanted = c .before .before .before .before .before .before .before .before .before .before .before .before .before .before .before .before .before .table .ensures; planned = c .before .before .before .before .before .before .before .before .before .before .before .before .before .before .before .before .table2 .ensures; pivoted = c .before .before .before .before .before .before .before .before .before .before .before .before .before .before .table3 .ensures; graphed = c .before .before .before .before .before .before .before .before .before .before .before .before .before .table4 .ensures }, built-ready _ _ _ _ _ _ (c .before .before .before .before .before .before .before .before .before .before .before .before .before .before .before .before .before .before .before .before .before .pre .1) (c .before .before .before .before .before .before .before .before .before .before .before .before .before .before .before .before .before .before .before .before .before .pre .2) (c .before .before .before .before .before .before .before .build .ensures .0) (c .before .before .before .before .before .before .before .build .ensures .1))
 
 same-length : tie.Need-same-length
 same-length c = search needs

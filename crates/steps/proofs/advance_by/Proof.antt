@@ -12,7 +12,7 @@ use Rattle.steps.proofs.advance_by.Statement.{statement}
 use Rattle.steps.proofs.advance_by.Tie as tie
 
 abbrev Inv-loop : tie.InvT-loop
-Inv-loop g h wants plans pivots graph chart₀ index₀ steps i₀ chart index i = (i ≤ steps) × (length chart ≡ length chart₀) × Ran (grammarOf g) (graphOf g h) chart₀ i chart × (length index ≡ length index₀) × Ready g wants pivots chart index
+Inv-loop g h wants plans pivots graph chart₀ index₀ steps i₀ chart index i = (i ≤ steps) × (length chart ≡ length chart₀) × Ran (grammarOf g) (graphOf g h) chart₀ i chart × (length index ≡ length index₀) × Ready g h wants pivots chart index
 
 abbrev μ-loop : tie.MeasureT-loop
 μ-loop g h wants plans pivots graph chart₀ index₀ steps i₀ chart index i = steps - i

@@ -19,4 +19,9 @@ returns-2 c = next-least (c .before .before .before .before .before .args .chart
 
 pub next-spec : {M : Type 1} → statement M
 next-spec =
-    tie.close (tie.spec mark-of-requires returns next-requires returns-2)
+    tie.close
+    (tie.spec
+    mark-of-requires
+    returns
+    next-requires
+    returns-2)

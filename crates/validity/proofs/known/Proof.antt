@@ -2,6 +2,7 @@
 use native.Mathlib.Omega.{arith}
 use borrow.Author.Needs.{needs}
 use Prim.Native.Nat.{_-_}
+use mathlib.Core.Path.{refl}
 use borrow.Author.Tests.{not-true, not-false}
 use Rattle.records.proofs.WordLaws.{place-fits}
 use Rattle.validity.proofs.WordTests.{Passed, recordTest, passed-none, chart-over, chart-not, chart-next, chart-all, below-capacity}
@@ -29,14 +30,11 @@ sizes-of-requires c κs = search needs
 loop-holds : tie.Need-loop-holds Inv-loop μ-loop
 loop-holds c = passed-none _
 
-record-in-requires : tie.Need-record-in-requires Inv-loop μ-loop
-record-in-requires c κs = place-fits _ _ (below-capacity _ _ _ _ (c .before .before .before .before .capacity-of .ensures) (c .before .before .before .if1 .left) (c .loop-test .taken))
-
-known-record-requires : tie.Need-known-record-requires Inv-loop μ-loop
-known-record-requires c κs = search needs
+known-item-requires : tie.Need-known-item-requires Inv-loop μ-loop
+known-item-requires c κs = (c .before .before .sizes-of .ensures, place-fits _ _ (below-capacity _ _ _ _ (c .before .before .before .before .capacity-of .ensures) (c .before .before .before .if1 .left) (c .loop-test .taken)))
 
 returns-2 : tie.Need-returns-2 Inv-loop μ-loop
-returns-2 c = chart-not _ _ _ _ (c .before .before .before .before .before .before .before .before .number-of .ensures) _ (c .before .before .before .before .before .before .before .capacity-of .ensures) (c .before .before .before .before .before .before .if1 .left) _ _ _ (c .before .before .before .loop-test .taken) (c .before .before .record-in .ensures) (c .before .known-record .ensures) (not-true _ (c .if2 .taken))
+returns-2 c = chart-not _ _ _ _ (c .before .before .before .before .before .before .before .number-of .ensures) _ (c .before .before .before .before .before .before .capacity-of .ensures) (c .before .before .before .before .before .if1 .left) _ _ _ (c .before .before .loop-test .taken) refl (c .before .known-item .ensures) (not-true _ (c .if2 .taken))
 
 add-j : tie.Need-add-j Inv-loop μ-loop
 add-j c = search needs
@@ -45,10 +43,10 @@ loop-less : tie.Need-loop-less Inv-loop μ-loop
 loop-less c = omega arith
 
 loop-again : tie.Need-loop-again Inv-loop μ-loop
-loop-again c = chart-next _ _ _ _ (c .before .before .before .before .before .before .before .before .number-of .ensures) _ (c .before .before .before .before .before .before .before .capacity-of .ensures) (c .before .before .before .before .before .before .if1 .left) _ _ _ (c .before .before .record-in .ensures) (c .before .known-record .ensures) (not-false _ (c .if2 .left)) (c .before .before .before .before .loop .inv)
+loop-again c = chart-next _ _ _ _ (c .before .before .before .before .before .before .before .number-of .ensures) _ (c .before .before .before .before .before .before .capacity-of .ensures) (c .before .before .before .before .before .if1 .left) _ _ _ refl (c .before .known-item .ensures) (not-false _ (c .if2 .left)) (c .before .before .before .loop .inv)
 
 returns-3 : tie.Need-returns-3 Inv-loop μ-loop
 returns-3 c = chart-all _ _ _ _ (c .before .before .before .before .before .number-of .ensures) _ (c .before .before .before .before .capacity-of .ensures) (c .before .before .before .if1 .left) _ (c .loop-test .left) (c .before .loop .inv)
 
 pub known-spec : {M : Type 1} → statement M
-known-spec = tie.close (tie.spec Inv-loop μ-loop number-of-requires capacity-of-requires returns sizes-of-requires loop-holds record-in-requires known-record-requires returns-2 add-j loop-less loop-again returns-3)
+known-spec = tie.close (tie.spec Inv-loop μ-loop number-of-requires capacity-of-requires returns sizes-of-requires loop-holds known-item-requires returns-2 add-j loop-less loop-again returns-3)

@@ -7,11 +7,14 @@ use Rattle.extractor.proofs.places.part_map.Tie as tie
 nodes-by-requires : tie.Need-nodes-by-requires
 nodes-by-requires c κs = search needs
 
+slice-aggregate-attach : tie.Need-slice-aggregate-attach
+slice-aggregate-attach c = search needs
+
 attach-requires : tie.Need-attach-requires
-attach-requires c κs = search needs
+attach-requires c κs = (c .before .before .before .before .before .pre .1, search needs)
 
 returns : tie.Need-returns
-returns c = map-by _ _ _ _ _ _ _ _ (c .before .before .before .before .before .pre .1) (c .before .nodes-by .ensures) (c .attach .ensures)
+returns c = map-by _ _ _ _ _ _ _ _ (c .before .before .before .before .before .before .pre .1) (c .before .before .nodes-by .ensures) (c .attach .ensures)
 
 pub part-map-spec : {M : Type 1} → statement M
-part-map-spec = tie.close (tie.spec nodes-by-requires attach-requires returns)
+part-map-spec = tie.close (tie.spec nodes-by-requires slice-aggregate-attach attach-requires returns)

@@ -5,25 +5,20 @@ use Rattle.steps.proofs.LeafLoops.{leaf-added, leaf-skipped}
 use Rattle.steps.proofs.leaves.add_leaf.Statement.{statement}
 use Rattle.steps.proofs.leaves.add_leaf.Tie as tie
 
--- src/leaves.rt:21:11
 plan-kind-requires : tie.Need-plan-kind-requires
 plan-kind-requires c κs = search needs
 
--- src/leaves.rt:22:14
 add-requires : tie.Need-add-requires
 add-requires c κs = search needs
 
--- src/leaves.rt:17:1
 same-length : tie.Need-same-length
 same-length c = search needs
 
--- src/leaves.rt:17:1
 returns : tie.Need-returns
 returns c =
     let s = c .before .before .before .before .before .before .before .before .args in
     leaf-added (s .g .now) (s .r) (s .p) (c .before .before .before .before .before .plan-kind .result) (c .before .before .before .before .before .before .before .before .pre .0) (c .before .before .before .before .before .plan-kind .ensures) (s .chart .now) _ (c .before .before .before .before .before .before .before .before .pre .1) (c .before .before .before .before .match .keys1) (c .before .before .add .ensures)
 
--- src/leaves.rt:17:1
 returns-2 : tie.Need-returns-2
 returns-2 c =
     let s = c .before .before .before .before .args in

@@ -18,42 +18,34 @@ Inv-loop g chart₀ r₀ chart r = (r ≤ ruleCount g) × (length chart ≡ leng
 abbrev μ-loop : tie.MeasureT-loop
 μ-loop g chart₀ r₀ chart r = r
 
--- src/leaves.rt:57:9
 rule-count-requires : tie.Need-rule-count-requires Inv-loop μ-loop
 rule-count-requires c κs = search needs
 
--- src/leaves.rt:58:5
 loop-holds : tie.Need-loop-holds Inv-loop μ-loop
 loop-holds c =
     let s = c .before .before .before .args in
     (omega (arith, c .rule-count .ensures), refl, left-all (s .chart .now) _ (λ q. ruleLeaves (grammarOf (s .g .now)) q) (λ q. rule-whole (grammarOf (s .g .now)) q) (c .before .before .before .pre .1) _ (rule-number (s .g .now) _ (c .rule-count .ensures)))
 
--- src/leaves.rt:59:9
 sub-r : tie.Need-sub-r Inv-loop μ-loop
 sub-r c = search needs
 
--- src/leaves.rt:60:9
 add-rule-requires : tie.Need-add-rule-requires Inv-loop μ-loop
 add-rule-requires c κs =
     let i = c .before .before .loop .inv in
     (c .before .before .before .before .before .before .pre .0, omega (arith, i .0, c .before .loop-test .taken), i .2 .fits)
 
--- src/leaves.rt:58:5
 loop-less : tie.Need-loop-less Inv-loop μ-loop
 loop-less c = search needs
 
--- src/leaves.rt:58:5
 loop-again : tie.Need-loop-again Inv-loop μ-loop
 loop-again c =
     let s = c .before .before .before .before .before .before .before .before .before .args in
     let i = c .before .before .before .before .before .loop .inv in
     (omega (arith, i .0), c .before .before .add-rule .kept .1 .0 ∙ i .1, left-next (s .chart .now) _ (λ q. ruleLeaves (grammarOf (s .g .now)) q) (λ q. rule-whole (grammarOf (s .g .now)) q) (c .before .before .before .before .before .loop .chart) _ (c .before .before .before .before .before .loop .r) _ (omega (arith, c .before .before .before .before .loop-test .taken)) (i .2) (c .before .before .add-rule .ensures))
 
--- src/leaves.rt:53:1
 same-length : tie.Need-same-length Inv-loop μ-loop
 same-length c = c .before .loop .inv .1
 
--- src/leaves.rt:53:1
 returns : tie.Need-returns Inv-loop μ-loop
 returns c =
     let s = c .before .before .before .before .before .args in

@@ -18,43 +18,35 @@ Inv-loop g chart₀ r p₀ chart p = (p ≤ rulePlan g r) × (length chart ≡ l
 abbrev μ-loop : tie.MeasureT-loop
 μ-loop g chart₀ r p₀ chart p = p
 
--- src/leaves.rt:45:9
 rule-plan-requires : tie.Need-rule-plan-requires Inv-loop μ-loop
 rule-plan-requires c κs = search needs
 
--- src/leaves.rt:46:5
 loop-holds : tie.Need-loop-holds Inv-loop μ-loop
 loop-holds c =
     let s = c .before .before .before .args in
     let pre = c .before .before .before .pre in
     (omega (arith, c .rule-plan .ensures), refl, left-all (s .chart .now) _ (λ q. leafRecord (grammarOf (s .g .now)) (s .r) q) (λ q. leaf-whole (grammarOf (s .g .now)) (s .r) q) (pre .2) _ (rule-plan (s .g .now) (s .r) _ (pre .0) (pre .1) (c .rule-plan .ensures)))
 
--- src/leaves.rt:47:9
 sub-p : tie.Need-sub-p Inv-loop μ-loop
 sub-p c = search needs
 
--- src/leaves.rt:48:9
 add-leaf-requires : tie.Need-add-leaf-requires Inv-loop μ-loop
 add-leaf-requires c κs =
     let i = c .before .before .loop .inv in
     (record { grammar = c .before .before .before .before .before .before .pre .0; rule = c .before .before .before .before .before .before .pre .1; node = omega (arith, i .0, c .before .loop-test .taken) }, i .2 .fits)
 
--- src/leaves.rt:46:5
 loop-less : tie.Need-loop-less Inv-loop μ-loop
 loop-less c = search needs
 
--- src/leaves.rt:46:5
 loop-again : tie.Need-loop-again Inv-loop μ-loop
 loop-again c =
     let s = c .before .before .before .before .before .before .before .before .before .args in
     let i = c .before .before .before .before .before .loop .inv in
     (omega (arith, i .0), c .before .before .add-leaf .kept .1 .0 ∙ i .1, left-next (s .chart .now) _ (λ q. leafRecord (grammarOf (s .g .now)) (s .r) q) (λ q. leaf-whole (grammarOf (s .g .now)) (s .r) q) (c .before .before .before .before .before .loop .chart) _ (c .before .before .before .before .before .loop .p) _ (omega (arith, c .before .before .before .before .loop-test .taken)) (i .2) (c .before .before .add-leaf .ensures))
 
--- src/leaves.rt:41:1
 same-length : tie.Need-same-length Inv-loop μ-loop
 same-length c = c .before .loop .inv .1
 
--- src/leaves.rt:41:1
 returns : tie.Need-returns Inv-loop μ-loop
 returns c =
     let s = c .before .before .before .before .before .args in
