@@ -24,7 +24,7 @@ use Rattle.records.proofs.Grown.{Whole, whole-gather, whole-guard, grown-none, 
 use Rattle.lists.specs.Lists.{Within}
 use Rattle.lists.specs.Cursors.{alone, startsOf, leastOf, passedOf, leftAll, Ahead, SkimsAll}
 use Rattle.lists.proofs.ListLaws.{five}
-use Rattle.lists.proofs.CursorLaws.{ahead-start, ahead-within, least-none, ahead-passed, ahead-grown, left-falls, skims-by, ahead-skims, left-skims}
+use Rattle.lists.proofs.CursorLaws.{alone-at, alone-passed, ahead-start, ahead-within, least-none, ahead-passed, ahead-grown, left-falls, skims-by, ahead-skims, left-skims}
 use Rattle.pivots.specs.Keys.{keysOf, queryOf, regularOf}
 use Rattle.pivots.specs.Pivots.{PivotTable}
 use Rattle.pivots.proofs.KeyLaws.{query-few}
@@ -154,6 +154,12 @@ module _ (g h wants pivots : List ℕ) (H : Graph) (w : List ℕ) (x : Record) (
 
       pub going-known : k < n → k < itemCount v
       going-known l = omega (arith, added-longer w v (gather done partner) f (whole-gather done partner partner-whole) grown)
+
+      -- one cursor goes on
+      pub going-alone : (ws : List ℕ) (c r : ℕ) → cs ≡ alone c → k < n → capacity w ≤ 4096 → r ≡ getD ws (4097 + c) 0 → alone r ≡ passedOf ws (alone c) k
+      going-alone ws c r e l h p =
+          let there = alone-at c k n (S .at ∙ ap leastOf e) l (few-items w n all h) in
+          alone-passed ws c k r (there .0) (there .1) p
 
       -- the key of a record of w is where it was
       key-there : (i e : ℕ) → i < itemCount w → e < 5 → getD (keysIn v) (5 * i + e) 0 ≡ getD (keysOf wants pivots (recordAt w i)) e 0

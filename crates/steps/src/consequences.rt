@@ -442,8 +442,56 @@ fn add_alone(
     }
 }
 
-// The same as add_each, with those of the first n records that can meet x: they are on the lists of its keys, in rising order. Cursors skim over quiet records, most of what is listed.
+// The same, where they are on the lists of several keys, in rising order. Cursors skim over quiet records, most of what is listed.
 fn add_listed(
+    g: &[u64],
+    h: &[u64],
+    wants: &[u64; 1024],
+    plans: &[u64; 2048],
+    pivots: &[u64; 1088],
+    graph: &[u64; 577],
+    chart: &mut [u64],
+    index: &mut [u32],
+    x: &[u64],
+    want: u64,
+    j: u64,
+    n: u64,
+    near: u64,
+    query: [u64; 5],
+)
+    requires { ⌜ Tables (now g) (now h) (now wants) (now plans) (now pivots) (now graph) × Ready (now g) (now h) (now wants) (now pivots) (now chart) (now index) × (n ≤ itemCount (now chart)) × (want ≡ wantIn (now wants) (ofWords (now x) .of) (ofWords (now x) .plan)) × Regular (now pivots) (chartOf (now chart) .records) × (regularOf (now pivots) (ofWords (now x)) ≡ true) × (length (now x) ≡ 16) × Spans (now g) (now h) (ofWords (now x) .edges) near × (query ≡ queryOf (now wants) (now pivots) (ofWords (now x))) ⌝ }
+    ensures { λ r. ⌜ (now (chart .exit) ≡ grownBy (now (chart .entry)) (gather n (λ k. withRecord (grammarOf (now (g .entry))) (graphOf (now (g .entry)) (now (h .entry))) (ofWords (now (x .entry))) j (recordAt (now (chart .entry)) k) k))) × Ready (now (g .entry)) (now (h .entry)) (now (wants .entry)) (now (pivots .entry)) (now (chart .exit)) (now (index .exit)) ⌝ }
+{
+    let bs = index::starts(index, query);
+    let mut cs = index::skimmed(chart, index, x[3], n, bs);
+    let mut k = lists::least(cs);
+    let mut done: u64 = 0;
+    while k < n {
+        done = add_next(
+            g,
+            h,
+            wants,
+            plans,
+            pivots,
+            graph,
+            chart,
+            index,
+            x,
+            want,
+            j,
+            k,
+            done,
+            near,
+        );
+        let ds = index::passed(index, cs, k);
+        let es = index::skimmed(chart, index, x[3], n, ds);
+        cs = es;
+        k = lists::least(cs);
+    }
+}
+
+// The same as add_each, with those of the first n records that can meet x, by the keys that these have.
+fn add_keyed(
     g: &[u64],
     h: &[u64],
     wants: &[u64; 1024],
@@ -481,32 +529,22 @@ fn add_listed(
         );
         return;
     }
-    let bs = index::starts(index, query);
-    let mut cs = index::skimmed(chart, index, x[3], n, bs);
-    let mut k = lists::least(cs);
-    let mut done: u64 = 0;
-    while k < n {
-        done = add_next(
-            g,
-            h,
-            wants,
-            plans,
-            pivots,
-            graph,
-            chart,
-            index,
-            x,
-            want,
-            j,
-            k,
-            done,
-            near,
-        );
-        let ds = index::passed(index, cs, k);
-        let es = index::skimmed(chart, index, x[3], n, ds);
-        cs = es;
-        k = lists::least(cs);
-    }
+    add_listed(
+        g,
+        h,
+        wants,
+        plans,
+        pivots,
+        graph,
+        chart,
+        index,
+        x,
+        want,
+        j,
+        n,
+        near,
+        query,
+    );
 }
 
 // The same; an active item that wants nothing is tried with none. Keys tell nothing of a chart with irregular records, which no run makes of a fresh one.
@@ -567,7 +605,7 @@ pub(crate) fn add_partners(
         );
         return;
     }
-    add_listed(
+    add_keyed(
         g,
         h,
         wants,

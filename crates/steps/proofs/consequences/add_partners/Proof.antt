@@ -69,9 +69,9 @@ same-length-4 c = search needs
 returns-3 : tie.Need-returns-3
 returns-3 c = c .before .before .before .before .add-each2 .ensures
 
-add-listed-requires : tie.Need-add-listed-requires
+add-keyed-requires : tie.Need-add-keyed-requires
 unfolding ofWords
-add-listed-requires c κs = (c .before .before .before .before .before .before .before .before .before .before .before .before .before .before .before .before .before .pre .0, c .before .before .before .before .before .before .before .before .before .before .before .before .before .before .before .before .before .pre .1, c .before .before .before .before .before .before .before .before .before .before .before .before .before .before .before .before .before .pre .2, c .before .before .before .before .before .before .before .before .before .want-of .ensures, c .before .before .before .before .before .before .before .before .before .before .before .before .before .before .before .before .before .pre .1 .indexed .regular (eqb-true _ _ (sym (c .before .before .before .before .before .regular .ensures) ∙ not-false _ (c .before .before .before .before .if2 .left))), sym (c .before .before .before .regular2 .ensures) ∙ not-false _ (c .before .before .if3 .left), c .before .before .before .before .before .before .before .before .before .before .before .before .before .before .before .before .before .pre .3, c .before .before .before .before .before .before .before .before .before .before .before .before .before .before .before .before .before .pre .4)
+add-keyed-requires c κs = (c .before .before .before .before .before .before .before .before .before .before .before .before .before .before .before .before .before .pre .0, c .before .before .before .before .before .before .before .before .before .before .before .before .before .before .before .before .before .pre .1, c .before .before .before .before .before .before .before .before .before .before .before .before .before .before .before .before .before .pre .2, c .before .before .before .before .before .before .before .before .before .want-of .ensures, c .before .before .before .before .before .before .before .before .before .before .before .before .before .before .before .before .before .pre .1 .indexed .regular (eqb-true _ _ (sym (c .before .before .before .before .before .regular .ensures) ∙ not-false _ (c .before .before .before .before .if2 .left))), sym (c .before .before .before .regular2 .ensures) ∙ not-false _ (c .before .before .if3 .left), c .before .before .before .before .before .before .before .before .before .before .before .before .before .before .before .before .before .pre .3, c .before .before .before .before .before .before .before .before .before .before .before .before .before .before .before .before .before .pre .4)
 
 same-length-5 : tie.Need-same-length-5
 same-length-5 c = search needs
@@ -80,7 +80,7 @@ same-length-6 : tie.Need-same-length-6
 same-length-6 c = search needs
 
 returns-4 : tie.Need-returns-4
-returns-4 c = c .before .before .before .before .add-listed .ensures
+returns-4 c = c .before .before .before .before .add-keyed .ensures
 
 pub add-partners-spec : {M : Type 1} → statement M
 add-partners-spec =
@@ -101,7 +101,7 @@ add-partners-spec =
     same-length-3
     same-length-4
     returns-3
-    add-listed-requires
+    add-keyed-requires
     same-length-5
     same-length-6
     returns-4)
