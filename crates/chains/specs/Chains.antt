@@ -8,16 +8,12 @@ use lib.ListN.{length, getD, set}
 use Rattle.agenda.specs.declared.Record.{Record}
 use Rattle.agenda.specs.Consequences.{recordIn}
 
--- The words that make two records the same item, mixed: each is brought below a bound first, so that the sum of words below 2^64 stays below 2^63.
+-- The words that make two records the same item, mixed. Six bits of each of the small ones stand side by side in one number, so that one product mixes them; the sum of words below 2^64 stays below 2^63.
 unfoldable pub mixed : Record → ℕ
 mixed x =
     x .edges % 4294967296 * 191825777
     + x .edges / 4294967296 * 139261425
-    + x .of % 4096 * 2507321997
-    + x .plan % 4096 * 2619417211
-    + getD (x .nodes) 0 0 % 4096 * 3376333291
-    + getD (x .nodes) 1 0 % 4096 * 4289565379
-    + getD (x .nodes) 2 0 % 4096 * 2999226579
+    + (x .of % 64 + x .plan % 64 * 64 + getD (x .nodes) 0 0 % 64 * 4096 + getD (x .nodes) 1 0 % 64 * 262144 + getD (x .nodes) 2 0 % 64 * 16777216) * 2507321997
 
 -- bits 20 to 31 of the mix, on which every lower bit has an effect
 unfoldable pub bucketOf : Record → ℕ

@@ -31,7 +31,9 @@ fn part_map(grammar: &[u64], graph: &[u64], chart: &[u64], r: u64, i: u64, b: u6
     ensures { λ f. ⌜ f ≡ padded (attach (rightOf (grammarOf (now (grammar .entry))) r .nodes) (edgeAt (rightOf (grammarOf (now (grammar .entry))) r .edges) i .attachment) (partNodes (λ k. recordAt (now (chart .entry)) k) (grammarOf (now (grammar .entry))) (graphOf (now (grammar .entry)) (now (graph .entry))) (edgeAt (rightOf (grammarOf (now (grammar .entry))) r .edges) i) b)) ⌝ }
 {
     let l = nodes_by(grammar, graph, chart, r, i, b);
-    joins::attach(grammar, r, i, &l)
+    let mut t = [64u64; 8];
+    joins::attach(grammar, r, i, &l, &mut t);
+    t
 }
 
 // The places of the nodes of rule r, by the partners of all its edges.

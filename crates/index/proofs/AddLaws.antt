@@ -49,25 +49,36 @@ inside w j l = omega (arith, counted w)
 pub small : (wants pivots w ix : List ℕ) (j : ℕ) → Indexed wants pivots ix (chartOf w .records) → j < itemCount w → j < 4096
 small wants pivots w ix j I l = let f = I .chained .few in omega (arith, counted w)
 
-module _ (w ix : List ℕ) (j : ℕ) (x : Record) (l : j < itemCount w) (r : ℕ) (e : r ≡ fieldAt w j 5) where
-  abbrev Placed : List ℕ → Type 0
-  Placed new = (wants pivots : List ℕ) → Indexed wants pivots ix (chartOf w .records) → Indexed wants pivots new (placed (capacity w) x (chartOf w) (At j) .records)
-
+-- the record at a place, by its words
+module _ (w : List ℕ) (j : ℕ) (l : j < itemCount w) (r : ℕ) (e : r ≡ fieldAt w j 5) where
   here : recordIn (chartOf w .records) j ≡ recordAt w j
   unfolding chartOf
   here = record-in w (itemCount w) j l
 
+  pub is-handled : (r ≡ 0 → ⊥) → isHandled (recordIn (chartOf w .records) j) ≡ true
+  is-handled h = ap isHandled here ∙ handled-yes w j r e h
+
+  pub is-waiting : r ≡ 0 → isHandled (recordIn (chartOf w .records) j) ≡ false
+  is-waiting z = ap isHandled here ∙ handled-no w j r e z
+
+  pub has-count : (n : ℕ) → n ≡ fieldAt w j 4 → n ≡ recordIn (chartOf w .records) j .count
+  has-count n p = sym (ap (λ (y : Record). y .count) here ∙ count-of w j ∙ sym p)
+
+module _ (w ix : List ℕ) (j : ℕ) (x : Record) (l : j < itemCount w) (r : ℕ) (e : r ≡ fieldAt w j 5) where
+  abbrev Placed : List ℕ → Type 0
+  Placed new = (wants pivots : List ℕ) → Indexed wants pivots ix (chartOf w .records) → Indexed wants pivots new (placed (capacity w) x (chartOf w) (At j) .records)
+
   pub again-handled : (r ≡ 0 → ⊥) → (w ≡ improvedAt w j x) × Placed ix
   again-handled h =
-      let t : isHandled (recordIn (chartOf w .records) j) ≡ true = ap isHandled here ∙ handled-yes w j r e h in
+      let t = is-handled w j l r e h in
       (improve-handled w j x r e h, λ wants pivots I. rw (placed-stays (capacity w) x (chartOf w) j (rw t)) I)
 
   module _ (z : r ≡ 0) (n : ℕ) (p : n ≡ fieldAt w j 4) where
-    pub waits : isHandled (recordIn (chartOf w .records) j) ≡ false
-    waits = ap isHandled here ∙ handled-no w j r e z
+    waits : isHandled (recordIn (chartOf w .records) j) ≡ false
+    waits = is-waiting w j l r e z
 
-    count-is : recordIn (chartOf w .records) j .count ≡ n
-    count-is = ap (λ (y : Record). y .count) here ∙ count-of w j ∙ sym p
+    count-is : n ≡ recordIn (chartOf w .records) j .count
+    count-is = has-count w j l r e n p
 
     pub again-less : n ≤ x .count → (w ≡ improvedAt w j x) × Placed ix
     again-less h =

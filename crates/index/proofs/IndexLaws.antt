@@ -17,14 +17,15 @@ use Rattle.records.specs.Words.{itemCount, recordAt, recordsAt, chartOf}
 use Rattle.records.proofs.WordLaws.{length-records}
 use Rattle.chains.specs.Chains.{bucketOf, Chained, Cleared, linked}
 use Rattle.chains.proofs.ChainLaws.{chained-more, chained-improved, chained-handled}
-use Rattle.ranking.specs.Ranking.{playerOf, Ranked, Replaces, Blank}
-use Rattle.ranking.proofs.Leaves.{appended-leaf, improved-leaf, handled-leaf}
+use Rattle.ranking.specs.Ranking.{playerOf, leafOf, Ranked, Replaces}
+use Rattle.ranking.proofs.Leaves.{leaf-past, leaf-handled, waiting-leaf, appended-leaf, improved-leaf, handled-leaf}
+use Rattle.ranking.proofs.SetLaws.{ranked-still}
 use Rattle.lists.specs.Lists.{Listed, Unlisted, Ready, Within, enteredAll}
 use Rattle.lists.proofs.ListLaws.{listed-none, listed-ready, listed-entered-all}
 use Rattle.pivots.specs.Keys.{keysOf, regularOf}
 use Rattle.pivots.proofs.KeyLaws.{keys-few, improved-keys, handled-keys, improved-regular, handled-regular}
 use Rattle.index.specs.Index.{indexWords, linksOf, ranksOf, listsOf, markOf, keysFor, Indexed, Empty, Keyed, Kept, withKeys, listedWith, NearKept}
-use Rattle.index.proofs.Parts.{part-zeros, length-part, part-set, put, length-put, put-same, put-before, put-behind, word-behind}
+use Rattle.ranking.proofs.Parts.{part-zeros, length-part, part-set, put, length-put, put-same, put-before, put-behind, word-behind}
 use Rattle.index.proofs.NearLaws.{near-on, near-put, near-marked}
 use Rattle.index.proofs.KeyLists.{keys-five, keys-length, keys-more, keys-set}
 
@@ -44,12 +45,6 @@ pub links-empty : (ix : List ℕ) → Empty ix → Cleared (linksOf ix)
 links-empty ix e = let l = e .size in record {
   words = length-part 0 8192 ix (omega arith);
   empty = λ b h. part-zeros 0 8192 ix (omega arith) (e .zeros) b;
-}
-
-pub ranks-empty : (ix : List ℕ) → Empty ix → Blank (ranksOf ix)
-ranks-empty ix e = let l = e .size in record {
-  size = length-part 8192 8192 ix (omega arith);
-  empty = part-zeros 8192 8192 ix (omega arith) (e .zeros);
 }
 
 lists-empty : (ix : List ℕ) → Empty ix → Unlisted (listsOf ix)
@@ -107,7 +102,7 @@ module _ (ix new : List ℕ) (s : length ix ≡ indexWords) (e : length new ≡ 
   lists-mark : markOf (put 16384 24578 ix new) ≡ markOf ix
   lists-mark = word-behind 16384 24578 ix new (omega arith) e 40962 (omega arith)
 
--- the links and the tree one after the other
+-- the links and the ranking one after the other
 pub length-both : (ix listed links ranks : List ℕ) → length ix ≡ indexWords → length listed ≡ length ix → length links ≡ 8192 → length ranks ≡ 8192
     → length (put 8192 8192 (put 0 8192 listed links) ranks) ≡ length ix
 length-both ix listed links ranks s e p q = ranks-size (put 0 8192 listed links) ranks (links-size listed links (e ∙ s) p) q ∙ sym s
@@ -266,11 +261,8 @@ module _ (wants pivots : List ℕ) where
   indexed-both ix links ranks rs K c r =
       indexed-ranks (put 0 8192 ix links) ranks rs (keyed-links ix links rs (c .words) K) (rw (links-new ix links (K .size) (c .words)) c) r
 
--- ---- made of zeros: the links, the tree, the lists
+-- ---- made of zeros: the links, the ranking, the lists
 module _ (ix links : List ℕ) (rs : List Record) (e : Empty ix) (c : Chained links rs) where
-  pub blank-beside : Blank (ranksOf (put 0 8192 ix links))
-  blank-beside = rw (links-ranks ix links (e .size) (c .words)) (ranks-empty ix e)
-
   module _ (ranks : List ℕ) (r : Ranked ranks rs) where
     mid-size : length (put 0 8192 ix links) ≡ indexWords
     mid-size = links-size ix links (e .size) (c .words)
@@ -307,12 +299,12 @@ module _ (wants pivots ix listed links ranks : List ℕ) (n b : ℕ) (x : Record
       (subst (λ (t : Bool). Replaces (length rs) (playerOf t (length rs) (x .count)) rs (rs ++ (x ∷ []))) (not-not (eqb (x .handled) 0)) (appended-leaf rs x))
 
   pub entered : listed ≡ listedWith wants pivots ix n x → b ≡ bucketOf x → links ≡ linked (linksOf listed) n b
-      → (Ranked (ranksOf (put 0 8192 listed links)) rs → Replaces n (playerOf (eqb (x .handled) 0) n (x .count)) rs (rs ++ (x ∷ [])) → Ranked ranks (rs ++ (x ∷ [])))
+      → (Ranked (ranksOf (put 0 8192 listed links)) rs → leafOf rs n ≡ 0 → Replaces n (playerOf (eqb (x .handled) 0) n (x .count)) rs (rs ++ (x ∷ [])) → Ranked ranks (rs ++ (x ∷ [])))
       → Indexed wants pivots (put 8192 8192 (put 0 8192 listed links) ranks) (rs ++ (x ∷ []))
   entered o p q f =
       let K = keyed o in
       let c = longer (K .1) p q in
-      indexed-both wants pivots listed links ranks (rs ++ (x ∷ [])) (K .0) c (f (rw (links-ranks listed links (K .0 .size) (c .words), K .1 .ranks) (I .ranked)) leaf)
+      indexed-both wants pivots listed links ranks (rs ++ (x ∷ [])) (K .0) c (f (rw (links-ranks listed links (K .0 .size) (c .words), K .1 .ranks) (I .ranked)) (leaf-past rs n (omega arith)) leaf)
 
   pub entered-near : listed ≡ listedWith wants pivots ix n x → length links ≡ 8192 → length ranks ≡ 8192 → NearKept ix (put 8192 8192 (put 0 8192 listed links) ranks)
   entered-near o p q =
@@ -336,17 +328,32 @@ module _ (ix ranks : List ℕ) (j : ℕ) (wants pivots : List ℕ) (rs : List Re
       at z k h (yes e) = rw e (ap (regularOf pivots) (getD-set-same rs j y noRecord l) ∙ q ∙ I .regular z j l)
       at z k h (no e) = ap (regularOf pivots) (getD-set-other rs j k y noRecord e) ∙ I .regular z k h
 
-  pub recounted : (x : Record) (n : ℕ) → isHandled (recordIn rs j) ≡ false → n ≡ x .count
-      → (Ranked (ranksOf ix) rs → Replaces j (playerOf true j n) rs (set rs j (improved (recordIn rs j) x)) → Ranked ranks (set rs j (improved (recordIn rs j) x)))
+  pub recounted : (x : Record) (old n : ℕ) → isHandled (recordIn rs j) ≡ false → old ≡ recordIn rs j .count → n ≡ x .count
+      → (Ranked (ranksOf ix) rs → leafOf rs j ≡ playerOf true j old → Replaces j (playerOf true j n) rs (set rs j (improved (recordIn rs j) x)) → Ranked ranks (set rs j (improved (recordIn rs j) x)))
       → Indexed wants pivots (put 8192 8192 ix ranks) (set rs j (improved (recordIn rs j) x))
-  recounted x n h e f =
+  recounted x old n h o e f =
       let y = recordIn rs j in
       indexed-ranks wants pivots ix ranks (set rs j (improved y x)) (keyed-set (improved y x) (improved-keys wants pivots y x) (improved-regular pivots y x))
-      (chained-improved (linksOf ix) rs j x (I .chained)) (f (I .ranked) (rw e (improved-leaf rs j x l h)))
+      (chained-improved (linksOf ix) rs j x (I .chained)) (f (I .ranked) (waiting-leaf rs j old l h o) (rw e (improved-leaf rs j x l h)))
 
-  pub settled : (Ranked (ranksOf ix) rs → Replaces j (playerOf false j 0) rs (set rs j (handledNow (recordIn rs j))) → Ranked ranks (set rs j (handledNow (recordIn rs j))))
-      → Indexed wants pivots (put 8192 8192 ix ranks) (set rs j (handledNow (recordIn rs j)))
-  settled f =
+  -- handled, with the ranking given for it
+  handled-by : Ranked ranks (set rs j (handledNow (recordIn rs j))) → Indexed wants pivots (put 8192 8192 ix ranks) (set rs j (handledNow (recordIn rs j)))
+  handled-by r =
       let y = recordIn rs j in
-      indexed-ranks wants pivots ix ranks (set rs j (handledNow y)) (keyed-set (handledNow y) (handled-keys wants pivots y) (handled-regular pivots y))
-      (chained-handled (linksOf ix) rs j (I .chained)) (f (I .ranked) (handled-leaf rs j 0 l))
+      indexed-ranks wants pivots ix ranks (set rs j (handledNow y)) (keyed-set (handledNow y) (handled-keys wants pivots y) (handled-regular pivots y)) (chained-handled (linksOf ix) rs j (I .chained)) r
+
+  pub settled : (n : ℕ) → isHandled (recordIn rs j) ≡ false → n ≡ recordIn rs j .count
+      → (Ranked (ranksOf ix) rs → leafOf rs j ≡ playerOf true j n → Replaces j 0 rs (set rs j (handledNow (recordIn rs j))) → Ranked ranks (set rs j (handledNow (recordIn rs j))))
+      → Indexed wants pivots (put 8192 8192 ix ranks) (set rs j (handledNow (recordIn rs j)))
+  settled n h e f = handled-by (f (I .ranked) (waiting-leaf rs j n l h e) (handled-leaf rs j l))
+
+  -- .. of a record that is handled already
+  pub settled-still : isHandled (recordIn rs j) ≡ true → Indexed wants pivots ix (set rs j (handledNow (recordIn rs j)))
+  settled-still h =
+      let y = recordIn rs j in
+      indexed-by wants pivots ix (set rs j (handledNow y)) (keyed-set (handledNow y) (handled-keys wants pivots y) (handled-regular pivots y)) (chained-handled (linksOf ix) rs j (I .chained))
+      (ranked-still (ranksOf ix) j rs (set rs j (handledNow y)) (I .ranked) (leaf-handled rs j h) (handled-leaf rs j l))
+
+-- ---- the ranking is made anew of the same records
+pub reranked : (wants pivots ix ranks : List ℕ) (rs : List Record) → Ranked ranks rs → Indexed wants pivots ix rs → Indexed wants pivots (put 8192 8192 ix ranks) rs
+reranked wants pivots ix ranks rs r I = indexed-ranks wants pivots ix ranks rs (keyed-of wants pivots ix rs I) (I .chained) r

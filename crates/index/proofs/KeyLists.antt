@@ -4,7 +4,7 @@ use mathlib.Core.Path.{_≡_, refl, sym, ap, ap₂, _∙_, subst}
 use mathlib.Core.List.{List, [], _∷_, _++_, append-assoc}
 use mathlib.Core.Bool.{Bool, true, false, cond}
 use native.Mathlib.Omega.{arith}
-use lib.Dec.{eqb}
+use lib.Dec.{eqb, ltb}
 use lib.ListN.{length, length-append, getD, set, List·getD-append}
 use lib.Seq.{getD-append-add}
 use Rattle.agenda.specs.declared.Record.{Record}
@@ -14,7 +14,7 @@ use Rattle.agenda.proofs.Records.{bare}
 use Rattle.agenda.proofs.Growth.{Grew, all-grown}
 use Rattle.records.specs.Words.{Fits, capacity, chartOf, grownBy}
 use Rattle.records.proofs.Grown.{Whole, grown-chart}
-use Rattle.pivots.specs.Keys.{passiveTag, listedKeys, keysOf}
+use Rattle.pivots.specs.Keys.{passiveTag, fiveKeys, placeOf, listedKeys, keysOf}
 use Rattle.pivots.specs.Pivots.{usesIn}
 use Rattle.index.specs.Index.{keysFor}
 
@@ -22,9 +22,13 @@ five-of : (b : Bool) (xs ys : List ℕ) → length xs ≡ 5 → length ys ≡ 5 
 five-of true xs ys p q = p
 five-of false xs ys p q = q
 
+all-five : (u tag s : ℕ) (L : List ℕ) → length (fiveKeys u tag s L) ≡ 5
+unfolding fiveKeys
+all-five u tag s L = refl
+
 listed-five : (u tag s : ℕ) (L : List ℕ) → length (listedKeys u tag s L) ≡ 5
 unfolding listedKeys
-listed-five u tag s L = refl
+listed-five u tag s L = five-of (ltb (placeOf u) 5) _ (fiveKeys u tag s L) refl (all-five u tag s L)
 
 module _ (wants pivots : List ℕ) where
   -- ---- of one record

@@ -1,6 +1,4 @@
 -- The root of the laws.
--- a part that is lent and comes back
-pub mod Parts
 -- the sets beside the records
 pub mod NearLaws
 -- the keys of the records

@@ -19,7 +19,7 @@ use Rattle.records.proofs.WordLaws.{length-records, edges-of}
 use Rattle.joins.specs.Joins.{OpenIn, Spans}
 use Rattle.joins.proofs.Openness.{spans-none, spans-open}
 use Rattle.index.specs.Index.{indexWords, nearOf, Indexed, Spanned, nearPut, NearKept}
-use Rattle.index.proofs.Parts.{part, part-set, put, word-behind}
+use Rattle.ranking.proofs.Parts.{part, part-set, put, word-behind}
 
 -- ---- the words of the sets stay
 pub near-same : (ix : List ℕ) → NearKept ix ix

@@ -59,7 +59,7 @@ pub record Keyed (wants pivots ix : List ℕ) (rs : List Record) : Type 0 where
   pub listed : Listed (listsOf ix) (keysFor wants pivots rs)
   pub regular : markOf ix ≡ 0 → (j : ℕ) → j < length rs → regularOf pivots (recordIn rs j) ≡ true
 
--- the links and the tree are as they were
+-- the links and the ranking are as they were
 pub record Kept (ix new : List ℕ) : Type 0 where
   pub links : linksOf new ≡ linksOf ix
   pub ranks : ranksOf new ≡ ranksOf ix

@@ -1,5 +1,5 @@
 // The indexes of a chart's records, which live for one run, in the parts of one lent slice:
-// the links of crate `chains`, the tree of crate `ranking`, the lists of crate `lists` by which records that can be
+// the links of crate `chains`, the set of crate `ranking`, the lists of crate `lists` by which records that can be
 // joined find each other, a word that tells whether some record is irregular, and beside each record a set that holds
 // the open graph nodes of its edges, so that whoever joins it need not look for them.
 ghost use mathlib.Core.Path.{_≡_};
@@ -24,9 +24,9 @@ ghost use Rattle.index.specs.Quiet.{quietIn};
 ghost use Rattle.index.specs.Index.{indexWords, ranksOf, listsOf, nearOf, Indexed, Empty, Keyed, Kept, listedWith, Spanned, nearPut, NearKept};
 use agenda::Found;
 
-// where the links end and the tree starts
-const TREE: usize = 8192;
-// where the tree ends and the lists start
+// where the links end and the ranking starts
+const RANKS: usize = 8192;
+// where the ranking ends and the lists start
 const LISTS: usize = 16384;
 // where the lists end: the word that is not 0 once a record was irregular, and behind it the sets, two words each
 const MARK: usize = 40962;
@@ -52,8 +52,8 @@ fn list_all(wants: &[u64; 1024], pivots: &[u64; 1088], chart: &[u64], index: &mu
     let n = records::item_count(chart);
     let mut j = 0;
     while j < n {
-        let x = records::words_at(chart, j);
-        list(wants, pivots, index, j, &x);
+        let at = (2 + 16 * j) as usize;
+        list(wants, pivots, index, j, &chart[at..at + 16]);
         j += 1;
     }
 }
@@ -115,18 +115,18 @@ pub fn build(
     requires { ⌜ Empty (now index) × (itemCount (now chart) ≤ 4096) × Accepted (now g) (now h) × GraphTable (now g) (now h) (now graph) ⌝ }
     ensures { λ r. ⌜ Indexed (now (wants .entry)) (now (pivots .entry)) (now (index .exit)) (chartOf (now (chart .entry)) .records) × Spanned (now (g .entry)) (now (h .entry)) (now (index .exit)) (chartOf (now (chart .entry)) .records) ⌝ }
 {
-    chains::build(chart, &mut index[0..TREE]);
-    ranking::build(chart, &mut index[TREE..LISTS]);
+    chains::build(chart, &mut index[0..RANKS]);
+    ranking::build(&mut index[RANKS..LISTS]);
     list_all(wants, pivots, chart, index);
     span_all(g, h, graph, chart, index);
 }
 
-// The first waiting record of least count.
-pub fn next(chart: &[u64], index: &[u32]) -> Found
+// The first waiting record of least count. The ranking may be made anew for it.
+pub fn next(chart: &[u64], index: &mut [u32]) -> Found
     requires { ⌜ (length (now index) ≡ indexWords) × Ranked (ranksOf (now index)) (chartOf (now chart) .records) × (length (chartOf (now chart) .records) ≤ 4096) ⌝ }
-    ensures { λ r. ⌜ r ≡ leastWaiting (chartOf (now (chart .entry)) .records) (length (chartOf (now (chart .entry)) .records)) ⌝ }
+    ensures { λ r. ⌜ (r ≡ leastWaiting (chartOf (now (chart .entry)) .records) (length (chartOf (now (chart .entry)) .records))) × ((wants pivots : List ℕ) → Indexed wants pivots (now (index .entry)) (chartOf (now (chart .entry)) .records) → Indexed wants pivots (now (index .exit)) (chartOf (now (chart .entry)) .records)) × NearKept (now (index .entry)) (now (index .exit)) ⌝ }
 {
-    ranking::least(chart, &index[TREE..LISTS])
+    ranking::least(chart, &mut index[RANKS..LISTS])
 }
 
 // Five cursors, each at the first entry of its key.
@@ -242,24 +242,27 @@ fn enter(wants: &[u64; 1024], pivots: &[u64; 1088], index: &mut [u32], n: u64, x
     ensures { λ r. ⌜ ((rs : List Record) → Indexed (now (wants .entry)) (now (pivots .entry)) (now (index .entry)) rs → n ≡ length rs → Indexed (now (wants .entry)) (now (pivots .entry)) (now (index .exit)) (rs ++ (ofWords (now (x .entry)) ∷ [])) × NearKept (now (index .entry)) (now (index .exit))) ⌝ }
 {
     list(wants, pivots, index, n, x);
-    chains::link(&mut index[0..TREE], n, b);
-    ranking::place(&mut index[TREE..LISTS], n, x[5] == 0, x[4]);
+    chains::link(&mut index[0..RANKS], n, b);
+    ranking::place(&mut index[RANKS..LISTS], n, x[5] == 0, x[4]);
 }
 
-// Record j, which waits, has the count of x.
-fn recount(index: &mut [u32], j: u64, count: u64)
+// Record j, which waits with the count `old`, has the count of x.
+fn recount(index: &mut [u32], j: u64, old: u64, count: u64)
     requires { ⌜ (length (now index) ≡ indexWords) × (j < 4096) ⌝ }
-    ensures { λ r. ⌜ ((wants pivots : List ℕ) (rs : List Record) (x : Record) → Indexed wants pivots (now (index .entry)) rs → j < length rs → isHandled (recordIn rs j) ≡ false → count ≡ x .count → Indexed wants pivots (now (index .exit)) (set rs j (improved (recordIn rs j) x))) × NearKept (now (index .entry)) (now (index .exit)) ⌝ }
+    ensures { λ r. ⌜ ((wants pivots : List ℕ) (rs : List Record) (x : Record) → Indexed wants pivots (now (index .entry)) rs → j < length rs → isHandled (recordIn rs j) ≡ false → old ≡ recordIn rs j .count → count ≡ x .count → Indexed wants pivots (now (index .exit)) (set rs j (improved (recordIn rs j) x))) × NearKept (now (index .entry)) (now (index .exit)) ⌝ }
 {
-    ranking::place(&mut index[TREE..LISTS], j, true, count);
+    ranking::recount(&mut index[RANKS..LISTS], j, old, count);
 }
 
-// Record j waits no more.
-fn settle(index: &mut [u32], j: u64)
-    requires { ⌜ (length (now index) ≡ indexWords) × (j < 4096) ⌝ }
-    ensures { λ r. ⌜ ((wants pivots : List ℕ) (rs : List Record) → Indexed wants pivots (now (index .entry)) rs → j < length rs → Indexed wants pivots (now (index .exit)) (set rs j (handledNow (recordIn rs j)))) × NearKept (now (index .entry)) (now (index .exit)) ⌝ }
+// Record j waits no more. One that is handled already is not in the ranking.
+fn settle(chart: &[u64], index: &mut [u32], j: u64)
+    requires { ⌜ (length (now index) ≡ indexWords) × (j < itemCount (now chart)) × (j < 4096) ⌝ }
+    ensures { λ r. ⌜ ((wants pivots : List ℕ) → Indexed wants pivots (now (index .entry)) (chartOf (now (chart .entry)) .records) → Indexed wants pivots (now (index .exit)) (set (chartOf (now (chart .entry)) .records) j (handledNow (recordIn (chartOf (now (chart .entry)) .records) j)))) × NearKept (now (index .entry)) (now (index .exit)) ⌝ }
 {
-    ranking::place(&mut index[TREE..LISTS], j, false, 0);
+    if records::field(chart, j, 5) != 0 {
+        return;
+    }
+    ranking::remove(&mut index[RANKS..LISTS], j, records::field(chart, j, 4));
 }
 
 // The record at place j, found again with the item of x, takes the count and the partners of x if that is better.
@@ -270,10 +273,11 @@ fn again(chart: &mut [u64], index: &mut [u32], j: u64, x: &[u64])
     if records::field(chart, j, 5) != 0 {
         return;
     }
-    if records::field(chart, j, 4) <= x[4] {
+    let old = records::field(chart, j, 4);
+    if old <= x[4] {
         return;
     }
-    recount(index, j, x[4]);
+    recount(index, j, old, x[4]);
     records::improve_words(chart, j, x);
 }
 
@@ -316,7 +320,7 @@ pub fn add(
         return;
     }
     let b = chains::bucket(x);
-    match chains::find(chart, &index[0..TREE], x, b) {
+    match chains::find(chart, &index[0..RANKS], x, b) {
         Found::At(j) => again(chart, index, j, x),
         Found::Nowhere => behind(wants, pivots, chart, index, x, b, o),
     }
@@ -327,6 +331,6 @@ pub fn handle(chart: &mut [u64], index: &mut [u32], j: u64)
     requires { ⌜ (length (now index) ≡ indexWords) × Fits (now chart) × (j < itemCount (now chart)) × (j < 4096) ⌝ }
     ensures { λ r. ⌜ (now (chart .exit) ≡ markedAt (now (chart .entry)) j) × ((wants pivots : List ℕ) → Indexed wants pivots (now (index .entry)) (chartOf (now (chart .entry)) .records) → Indexed wants pivots (now (index .exit)) (chartOf (now (chart .exit)) .records)) × ((g h : List ℕ) → Spanned g h (now (index .entry)) (chartOf (now (chart .entry)) .records) → Spanned g h (now (index .exit)) (chartOf (now (chart .exit)) .records)) ⌝ }
 {
-    settle(index, j);
+    settle(chart, index, j);
     records::mark_handled(chart, j);
 }

@@ -25,17 +25,12 @@ use Rattle.questions.specs.Layout.{ruleNodes, graphNodes}
 use Rattle.questions.specs.Abstract.{grammarOf, graphOf}
 use Rattle.joins.specs.declared.Joined.{Joined}
 use Rattle.joins.specs.declared.Merged.{Merged}
-use Rattle.joins.specs.Joins.{Accepted, KnownNode, NodesIn, OpenAt, OpenIn, Spans, Keeps, openBy, openJoined, lostAt, noneLost, Merges, nothing, joinedAs}
+use Rattle.joins.specs.Joins.{Accepted, KnownNode, NodesIn, OpenAt, OpenIn, Spans, Keeps, openBy, openJoined, lostAt, noneLost, Merges, Makes}
 use Rattle.joins.specs.Graphs.{GraphTable}
 use Rattle.joins.proofs.Known.{rule-ok, right-nodes, nodes-few, graph-ok, graph-nodes, graph-nodes-few}
 use Rattle.joins.proofs.Touching.{member-both, touches-some}
-use Rattle.joins.proofs.Openness.{bool-same, some-find, open-by, open-few, spans-none}
+use Rattle.joins.proofs.Openness.{bool-same, some-find, open-by, open-few}
 use Rattle.joins.proofs.MapLaws.{every-true, every-same, agreeAt, length-joined, at-joined}
-
--- ---- as many places as rule nodes
-length-restrict : (R : Rule) (q : ℕ) (j : List ℕ) → length (restrict R q j) ≡ R .production .right .nodes
-unfolding restrict
-length-restrict R q j = length-tabulate (R .production .right .nodes) (λ x. keepIf (isOpenAt R q x) (at j x))
 
 -- ---- only the first n places count
 agree-take : (n : ℕ) (f k : List ℕ) → agree n (take n f) (take n k) ≡ agree n f k
@@ -227,35 +222,35 @@ module _ (H : Graph) (R : Rule) (r q m₁ m₂ : ℕ) where
   unfolding combine stages
   combine-stages f k = refl
 
-  apart-no : (a : Bool) (j : List ℕ) (o : ℕ) → disjoint m₁ m₂ ≡ false → joinedAs (stages a j) o ≡ nothing
-  unfolding stages joinedAs
-  apart-no a j o h = rw h
+  apart-no : (a : Bool) (j : List ℕ) → disjoint m₁ m₂ ≡ false → stages a j ≡ []
+  unfolding stages
+  apart-no a j h = rw h
 
-  merge-not : (a : Bool) (j : List ℕ) (o : ℕ) → (a && oneToOne (H .nodes) j) ≡ false → joinedAs (stages a j) o ≡ nothing
-  unfolding stages joinedAs
-  merge-not a j o h =
+  merge-not : (a : Bool) (j : List ℕ) → (a && oneToOne (H .nodes) j) ≡ false → stages a j ≡ []
+  unfolding stages
+  merge-not a j h =
       go (guard (covering H (m₁ ∪ m₂) (restrict R q j)) (active r q (m₁ ∪ m₂) (restrict R q j) ∷ [])) (disjoint m₁ m₂) a (oneToOne (H .nodes) j) h
     where
-      go : (l : List Item) (d a b : Bool) → (a && b) ≡ false → joinedAs (guard d (guard a (guard b l))) o ≡ nothing
+      go : (l : List Item) (d a b : Bool) → (a && b) ≡ false → guard d (guard a (guard b l)) ≡ []
       go l false a b h = refl
       go l true false b h = refl
       go l true true false h = refl
       go l true true true h = absurd (false≢true (sym h))
 
-  cover-no : (a : Bool) (j : List ℕ) (o : ℕ) → covering H (m₁ ∪ m₂) (restrict R q j) ≡ false → joinedAs (stages a j) o ≡ nothing
-  unfolding stages joinedAs
-  cover-no a j o h = rw h (go (disjoint m₁ m₂) a (oneToOne (H .nodes) j))
+  cover-no : (a : Bool) (j : List ℕ) → covering H (m₁ ∪ m₂) (restrict R q j) ≡ false → stages a j ≡ []
+  unfolding stages
+  cover-no a j h = rw h (go (disjoint m₁ m₂) a (oneToOne (H .nodes) j))
     where
-      go : (d a b : Bool) → joinedAs (guard d (guard a (guard b []))) o ≡ nothing
+      go : (d a b : Bool) → guard {A = Item} d (guard a (guard b [])) ≡ []
       go false a b = refl
       go true false b = refl
       go true true false = refl
       go true true true = refl
 
-  all-pass : (a : Bool) (j : List ℕ) (o : ℕ) → disjoint m₁ m₂ ≡ true → (a && oneToOne (H .nodes) j) ≡ true → covering H (m₁ ∪ m₂) (restrict R q j) ≡ true
-      → joinedAs (stages a j) o ≡ record { found = true; edges = m₁ ∪ m₂; nodes = padded (restrict R q j); images = o }
-  unfolding stages joinedAs
-  all-pass a j o d p c = let (x, y) = and-true a (oneToOne (H .nodes) j) p in rw (d, x, y, c)
+  all-pass : (a : Bool) (j : List ℕ) → disjoint m₁ m₂ ≡ true → (a && oneToOne (H .nodes) j) ≡ true → covering H (m₁ ∪ m₂) (restrict R q j) ≡ true
+      → stages a j ≡ active r q (m₁ ∪ m₂) (restrict R q j) ∷ []
+  unfolding stages
+  all-pass a j d p c = let (x, y) = and-true a (oneToOne (H .nodes) j) p in rw (d, x, y, c)
 
 -- ---- over accepted tables
 module _ (g h : List ℕ) (r q m₁ m₂ : ℕ) (f k : List ℕ) (accepted : Accepted g h) (known : KnownNode g r q) where
@@ -265,30 +260,28 @@ module _ (g h : List ℕ) (r q m₁ m₂ : ℕ) (f k : List ℕ) (accepted : Acc
   abbrev R : Rule
   R = ruleOf (grammarOf g) r
 
-  abbrev made : ℕ → Joined
-  made o = joinedAs (combine (graphOf g h) R r q m₁ m₂ (take n f) (take n k)) o
+  abbrev made : List Item
+  made = combine (graphOf g h) R r q m₁ m₂ (take n f) (take n k)
 
   -- what is promised of the answer
-  abbrev Answer : Joined → Type 0
-  Answer y = (y ≡ made (y .images)) × Spans g h (y .edges) (y .images)
+  abbrev Answer : List ℕ → Joined → Type 0
+  Answer t y = Makes g h made r q (m₁ ∪ m₂) t y
 
-  whole : (o : ℕ) → made o ≡ joinedAs (stages (graphOf g h) R r q m₁ m₂ (agree n f k) (joined n f k)) o
-  whole o =
+  whole : made ≡ stages (graphOf g h) R r q m₁ m₂ (agree n f k) (joined n f k)
+  whole =
       let size : R .production .right .nodes ≡ n = right-nodes g r (known .grammar) (known .rule) in
-      ap (λ (l : List Item). joinedAs l o)
-      (combine-stages (graphOf g h) R r q m₁ m₂ (take n f) (take n k)
+      combine-stages (graphOf g h) R r q m₁ m₂ (take n f) (take n k)
       ∙ ap₂ (stages (graphOf g h) R r q m₁ m₂)
-      (ap (λ i. agree i (take n f) (take n k)) size ∙ agree-take n f k) (ap (λ i. joined i (take n f) (take n k)) size ∙ joined-take n f k))
+      (ap (λ i. agree i (take n f) (take n k)) size ∙ agree-take n f k) (ap (λ i. joined i (take n f) (take n k)) size ∙ joined-take n f k)
 
-  none-made : (y : Joined) → y ≡ nothing → ((o : ℕ) → joinedAs (stages (graphOf g h) R r q m₁ m₂ (agree n f k) (joined n f k)) o ≡ nothing) → Answer y
-  none-made y e none =
-      (e ∙ sym (whole (y .images) ∙ none (y .images)), subst (λ (y : Joined). Spans g h (y .edges) (y .images)) (sym e) (spans-none g h 0))
+  none-made : (t : List ℕ) (y : Joined) → y .found ≡ false → stages (graphOf g h) R r q m₁ m₂ (agree n f k) (joined n f k) ≡ [] → Answer t y
+  none-made t y e none = record { none = λ _. whole ∙ none; one = λ p. absurd (false≢true (sym e ∙ p)); spans = λ p. absurd (false≢true (sym e ∙ p)) }
 
-  pub combine-apart : (b : Bool) → b ≡ disjoint m₁ m₂ → b ≡ false → (y : Joined) → y ≡ nothing → Answer y
-  combine-apart b e fails y is = none-made y is (λ o. apart-no (graphOf g h) R r q m₁ m₂ (agree n f k) (joined n f k) o (sym e ∙ fails))
+  pub combine-apart : (b : Bool) → b ≡ disjoint m₁ m₂ → b ≡ false → (t : List ℕ) (y : Joined) → y .found ≡ false → Answer t y
+  combine-apart b e fails t y is = none-made t y is (apart-no (graphOf g h) R r q m₁ m₂ (agree n f k) (joined n f k) (sym e ∙ fails))
 
   module _ (w : List ℕ) (table : GraphTable g h w) (size nodes stays : ℕ) (opened : OpenAt g r q stays) (e : size ≡ ruleNodes g r) (e′ : nodes ≡ graphNodes h) (m : ℕ) (small : m < 2 ^ 64) (u : m ≡ m₁ ∪ m₂)
-      (x : Merged) (merges : Merges size nodes stays w m f k x) where
+      (t : List ℕ) (x : Merged) (merges : Merges size nodes stays w m f k t x) where
     abbrev fits : Bool
     fits = agree n f k && oneToOne (graphOf g h .nodes) (joined n f k)
 
@@ -300,13 +293,13 @@ module _ (g h : List ℕ) (r q m₁ m₂ : ℕ) (f k : List ℕ) (accepted : Acc
     map : openJoined size stays f k ≡ restrict R q (joined n f k)
     map = ap (λ i. openJoined i stays f k) e ∙ closed g r q stays f k known opened
 
-    pub combine-clash : x .ok ≡ false → (y : Joined) → y ≡ nothing → Answer y
-    combine-clash fails y is = none-made y is (λ o. go o fits refl (test ∙ fails))
+    pub combine-clash : x .ok ≡ false → (y : Joined) → y .found ≡ false → Answer t y
+    combine-clash fails y is = none-made t y is (go fits refl (test ∙ fails))
       where
-        go : (o : ℕ) (b : Bool) → fits ≡ b → (b && noneLost n stays w m f k) ≡ false → joinedAs (stages (graphOf g h) R r q m₁ m₂ (agree n f k) (joined n f k)) o ≡ nothing
-        go o false p z = merge-not (graphOf g h) R r q m₁ m₂ (agree n f k) (joined n f k) o p
-        go o true p z =
-            cover-no (graphOf g h) R r q m₁ m₂ (agree n f k) (joined n f k) o
+        go : (b : Bool) → fits ≡ b → (b && noneLost n stays w m f k) ≡ false → stages (graphOf g h) R r q m₁ m₂ (agree n f k) (joined n f k) ≡ []
+        go false p z = merge-not (graphOf g h) R r q m₁ m₂ (agree n f k) (joined n f k) p
+        go true p z =
+            cover-no (graphOf g h) R r q m₁ m₂ (agree n f k) (joined n f k)
             (ap₂ (covering (graphOf g h)) (sym u) (sym (ap (λ i. openJoined i stays f k) (sym e) ∙ map))
             ∙ lost-bare g h w accepted table m small n stays f k (and-true (agree n f k) (oneToOne (graphOf g h .nodes) (joined n f k)) p .1) z)
 
@@ -326,65 +319,19 @@ module _ (g h : List ℕ) (r q m₁ m₂ : ℕ) (f k : List ℕ) (accepted : Acc
         cover : c ≡ covering (graphOf g h) (m₁ ∪ m₂) (restrict R q (joined n f k))
         cover = bare ∙ ap₂ (covering (graphOf g h)) u map
 
-        pub combine-bare : c ≡ false → (y : Joined) → y ≡ nothing → Answer y
-        combine-bare fails y is = none-made y is (λ o. cover-no (graphOf g h) R r q m₁ m₂ (agree n f k) (joined n f k) o (sym cover ∙ fails))
+        pub combine-bare : c ≡ false → (y : Joined) → y .found ≡ false → Answer t y
+        combine-bare fails y is = none-made t y is (cover-no (graphOf g h) R r q m₁ m₂ (agree n f k) (joined n f k) (sym cover ∙ fails))
 
-        pub combine-found : (b : Bool) → b ≡ disjoint m₁ m₂ → b ≡ true → c ≡ true → Answer (record { found = true; edges = m; nodes = x .nodes; images = x .images })
-        combine-found b d holds p = (
-          ap₂ (λ (m : ℕ) (t : List ℕ). record { found = true; edges = m; nodes = t; images = x .images }) u (merges .map ok ∙ ap padded map)
-              ∙ sym (whole (x .images) ∙ all-pass (graphOf g h) R r q m₁ m₂ (agree n f k) (joined n f k) (x .images) (sym d ∙ holds) (passed .0) (sym cover ∙ p)),
-          covered-spans g h m (x .images) (openJoined size stays f k) accepted (sym bare ∙ p) (merges .images ok),
-        )
-
--- ---- what callers read off the answer
-module _ (H : Graph) (R : Rule) (r q m₁ m₂ : ℕ) (f k : List ℕ) where
-  abbrev items : List Item
-  items = combine H R r q m₁ m₂ f k
-
-  -- the one item that the answer holds
-  pub record One (x : Joined) : Type 0 where
-    pub map : List ℕ
-    pub item : items ≡ active r q (x .edges) map ∷ []
-    pub nodes : x .nodes ≡ padded map
-    pub size : length map ≡ R .production .right .nodes
-
-  abbrev j : List ℕ
-  j = joined (R .production .right .nodes) f k
-
-  pub answer-none : (x : Joined) (o : ℕ) → x ≡ joinedAs items o → x .found ≡ false → items ≡ []
-  unfolding combine joinedAs
-  answer-none x o e h =
-      go (disjoint m₁ m₂) (agree (R .production .right .nodes) f k) (oneToOne (H .nodes) j) (covering H (m₁ ∪ m₂) (restrict R q j)) (ap (λ (y : Joined). y .found) (sym e) ∙ h)
-    where
-      list : (d a b c : Bool) → List Item
-      list d a b c = guard d (guard a (guard b (guard c (active r q (m₁ ∪ m₂) (restrict R q j) ∷ []))))
-
-      go : (d a b c : Bool) → joinedAs (list d a b c) o .found ≡ false → list d a b c ≡ []
-      go false a b c h = refl
-      go true false b c h = refl
-      go true true false c h = refl
-      go true true true false h = refl
-      go true true true true h = absurd (false≢true (sym h))
-
-  pub answer-one : (x : Joined) (o : ℕ) → x ≡ joinedAs items o → x .found ≡ true → One x
-  unfolding combine joinedAs
-  answer-one x o e h =
-      go (disjoint m₁ m₂) (agree (R .production .right .nodes) f k) (oneToOne (H .nodes) j) (covering H (m₁ ∪ m₂) (restrict R q j)) refl e h
-    where
-      list : (d a b c : Bool) → List Item
-      list d a b c = guard d (guard a (guard b (guard c (active r q (m₁ ∪ m₂) (restrict R q j) ∷ []))))
-
-      go : (d a b c : Bool) → items ≡ list d a b c → x ≡ joinedAs (list d a b c) o → x .found ≡ true → One x
-      go false a b c l e h = absurd (false≢true (ap (λ (y : Joined). y .found) (sym e) ∙ h))
-      go true false b c l e h = absurd (false≢true (ap (λ (y : Joined). y .found) (sym e) ∙ h))
-      go true true false c l e h = absurd (false≢true (ap (λ (y : Joined). y .found) (sym e) ∙ h))
-      go true true true false l e h = absurd (false≢true (ap (λ (y : Joined). y .found) (sym e) ∙ h))
-      go true true true true l e h = record {
-        map = restrict R q j;
-        item = l ∙ ap (λ (y : Joined). active r q (y .edges) (restrict R q j) ∷ []) (sym e);
-        nodes = ap (λ (y : Joined). y .nodes) e;
-        size = length-restrict R q j;
-      }
+        pub combine-found : (b : Bool) → b ≡ disjoint m₁ m₂ → b ≡ true → c ≡ true → Answer t (record { found = true; images = x .images })
+        combine-found b d holds p = record {
+          none = λ z. absurd (false≢true (sym z));
+          one = λ _. record {
+            map = restrict R q (joined n f k);
+            item = whole ∙ all-pass (graphOf g h) R r q m₁ m₂ (agree n f k) (joined n f k) (sym d ∙ holds) (passed .0) (sym cover ∙ p);
+            places = merges .map ok ∙ ap padded map;
+          };
+          spans = λ _. subst (λ i. Spans g h i (x .images)) u (covered-spans g h m (x .images) (openJoined size stays f k) accepted (sym bare ∙ p) (merges .images ok));
+        }
 
 -- an open rule node is one of the rule's nodes
 pub open-rule-known : (g : List ℕ) (r p x : ℕ) → KnownNode g r p → isOpenAt (ruleOf (grammarOf g) r) p x ≡ true → x < ruleNodes g r

@@ -1,5 +1,5 @@
 -- The map of an edge's nodes, filled from the last node on.
-use mathlib.Core.Path.{_≡_, refl, sym, ap, _∙_}
+use mathlib.Core.Path.{_≡_, refl, sym, ap, _∙_, subst}
 use mathlib.Core.Bool.{Bool, true, false}
 use mathlib.Core.List.{List, [], _∷_}
 use Prim.Native.Nat.{ℕ, zero, suc, _+_, _-_, _≤_, _<_}
@@ -18,6 +18,7 @@ use Rattle.hrg.proofs.Sums.{hit-self, occurs-at, length-tabulate, at-tabulate, 
 use Rattle.questions.specs.Layout.{rankAt, ruleNodes, edgeLabel, edgeNode}
 use Rattle.questions.specs.Abstract.{grammarOf}
 use Rattle.questions.proofs.StoredLaws.{getD-tabulate}
+use Rattle.questions.proofs.WellFormedLists.{tabulate-list}
 use Rattle.questions.proofs.WellFormedLent.{checked-grammar-ok}
 use Rattle.questions.proofs.WellFormedAccepted.{rule-is, edge-is}
 use Rattle.joins.specs.Joins.{KnownEdge, edgeNodes}
@@ -37,6 +38,50 @@ at-past f x h = List·getD-eq-default f unplaced h
 
 pub is-padded : (f F : List ℕ) → length f ≡ 8 → ((x : ℕ) → x < 8 → at f x ≡ at F x) → f ≡ padded F
 is-padded f F size same = ext-getD unplaced f (padded F) (size ∙ sym (length-padded F)) (λ x h. same x (omega (arith, h, size)) ∙ sym (at-padded F x (omega (arith, h, size))))
+
+-- ---- words one by one
+pub as-words : (n : ℕ) (l : List ℕ) → length l ≡ n → tabulate n (λ k. getD l k 0) ≡ l
+as-words n l e = tabulate-list l n (λ k. getD l k 0) (sym e) (λ i h. refl)
+
+pub set-eight : (t : List ℕ) (a b c d e f g h : ℕ) → length t ≡ 8 → set (set (set (set (set (set (set (set t 0 a) 1 b) 2 c) 3 d) 4 e) 5 f) 6 g) 7 h ≡ a ∷ b ∷ c ∷ d ∷ e ∷ f ∷ g ∷ h ∷ []
+unfolding tabulate
+set-eight t a b c d e f g h size =
+    subst (λ (t : List ℕ). set (set (set (set (set (set (set (set t 0 a) 1 b) 2 c) 3 d) 4 e) 5 f) 6 g) 7 h ≡ a ∷ b ∷ c ∷ d ∷ e ∷ f ∷ g ∷ h ∷ []) (as-words 8 t size) refl
+
+-- ---- places without images
+-- from place n on, so far
+pub record Cleared (n : ℕ) (t f : List ℕ) (i : ℕ) : Type 0 where
+  pub from : n ≤ i
+  pub upto : i ≤ 8
+  pub size : length f ≡ 8
+  pub before : (x : ℕ) → x < n → at f x ≡ at t x
+  pub after : (x : ℕ) → n ≤ x → x < i → at f x ≡ unplaced
+
+pub cleared-none : (n : ℕ) (t : List ℕ) → n ≤ 8 → length t ≡ 8 → Cleared n t t n
+cleared-none n t few size = record { from = omega arith; upto = few; size = size; before = λ x h. refl; after = λ x a b. absurd (omega arith) }
+
+pub cleared-next : (n : ℕ) (t f : List ℕ) (i : ℕ) → i < 8 → Cleared n t f i → Cleared n t (set f i 64) (i + 1)
+cleared-next n t f i h c = record {
+  from = omega (arith, c .from);
+  upto = omega arith;
+  size = length-set f i 64 ∙ c .size;
+  before = λ x l. getD-set-other f i x 64 unplaced (λ d. omega (arith, c .from)) ∙ c .before x l;
+  after = λ x a b. go x a b (decLt x i);
+}
+  where
+    go : (x : ℕ) → n ≤ x → x < i + 1 → Dec (x < i) → at (set f i 64) x ≡ unplaced
+    go x a b (yes d) = getD-set-other f i x 64 unplaced (λ s. omega arith) ∙ c .after x a d
+    go x a b (no d) = let s : x ≡ i = omega arith in rw s (getD-set-same f i 64 unplaced (omega (arith, c .size)))
+
+pub cleared-all : (n : ℕ) (t f : List ℕ) (i : ℕ) → length t ≡ 8 → 8 ≤ i → Cleared n t f i → f ≡ padded (take n t)
+cleared-all n t f i size h c = is-padded f (take n t) (c .size) (λ x l. go x l (decLt x n))
+  where
+    long : length (take n t) ≡ n
+    long = length-take-le n t (omega (arith, c .from, c .upto))
+
+    go : (x : ℕ) → x < 8 → Dec (x < n) → at f x ≡ at (take n t) x
+    go x l (yes d) = c .before x d ∙ sym (getD-take n t x unplaced d)
+    go x l (no d) = c .after x (omega arith) (omega arith) ∙ sym (at-past (take n t) x (omega (arith, long)))
 
 -- ---- the node of L for a rule node
 node-first : (x a b : ℕ) (as′ bs : List ℕ) → x ≡ a → nodeFor x (a ∷ as′) (b ∷ bs) ≡ b
@@ -141,10 +186,10 @@ module _ (g : List ℕ) (r i : ℕ) (known : KnownEdge g r i) where
     abbrev pub L : List ℕ
     L = take rank l
 
-    pub attach-none : (label k : ℕ) → label ≡ edgeLabel g r i → k ≡ rankAt g label → (k ≤ rank) × MapFrom (edgeNodes g r i) L k (replicate 8 unplaced)
-    attach-none label k a b =
+    pub attach-none : (label k : ℕ) (f : List ℕ) → f ≡ replicate 8 unplaced → label ≡ edgeLabel g r i → k ≡ rankAt g label → (k ≤ rank) × MapFrom (edgeNodes g r i) L k f
+    attach-none label k f z a b =
         let e : k ≡ rank = b ∙ ap (rankAt g) a in
-        (omega arith, map-none (edgeNodes g r i) L k (e ∙ sym edge-rank))
+        (omega arith, subst (MapFrom (edgeNodes g r i) L k) (sym z) (map-none (edgeNodes g r i) L k (e ∙ sym edge-rank)))
 
     pub attach-next : (k x : ℕ) (f : List ℕ) → 0 < k → x ≡ edgeNode g r i (k - 1) → (k ≤ rank) × MapFrom (edgeNodes g r i) L k f
         → (k - 1 ≤ rank) × MapFrom (edgeNodes g r i) L (k - 1) (set f x (getD l (k - 1) 0))

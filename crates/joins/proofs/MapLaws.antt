@@ -6,7 +6,7 @@ use Prim.Native.Nat.{ℕ, zero, suc, _+_, _≤_, _<_, min}
 use native.Mathlib.Omega.{arith}
 use native.Mathlib.Decide.{decLt}
 use lib.ListN.{length, getD, set, take, replicate, length-set}
-use lib.Seq.{getD-set-same, getD-set-other, take-length}
+use lib.Seq.{getD-set-same, getD-set-other, getD-take, take-length, length-take-le, ext-getD}
 use lib.Dec.{eqb, leb, ltb}
 use borrow.Author.Tests.{lt-ltb, le-leb, lt-leb, ltb-true, ltb-false, eq-eqb, ne-eqb, eqb-true, eqb-false, not-true, not-false}
 use lib.Bits.{bitAnd, bitOr}
@@ -113,6 +113,36 @@ placed-all t n i f a b p = is-padded f (tabulate n t) (p .size) (λ x h. go x (d
     go x (yes d) = p .before x (omega arith) ∙ sym (at-tabulate n t x d)
     go x (no d) = p .after x (omega arith) ∙ sym (at-past (tabulate n t) x (omega (arith, length-tabulate n t)))
 
+-- ---- a map that is put over another, place by place
+pub record Over (t : ℕ → ℕ) (k : List ℕ) (i : ℕ) (f : List ℕ) : Type 0 where
+  pub size : length f ≡ 8
+  pub before : (x : ℕ) → x < i → at f x ≡ t x
+  pub after : (x : ℕ) → i ≤ x → at f x ≡ at k x
+
+pub over-none : (t : ℕ → ℕ) (k : List ℕ) → length k ≡ 8 → Over t k 0 k
+over-none t k size = record { size = size; before = λ x h. absurd (omega arith); after = λ x h. refl }
+
+pub over-next : (t : ℕ → ℕ) (k : List ℕ) (i v : ℕ) (f : List ℕ) → i < 8 → v ≡ t i → Over t k i f → Over t k (i + 1) (set f i v)
+over-next t k i v f h e p = record {
+  size = length-set f i v ∙ p .size;
+  before = λ x l. go x l (decLt x i);
+  after = λ x l. getD-set-other f i x v unplaced (λ d. omega arith) ∙ p .after x (omega arith);
+}
+  where
+    go : (x : ℕ) → x < i + 1 → Dec (x < i) → at (set f i v) x ≡ t x
+    go x l (yes d) = getD-set-other f i x v unplaced (λ s. omega arith) ∙ p .before x d
+    go x l (no d) = let s : x ≡ i = omega arith in rw s (getD-set-same f i v unplaced (omega (arith, p .size)) ∙ e)
+
+-- its first n places, and none from there on
+pub over-all : (t : ℕ → ℕ) (k : List ℕ) (n i : ℕ) (f : List ℕ) → n ≤ 8 → n ≤ i → Over t k i f → padded (take n f) ≡ padded (tabulate n t)
+over-all t k n i f few b p = ap padded (ext-getD unplaced (take n f) (tabulate n t) (long ∙ sym (length-tabulate n t)) (λ x h. go x (omega (arith, long))))
+  where
+    long : length (take n f) ≡ n
+    long = length-take-le n f (omega (arith, p .size))
+
+    go : (x : ℕ) → x < n → at (take n f) x ≡ at (tabulate n t) x
+    go x d = getD-take n f x unplaced d ∙ p .before x (omega arith) ∙ sym (at-tabulate n t x d)
+
 -- two maps as one
 module _ (f k : List ℕ) (size : length f ≡ 8) (size′ : length k ≡ 8) where
   pub merge-next : (i v : ℕ) (j : List ℕ) → i < 8 → v ≡ orElse (getD f i 0) (getD k i 0) → Placed (λ x. orElse (at f x) (at k x)) i j → Placed (λ x. orElse (at f x) (at k x)) (i + 1) (set j i v)
@@ -179,16 +209,16 @@ pub record Joining (n nodes stays : ℕ) (table : List ℕ) (m : ℕ) (f k t : L
   pub few : i ≤ n
   pub agreed : Agreed f k i
   pub once : Once nodes (joined n f k) i seen
-  pub placed : Placed (λ x. keepIf (member stays x) (orElse (at f x) (at k x))) i t
+  pub placed : Over (λ x. keepIf (member stays x) (orElse (at f x) (at k x))) k i t
   pub kept : NodesIn images (take i (openJoined n stays f k))
   pub closed : (x : ℕ) → x < i → lostAt stays table m f k x ≡ false
 
-pub joining-none : (n nodes stays : ℕ) (table : List ℕ) (m : ℕ) (f k : List ℕ) → length f ≡ 8 → length k ≡ 8 → Joining n nodes stays table m f k (replicate 8 unplaced) 0 0 0
+pub joining-none : (n nodes stays : ℕ) (table : List ℕ) (m : ℕ) (f k : List ℕ) → length f ≡ 8 → length k ≡ 8 → Joining n nodes stays table m f k k 0 0 0
 joining-none n nodes stays table m f k size size′ = record {
   few = omega arith;
   agreed = agree-none f k size size′;
   once = once-none nodes (joined n f k);
-  placed = placed-none _;
+  placed = over-none _ k size′;
   kept = seen-none (openJoined n stays f k);
   closed = λ x h. absurd (omega arith);
 }
@@ -265,8 +295,11 @@ module _ (nodes v seen on known : ℕ) (few : nodes ≤ 64) (added : Added 0 v o
       go false s = s
 
 module _ (n nodes stays : ℕ) (table : List ℕ) (m : ℕ) (f k : List ℕ) (size : length f ≡ 8) (size′ : length k ≡ 8) (few : n ≤ 8) (few′ : nodes ≤ 64) where
-  module _ (t : List ℕ) (seen images i a b v on known : ℕ) (h : i < n) (x : a ≡ getD f i 0) (y : b ≡ getD k i 0) (z : v ≡ orElse a b) (added : Added 0 v on) (filled : Filled nodes known)
+  module _ (t : List ℕ) (seen images i a b v on known : ℕ) (h : i < n) (x : a ≡ getD f i 0) (y₀ : b ≡ getD t i 0) (z : v ≡ orElse a b) (added : Added 0 v on) (filled : Filled nodes known)
       (o : Joining n nodes stays table m f k t seen images i) where
+    y : b ≡ getD k i 0
+    y = y₀ ∙ getD-any t i 0 unplaced (omega (arith, o .placed .size)) ∙ o .placed .after i (omega arith) ∙ getD-any k i unplaced 0 (omega arith)
+
     image : v ≡ orElse (at f i) (at k i)
     image = z ∙ ap₂ orElse (x ∙ getD-any f i 0 unplaced (omega arith)) (y ∙ getD-any k i 0 unplaced (omega arith))
 
@@ -282,17 +315,17 @@ module _ (n nodes stays : ℕ) (table : List ℕ) (m : ℕ) (f k : List ℕ) (si
     abbrev merged : Bool
     merged = agree n f k && oneToOne nodes (joined n f k)
 
-    merges-not : (x : Merged) → x .ok ≡ false → false ≡ (merged && noneLost n stays table m f k) → Merges n nodes stays table m f k x
-    merges-not x bad test = record {
+    merges-not : (made : List ℕ) (x : Merged) → x .ok ≡ false → false ≡ (merged && noneLost n stays table m f k) → Merges n nodes stays table m f k made x
+    merges-not made x bad test = record {
       test = bad ∙ test;
       map = λ p. absurd (false≢true (sym bad ∙ p));
       seen = λ p. absurd (false≢true (sym bad ∙ p));
       images = λ p. absurd (false≢true (sym bad ∙ p));
     }
 
-    pub joining-not : ((ltb a 64 && ltb b 64 && not (eqb a b)) || again) ≡ true → (x : Merged) → x .ok ≡ false → Merges n nodes stays table m f k x
-    joining-not fails r bad =
-        merges-not r bad
+    pub joining-not : ((ltb a 64 && ltb b 64 && not (eqb a b)) || again) ≡ true → (made : List ℕ) (x : Merged) → x .ok ≡ false → Merges n nodes stays table m f k made x
+    joining-not fails made r bad =
+        merges-not made r bad
         (ap (λ b. b && noneLost n stays table m f k)
         (either-true (ltb a 64 && ltb b 64 && not (eqb a b)) again fails (agree n f k) (oneToOne nodes (joined n f k))
         (agree-not f k size size′ n i a b few h x y)
@@ -301,10 +334,10 @@ module _ (n nodes stays : ℕ) (table : List ℕ) (m : ℕ) (f k : List ℕ) (si
     lost-is : (here : Bool) → Found stays i here → (c : Bool) → c ≡ (not here && openBy table m v) → lostAt stays table m f k i ≡ c
     lost-is here stay c e = sym (e ∙ ap₂ (λ (p : Bool) (u : ℕ). not p && openBy table m u) (stay .value) image)
 
-    pub joining-lost : (here : Bool) → Found stays i here → (c : Bool) → c ≡ (not here && openBy table m v) → c ≡ true → (x : Merged) → x .ok ≡ false → Merges n nodes stays table m f k x
+    pub joining-lost : (here : Bool) → Found stays i here → (c : Bool) → c ≡ (not here && openBy table m v) → c ≡ true → (made : List ℕ) (x : Merged) → x .ok ≡ false → Merges n nodes stays table m f k made x
     unfolding noneLost
-    joining-lost here stay c e fails r bad =
-        merges-not r bad
+    joining-lost here stay c e fails made r bad =
+        merges-not made r bad
         (sym (and-false merged) ∙ ap (λ b. merged && b) (every-false n (λ x. not (lostAt stays table m f k x)) i h (ap not (lost-is here stay c e ∙ fails))))
 
     pub joining-next : ((ltb a 64 && ltb b 64 && not (eqb a b)) || again) ≡ false → (here : Bool) → Found stays i here → (c : Bool) → c ≡ (not here && openBy table m v) → c ≡ false → (w : ℕ) → w ≡ keepIf here v
@@ -318,7 +351,7 @@ module _ (n nodes stays : ℕ) (table : List ℕ) (m : ℕ) (f k : List ℕ) (si
           few = omega arith;
           agreed = agree-next f k size size′ n i a b few h x y p (o .agreed);
           once = once-next nodes (joined n f k) few′ i v seen inside value (o .once) (bitOr seen on) (gains seen v on added) (seen-once nodes v seen on known few′ added filled q);
-          placed = placed-next (λ x. keepIf (member stays x) (orElse (at f x) (at k x))) i w t (omega arith) there (o .placed);
+          placed = over-next (λ x. keepIf (member stays x) (orElse (at f x) (at k x))) k i w t (omega arith) there (o .placed);
           kept =
               seen-next (openJoined n stays f k) i w images (bitOr images part) long
               (there ∙ sym (at-tabulate n (λ x. keepIf (member stays x) (orElse (at f x) (at k x))) i h) ∙ getD-any (openJoined n stays f k) i unplaced 0 long)
@@ -330,16 +363,17 @@ module _ (n nodes stays : ℕ) (table : List ℕ) (m : ℕ) (f k : List ℕ) (si
         go z l (yes d) = o .closed z d
         go z l (no d) = let same : z ≡ i = omega arith in ap (lostAt stays table m f k) same ∙ lost-is here stay c e ∙ stuck
 
-  pub joining-all : (t : List ℕ) (seen images i : ℕ) → n ≤ i → Joining n nodes stays table m f k t seen images i → Merges n nodes stays table m f k (record { ok = true; nodes = t; seen = seen; images = images })
+  pub joining-all : (t : List ℕ) (seen images i : ℕ) → n ≤ i → Joining n nodes stays table m f k t seen images i → (made : List ℕ) → made ≡ padded (take n t)
+      → Merges n nodes stays table m f k made (record { ok = true; seen = seen; images = images })
   unfolding noneLost
-  joining-all t seen images i h o =
+  joining-all t seen images i h o made e′ =
       let e : i ≡ n = omega (arith, o .few) in
       record {
         test =
             ap₂ _&&_
             (ap₂ _&&_ (agree-all f k size size′ n i h (o .agreed)) (once-all nodes (joined n f k) i seen (e ∙ sym (length-joined n f k)) (o .once)))
             (sym (every-true n (λ x. not (lostAt stays table m f k x)) (λ x l. ap not (o .closed x (omega arith)))));
-        map = λ p. placed-all (λ x. keepIf (member stays x) (orElse (at f x) (at k x))) n i t (o .few) h (o .placed);
+        map = λ p. e′ ∙ over-all (λ x. keepIf (member stays x) (orElse (at f x) (at k x))) k n i t few h (o .placed);
         seen = λ p. seen-all (joined n f k) i seen (e ∙ sym (length-joined n f k)) (o .once .seen);
         images = λ p. seen-all (openJoined n stays f k) i images (e ∙ sym (length-tabulate n (λ x. keepIf (member stays x) (orElse (at f x) (at k x))))) (o .kept);
       }

@@ -3,14 +3,14 @@ use mathlib.Core.Path.{_≡_}
 use mathlib.Core.Bool.{Bool, true, false, _&&_, _||_, not}
 use mathlib.Core.List.{List, [], _∷_}
 use Prim.Native.Nat.{ℕ, zero, suc, _+_, _-_, _^_, _<_}
-use lib.ListN.{getD, replicate}
+use lib.ListN.{getD}
 use lib.Bits.{bitOr, bitAnd}
 use lib.Dec.{eqb, ltb}
 use Rattle.masks.specs.Masks.{member, _∪_}
 use Rattle.hrg.specs.Counts.{occurs, tabulate}
 use Rattle.hrg.specs.Grammars.{ruleOf, rightOf, planOf, edgeAt}
-use Rattle.hrg.specs.Trees.{unplaced, at, padded}
-use Rattle.hrg.specs.Items.{Item, active, passive, below, isOpen, isOpenAt, orElse, joined, keepIf}
+use Rattle.hrg.specs.Trees.{at, padded}
+use Rattle.hrg.specs.Items.{Item, active, below, isOpen, isOpenAt, orElse, joined, keepIf}
 use Rattle.hrg.specs.WellFormedTest.{every}
 use Rattle.hrg.specs.ClosureRun.{agree, oneToOne}
 use Rattle.questions.specs.Layout.{word, rankAt, ruleCount, ruleEdges, rulePlan}
@@ -120,18 +120,21 @@ unfoldable pub noneLost : ℕ → ℕ → List ℕ → ℕ → List ℕ → List
 unfolding every
 noneLost n stays t m f k = every n (λ x. not (lostAt stays t m f k x))
 
--- whether two maps of n nodes are one map and one-to-one and lose no node that is open in the edge set m; that map without the closed nodes, its images, and those of the closed nodes too
-pub record Merges (n nodes stays : ℕ) (t : List ℕ) (m : ℕ) (f k : List ℕ) (x : Merged) : Type 0 where
+-- whether two maps of n nodes are one map and one-to-one and lose no node that is open in the edge set m; `made` is that map without the closed nodes, and the sets are its images, and those of the closed nodes too
+pub record Merges (n nodes stays : ℕ) (t : List ℕ) (m : ℕ) (f k made : List ℕ) (x : Merged) : Type 0 where
   pub test : x .ok ≡ (agree n f k && oneToOne nodes (joined n f k) && noneLost n stays t m f k)
-  pub map : x .ok ≡ true → x .nodes ≡ padded (openJoined n stays f k)
+  pub map : x .ok ≡ true → made ≡ padded (openJoined n stays f k)
   pub seen : x .ok ≡ true → NodesIn (x .seen) (joined n f k)
   pub images : x .ok ≡ true → NodesIn (x .images) (openJoined n stays f k)
 
-abbrev pub nothing : Joined
-nothing = record { found = false; edges = 0; nodes = replicate 8 unplaced; images = 0 }
+-- a list is one active item of rule r at plan node q with the edge set m, and its map is in the eight places of t
+pub record OneItem (l : List Item) (r q m : ℕ) (t : List ℕ) : Type 0 where
+  pub map : List ℕ
+  pub item : l ≡ active r q m map ∷ []
+  pub places : t ≡ padded map
 
--- the item that `combine` makes, if it does: its set, its map in eight places, and o for the images
-unfoldable pub joinedAs : List Item → ℕ → Joined
-joinedAs [] o = nothing
-joinedAs (active r p m t ∷ is) o = record { found = true; edges = m; nodes = padded t; images = o }
-joinedAs (passive s m L ∷ is) o = nothing
+-- x says whether a list of items has one; the images have the open graph nodes of its set
+pub record Makes (g h : List ℕ) (l : List Item) (r q m : ℕ) (t : List ℕ) (x : Joined) : Type 0 where
+  pub none : x .found ≡ false → l ≡ []
+  pub one : x .found ≡ true → OneItem l r q m t
+  pub spans : x .found ≡ true → Spans g h m (x .images)

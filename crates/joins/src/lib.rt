@@ -3,9 +3,9 @@ ghost use mathlib.Core.Path.{_≡_};
 ghost use mathlib.Core.Bool.{true, false, _&&_, not};
 ghost use mathlib.Core.List.{List};
 ghost use Prim.Native.Nat.{ℕ, _+_, _*_, _≤_, _<_};
-ghost use lib.ListN.{length, take};
-ghost use Rattle.masks.specs.Masks.{single};
-ghost use Rattle.hrg.specs.Trees.{padded};
+ghost use lib.ListN.{length, take, replicate};
+ghost use Rattle.masks.specs.Masks.{single, _∪_};
+ghost use Rattle.hrg.specs.Trees.{unplaced, padded};
 ghost use Rattle.hrg.specs.Counts.{tabulate};
 ghost use Rattle.hrg.specs.Grammars.{ruleOf};
 ghost use Rattle.hrg.specs.Items.{attach};
@@ -13,7 +13,7 @@ ghost use Rattle.hrg.specs.ClosureRun.{covering, combine};
 ghost use Rattle.questions.specs.Layout.{word, rankAt, startSymbol, ruleSymbol, ruleNodes, ruleExternal, edgeLabel, graphEdges, graphExternal};
 ghost use Rattle.questions.specs.Checking.{checkGrammar};
 ghost use Rattle.questions.specs.Abstract.{grammarOf, graphOf};
-ghost use Rattle.joins.specs.Joins.{KnownNode, KnownEdge, Accepted, EdgesBelow, MasksBelow, NodesIn, sideWith, SidesOf, Boundary, OpenAt, OpenIn, Spans, Keeps, edgeNodes, openBy, Merges, nothing, joinedAs};
+ghost use Rattle.joins.specs.Joins.{KnownNode, KnownEdge, Accepted, EdgesBelow, MasksBelow, NodesIn, sideWith, SidesOf, Boundary, OpenAt, OpenIn, Spans, Keeps, edgeNodes, openBy, Merges, Makes};
 ghost use Rattle.joins.specs.Graphs.{GraphTable, Touched};
 
 pub mod graphs;
@@ -185,20 +185,46 @@ pub fn rank_of(g: &[u64], s: u64) -> u64
 }
 
 // ---- maps of rule nodes: eight places, 64 where a node has no image
-// The map of edge i's nodes to the first nodes of l, in order: from the last on, since the first of equal nodes counts.
-pub fn attach(g: &[u64], r: u64, i: u64, l: &[u64]) -> [u64; 8]
-    requires { ⌜ KnownEdge (now g) r i × (length (now l) ≡ 8) ⌝ }
-    ensures { λ f. ⌜ f ≡ padded (attach (ruleNodes (now (g .entry)) r) (edgeNodes (now (g .entry)) r i) (take (rankAt (now (g .entry)) (edgeLabel (now (g .entry)) r i)) (now (l .entry)))) ⌝ }
+// No images.
+pub fn clear(t: &mut [u64])
+    requires { ⌜ length (now t) ≡ 8 ⌝ }
+    ensures { λ x. ⌜ now (t .exit) ≡ replicate 8 unplaced ⌝ }
 {
+    t[0] = 64;
+    t[1] = 64;
+    t[2] = 64;
+    t[3] = 64;
+    t[4] = 64;
+    t[5] = 64;
+    t[6] = 64;
+    t[7] = 64;
+}
+
+// None from place n on.
+fn clear_from(n: u64, t: &mut [u64])
+    requires { ⌜ (n ≤ 8) × (length (now t) ≡ 8) ⌝ }
+    ensures { λ x. ⌜ now (t .exit) ≡ padded (take n (now (t .entry))) ⌝ }
+{
+    let mut i = n;
+    while i < 8 {
+        t[i as usize] = 64;
+        i += 1;
+    }
+}
+
+// The map of edge i's nodes to the first nodes of l, in order, into the eight places of t: from the last on, since the first of equal nodes counts.
+pub fn attach(g: &[u64], r: u64, i: u64, l: &[u64], t: &mut [u64])
+    requires { ⌜ KnownEdge (now g) r i × (length (now l) ≡ 8) × (length (now t) ≡ 8) ⌝ }
+    ensures { λ x. ⌜ now (t .exit) ≡ padded (attach (ruleNodes (now (g .entry)) r) (edgeNodes (now (g .entry)) r i) (take (rankAt (now (g .entry)) (edgeLabel (now (g .entry)) r i)) (now (l .entry)))) ⌝ }
+{
+    clear(t);
     let p = 66 + 25 * r + i;
-    let mut f = [64u64; 8];
     let mut k = rank_of(g, layout::word_in(g, p, 0));
     while 0 < k {
         k -= 1;
         let x = layout::word_in(g, p, 1 + k);
-        f[x as usize] = l[k as usize];
+        t[x as usize] = l[k as usize];
     }
-    f
 }
 
 // Whether graph node v is open in the edge set m, where a rule node with this image is dropped. The words of v at the four places have its edges.
@@ -217,10 +243,9 @@ fn lost(graph: &[u64; 577], m: u64, stays: bool, v: u64) -> bool
     (on & m != 0) & (masks::has(graph[256], v) | (on & !m != 0))
 }
 
-// Two maps as one without the rule nodes that are closed, its images, those of the closed nodes too, and whether the two agree, are one-to-one together and drop no open graph node.
+// Of two maps that are made one: whether they agree, are one-to-one together and drop no open graph node, the images of all nodes, and those of the open ones.
 struct Merged {
     ok: bool,
-    nodes: [u64; 8],
     seen: u64,
     images: u64,
 }
@@ -230,13 +255,13 @@ fn not_merged() -> Merged
 {
     Merged {
         ok: false,
-        nodes: [64u64; 8],
         seen: 0,
         images: 0,
     }
 }
 
-// Two maps of n rule nodes to `nodes` graph nodes, in one pass: the rule nodes in `stays` are open. The set of an image is made once and serves each test.
+// Two maps of n rule nodes to `nodes` graph nodes as one without the closed nodes, in one pass: the rule nodes in `stays` are open. The set of an image is made once and serves each test.
+// The second map is t's, and the joined one is put over it: places are written where they are read, so that nothing is copied.
 fn merge_maps(
     n: u64,
     nodes: u64,
@@ -244,19 +269,18 @@ fn merge_maps(
     graph: &[u64; 577],
     m: u64,
     f: &[u64],
-    k: &[u64],
+    t: &mut [u64],
 ) -> Merged
-    requires { ⌜ (n ≤ 8) × (nodes ≤ 64) × (length (now f) ≡ 8) × (length (now k) ≡ 8) ⌝ }
-    ensures { λ x. ⌜ Merges n nodes stays (now (graph .entry)) m (now (f .entry)) (now (k .entry)) x ⌝ }
+    requires { ⌜ (n ≤ 8) × (nodes ≤ 64) × (length (now f) ≡ 8) × (length (now t) ≡ 8) ⌝ }
+    ensures { λ x. ⌜ Merges n nodes stays (now (graph .entry)) m (now (f .entry)) (now (t .entry)) (now (t .exit)) x ⌝ }
 {
     let known = masks::full(nodes);
-    let mut t = [64u64; 8];
     let mut seen: u64 = 0;
     let mut images: u64 = 0;
     let mut i: u64 = 0;
     while i < n {
         let a = f[i as usize];
-        let b = k[i as usize];
+        let b = t[i as usize];
         let v = maps::first_of(a, b);
         let on = masks::with(0, v);
         if ((a < 64) & (b < 64) & (a != b)) | (seen & on & known != 0) {
@@ -267,14 +291,13 @@ fn merge_maps(
             return not_merged();
         }
         seen |= on;
-        let w = maps::kept(here, v);
-        t[i as usize] = w;
+        t[i as usize] = maps::kept(here, v);
         images |= graphs::chosen(stays, i, on);
         i += 1;
     }
+    clear_from(n, t);
     Merged {
         ok: true,
-        nodes: t,
         seen,
         images,
     }
@@ -300,26 +323,22 @@ fn covered(
     nodes & images == nodes
 }
 
-// What two sets and maps make: nothing where found is false. The images are the graph nodes of its map.
+// Whether two sets and maps make an item, and the graph nodes of its map.
 pub struct Joined {
     pub found: bool,
-    pub edges: u64,
-    pub nodes: [u64; 8],
     pub images: u64,
 }
 
 fn not_joined() -> Joined
-    ensures { λ x. ⌜ x ≡ nothing ⌝ }
+    ensures { λ x. ⌜ x .found ≡ false ⌝ }
 {
     Joined {
         found: false,
-        edges: 0,
-        nodes: [64u64; 8],
         images: 0,
     }
 }
 
-// The item of rule r at plan node q that two sets and maps of rule nodes make, if they do: the rule nodes in `stays` are open there.
+// The item of rule r at plan node q that two sets and maps of rule nodes make, if they do: the rule nodes in `stays` are open there. The second map is t's, and the item's is put over it.
 // The open graph nodes of both sets are in `near`: the fewer others are, the sooner it is known that the union's are covered.
 pub fn combine(
     g: &[u64],
@@ -332,10 +351,10 @@ pub fn combine(
     m2: u64,
     near: u64,
     f: &[u64],
-    k: &[u64],
+    t: &mut [u64],
 ) -> Joined
-    requires { ⌜ Accepted (now g) (now h) × KnownNode (now g) r q × GraphTable (now g) (now h) (now graph) × OpenAt (now g) r q stays × Spans (now g) (now h) m1 near × Spans (now g) (now h) m2 near × (length (now f) ≡ 8) × (length (now k) ≡ 8) ⌝ }
-    ensures { λ x. ⌜ (x ≡ joinedAs (combine (graphOf (now (g .entry)) (now (h .entry))) (ruleOf (grammarOf (now (g .entry))) r) r q m1 m2 (take (ruleNodes (now (g .entry)) r) (now (f .entry))) (take (ruleNodes (now (g .entry)) r) (now (k .entry)))) (x .images)) × Spans (now (g .entry)) (now (h .entry)) (x .edges) (x .images) ⌝ }
+    requires { ⌜ Accepted (now g) (now h) × KnownNode (now g) r q × GraphTable (now g) (now h) (now graph) × OpenAt (now g) r q stays × Spans (now g) (now h) m1 near × Spans (now g) (now h) m2 near × (length (now f) ≡ 8) × (length (now t) ≡ 8) ⌝ }
+    ensures { λ x. ⌜ Makes (now (g .entry)) (now (h .entry)) (combine (graphOf (now (g .entry)) (now (h .entry))) (ruleOf (grammarOf (now (g .entry))) r) r q m1 m2 (take (ruleNodes (now (g .entry)) r) (now (f .entry))) (take (ruleNodes (now (g .entry)) r) (now (t .entry)))) r q (m1 ∪ m2) (now (t .exit)) x ⌝ }
 {
     if !masks::disjoint(m1, m2) {
         return not_joined();
@@ -343,18 +362,15 @@ pub fn combine(
     let n = layout::word_in(g, 65 + 25 * r, 2);
     let nodes = layout::graph_nodes(h);
     let m = masks::union(m1, m2);
-    let merged = merge_maps(n, nodes, stays, graph, m, f, k);
+    let merged = merge_maps(n, nodes, stays, graph, m, f, t);
     if !merged.ok {
         return not_joined();
     }
     if !covered(g, h, graph, m, near, merged.seen, merged.images) {
         return not_joined();
     }
-    let t = merged.nodes;
     Joined {
         found: true,
-        edges: m,
-        nodes: t,
         images: merged.images,
     }
 }

@@ -8,13 +8,12 @@ use lib.ListN.{getD}
 use lib.Dec.{eqb, ltb, leb}
 use borrow.Author.Tests.{eq-eqb, ne-eqb}
 use Rattle.masks.specs.Masks.{bit}
-use Rattle.masks.specs.Laws.{bit-empty}
 use Rattle.hrg.specs.Trees.{at}
 use Rattle.records.specs.Words.{ofWords}
 use Rattle.rules.specs.Wants.{wantIn}
 use Rattle.pivots.specs.Pivots.{positionOf, nodeOf, pivotIn, usesIn}
-use Rattle.pivots.specs.Keys.{bucketOf, imageOf, activeKey, placeKey, listedKeys, keysOf, queryOf, allPlaced, regularOf}
-use Rattle.pivots.proofs.KeyLaws.{key-edge, key-join, key-none, image-there, image-none}
+use Rattle.pivots.specs.Keys.{bucketOf, imageOf, activeKey, placeKey, fiveKeys, placeOf, nodeAt, listedKeys, keysOf, queryOf, allPlaced, regularOf}
+use Rattle.pivots.proofs.KeyLaws.{key-edge, key-join, key-none, image-there, image-none, node-there, node-none, listed-one, listed-all}
 
 -- ---- words of a record
 node-word : (x : List ℕ) (v : ℕ) → v < 8 → getD x (6 + v) 0 ≡ at (ofWords x .nodes) v
@@ -73,6 +72,17 @@ module _ (used tag s i a : ℕ) where
   unfolding placeKey
   place-key x n e = rw (ne-eqb used 0 n) e
 
+-- ---- an only place
+pub place-none : (u : ℕ) → (u ≡ 1 → ⊥) → (u ≡ 2 → ⊥) → (u ≡ 4 → ⊥) → (u ≡ 8 → ⊥) → (u ≡ 16 → ⊥) → 5 ≡ placeOf u
+unfolding placeOf
+place-none u a b c d e = rw (ne-eqb u 1 a, ne-eqb u 2 b, ne-eqb u 4 c, ne-eqb u 8 d, ne-eqb u 16 e)
+
+pub node-no : (L : List ℕ) (i : ℕ) → 4 ≤ i → 64 ≡ nodeAt L i
+node-no L i h = sym (node-none L i h)
+
+pub node-read : (x : List ℕ) (i : ℕ) → i < 4 → getD x (6 + i) 0 ≡ nodeAt (ofWords x .nodes) i
+node-read x i h = node-word x i (omega arith) ∙ sym (node-there (ofWords x .nodes) i h)
+
 -- ---- five keys
 -- the last digit is a member's bit
 bit-first : (u : ℕ) → u % 2 ≡ bit u 0
@@ -87,21 +97,22 @@ module _ (pivots : List ℕ) (tag : ℕ) (x : List ℕ) (u : ℕ) (is : u ≡ us
   unfolding ofWords
   uses-is = ap (λ u. listedKeys u tag (getD x 1 0) (ofWords x .nodes)) is
 
-  pub listed-none : u ≡ 0 → (0 ∷ 0 ∷ 0 ∷ 0 ∷ 0 ∷ []) ≡ five
-  unfolding listedKeys placeKey
-  listed-none e =
-      let none : (k : ℕ) → bit u k ≡ 0 = λ k. ap (λ u. bit u k) e ∙ bit-empty k in
-      let nothing : (0 ∷ 0 ∷ 0 ∷ 0 ∷ 0 ∷ []) ≡ listedKeys u tag (ofWords x .of) (ofWords x .nodes) = rw (none 0, none 1, none 2, none 3, none 4) in
-      nothing ∙ uses-is
+  module _ (i : ℕ) (place : i ≡ placeOf u) where
+    pub listed-only : (n k : ℕ) → i < 5 → n ≡ nodeAt (ofWords x .nodes) i → k ≡ bucketOf tag (getD x 1 0) i n → (k ∷ 0 ∷ 0 ∷ 0 ∷ 0 ∷ []) ≡ five
+    unfolding ofWords
+    listed-only n k h a e =
+        let b : k ≡ bucketOf tag (getD x 1 0) (placeOf u) (nodeAt (ofWords x .nodes) (placeOf u)) =
+        e ∙ ap (bucketOf tag (getD x 1 0) i) a ∙ ap (λ i. bucketOf tag (getD x 1 0) i (nodeAt (ofWords x .nodes) i)) place in
+        ap (λ k. k ∷ 0 ∷ 0 ∷ 0 ∷ 0 ∷ []) b ∙ sym (listed-one u tag (getD x 1 0) (ofWords x .nodes) (omega arith)) ∙ uses-is
 
-  pub listed-keys : (a b c d e : ℕ) → a ≡ placeKey (u % 2) tag (getD x 1 0) 0 (getD x 6 0) → b ≡ placeKey (u / 2 % 2) tag (getD x 1 0) 1 (getD x 7 0)
-      → c ≡ placeKey (u / 4 % 2) tag (getD x 1 0) 2 (getD x 8 0) → d ≡ placeKey (u / 8 % 2) tag (getD x 1 0) 3 (getD x 9 0) → e ≡ placeKey (u / 16 % 2) tag (getD x 1 0) 4 64
-      → (a ∷ b ∷ c ∷ d ∷ e ∷ []) ≡ five
-  unfolding listedKeys ofWords bit
-  listed-keys a b c d e p q r s t =
-      let p′ : a ≡ placeKey (bit u 0) tag (getD x 1 0) 0 (getD x 6 0) = p ∙ ap (λ n. placeKey n tag (getD x 1 0) 0 (getD x 6 0)) (bit-first u) in
-      let all : (a ∷ b ∷ c ∷ d ∷ e ∷ []) ≡ listedKeys u tag (ofWords x .of) (ofWords x .nodes) = cc in
-      all ∙ uses-is
+    pub listed-keys : 5 ≤ i → (a b c d e : ℕ) → a ≡ placeKey (u % 2) tag (getD x 1 0) 0 (getD x 6 0) → b ≡ placeKey (u / 2 % 2) tag (getD x 1 0) 1 (getD x 7 0)
+        → c ≡ placeKey (u / 4 % 2) tag (getD x 1 0) 2 (getD x 8 0) → d ≡ placeKey (u / 8 % 2) tag (getD x 1 0) 3 (getD x 9 0) → e ≡ placeKey (u / 16 % 2) tag (getD x 1 0) 4 64
+        → (a ∷ b ∷ c ∷ d ∷ e ∷ []) ≡ five
+    unfolding fiveKeys ofWords bit
+    listed-keys h a b c d e p q r s t =
+        let p′ : a ≡ placeKey (bit u 0) tag (getD x 1 0) 0 (getD x 6 0) = p ∙ ap (λ n. placeKey n tag (getD x 1 0) 0 (getD x 6 0)) (bit-first u) in
+        let all : (a ∷ b ∷ c ∷ d ∷ e ∷ []) ≡ fiveKeys u tag (ofWords x .of) (ofWords x .nodes) = cc in
+        all ∙ sym (listed-all u tag (ofWords x .of) (ofWords x .nodes) (omega arith)) ∙ uses-is
 
 module _ (wants pivots x : List ℕ) where
   pub keys-passive : (ks : List ℕ) → (getD x 0 0 ≡ 0 → ⊥) → ks ≡ listedKeys (usesIn pivots (ofWords x .of)) 1 (ofWords x .of) (ofWords x .nodes) → ks ≡ keysOf wants pivots (ofWords x)

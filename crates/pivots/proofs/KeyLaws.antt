@@ -2,19 +2,20 @@
 use mathlib.Core.Path.{_≡_, refl, sym, ap, ap₂, _∙_}
 use mathlib.Core.Bool.{Bool, true, false, _&&_, _||_, cond, true≢false}
 use mathlib.Core.List.{List, [], _∷_}
-use Prim.Native.Nat.{ℕ, zero, suc, _+_, _%_, _≤_, _<_}
+use Prim.Native.Nat.{ℕ, zero, suc, _+_, _%_, _^_, _≤_, _<_}
 use native.Mathlib.Omega.{arith}
-use native.Mathlib.Decide.{decLt}
+use native.Mathlib.Decide.{decLt, ℕ-discrete}
 use lib.ListN.{length, getD}
 use lib.Dec.{eqb, ltb, leb}
-use borrow.Author.Tests.{eq-eqb, ne-eqb, eqb-true, eqb-false, lt-ltb, le-ltb, ltb-true, lt-leb}
-use Rattle.masks.specs.Masks.{bit}
+use borrow.Author.Tests.{eq-eqb, ne-eqb, eqb-true, eqb-false, lt-ltb, le-ltb, ltb-true, ltb-false, lt-leb}
+use Rattle.masks.specs.Masks.{bit, single}
+use Rattle.masks.specs.Laws.{bit-single-other}
 use Rattle.hrg.specs.Trees.{at}
 use Rattle.agenda.specs.declared.Record.{Record}
 use Rattle.agenda.specs.Steps.{improved, handledNow}
 use Rattle.rules.specs.Wants.{wantIn}
 use Rattle.pivots.specs.Pivots.{positionOf, nodeOf, pivotIn, usesIn, EdgePivot, JoinPivot}
-use Rattle.pivots.specs.Keys.{bucketOf, imageOf, activeKey, placeKey, listedKeys, keysOf, queryOf, allPlaced, regularOf}
+use Rattle.pivots.specs.Keys.{bucketOf, imageOf, activeKey, placeKey, fiveKeys, placeOf, nodeAt, listedKeys, keysOf, queryOf, allPlaced, regularOf}
 
 -- ---- buckets
 pub bucket-positive : (tag s k a : ℕ) → 0 < bucketOf tag s k a
@@ -52,18 +53,60 @@ place-there : (used tag s i a : ℕ) → used ≡ 1 → placeKey used tag s i a 
 unfolding placeKey
 place-there used tag s i a e = rw e
 
-module _ (u tag s : ℕ) (L : List ℕ) where
-  pub listed-last : bit u 4 ≡ 1 → getD (listedKeys u tag s L) 4 0 ≡ bucketOf tag s 4 64
-  unfolding listedKeys
-  listed-last e = place-there (bit u 4) tag s 4 64 e
+pub node-there : (L : List ℕ) (i : ℕ) → i < 4 → nodeAt L i ≡ at L i
+unfolding nodeAt
+node-there L i h = rw (lt-ltb i 4 h)
 
-  pub listed-at : (k : ℕ) → k < 4 → bit u k ≡ 1 → getD (listedKeys u tag s L) k 0 ≡ bucketOf tag s k (at L k)
+pub node-none : (L : List ℕ) (i : ℕ) → 4 ≤ i → nodeAt L i ≡ 64
+unfolding nodeAt
+node-none L i h = rw (le-ltb i 4 h)
+
+-- a set with an only place has no other
+only-is : (u : ℕ) → placeOf u < 5 → u ≡ single (placeOf u)
+unfolding placeOf single
+only-is u = go (eqb u 1) (eqb u 2) (eqb u 4) (eqb u 8) (eqb u 16) refl refl refl refl refl
+  where
+    go : (a b c d e : Bool) → eqb u 1 ≡ a → eqb u 2 ≡ b → eqb u 4 ≡ c → eqb u 8 ≡ d → eqb u 16 ≡ e
+        → cond a 0 (cond b 1 (cond c 2 (cond d 3 (cond e 4 5)))) < 5 → u ≡ 2 ^ cond a 0 (cond b 1 (cond c 2 (cond d 3 (cond e 4 5))))
+    go true b c d e p q r s t h = eqb-true u 1 p
+    go false true c d e p q r s t h = eqb-true u 2 q
+    go false false true d e p q r s t h = eqb-true u 4 r
+    go false false false true e p q r s t h = eqb-true u 8 s
+    go false false false false true p q r s t h = eqb-true u 16 t
+    go false false false false false p q r s t h = absurd (omega arith)
+
+only-place : (u k : ℕ) → placeOf u < 5 → bit u k ≡ 1 → k ≡ placeOf u
+only-place u k h e = go (ℕ-discrete k (placeOf u))
+  where
+    go : Dec (k ≡ placeOf u) → k ≡ placeOf u
+    go (yes d) = d
+    go (no d) = absurd (omega (arith, ap (λ u. bit u k) (only-is u h), bit-single-other (placeOf u) k d))
+
+module _ (u tag s : ℕ) (L : List ℕ) where
+  pub listed-one : placeOf u < 5 → listedKeys u tag s L ≡ (bucketOf tag s (placeOf u) (nodeAt L (placeOf u)) ∷ 0 ∷ 0 ∷ 0 ∷ 0 ∷ [])
   unfolding listedKeys
-  listed-at zero h e = place-there (bit u 0) tag s 0 (at L 0) e
-  listed-at (suc zero) h e = place-there (bit u 1) tag s 1 (at L 1) e
-  listed-at (suc (suc zero)) h e = place-there (bit u 2) tag s 2 (at L 2) e
-  listed-at (suc (suc (suc zero))) h e = place-there (bit u 3) tag s 3 (at L 3) e
-  listed-at (suc (suc (suc (suc k)))) h e = absurd (omega arith)
+  listed-one h = rw (lt-ltb (placeOf u) 5 h)
+
+  pub listed-all : 5 ≤ placeOf u → listedKeys u tag s L ≡ fiveKeys u tag s L
+  unfolding listedKeys
+  listed-all h = rw (le-ltb (placeOf u) 5 h)
+
+  five-at : (k : ℕ) → k < 5 → bit u k ≡ 1 → getD (fiveKeys u tag s L) k 0 ≡ bucketOf tag s k (nodeAt L k)
+  unfolding fiveKeys nodeAt
+  five-at zero h e = place-there (bit u 0) tag s 0 (at L 0) e
+  five-at (suc zero) h e = place-there (bit u 1) tag s 1 (at L 1) e
+  five-at (suc (suc zero)) h e = place-there (bit u 2) tag s 2 (at L 2) e
+  five-at (suc (suc (suc zero))) h e = place-there (bit u 3) tag s 3 (at L 3) e
+  five-at (suc (suc (suc (suc zero)))) h e = place-there (bit u 4) tag s 4 64 e
+  five-at (suc (suc (suc (suc (suc k))))) h e = absurd (omega arith)
+
+  -- a place that is used has its key among the five
+  pub listed-at : (k : ℕ) → k < 5 → bit u k ≡ 1 → (i : ℕ) × (i < 5) × (getD (listedKeys u tag s L) i 0 ≡ bucketOf tag s k (nodeAt L k))
+  listed-at k h e = go (decLt (placeOf u) 5)
+    where
+      go : Dec (placeOf u < 5) → (i : ℕ) × (i < 5) × (getD (listedKeys u tag s L) i 0 ≡ bucketOf tag s k (nodeAt L k))
+      go (yes d) = (0, omega arith, ap (λ (l : List ℕ). getD l 0 0) (listed-one d) ∙ ap (λ k. bucketOf tag s k (nodeAt L k)) (sym (only-place u k d e)))
+      go (no d) = (k, h, ap (λ (l : List ℕ). getD l k 0) (listed-all (omega arith)) ∙ five-at k h e)
 
 -- ---- an edge
 -- the pivot's position and node, at which the map and the list differ
@@ -75,26 +118,25 @@ pub record Differ (A f L : List ℕ) (w : ℕ) : Type 0 where
 module _ (u tag s w r p : ℕ) (A f L : List ℕ) (known : s < 64) (size : length A ≤ 4) (inside : (k : ℕ) → k < length A → at A k < 8) (pivot : EdgePivot A w) (used : bit u (positionOf w) ≡ 1)
     (apart : (i : ℕ) → i < 5 → activeKey tag s w r p f ≡ getD (listedKeys u tag s L) i 0 → ⊥) where
   pub edge-differ : Differ A f L w
-  unfolding imageOf
   edge-differ = go (eqb w 72) refl
     where
-      none : w ≡ 72 → activeKey tag s w r p f ≡ getD (listedKeys u tag s L) 4 0
-      none e =
-          key-edge tag s w r p f known ∙ ap (λ w. bucketOf tag s (positionOf w) (imageOf w f)) e
-          ∙ sym (listed-last u tag s L (ap (λ w. bit u (positionOf w)) (sym e) ∙ used))
+      -- the place of w has a key that is not the active record's
+      other : (k a : ℕ) → k < 5 → positionOf w ≡ k → nodeAt L k ≡ a → imageOf w f ≡ a → ⊥
+      other k a h e n m =
+          let x = listed-at u tag s L k h (ap (bit u) (sym e) ∙ used) in
+          apart (x .0) (x .1) (key-edge tag s w r p f known ∙ ap₂ (λ k a. bucketOf tag s k a) e (m ∙ sym n) ∙ sym (x .2))
 
       go : (b : Bool) → eqb w 72 ≡ b → Differ A f L w
-      go true e = absurd (apart 4 (omega arith) (none (eqb-true w 72 e)))
+      go true e =
+          let z = eqb-true w 72 e in
+          absurd (other 4 64 (omega arith) (omega arith) (node-none L 4 (omega arith)) (image-none w f (omega arith)))
       go false e =
           let n = eqb-false w 72 e in
           let k = pivot .position n in
           record {
             position = k;
             node = pivot .node n;
-            differ = λ d. apart (positionOf w) (omega arith)
-                (key-edge tag s w r p f known
-                ∙ ap (λ a. bucketOf tag s (positionOf w) a) (image-there w f (omega (arith, pivot .node n, inside (positionOf w) k)) ∙ d)
-                ∙ sym (listed-at u tag s L (positionOf w) (omega arith) used));
+            differ = λ d. other (positionOf w) (at L (positionOf w)) (omega arith) refl (node-there L (positionOf w) (omega arith)) (image-there w f (omega (arith, pivot .node n, inside (positionOf w) k)) ∙ d);
           }
 
 -- ---- a join
@@ -184,11 +226,19 @@ five-few a b c d e p q u v t (suc (suc (suc (suc (suc i))))) = omega arith
 one-few : (k : ℕ) → k ≤ 2048 → (i : ℕ) → getD (k ∷ 0 ∷ 0 ∷ 0 ∷ 0 ∷ []) i 0 ≤ 2048
 one-few k h i = five-few k 0 0 0 0 h (omega arith) (omega arith) (omega arith) (omega arith) i
 
-listed-few : (u tag s : ℕ) (L : List ℕ) (i : ℕ) → getD (listedKeys u tag s L) i 0 ≤ 2048
-unfolding listedKeys
-listed-few u tag s L i =
+all-few : (u tag s : ℕ) (L : List ℕ) (i : ℕ) → getD (fiveKeys u tag s L) i 0 ≤ 2048
+unfolding fiveKeys
+all-few u tag s L i =
     five-few (placeKey (bit u 0) tag s 0 (at L 0)) (placeKey (bit u 1) tag s 1 (at L 1)) (placeKey (bit u 2) tag s 2 (at L 2)) (placeKey (bit u 3) tag s 3 (at L 3)) (placeKey (bit u 4) tag s 4 64)
     (place-few (bit u 0) tag s 0 (at L 0)) (place-few (bit u 1) tag s 1 (at L 1)) (place-few (bit u 2) tag s 2 (at L 2)) (place-few (bit u 3) tag s 3 (at L 3)) (place-few (bit u 4) tag s 4 64) i
+
+listed-few : (u tag s : ℕ) (L : List ℕ) (i : ℕ) → getD (listedKeys u tag s L) i 0 ≤ 2048
+unfolding listedKeys
+listed-few u tag s L i = go (ltb (placeOf u) 5)
+  where
+    go : (b : Bool) → getD (cond b (bucketOf tag s (placeOf u) (nodeAt L (placeOf u)) ∷ 0 ∷ 0 ∷ 0 ∷ 0 ∷ []) (fiveKeys u tag s L)) i 0 ≤ 2048
+    go true = one-few (bucketOf tag s (placeOf u) (nodeAt L (placeOf u))) (bucket-few tag s (placeOf u) (nodeAt L (placeOf u))) i
+    go false = all-few u tag s L i
 
 module _ (wants pivots : List ℕ) (x : Record) (i : ℕ) where
   abbrev w : ℕ

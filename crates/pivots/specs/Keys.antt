@@ -39,15 +39,28 @@ unfolding bucketOf
 placeKey used tag s i a = cond (eqb used 0) 0 (bucketOf tag s i a)
 
 -- with the nodes L: for each of four positions, and one for where there is no pivot; u is the set of those that are used
-unfoldable pub listedKeys : ℕ → ℕ → ℕ → List ℕ → List ℕ
+unfoldable pub fiveKeys : ℕ → ℕ → ℕ → List ℕ → List ℕ
 unfolding placeKey bit
-listedKeys u tag s L =
+fiveKeys u tag s L =
     placeKey (bit u 0) tag s 0 (at L 0)
     ∷ placeKey (bit u 1) tag s 1 (at L 1)
     ∷ placeKey (bit u 2) tag s 2 (at L 2)
     ∷ placeKey (bit u 3) tag s 3 (at L 3)
     ∷ placeKey (bit u 4) tag s 4 64
     ∷ []
+
+-- the place of a set that has no other, 5 for any other set
+unfoldable pub placeOf : ℕ → ℕ
+placeOf u = cond (eqb u 1) 0 (cond (eqb u 2) 1 (cond (eqb u 4) 2 (cond (eqb u 8) 3 (cond (eqb u 16) 4 5))))
+
+-- the node of a key at place i
+unfoldable pub nodeAt : List ℕ → ℕ → ℕ
+nodeAt L i = cond (ltb i 4) (at L i) 64
+
+-- the five; but the key of an only place comes first, so that whoever goes through them is done with one
+unfoldable pub listedKeys : ℕ → ℕ → ℕ → List ℕ → List ℕ
+unfolding bucketOf placeOf nodeAt fiveKeys
+listedKeys u tag s L = cond (ltb (placeOf u) 5) (bucketOf tag s (placeOf u) (nodeAt L (placeOf u)) ∷ 0 ∷ 0 ∷ 0 ∷ 0 ∷ []) (fiveKeys u tag s L)
 
 -- the keys that a record has, 0 for none
 unfoldable pub keysOf : List ℕ → List ℕ → Record → List ℕ

@@ -10,7 +10,7 @@ ghost use Rattle.records.specs.Words.{ofWords};
 ghost use Rattle.joins.specs.Joins.{KnownNode, KnownEdge, edgeNodes};
 ghost use Rattle.rules.specs.Wants.{WantTable};
 ghost use Rattle.pivots.specs.Pivots.{pivotIn, usesIn, sharedNode, EdgePivot, PivotBelow, PivotOf, PivotTable};
-ghost use Rattle.pivots.specs.Keys.{bucketOf, imageOf, activeKey, placeKey, listedKeys, keysOf, queryOf, allPlaced, regularOf};
+ghost use Rattle.pivots.specs.Keys.{bucketOf, imageOf, activeKey, placeKey, placeOf, nodeAt, keysOf, queryOf, allPlaced, regularOf};
 
 // ---- pivots
 // Below a plan node that introduces edge i: the first position of the edge whose node is open at p, with that node.
@@ -182,32 +182,50 @@ fn place_key(used: u64, tag: u64, s: u64, i: u64, a: u64) -> u64
     bucket(tag, s, i, a)
 }
 
-// The keys of a passive record.
-fn listed_keys(pivots: &[u64; 1088], tag: u64, x: &[u64]) -> [u64; 5]
-    requires { ⌜ length (now x) ≡ 16 ⌝ }
-    ensures { λ ks. ⌜ ks ≡ listedKeys (usesIn (now (pivots .entry)) (ofWords (now (x .entry)) .of)) tag (ofWords (now (x .entry)) .of) (ofWords (now (x .entry)) .nodes) ⌝ }
+// The place of a set that has no other, 5 for any other set.
+fn place_of(u: u64) -> u64
+    ensures { λ i. ⌜ i ≡ placeOf u ⌝ }
 {
-    let s = x[1];
-    let u = uses_of(pivots, s);
-    if u == 0 {
-        return [0u64; 5];
+    match u {
+        1 => 0,
+        2 => 1,
+        4 => 2,
+        8 => 3,
+        16 => 4,
+        _ => 5,
     }
-    [
-        place_key(u % 2, tag, s, 0, x[6]),
-        place_key(u / 2 % 2, tag, s, 1, x[7]),
-        place_key(u / 4 % 2, tag, s, 2, x[8]),
-        place_key(u / 8 % 2, tag, s, 3, x[9]),
-        place_key(u / 16 % 2, tag, s, 4, 64),
-    ]
 }
 
-// The keys that a record has, 0 for none.
+// The node of a passive record's key at place i.
+fn node_at(x: &[u64], i: u64) -> u64
+    requires { ⌜ length (now x) ≡ 16 ⌝ }
+    ensures { λ a. ⌜ a ≡ nodeAt (ofWords (now (x .entry)) .nodes) i ⌝ }
+{
+    if i >= 4 {
+        return 64;
+    }
+    x[(6 + i) as usize]
+}
+
+// The keys that a record has, 0 for none. That of an only place comes first.
 pub fn keys(wants: &[u64; 1024], pivots: &[u64; 1088], x: &[u64]) -> [u64; 5]
     requires { ⌜ length (now x) ≡ 16 ⌝ }
     ensures { λ ks. ⌜ ks ≡ keysOf (now (wants .entry)) (now (pivots .entry)) (ofWords (now (x .entry))) ⌝ }
 {
     if x[0] != 0 {
-        return listed_keys(pivots, 1, x);
+        let s = x[1];
+        let u = uses_of(pivots, s);
+        let i = place_of(u);
+        if i < 5 {
+            return [bucket(1, s, i, node_at(x, i)), 0, 0, 0, 0];
+        }
+        return [
+            place_key(u % 2, 1, s, 0, x[6]),
+            place_key(u / 2 % 2, 1, s, 1, x[7]),
+            place_key(u / 4 % 2, 1, s, 2, x[8]),
+            place_key(u / 8 % 2, 1, s, 3, x[9]),
+            place_key(u / 16 % 2, 1, s, 4, 64),
+        ];
     }
     let p = x[2];
     let want = rules::wants::want_of(wants, x[1], p);
@@ -221,7 +239,19 @@ pub fn query(wants: &[u64; 1024], pivots: &[u64; 1088], x: &[u64]) -> [u64; 5]
     ensures { λ ks. ⌜ ks ≡ queryOf (now (wants .entry)) (now (pivots .entry)) (ofWords (now (x .entry))) ⌝ }
 {
     if x[0] != 0 {
-        return listed_keys(pivots, 2, x);
+        let s = x[1];
+        let u = uses_of(pivots, s);
+        let i = place_of(u);
+        if i < 5 {
+            return [bucket(2, s, i, node_at(x, i)), 0, 0, 0, 0];
+        }
+        return [
+            place_key(u % 2, 2, s, 0, x[6]),
+            place_key(u / 2 % 2, 2, s, 1, x[7]),
+            place_key(u / 4 % 2, 2, s, 2, x[8]),
+            place_key(u / 8 % 2, 2, s, 3, x[9]),
+            place_key(u / 16 % 2, 2, s, 4, 64),
+        ];
     }
     let p = x[2];
     let want = rules::wants::want_of(wants, x[1], p);

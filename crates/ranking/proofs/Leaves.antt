@@ -1,5 +1,5 @@
 -- Which leaf a new, an improved or a handled record changes.
-use Prim.Native.Nat.{ℕ, _+_, _≤_, _<_}
+use Prim.Native.Nat.{ℕ, _+_, _*_, _≤_, _<_}
 use mathlib.Core.Path.{_≡_, refl, sym, ap, ap₂, _∙_, subst}
 use mathlib.Core.Bool.{Bool, true, false, not, _&&_}
 use mathlib.Core.List.{List, [], _∷_, _++_}
@@ -7,7 +7,7 @@ use native.Mathlib.Omega.{arith}
 use native.Mathlib.Decide.{decLt}
 use native.Mathlib.Numerals.{add-one}
 use lib.Dec.{eqb, ltb}
-use lib.ListN.{length, getD, set, length-set, length-append, List·getD-append}
+use lib.ListN.{length, set, length-set, length-append, List·getD-append}
 use lib.Seq.{getD-set-same, getD-set-other, getD-at}
 use borrow.Author.Tests.{lt-ltb, le-ltb}
 use Rattle.agenda.specs.declared.Record.{Record}
@@ -16,8 +16,37 @@ use Rattle.agenda.specs.Consequences.{recordIn, noRecord}
 use Rattle.agenda.specs.Steps.{improved, handledNow}
 use Rattle.records.specs.Words.{itemCount, fieldAt, recordAt, recordsAt, chartOf}
 use Rattle.records.proofs.WordLaws.{count-of, handled-of, length-records}
-use Rattle.ranking.specs.Ranking.{playerOf, waitsAt, leafOf, Ranked, Replaces, Blank}
-use Rattle.ranking.proofs.NodeLaws.{ranked-none}
+use Rattle.ranking.specs.Ranking.{playerOf, waitsAt, leafOf, Ranked, Replaces}
+
+-- ---- what a leaf is
+pub player-waits : (j n : ℕ) → playerOf true j n ≡ 4096 * n + j + 1
+unfolding playerOf
+player-waits j n = refl
+
+pub leaf-past : (rs : List Record) (j : ℕ) → length rs ≤ j → leafOf rs j ≡ 0
+unfolding leafOf playerOf waitsAt
+leaf-past rs j l = rw (le-ltb j (length rs) l)
+
+pub leaf-handled : (rs : List Record) (j : ℕ) → isHandled (recordIn rs j) ≡ true → leafOf rs j ≡ 0
+unfolding leafOf playerOf waitsAt
+leaf-handled rs j h = go (ltb j (length rs))
+  where
+    go : (t : Bool) → playerOf (t && not (isHandled (recordIn rs j))) j (recordIn rs j .count) ≡ 0
+    go true = rw h
+    go false = refl
+
+pub leaf-waits : (rs : List Record) (j : ℕ) → j < length rs → isHandled (recordIn rs j) ≡ false → leafOf rs j ≡ 4096 * recordIn rs j .count + j + 1
+unfolding leafOf playerOf waitsAt
+leaf-waits rs j l h = rw (lt-ltb j (length rs) l, h)
+
+-- a leaf that is not 0 is that of a waiting record
+pub leaf-some : (rs : List Record) (j : ℕ) → (leafOf rs j ≡ 0 → ⊥) → (j < length rs) × (leafOf rs j ≡ 4096 * recordIn rs j .count + j + 1)
+leaf-some rs j n = go (decLt j (length rs)) (isHandled (recordIn rs j)) refl
+  where
+    go : Dec (j < length rs) → (t : Bool) → isHandled (recordIn rs j) ≡ t → (j < length rs) × (leafOf rs j ≡ 4096 * recordIn rs j .count + j + 1)
+    go (yes l) true h = absurd (n (leaf-handled rs j h))
+    go (yes l) false h = (l, leaf-waits rs j l h)
+    go (no l) t h = absurd (n (leaf-past rs j (omega arith)))
 
 -- a leaf is told by whether its place is one of the records' and by the record there
 leaf-by : (rs rs′ : List Record) (k : ℕ) → ltb k (length rs′) ≡ ltb k (length rs) → recordIn rs′ k ≡ recordIn rs k → leafOf rs′ k ≡ leafOf rs k
@@ -27,6 +56,9 @@ leaf-by rs rs′ k e q = ap₂ (λ (t : Bool) (x : Record). playerOf (t && not (
 pub leaf-in : (rs : List Record) (j : ℕ) (x : Record) → j < length rs → recordIn rs j ≡ x → leafOf rs j ≡ playerOf (not (isHandled x)) j (x .count)
 unfolding leafOf waitsAt
 leaf-in rs j x h e = ap₂ (λ (t : Bool) (y : Record). playerOf (t && not (isHandled y)) j (y .count)) (lt-ltb j (length rs) h) e
+
+pub waiting-leaf : (rs : List Record) (j n : ℕ) → j < length rs → isHandled (recordIn rs j) ≡ false → n ≡ recordIn rs j .count → leafOf rs j ≡ playerOf true j n
+waiting-leaf rs j n l h e = leaf-in rs j (recordIn rs j) l refl ∙ ap₂ (λ (t : Bool) k. playerOf (not t) j k) h (sym e)
 
 pub leaf-out : (rs : List Record) (j n : ℕ) → length rs ≤ j → leafOf rs j ≡ playerOf false j n
 unfolding leafOf waitsAt playerOf
@@ -60,9 +92,9 @@ pub improved-leaf : (rs : List Record) (j : ℕ) (x : Record) → j < length rs 
 improved-leaf rs j x h e = rw e at (replaced-leaf rs j (improved (recordIn rs j) x) h)
 
 -- a handled record waits no more
-pub handled-leaf : (rs : List Record) (j n : ℕ) → j < length rs → Replaces j (playerOf false j n) rs (set rs j (handledNow (recordIn rs j)))
+pub handled-leaf : (rs : List Record) (j : ℕ) → j < length rs → Replaces j 0 rs (set rs j (handledNow (recordIn rs j)))
 unfolding playerOf
-handled-leaf rs j n h = replaced-leaf rs j (handledNow (recordIn rs j)) h
+handled-leaf rs j h = replaced-leaf rs j (handledNow (recordIn rs j)) h
 
 -- ---- the leaf of a record in words
 not-not : (t : Bool) → t ≡ not (not t)
@@ -79,10 +111,14 @@ next-leaf w j h n p q =
     (subst (λ k. Replaces (length (recordsAt w j)) (playerOf (not (isHandled (recordAt w j))) (length (recordsAt w j)) k) (recordsAt w j) (recordsAt w j ++ (recordAt w j ∷ []))) (count-of w j ∙ sym q)
     (appended-leaf (recordsAt w j) (recordAt w j)))))
 
-pub ranked-first : (w ranks : List ℕ) → Blank ranks → Ranked ranks (recordsAt w 0)
+pub ranked-first : (w ranks : List ℕ) → Ranked ranks [] → Ranked ranks (recordsAt w 0)
 unfolding recordsAt
-ranked-first w ranks b = ranked-none ranks b
+ranked-first w ranks r = r
 
 pub ranked-all : (w ranks : List ℕ) (n j : ℕ) → n ≡ itemCount w → j ≤ n → n ≤ j → Ranked ranks (recordsAt w j) → Ranked ranks (chartOf w .records)
 unfolding chartOf
 ranked-all w ranks n j e h l r = subst (λ k. Ranked ranks (recordsAt w k)) (let q : j ≡ itemCount w = omega arith in q) r
+
+-- nothing waits behind the first records
+pub fresh-leaf : (w : List ℕ) (j : ℕ) → leafOf (recordsAt w j) j ≡ 0
+fresh-leaf w j = leaf-past (recordsAt w j) j (omega (arith, length-records w j))

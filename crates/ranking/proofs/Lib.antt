@@ -1,7 +1,9 @@
 -- The root of the laws.
--- keys, and the root of a tree
-pub mod Tournament
--- the words of a tree: one turn of each loop over them
-pub mod NodeLaws
+-- a part of words that is lent and comes back
+pub mod Parts
 -- which leaf a new, an improved or a handled record changes
 pub mod Leaves
+-- the set as a record comes or goes
+pub mod SetLaws
+-- the least number of the set is that of the first waiting record of least count
+pub mod LeastLaws

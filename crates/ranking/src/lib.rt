@@ -1,86 +1,77 @@
-// The ranking of a chart's records: a tree of keys in lent words that tells the first waiting record of least count.
-// Word 1 is the root, word 4096 + j the leaf of place j, and a word between them the larger of its two children. A leaf is 0 for none, else
-// 4294967295 - (4096 * count + j). Word 0 is 1 where a count was too large for a key: then the records are looked through.
+// The ranking of a chart's records in lent words, which tells the first waiting record of least count: word 1 is a base, and the words
+// behind it a set that has 4096 * n + j for each waiting record at place j whose count is base + n, with n below 32.
+// Word 0 is not 0 where the others say nothing: then, or where the set is empty, the records are looked through and the set is made anew.
 ghost use mathlib.Core.Path.{_≡_};
 ghost use mathlib.Core.Bool.{true};
-ghost use mathlib.Core.List.{List};
-ghost use Prim.Native.Nat.{ℕ, _≤_, _<_, _+_, max};
+ghost use mathlib.Core.List.{List, []};
+ghost use Prim.Native.Nat.{ℕ, _≤_, _<_};
 ghost use lib.ListN.{length};
 ghost use Rattle.agenda.specs.declared.Record.{Record};
 ghost use Rattle.agenda.specs.Steps.{leastWaiting};
 ghost use Rattle.records.specs.Words.{itemCount, chartOf};
-ghost use Rattle.ranking.specs.Ranking.{playerOf, keyOf, Ranked, Replaces, Followed, Blank};
+ghost use Rattle.ranking.specs.Ranking.{playerOf, leafOf, Ranked, Replaces};
 use agenda::Found;
 
-// The first waiting record of least count.
-pub fn least(chart: &[u64], ranks: &[u32]) -> Found
-    requires { ⌜ (length (now ranks) ≡ 8192) × Ranked (now ranks) (chartOf (now chart) .records) × (length (chartOf (now chart) .records) ≤ 4096) ⌝ }
-    ensures { λ r. ⌜ r ≡ leastWaiting (chartOf (now (chart .entry)) .records) (length (chartOf (now (chart .entry)) .records)) ⌝ }
-{
-    if ranks[0] != 0 {
-        return records::least(chart, records::item_count(chart));
-    }
-    let key = ranks[1] as u64;
-    if key == 0 {
-        return Found::Nowhere;
-    }
-    Found::At((4294967295 - key) % 4096)
-}
+// where the set begins and ends
+const SET: usize = 2;
 
-// The larger of two keys.
-fn larger(a: u32, b: u32) -> u32
-    ensures { λ r. ⌜ r ≡ max a b ⌝ }
-{
-    if a < b {
-        return b;
-    }
-    a
-}
+const END: usize = 4230;
 
-// A leaf becomes the key given, and the words above it follow, up to one that stays as it is.
-fn climb(ranks: &mut [u32], leaf: usize, key: u32)
-    requires { ⌜ (length (now ranks) ≡ 8192) × (4096 ≤ leaf) × (leaf < 8192) ⌝ }
-    ensures { λ r. ⌜ Followed (now (ranks .entry)) leaf key (now (ranks .exit)) ⌝ }
-{
-    ranks[leaf] = key;
-    let mut i = leaf;
-    let mut best = key;
-    while 1 < i {
-        best = larger(best, ranks[i ^ 1]);
-        i /= 2;
-        if ranks[i] == best {
-            return;
-        }
-        ranks[i] = best;
-    }
-}
-
-// The key of a record at place j.
-fn key_of(j: u64, waits: bool, count: u64) -> u32
-    requires { ⌜ (j < 4096) × (waits ≡ true → count < 1048575) ⌝ }
-    ensures { λ r. ⌜ r ≡ keyOf (playerOf waits j count) ⌝ }
-{
-    if waits {
-        return (4294967295 - (4096 * count + j)) as u32;
-    }
-    0
-}
-
-// The record at place j becomes the one given.
-pub fn place(ranks: &mut [u32], j: u64, waits: bool, count: u64)
+// The record at place j, which did not wait, waits with the count given. One below the base has no number.
+fn insert(ranks: &mut [u32], j: u64, count: u64)
     requires { ⌜ (length (now ranks) ≡ 8192) × (j < 4096) ⌝ }
-    ensures { λ r. ⌜ ((rs rs′ : List Record) → Ranked (now (ranks .entry)) rs → Replaces j (playerOf waits j count) rs rs′ → Ranked (now (ranks .exit)) rs′) ⌝ }
+    ensures { λ r. ⌜ ((rs rs′ : List Record) → Ranked (now (ranks .entry)) rs → leafOf rs j ≡ 0 → Replaces j (playerOf true j count) rs rs′ → Ranked (now (ranks .exit)) rs′) ⌝ }
 {
-    if waits & (count >= 1048575) {
+    let base = ranks[1] as u64;
+    if count < base {
         ranks[0] = 1;
         return;
     }
-    climb(ranks, 4096 + j as usize, key_of(j, waits, count));
+    let n = count - base;
+    if n >= 32 {
+        return;
+    }
+    queues::insert(&mut ranks[SET..END], 4096 * n + j);
 }
 
-// The tree of a chart's records, placed one after another: the words are 0 before.
-pub fn build(chart: &[u64], ranks: &mut [u32])
-    requires { ⌜ Blank (now ranks) × (itemCount (now chart) ≤ 4096) ⌝ }
+// The record at place j, of which nothing waited, comes with the count given; one that does not wait changes nothing.
+pub fn place(ranks: &mut [u32], j: u64, waits: bool, count: u64)
+    requires { ⌜ (length (now ranks) ≡ 8192) × (j < 4096) ⌝ }
+    ensures { λ r. ⌜ ((rs rs′ : List Record) → Ranked (now (ranks .entry)) rs → leafOf rs j ≡ 0 → Replaces j (playerOf waits j count) rs rs′ → Ranked (now (ranks .exit)) rs′) ⌝ }
+{
+    if waits {
+        insert(ranks, j, count);
+    }
+}
+
+// The record at place j, which waited with the count given, waits no more.
+pub fn remove(ranks: &mut [u32], j: u64, count: u64)
+    requires { ⌜ (length (now ranks) ≡ 8192) × (j < 4096) ⌝ }
+    ensures { λ r. ⌜ ((rs rs′ : List Record) → Ranked (now (ranks .entry)) rs → leafOf rs j ≡ playerOf true j count → Replaces j 0 rs rs′ → Ranked (now (ranks .exit)) rs′) ⌝ }
+{
+    let base = ranks[1] as u64;
+    if count < base {
+        return;
+    }
+    let n = count - base;
+    if n >= 32 {
+        return;
+    }
+    queues::remove(&mut ranks[SET..END], 4096 * n + j);
+}
+
+// The record at place j, which waits, has another count.
+pub fn recount(ranks: &mut [u32], j: u64, old: u64, count: u64)
+    requires { ⌜ (length (now ranks) ≡ 8192) × (j < 4096) ⌝ }
+    ensures { λ r. ⌜ ((rs rs′ : List Record) → Ranked (now (ranks .entry)) rs → leafOf rs j ≡ playerOf true j old → Replaces j (playerOf true j count) rs rs′ → Ranked (now (ranks .exit)) rs′) ⌝ }
+{
+    remove(ranks, j, old);
+    insert(ranks, j, count);
+}
+
+// The records of a chart, placed one after another: there is none before.
+fn fill(chart: &[u64], ranks: &mut [u32])
+    requires { ⌜ Ranked (now ranks) [] × (itemCount (now chart) ≤ 4096) ⌝ }
     ensures { λ r. ⌜ Ranked (now (ranks .exit)) (chartOf (now (chart .entry)) .records) ⌝ }
 {
     let n = records::item_count(chart);
@@ -94,4 +85,57 @@ pub fn build(chart: &[u64], ranks: &mut [u32])
         );
         j += 1;
     }
+}
+
+// The words are made anew from a base, unless that has no place in a word.
+fn renew(chart: &[u64], ranks: &mut [u32], base: u64)
+    requires { ⌜ (length (now ranks) ≡ 8192) × (itemCount (now chart) ≤ 4096) ⌝ }
+    ensures { λ r. ⌜ Ranked (now (ranks .exit)) (chartOf (now (chart .entry)) .records) ⌝ }
+{
+    if base >= 4294967295 {
+        ranks[0] = 1;
+        return;
+    }
+    ranks[0] = 0;
+    ranks[1] = base as u32;
+    queues::clear(&mut ranks[SET..END]);
+    fill(chart, ranks);
+}
+
+// The records looked through: the words are made anew from the least count.
+fn again(chart: &[u64], ranks: &mut [u32]) -> Found
+    requires { ⌜ Ranked (now ranks) (chartOf (now chart) .records) × (length (chartOf (now chart) .records) ≤ 4096) ⌝ }
+    ensures { λ r. ⌜ (r ≡ leastWaiting (chartOf (now (chart .entry)) .records) (length (chartOf (now (chart .entry)) .records))) × Ranked (now (ranks .exit)) (chartOf (now (chart .entry)) .records) ⌝ }
+{
+    let found = records::least(chart, records::item_count(chart));
+    match found {
+        Found::Nowhere => Found::Nowhere,
+        Found::At(j) => {
+            renew(chart, ranks, records::field(chart, j, 4));
+            Found::At(j)
+        }
+    }
+}
+
+// The first waiting record of least count.
+pub fn least(chart: &[u64], ranks: &mut [u32]) -> Found
+    requires { ⌜ Ranked (now ranks) (chartOf (now chart) .records) × (length (chartOf (now chart) .records) ≤ 4096) ⌝ }
+    ensures { λ r. ⌜ (r ≡ leastWaiting (chartOf (now (chart .entry)) .records) (length (chartOf (now (chart .entry)) .records))) × Ranked (now (ranks .exit)) (chartOf (now (chart .entry)) .records) ⌝ }
+{
+    if ranks[0] != 0 {
+        return again(chart, ranks);
+    }
+    let p = queues::first(&ranks[SET..END]);
+    if p < 131072 {
+        return Found::At(p % 4096);
+    }
+    again(chart, ranks)
+}
+
+// Words that say nothing are the ranking of any records.
+pub fn build(ranks: &mut [u32])
+    requires { ⌜ length (now ranks) ≡ 8192 ⌝ }
+    ensures { λ r. ⌜ ((rs : List Record) → Ranked (now (ranks .exit)) rs) ⌝ }
+{
+    ranks[0] = 1;
 }

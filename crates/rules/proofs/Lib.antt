@@ -12,5 +12,7 @@ pub mod WantLaws
 pub mod Meeting
 -- the plan nodes above, in a table
 pub mod PlanLaws
+-- which of two records comes first
+pub mod Leading
 -- graph edges that make nothing with a record
 pub mod CandidateLaws

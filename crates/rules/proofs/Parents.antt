@@ -1,7 +1,6 @@
 -- A plan node is a child at most once: what the search for its parent shows.
-use mathlib.Core.Path.{_≡_, refl, sym, ap, _∙_}
+use mathlib.Core.Path.{_≡_, sym, ap, _∙_}
 use mathlib.Core.Bool.{Bool, true, false, _||_, false≢true}
-use mathlib.Core.Logic.{_⊎_, inl, inr}
 use mathlib.Core.List.{List, [], _∷_}
 use Prim.Native.Nat.{ℕ, zero, suc, _+_, _≤_, _<_}
 use native.Mathlib.Omega.{arith}
@@ -127,34 +126,3 @@ module _ (g : List ℕ) (r p : ℕ) (checked : checkGrammar g ≡ true) (rule : 
   pub above-last : (q : ℕ) → ParentOf g r p q → rulePlan g r ≤ q → Above g r p nowhere
   above-last q parent h =
       above-none g r p (record { none = λ q′ l. none-left _ (λ o. omega (arith, parent .only q′ (omega (arith, plan-size g r checked rule)) o, plan-size g r checked rule)) })
-
--- a number below n that passes a test, or none does
-some-below : (t : ℕ → Bool) (n : ℕ) → ((q : ℕ) × (q < n) × (t q ≡ true)) ⊎ ((q : ℕ) → q < n → t q ≡ false)
-some-below t zero = inr (λ q l. absurd (omega arith))
-some-below t (suc n) = go (t n) refl (some-below t n)
-  where
-    go : (b : Bool) → t n ≡ b → ((q : ℕ) × (q < n) × (t q ≡ true)) ⊎ ((q : ℕ) → q < n → t q ≡ false) → ((q : ℕ) × (q < suc n) × (t q ≡ true)) ⊎ ((q : ℕ) → q < suc n → t q ≡ false)
-    go true e rest = inl (n, omega arith, e)
-    go false e (inl (q, l, h)) = inl (q, omega arith, h)
-    go false e (inr h) = inr (λ q l. last q l (decLt q n))
-      where
-        last : (q : ℕ) → q < suc n → Dec (q < n) → t q ≡ false
-        last q l (yes d) = h q d
-        last q l (no d) = let s : q ≡ n = omega arith in ap t s ∙ e
-
--- there is always such a place
-pub place-exists : (g : List ℕ) (r p : ℕ) → checkGrammar g ≡ true → (x : Place) × Above g r p x
-place-exists g r p checked = go (decLt r (ruleCount g))
-  where
-    child : ℕ → Bool
-    child q = ltb 0 (occurs p (children (planNode (planOf (grammarOf g) r) q)))
-
-    go : Dec (r < ruleCount g) → (x : Place) × Above g r p x
-    go (no d) = (nowhere, above-unknown g r p (omega arith))
-    go (yes d) = at (some-below child (rulePlan g r))
-      where
-        at : ((q : ℕ) × (q < rulePlan g r) × (child q ≡ true)) ⊎ ((q : ℕ) → q < rulePlan g r → child q ≡ false) → (x : Place) × Above g r p x
-        at (inl (q, l, t)) =
-            (record { found = true; node = q }, above-found g r p q (record { grammar = checked; rule = d; node = l }) (parent-found g r p checked d q l t))
-        at (inr h) =
-            (nowhere, above-none g r p (record { none = λ q l. none-left _ (λ o. omega (arith, ltb-false 0 (occurs p (children (planNode (planOf (grammarOf g) r) q))) (h q (omega (arith, plan-size g r checked d))))) }))

@@ -1,47 +1,35 @@
 -- A record as its sixteen words: the eight places of its map are a part of them.
 use mathlib.Core.Path.{_≡_, refl, sym, ap, ap₂, _∙_, subst}
+use mathlib.Core.Bool.{Bool, true}
 use mathlib.Core.List.{List, [], _∷_}
-use Prim.Native.Nat.{ℕ, zero, suc, _+_, _≤_, _<_}
+use Prim.Native.Nat.{ℕ, zero, suc, _+_, _<_}
 use native.Mathlib.Omega.{arith}
-use lib.ListN.{length, getD, take, drop}
-use Rattle.masks.specs.Masks.{Added}
-use Rattle.hrg.specs.Grammars.{Graph, Grammar, ruleOf, edgeAt}
-use Rattle.hrg.specs.Trees.{padded}
-use Rattle.hrg.specs.Items.{Item, attach}
+use lib.ListN.{length, getD, set, take, drop}
+use lib.Bits.{bitOr}
+use borrow.Rule.Slice.PartMut.{putMid}
+use Rattle.masks.specs.Masks.{_∪_}
+use Rattle.hrg.specs.Counts.{tabulate}
+use Rattle.hrg.specs.Grammars.{ruleOf}
 use Rattle.hrg.specs.ClosureRun.{combine, binaryOf}
 use Rattle.agenda.specs.Records.{itemOf}
 use Rattle.agenda.specs.declared.Record.{Record}
 use Rattle.records.specs.Words.{ofWords}
-use Rattle.questions.specs.Layout.{rankAt, ruleNodes, edgeLabel, planKind, planFirst, planSecond, graphEdges, graphLabel}
+use Rattle.questions.specs.Layout.{ruleNodes, planFirst}
 use Rattle.questions.specs.Abstract.{grammarOf, graphOf}
-use Rattle.joins.specs.Joins.{Accepted, edgeNodes}
 use Rattle.joins.specs.declared.Joined.{Joined}
-use Rattle.rules.specs.declared.Made.{Made}
-use Rattle.rules.specs.Rules.{Answer, madeAt, terminalItems, binaryAt, ActiveAt}
-use Rattle.rules.proofs.RuleItems.{Combined}
-use Rattle.rules.proofs.RuleAnswers.{filled-made, joined-made, edge-answer}
+use Rattle.joins.specs.Joins.{Makes}
+use Rattle.rules.specs.declared.Place.{Place}
+use Rattle.rules.specs.Rules.{Rest, Into, Second, Above}
+use Rattle.joins.proofs.EdgeMaps.{as-words, set-eight}
+use Rattle.rules.proofs.RuleAnswers.{pair-both, into-made}
 
 -- ---- the map
 abbrev pub mapIn : List ℕ → List ℕ
 mapIn w = take 8 (drop 6 w)
 
 pub map-words : (w : List ℕ) → length w ≡ 16 → ofWords w .nodes ≡ mapIn w
-unfolding ofWords
-map-words (w₀ ∷ w₁ ∷ w₂ ∷ w₃ ∷ w₄ ∷ w₅ ∷ w₆ ∷ w₇ ∷ w₈ ∷ w₉ ∷ w₁₀ ∷ w₁₁ ∷ w₁₂ ∷ w₁₃ ∷ w) e = refl
-map-words [] e = absurd (omega arith)
-map-words (w₀ ∷ []) e = absurd (omega arith)
-map-words (w₀ ∷ w₁ ∷ []) e = absurd (omega arith)
-map-words (w₀ ∷ w₁ ∷ w₂ ∷ []) e = absurd (omega arith)
-map-words (w₀ ∷ w₁ ∷ w₂ ∷ w₃ ∷ []) e = absurd (omega arith)
-map-words (w₀ ∷ w₁ ∷ w₂ ∷ w₃ ∷ w₄ ∷ []) e = absurd (omega arith)
-map-words (w₀ ∷ w₁ ∷ w₂ ∷ w₃ ∷ w₄ ∷ w₅ ∷ []) e = absurd (omega arith)
-map-words (w₀ ∷ w₁ ∷ w₂ ∷ w₃ ∷ w₄ ∷ w₅ ∷ w₆ ∷ []) e = absurd (omega arith)
-map-words (w₀ ∷ w₁ ∷ w₂ ∷ w₃ ∷ w₄ ∷ w₅ ∷ w₆ ∷ w₇ ∷ []) e = absurd (omega arith)
-map-words (w₀ ∷ w₁ ∷ w₂ ∷ w₃ ∷ w₄ ∷ w₅ ∷ w₆ ∷ w₇ ∷ w₈ ∷ []) e = absurd (omega arith)
-map-words (w₀ ∷ w₁ ∷ w₂ ∷ w₃ ∷ w₄ ∷ w₅ ∷ w₆ ∷ w₇ ∷ w₈ ∷ w₉ ∷ []) e = absurd (omega arith)
-map-words (w₀ ∷ w₁ ∷ w₂ ∷ w₃ ∷ w₄ ∷ w₅ ∷ w₆ ∷ w₇ ∷ w₈ ∷ w₉ ∷ w₁₀ ∷ []) e = absurd (omega arith)
-map-words (w₀ ∷ w₁ ∷ w₂ ∷ w₃ ∷ w₄ ∷ w₅ ∷ w₆ ∷ w₇ ∷ w₈ ∷ w₉ ∷ w₁₀ ∷ w₁₁ ∷ []) e = absurd (omega arith)
-map-words (w₀ ∷ w₁ ∷ w₂ ∷ w₃ ∷ w₄ ∷ w₅ ∷ w₆ ∷ w₇ ∷ w₈ ∷ w₉ ∷ w₁₀ ∷ w₁₁ ∷ w₁₂ ∷ []) e = absurd (omega arith)
+unfolding ofWords tabulate
+map-words w e = subst (λ (w : List ℕ). ofWords w .nodes ≡ mapIn w) (as-words 16 w e) refl
 
 pub map-size : (w : List ℕ) → length w ≡ 16 → length (mapIn w) ≡ 8
 unfolding ofWords
@@ -59,67 +47,113 @@ map-word w (suc (suc (suc (suc (suc (suc zero)))))) h = refl
 map-word w (suc (suc (suc (suc (suc (suc (suc zero))))))) h = refl
 map-word w (suc (suc (suc (suc (suc (suc (suc (suc y)))))))) h = absurd (omega arith)
 
--- ---- the words of a graph edge's record
-eight-words : (l : List ℕ) → length l ≡ 8 → getD l 0 0 ∷ getD l 1 0 ∷ getD l 2 0 ∷ getD l 3 0 ∷ getD l 4 0 ∷ getD l 5 0 ∷ getD l 6 0 ∷ getD l 7 0 ∷ [] ≡ l
-eight-words (l₀ ∷ l₁ ∷ l₂ ∷ l₃ ∷ l₄ ∷ l₅ ∷ l₆ ∷ l₇ ∷ []) e = refl
-eight-words [] e = absurd (omega arith)
-eight-words (l₀ ∷ []) e = absurd (omega arith)
-eight-words (l₀ ∷ l₁ ∷ []) e = absurd (omega arith)
-eight-words (l₀ ∷ l₁ ∷ l₂ ∷ []) e = absurd (omega arith)
-eight-words (l₀ ∷ l₁ ∷ l₂ ∷ l₃ ∷ []) e = absurd (omega arith)
-eight-words (l₀ ∷ l₁ ∷ l₂ ∷ l₃ ∷ l₄ ∷ []) e = absurd (omega arith)
-eight-words (l₀ ∷ l₁ ∷ l₂ ∷ l₃ ∷ l₄ ∷ l₅ ∷ []) e = absurd (omega arith)
-eight-words (l₀ ∷ l₁ ∷ l₂ ∷ l₃ ∷ l₄ ∷ l₅ ∷ l₆ ∷ []) e = absurd (omega arith)
-eight-words (l₀ ∷ l₁ ∷ l₂ ∷ l₃ ∷ l₄ ∷ l₅ ∷ l₆ ∷ l₇ ∷ l₈ ∷ l) e = absurd (omega arith)
+-- eight words copied
+pub copied-eight : (l t : List ℕ) → length l ≡ 8 → length t ≡ 8
+    → set (set (set (set (set (set (set (set t 0 (getD l 0 0)) 1 (getD l 1 0)) 2 (getD l 2 0)) 3 (getD l 3 0)) 4 (getD l 4 0)) 5 (getD l 5 0)) 6 (getD l 6 0)) 7 (getD l 7 0) ≡ l
+unfolding tabulate
+copied-eight l t size size′ =
+    set-eight t (getD l 0 0) (getD l 1 0) (getD l 2 0) (getD l 3 0) (getD l 4 0) (getD l 5 0) (getD l 6 0) (getD l 7 0) size′ ∙ as-words 8 l size
 
-pub edge-record : (s m : ℕ) (l : List ℕ) → length l ≡ 8
+-- ---- the words of a graph edge's record
+pub edge-words : (s m : ℕ) (l : List ℕ) → length l ≡ 8
     → ofWords (1 ∷ s ∷ 0 ∷ m ∷ 0 ∷ 0 ∷ getD l 0 0 ∷ getD l 1 0 ∷ getD l 2 0 ∷ getD l 3 0 ∷ getD l 4 0 ∷ getD l 5 0 ∷ getD l 6 0 ∷ getD l 7 0 ∷ 0 ∷ 0 ∷ [])
     ≡ record { kind = 1; of = s; plan = 0; edges = m; count = 0; handled = 0; nodes = l; first = 0; second = 0 }
-unfolding ofWords
-edge-record s m l e = ap (λ (l : List ℕ). record { kind = 1; of = s; plan = 0; edges = m; count = 0; handled = 0; nodes = l; first = 0; second = 0 }) (eight-words l e)
+unfolding ofWords tabulate
+edge-words s m l e = ap (λ (l : List ℕ). record { kind = 1; of = s; plan = 0; edges = m; count = 0; handled = 0; nodes = l; first = 0; second = 0 }) (as-words 8 l e)
 
-pub edge-words : (g h w : List ℕ) (e : ℕ) → Accepted g h → e < graphEdges h → (m : ℕ) → Added 0 e m → (s : ℕ) (l : List ℕ) → s ≡ graphLabel h e → l ≡ padded (edgeAt (graphOf g h .edges) e .attachment)
-    → length l ≡ 8 → (z : Made)
-    → Answer g h (binaryOf (grammarOf g) (graphOf g h) (itemOf (grammarOf g) (ofWords w)) (itemOf (grammarOf g) (ofWords (1 ∷ s ∷ 0 ∷ m ∷ 0 ∷ 0 ∷ getD l 0 0 ∷ getD l 1 0 ∷ getD l 2 0 ∷ getD l 3 0 ∷ getD l 4 0 ∷ getD l 5 0 ∷ getD l 6 0 ∷ getD l 7 0 ∷ 0 ∷ 0 ∷ [])))) z
-    → Answer g h (terminalItems (grammarOf g) (graphOf g h) (itemOf (grammarOf g) (ofWords w)) e) z
-edge-words g h w e accepted known m added s l label nodes size z is =
-    edge-answer g h (ofWords w) e accepted known m added s l label nodes z
-    (subst (λ (y : Record). Answer g h (binaryOf (grammarOf g) (graphOf g h) (itemOf (grammarOf g) (ofWords w)) (itemOf (grammarOf g) y)) z) (edge-record s m l size) is)
+-- ---- an item in the words of a record
+-- another map
+abbrev pub withMap : List ℕ → List ℕ → List ℕ
+withMap w k = putMid 6 8 w k
 
--- ---- the answers of the two rules at a plan node, where the maps are parts of the words
-module _ (g h w v : List ℕ) (long : length w ≡ 16) (long′ : length v ≡ 16) (q : ℕ) (here : ActiveAt g h (ofWords w) q) where
-  abbrev x : Record
-  x = ofWords w
+-- and another rule, plan node and set
+abbrev pub withItem : List ℕ → List ℕ → ℕ → ℕ → ℕ → List ℕ
+withItem w k r q m = set (set (set (withMap w k) 1 r) 2 q) 3 m
 
-  abbrev y : Record
-  y = ofWords v
+module _ (w k : List ℕ) (long : length w ≡ 16) (kept : length k ≡ length (mapIn w)) where
+  eight : length k ≡ 8
+  eight = kept ∙ map-size w long
 
-  abbrev G : Grammar
-  G = grammarOf g
+  by-words : (P : List ℕ → List ℕ → Type 0) → P (tabulate 16 (λ i. getD w i 0)) (tabulate 8 (λ i. getD k i 0)) → P w k
+  by-words P p = subst (λ (w : List ℕ). P w k) (as-words 16 w long) (subst (λ (k : List ℕ). P (tabulate 16 (λ i. getD w i 0)) k) (as-words 8 k eight) p)
 
-  abbrev H : Graph
-  H = graphOf g h
+  pub put-size : length (withMap w k) ≡ 16
+  unfolding tabulate
+  put-size = by-words (λ (w k : List ℕ). length (withMap w k) ≡ 16) refl
 
-  abbrev n : ℕ
-  n = ruleNodes g (x .of)
+  pub put-rest : Rest (ofWords w) (ofWords (withMap w k))
+  unfolding ofWords tabulate
+  put-rest = by-words (λ (w k : List ℕ). Rest (ofWords w) (ofWords (withMap w k))) (record { kind = refl; count = refl; handled = refl; first = refl; second = refl })
 
-  abbrev items : List Item
-  items = binaryAt G H (itemOf G x) (itemOf G y) q
+  module _ (r q m : ℕ) where
+    pub item-size : length (withItem w k r q m) ≡ 16
+    unfolding tabulate
+    item-size = by-words (λ (w k : List ℕ). length (withItem w k r q m) ≡ 16) refl
 
-  pub filled-words : planKind g (x .of) q ≡ 1 → (c i : ℕ) → c ≡ planFirst g (x .of) q → i ≡ planSecond g (x .of) q → (l : ℕ) → l ≡ edgeLabel g (x .of) i → (y .kind ≡ 0 → ⊥)
-      → c ≡ x .plan → l ≡ y .of → (k : List ℕ) (j : Joined) (z : Made)
-      → k ≡ padded (attach n (edgeNodes g (x .of) i) (take (rankAt g (edgeLabel g (x .of) i)) (mapIn v)))
-      → Combined g h (combine H (ruleOf G (x .of)) (x .of) q (x .edges) (y .edges) (take n (mapIn w)) (take n k)) j → z ≡ madeAt q j → Answer g h items z
-  filled-words kind c i first second l label isPassive d s k j z k-is j-is z-is =
-      filled-made g h x y q here kind c i first second l label isPassive d s k j z
-      (k-is ∙ ap (λ (m : List ℕ). padded (attach n (edgeNodes g (x .of) i) (take (rankAt g (edgeLabel g (x .of) i)) m))) (sym (map-words v long′)))
-      (subst (λ (m : List ℕ). Combined g h (combine H (ruleOf G (x .of)) (x .of) q (x .edges) (y .edges) (take n m) (take n k)) j) (sym (map-words w long)) j-is)
-      z-is
+    pub item-map : mapIn (withItem w k r q m) ≡ k
+    unfolding tabulate
+    item-map = by-words (λ (w k : List ℕ). mapIn (withItem w k r q m) ≡ k) refl
 
-  pub joined-words : 2 ≤ planKind g (x .of) q → (c d : ℕ) → c ≡ planFirst g (x .of) q → d ≡ planSecond g (x .of) q → y .kind ≡ 0 → x .of ≡ y .of → c ≡ x .plan → d ≡ y .plan → (j : Joined) (z : Made)
-      → Combined g h (combine H (ruleOf G (x .of)) (x .of) q (x .edges) (y .edges) (take n (mapIn w)) (take n (mapIn v))) j → z ≡ madeAt q j → Answer g h items z
-  joined-words kind c d first second e s a b j z j-is z-is =
-      joined-made g h x y q here kind c d first second e s a b j z
-      (subst (λ (k : List ℕ). Combined g h (combine H (ruleOf G (x .of)) (x .of) q (x .edges) (y .edges) (take n (x .nodes)) (take n k)) j) (sym (map-words v long′))
-      (subst (λ (m : List ℕ). Combined g h (combine H (ruleOf G (x .of)) (x .of) q (x .edges) (y .edges) (take n m) (take n (mapIn v))) j) (sym (map-words w long)) j-is))
-      z-is
+    item-words : ofWords (withItem w k r q m)
+        ≡ record { kind = ofWords w .kind; of = r; plan = q; edges = m; count = ofWords w .count; handled = ofWords w .handled; nodes = k; first = ofWords w .first; second = ofWords w .second }
+    unfolding ofWords tabulate
+    item-words =
+        by-words
+        (λ (w k : List ℕ).
+        ofWords (withItem w k r q m)
+        ≡ record { kind = ofWords w .kind; of = r; plan = q; edges = m; count = ofWords w .count; handled = ofWords w .handled; nodes = k; first = ofWords w .first; second = ofWords w .second })
+        refl
+
+-- a map put over that of a record
+map-over : (w t : List ℕ) → length w ≡ 16 → length t ≡ length (mapIn w) → (r q m n a b : ℕ) (k : List ℕ)
+    → ofWords w ≡ record { kind = 0; of = r; plan = q; edges = m; count = n; handled = 0; nodes = k; first = a; second = b }
+    → ofWords (withMap w t) ≡ record { kind = 0; of = r; plan = q; edges = m; count = n; handled = 0; nodes = t; first = a; second = b }
+unfolding ofWords tabulate
+map-over w t long kept r q m n a b k is =
+    by-words w t long kept
+    (λ (w t : List ℕ). ofWords (withMap w t) ≡ record { kind = ofWords w .kind; of = ofWords w .of; plan = ofWords w .plan; edges = ofWords w .edges; count = ofWords w .count; handled = ofWords w .handled; nodes = t; first = ofWords w .first; second = ofWords w .second })
+    refl
+    ∙ ap (λ (x : Record). record { kind = x .kind; of = x .of; plan = x .plan; edges = x .edges; count = x .count; handled = x .handled; nodes = t; first = x .first; second = x .second }) is
+
+-- the record of an item that two maps make
+module _ (w k t : List ℕ) (r q m : ℕ) (long : length w ≡ 16) (kept : length k ≡ length (mapIn w)) (kept′ : length t ≡ length (mapIn (withItem w k r q m))) (kind : ofWords w .kind ≡ 0) (handled : ofWords w .handled ≡ 0) where
+  pub made-record : ofWords (withMap (withItem w k r q m) t)
+      ≡ record { kind = 0; of = r; plan = q; edges = m; count = ofWords w .count; handled = 0; nodes = t; first = ofWords w .first; second = ofWords w .second }
+  made-record =
+      map-over (withItem w k r q m) t (item-size w k long kept r q m) kept′ r q m (ofWords w .count) (ofWords w .first) (ofWords w .second) k
+      (item-words w k long kept r q m
+      ∙ ap₂ (λ (a b : ℕ). record { kind = a; of = r; plan = q; edges = m; count = ofWords w .count; handled = b; nodes = k; first = ofWords w .first; second = ofWords w .second }) kind handled)
+
+  pub made-rest : Rest (ofWords w) (ofWords (withMap (withItem w k r q m) t))
+  made-rest = record {
+    kind = ap (λ (x : Record). x .kind) made-record ∙ sym kind;
+    count = ap (λ (x : Record). x .count) made-record;
+    handled = ap (λ (x : Record). x .handled) made-record ∙ sym handled;
+    first = ap (λ (x : Record). x .first) made-record;
+    second = ap (λ (x : Record). x .second) made-record;
+  }
+
+-- ---- what a pair makes, in words
+module _ (g h x y w k t : List ℕ) (j : Joined) (p : Place) (b : Bool) (c : ℕ) (size : length x ≡ 16) (long : length w ≡ 16) (kind : ofWords w .kind ≡ 0) (handled : ofWords w .handled ≡ 0) (kept : length k ≡ length (mapIn w)) where
+  abbrev r : ℕ
+  r = ofWords x .of
+
+  abbrev m : ℕ
+  m = bitOr (ofWords x .edges) (ofWords y .edges)
+
+  abbrev nodes : ℕ
+  nodes = ruleNodes g (ofWords x .of)
+
+  pub pair-into-made : length t ≡ length (mapIn (withItem w k r (p .node) m)) → ofWords x .kind ≡ 0 → (above : Above g (ofWords x .of) (ofWords x .plan) p) (found : p .found ≡ true)
+      → Second g r (p .node) (ofWords y) k b → b ≡ true → c ≡ planFirst g r (p .node) → c ≡ ofWords x .plan
+      → Makes g h (combine (graphOf g h) (ruleOf (grammarOf g) r) r (p .node) (ofWords x .edges) (ofWords y .edges) (take nodes (mapIn x)) (take nodes (mapIn (withItem w k r (p .node) m)))) r (p .node) (ofWords x .edges ∪ ofWords y .edges) t j
+      → Into g h (binaryOf (grammarOf g) (graphOf g h) (itemOf (grammarOf g) (ofWords x)) (itemOf (grammarOf g) (ofWords y))) w (record { found = j .found; images = j .images }) (withMap (withItem w k r (p .node) m) t)
+  unfolding _∪_
+  pair-into-made kept′ isActive above found second holds first here makes =
+      into-made g h
+      (combine (graphOf g h) (ruleOf (grammarOf g) r) r (p .node) (ofWords x .edges) (ofWords y .edges) (take nodes (mapIn x)) (take nodes (mapIn (withItem w k r (p .node) m))))
+      (binaryOf (grammarOf g) (graphOf g h) (itemOf (grammarOf g) (ofWords x)) (itemOf (grammarOf g) (ofWords y)))
+      r (p .node) m t j w (withMap (withItem w k r (p .node) m) t) makes
+      (ap (λ (k : List ℕ). combine (graphOf g h) (ruleOf (grammarOf g) r) r (p .node) (ofWords x .edges) (ofWords y .edges) (take nodes (mapIn x)) (take nodes k)) (item-map w k long kept r (p .node) m)
+      ∙ pair-both g h (ofWords x) (ofWords y) isActive p above found k b second holds c first here (mapIn x) (map-words x size))
+      (made-record w k t r (p .node) m long kept kept′ kind handled) (made-rest w k t r (p .node) m long kept kept′ kind handled)

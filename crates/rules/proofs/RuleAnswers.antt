@@ -1,13 +1,13 @@
--- The answers of the rules over accepted tables, and what callers read off them.
+-- What the rules make over accepted tables, and what callers read off the answers.
 use mathlib.Core.Path.{_≡_, refl, sym, ap, ap₂, _∙_, subst}
-use mathlib.Core.Bool.{Bool, true, false, _&&_, not, true≢false}
-use mathlib.Core.List.{List, [], map}
-use Prim.Native.Nat.{ℕ, zero, suc, _≤_, _<_}
+use mathlib.Core.Bool.{Bool, true, false, _&&_, cond, true≢false, false≢true}
+use mathlib.Core.List.{List, [], _∷_, map}
+use Prim.Native.Nat.{ℕ, _≤_, _<_}
 use native.Mathlib.Omega.{arith}
 use lib.ListN.{length, take}
 use lib.Bits.{bitOr}
 use lib.Dec.{eqb}
-use borrow.Author.Tests.{eq-eqb, ne-eqb, eqb-true, not-true}
+use borrow.Author.Tests.{eq-eqb, ne-eqb}
 use Rattle.masks.specs.Masks.{_∪_, disjoint, single, Added}
 use Rattle.masks.specs.Laws.{bit-empty, union-of}
 use Rattle.hrg.specs.Counts.{occurs}
@@ -16,26 +16,26 @@ use Rattle.hrg.specs.Trees.{padded}
 use Rattle.hrg.specs.Items.{Item, active, passive, attach}
 use Rattle.hrg.specs.WellFormed.{children, EdgeOk}
 use Rattle.hrg.specs.ClosureRun.{guard, combine, nonterminalAt, joinAt, binaryOf}
-use Rattle.hrg.proofs.Sums.{hit-ne, none-left}
+use Rattle.hrg.proofs.Sums.{none-left}
 use Rattle.hrg.proofs.Plans.{introduce-known}
-use Rattle.hrg.proofs.Degrees.{and-true}
-use Rattle.agenda.specs.Records.{recordOf, itemOf}
+use Rattle.agenda.specs.Records.{recordOf, itemOf, plus}
+use Rattle.agenda.specs.Consequences.{withTerminal, pair}
 use Rattle.agenda.specs.declared.Record.{Record}
+use Rattle.records.specs.Words.{ofWords}
 use Rattle.questions.specs.Layout.{rankAt, ruleNodes, ruleEdges, edgeLabel, planKind, planFirst, planSecond, graphEdges, graphLabel}
 use Rattle.questions.specs.Abstract.{grammarOf, graphOf}
 use Rattle.questions.proofs.WellFormedLent.{checked-grammar-ok}
 use Rattle.joins.specs.declared.Joined.{Joined}
-use Rattle.rules.specs.declared.Made.{Made}
+use Rattle.rules.specs.declared.Filled.{Filled}
 use Rattle.rules.specs.declared.Place.{Place}
-use Rattle.joins.specs.Joins.{Accepted, KnownEdge, Spans, edgeNodes}
-use Rattle.rules.specs.Rules.{noItem, madeAs, Answer, madeAt, madeRecords, terminalItems, binaryAt, Above, ActiveAt}
+use Rattle.joins.specs.Joins.{Accepted, KnownNode, KnownEdge, Spans, Makes, edgeNodes}
+use Rattle.rules.specs.Rules.{Rest, Into, Second, terminalItems, binaryAt, Above}
 use Rattle.joins.proofs.Known.{right-nodes, nodes-few, plan-ok, plan-size, graph-size, graph-ok, graph-edges-few}
 use Rattle.joins.proofs.PlanMasks.{node-is, introduced-is, joined-is}
 use Rattle.joins.proofs.EdgeMaps.{edge-ok, edge-label as rule-label, edge-rank, take-padded, length-attach}
 use Rattle.joins.proofs.Openness.{spans-left, spans-right}
 use Rattle.rules.proofs.NodeLists.{label-is}
-use Rattle.rules.proofs.Parents.{place-exists}
-use Rattle.rules.proofs.RuleItems.{guard-none, AtMostOne, none, binary-nowhere, binary-place, terminal-nowhere, terminal-place, place-none, at-place-one, terminal-place-one, one-records, nothing-made, answer-same, Combined, made-combined, item-active, item-passive, item-edges, binary-apart, pair-apart, pair-rules, pair-passive, edge-pair}
+use Rattle.rules.proofs.RuleItems.{guard-none, binary-nowhere, binary-place, firstIs, first-none, item-active, item-passive, item-edges, with-terminal, binary-apart, pair-passive, edge-pair}
 
 -- ---- the one plan node above
 module _ (g : List ℕ) (H : Graph) (r p m : ℕ) (f : List ℕ) (x : Place) (above : Above g r p x) where
@@ -53,15 +53,6 @@ module _ (g : List ℕ) (H : Graph) (r p m : ℕ) (f : List ℕ) (x : Place) (ab
   binary-missing : x .found ≡ false → (b : Item) → binaryOf (grammarOf g) H (active r p m f) b ≡ []
   binary-missing found b = binary-nowhere (grammarOf g) H r p m f (above .nowhere found .none) b
 
-  binary-by : (b : Item) (t : Bool) → x .found ≡ t → AtMostOne r (binaryOf (grammarOf g) H (active r p m f) b)
-  binary-by b true found = subst (AtMostOne r) (sym (binary-above found b)) (at-place-one (grammarOf g) H r p m f b (x .node))
-  binary-by b false found = subst (AtMostOne r) (sym (binary-missing found b)) none
-
-  terminal-by : (e : ℕ) (t : Bool) → x .found ≡ t → AtMostOne r (terminalItems (grammarOf g) H (active r p m f) e)
-  terminal-by e true found =
-      subst (AtMostOne r) (sym (terminal-place (grammarOf g) H r p m f (x .node) (inside found) (only found) e)) (terminal-place-one (grammarOf g) H r p m f e (x .node))
-  terminal-by e false found = subst (AtMostOne r) (sym (terminal-nowhere (grammarOf g) H r p m f (above .nowhere found .none) e)) none
-
 pub terminal-passive : (G : Grammar) (H : Graph) (x : Record) (e : ℕ) → eqb (x .kind) 0 ≡ false → terminalItems G H (itemOf G x) e ≡ []
 unfolding terminalItems
 terminal-passive G H x e h = ap (λ (i : Item). terminalItems G H i e) (item-passive G x h)
@@ -70,20 +61,6 @@ and-no : (a b : Bool) → b ≡ false → (a && b) ≡ false
 and-no true b h = h
 and-no false b h = refl
 
--- what the test of two active records' rules leaves
-pub same-rule : (kind a b : ℕ) → (eqb kind 0 && not (eqb a b)) ≡ false → kind ≡ 0 → a ≡ b
-same-rule kind a b t k = go (eqb a b) refl
-  where
-    go : (c : Bool) → eqb a b ≡ c → a ≡ b
-    go true e = eqb-true a b e
-    go false e = absurd (true≢false (sym (ap₂ (λ p q. p && not q) (eq-eqb kind 0 k) e) ∙ t))
-
--- a plan node that is neither a leaf nor introduces an edge
-pub two-or-more : (kind word : ℕ) → kind ≡ word → (kind ≡ 0 → ⊥) → (kind ≡ 1 → ⊥) → 2 ≤ word
-two-or-more zero word e a b = absurd (a refl)
-two-or-more (suc zero) word e a b = absurd (b refl)
-two-or-more (suc (suc kind)) word e a b = omega arith
-
 single-added : (e m : ℕ) → e < 64 → Added 0 e m → m ≡ single e
 single-added e m h added = added .value h ∙ sym (union-of (single e) 0 (single e) (λ k. omega (arith, bit-empty k)))
 
@@ -91,211 +68,240 @@ pub near-more : (g h : List ℕ) (m near o : ℕ) → Spans g h m near → Spans
 unfolding _∪_
 near-more g h m near o s = spans-left g h m near o s
 
--- ---- over accepted tables
-module _ (g h : List ℕ) where
+-- ---- the rules at one plan node
+module _ (g : List ℕ) (r q : ℕ) (known : KnownNode g r q) where
   abbrev G : Grammar
   G = grammarOf g
 
-  abbrev H : Graph
-  H = graphOf g h
+  abbrev R : Rule
+  R = ruleOf G r
 
-  -- ---- an answer tells the records that the rule makes
-  module _ (accepted : Accepted g h) (x : Record) where
-    place : (p : Place) × Above g (x .of) (x .plan) p
-    place = place-exists g (x .of) (x .plan) (accepted .grammar)
+  abbrev n : ℕ
+  n = ruleNodes g r
 
-    pair-one : (y : Record) (t : Bool) → eqb (x .kind) 0 ≡ t → AtMostOne (x .of) (binaryOf G H (itemOf G x) (itemOf G y))
-    pair-one y true k =
-        subst (λ (i : Item). AtMostOne (x .of) (binaryOf G H i (itemOf G y))) (sym (item-active G x k))
-        (binary-by g H (x .of) (x .plan) (x .edges) (take (rightOf G (x .of) .nodes) (x .nodes)) (place .0) (place .1) (itemOf G y) (place .0 .found) refl)
-    pair-one y false k = subst (AtMostOne (x .of)) (sym (pair-passive G H x y k)) none
+  abbrev node : PlanNode
+  node = planNode (planOf G r) q
 
-    edge-one : (e : ℕ) (t : Bool) → eqb (x .kind) 0 ≡ t → AtMostOne (x .of) (terminalItems G H (itemOf G x) e)
-    edge-one e true k =
-        subst (λ (i : Item). AtMostOne (x .of) (terminalItems G H i e)) (sym (item-active G x k))
-        (terminal-by g H (x .of) (x .plan) (x .edges) (take (rightOf G (x .of) .nodes) (x .nodes)) (place .0) (place .1) e (place .0 .found) refl)
-    edge-one e false k = subst (AtMostOne (x .of)) (sym (terminal-passive G H x e k)) none
+  size : R .production .right .nodes ≡ n
+  size = right-nodes g r (known .grammar) (known .rule)
 
-    pub pair-records : (y : Record) (n a b o : ℕ)
-        → map (λ (i : Item). recordOf i n a b) (binaryOf G H (itemOf G x) (itemOf G y)) ≡ madeRecords (x .of) (madeAs (binaryOf G H (itemOf G x) (itemOf G y)) o) n a b
-    pair-records y n a b o = one-records (x .of) n a b (binaryOf G H (itemOf G x) (itemOf G y)) o (pair-one y (eqb (x .kind) 0) refl)
+  -- an item that is not at the first child
+  pub first-other : (c : ℕ) → c ≡ planFirst g r q → (H : Graph) (p m : ℕ) (f : List ℕ) (b : Item) → (c ≡ p → ⊥) → binaryAt G H (active r p m f) b q ≡ []
+  first-other c e H p m f b other =
+      first-none G H r p m f b q (ap (λ (n : PlanNode). firstIs n p) (node-is g r q known (planKind g r q) refl) ∙ go (eqb (planKind g r q) 0) (eqb (planKind g r q) 1))
+    where
+      go : (a b : Bool) → firstIs (cond a leaf (cond b (introduce (planFirst g r q) (planSecond g r q)) (join (planFirst g r q) (planSecond g r q)))) p ≡ false
+      go true b = refl
+      go false true = ne-eqb (planFirst g r q) p (λ s. other (e ∙ s))
+      go false false = ne-eqb (planFirst g r q) p (λ s. other (e ∙ s))
 
-    pub terminal-records : (e n a b o : ℕ)
-        → map (λ (i : Item). recordOf i n a b) (terminalItems G H (itemOf G x) e) ≡ madeRecords (x .of) (madeAs (terminalItems G H (itemOf G x) e) o) n a b
-    terminal-records e n a b o = one-records (x .of) n a b (terminalItems G H (itemOf G x) e) o (edge-one e (eqb (x .kind) 0) refl)
+  module _ (y : Record) (t : List ℕ) where
+    second-none : ((H : Graph) (p m : ℕ) (f : List ℕ) → binaryAt G H (active r p m f) (itemOf G y) q ≡ []) → Second g r q y t false
+    second-none h = record { none = λ _. h; some = λ e. absurd (false≢true e) }
 
-  -- ---- the rules at one plan node
-  module _ (x y : Record) (q : ℕ) (here : ActiveAt g h x q) where
-    abbrev R : Rule
-    R = ruleOf G (x .of)
+    second-some : ((H : Graph) (p m : ℕ) (f : List ℕ) → planFirst g r q ≡ p → binaryAt G H (active r p m f) (itemOf G y) q ≡ combine H R r q m (y .edges) f (take n t)) → Second g r q y t true
+    second-some h = record { none = λ e. absurd (true≢false e); some = λ _. h }
 
-    abbrev n : ℕ
-    n = ruleNodes g (x .of)
-
-    abbrev items : List Item
-    items = binaryAt G H (itemOf G x) (itemOf G y) q
-
-    size : R .production .right .nodes ≡ n
-    size = right-nodes g (x .of) (here .node .grammar) (here .node .rule)
-
-    x-is : itemOf G x ≡ active (x .of) (x .plan) (x .edges) (take n (x .nodes))
-    x-is = item-active G x (eq-eqb (x .kind) 0 (here .isActive)) ∙ ap (λ k. active (x .of) (x .plan) (x .edges) (take k (x .nodes))) size
-
-    with-active : y .kind ≡ 0
-        → items ≡ guard (eqb (x .of) (y .of)) (joinAt H R (x .of) (x .plan) (x .edges) (take n (x .nodes)) (y .plan) (y .edges) (take (rightOf G (y .of) .nodes) (y .nodes)) q (planNode (planOf G (x .of)) q))
+    with-active : y .kind ≡ 0 → (H : Graph) (p m : ℕ) (f : List ℕ)
+        → binaryAt G H (active r p m f) (itemOf G y) q ≡ guard (eqb r (y .of)) (joinAt H R r p m f (y .plan) (y .edges) (take (rightOf G (y .of) .nodes) (y .nodes)) q node)
     unfolding binaryAt
-    with-active e = ap₂ (λ (a b : Item). binaryAt G H a b q) x-is (item-active G y (eq-eqb (y .kind) 0 e))
+    with-active e H p m f = ap (λ (b : Item). binaryAt G H (active r p m f) b q) (item-active G y (eq-eqb (y .kind) 0 e))
 
-    with-passive : (y .kind ≡ 0 → ⊥)
-        → items ≡ nonterminalAt H R (x .of) (x .plan) (x .edges) (take n (x .nodes)) (y .of) (y .edges) (take (rankOf G (y .of)) (y .nodes)) q (planNode (planOf G (x .of)) q)
+    with-passive : (y .kind ≡ 0 → ⊥) → (H : Graph) (p m : ℕ) (f : List ℕ)
+        → binaryAt G H (active r p m f) (itemOf G y) q ≡ nonterminalAt H R r p m f (y .of) (y .edges) (take (rankOf G (y .of)) (y .nodes)) q node
     unfolding binaryAt
-    with-passive e = ap₂ (λ (a b : Item). binaryAt G H a b q) x-is (item-passive G y (ne-eqb (y .kind) 0 e))
+    with-passive e H p m f = ap (λ (b : Item). binaryAt G H (active r p m f) b q) (item-passive G y (ne-eqb (y .kind) 0 e))
 
-    childless : (n : PlanNode) → planNode (planOf G (x .of)) q ≡ n → occurs (x .plan) (children n) ≡ 0 → Answer g h items noItem
-    childless n e o =
-        nothing-made g h items
-        (ap (λ (i : Item). binaryAt G H i (itemOf G y) q) x-is
-        ∙ place-none G H (x .of) (x .plan) (x .edges) (take (ruleNodes g (x .of)) (x .nodes)) (itemOf G y) q (ap (λ (n : PlanNode). occurs (x .plan) (children n)) e ∙ o))
-
-    pub at-leaf : (kind : ℕ) → kind ≡ planKind g (x .of) q → kind ≡ 0 → Answer g h items noItem
-    unfolding occurs
-    at-leaf kind a e = childless leaf (node-is g (x .of) q (here .node) kind a ∙ rw e) refl
+    pub second-leaf : (kind : ℕ) → kind ≡ planKind g r q → kind ≡ 0 → Second g r q y t false
+    second-leaf kind a e =
+        let here : node ≡ leaf = node-is g r q known kind a ∙ rw e in
+        second-none (λ H p m f. first-none G H r p m f (itemOf G y) q (ap (λ (n : PlanNode). firstIs n p) here))
 
     -- the nonterminal rule
-    module _ (kind : planKind g (x .of) q ≡ 1) (c i : ℕ) (first : c ≡ planFirst g (x .of) q) (second : i ≡ planSecond g (x .of) q) where
-      node : planNode (planOf G (x .of)) q ≡ introduce c i
-      node = introduced-is g (x .of) q (here .node) (planKind g (x .of) q) c i refl first second kind
+    module _ (kind i : ℕ) (a : kind ≡ planKind g r q) (second : i ≡ planSecond g r q) (introduces : kind ≡ 1) where
+      edge-node : node ≡ introduce (planFirst g r q) i
+      edge-node = introduced-is g r q known kind (planFirst g r q) i a refl second introduces
 
-      pub filled-known : KnownEdge g (x .of) i
-      filled-known =
-          let k = here .node in
-          record { grammar = k .grammar; rule = k .rule; edge = introduce-known (ruleEdges g (x .of)) (planOf G (x .of)) (plan-ok g (x .of) (k .grammar) (k .rule)) q c i node }
+      pub filled-known : KnownEdge g r i
+      filled-known = record {
+        grammar = known .grammar;
+        rule = known .rule;
+        edge = introduce-known (ruleEdges g r) (planOf G r) (plan-ok g r (known .grammar) (known .rule)) q (planFirst g r q) i edge-node;
+      }
 
       abbrev edge : Edge
       edge = edgeAt (R .production .right .edges) i
 
-      edge-label : edge .label ≡ edgeLabel g (x .of) i
-      edge-label = rule-label g (x .of) i filled-known
+      edge-label : edge .label ≡ edgeLabel g r i
+      edge-label = rule-label g r i filled-known
 
-      pub filled-active : y .kind ≡ 0 → Answer g h items noItem
+      pub filled-active : y .kind ≡ 0 → Second g r q y t false
       unfolding joinAt
       filled-active e =
-          nothing-made g h items
-          (with-active e
-          ∙ ap (λ (n : PlanNode). guard (eqb (x .of) (y .of)) (joinAt H R (x .of) (x .plan) (x .edges) (take (ruleNodes g (x .of)) (x .nodes)) (y .plan) (y .edges) (take (rightOf G (y .of) .nodes) (y .nodes)) q n)) node
-          ∙ guard-none (eqb (x .of) (y .of)))
+          second-none
+          (λ H p m f.
+          with-active e H p m f
+          ∙ ap (λ (n : PlanNode). guard (eqb r (y .of)) (joinAt H R r p m f (y .plan) (y .edges) (take (rightOf G (y .of) .nodes) (y .nodes)) q n)) edge-node
+          ∙ guard-none (eqb r (y .of)))
 
-      pub filled-other : (c ≡ x .plan → ⊥) → Answer g h items noItem
-      unfolding occurs
-      filled-other e = childless (introduce c i) node (omega (arith, hit-ne (x .plan) c (λ s. e (sym s))))
+      abbrev joint : Graph → ℕ → List ℕ → List Item
+      joint H m f = combine H R r q m (y .edges) f (attach (R .production .right .nodes) (edge .attachment) (take (rankOf G (y .of)) (y .nodes)))
 
-      abbrev joint : List Item
-      joint = combine H R (x .of) q (x .edges) (y .edges) (take n (x .nodes)) (attach (R .production .right .nodes) (edge .attachment) (take (rankOf G (y .of)) (y .nodes)))
-
-      filled-items : (y .kind ≡ 0 → ⊥) → items ≡ guard (eqb c (x .plan) && eqb (y .of) (edge .label)) joint
+      filled-items : (y .kind ≡ 0 → ⊥) → (H : Graph) (p m : ℕ) (f : List ℕ)
+          → binaryAt G H (active r p m f) (itemOf G y) q ≡ guard (eqb (planFirst g r q) p && eqb (y .of) (edge .label)) (joint H m f)
       unfolding nonterminalAt
-      filled-items e =
-          with-passive e
-          ∙ ap (λ (n : PlanNode). nonterminalAt H R (x .of) (x .plan) (x .edges) (take (ruleNodes g (x .of)) (x .nodes)) (y .of) (y .edges) (take (rankOf G (y .of)) (y .nodes)) q n) node
+      filled-items e H p m f =
+          with-passive e H p m f
+          ∙ ap (λ (n : PlanNode). nonterminalAt H R r p m f (y .of) (y .edges) (take (rankOf G (y .of)) (y .nodes)) q n) edge-node
 
-      module _ (l : ℕ) (label : l ≡ edgeLabel g (x .of) i) (isPassive : y .kind ≡ 0 → ⊥) where
-        pub filled-label : (l ≡ y .of → ⊥) → Answer g h items noItem
+      module _ (l : ℕ) (label : l ≡ edgeLabel g r i) (isPassive : y .kind ≡ 0 → ⊥) where
+        pub filled-label : (l ≡ y .of → ⊥) → Second g r q y t false
         filled-label e =
-            nothing-made g h items
-            (filled-items isPassive
-            ∙ ap (λ b. guard b joint) (and-no (eqb c (x .plan)) (eqb (y .of) (edge .label)) (ne-eqb (y .of) (edge .label) (λ s. e (label ∙ sym (s ∙ edge-label))))))
+            second-none
+            (λ H p m f.
+            filled-items isPassive H p m f
+            ∙ ap (λ b. guard b (joint H m f)) (and-no (eqb (planFirst g r q) p) (eqb (y .of) (edge .label)) (ne-eqb (y .of) (edge .label) (λ s. e (label ∙ sym (s ∙ edge-label))))))
 
-        pub filled-made : c ≡ x .plan → l ≡ y .of → (k : List ℕ) (j : Joined) (z : Made)
-            → k ≡ padded (attach n (edgeNodes g (x .of) i) (take (rankAt g (edgeLabel g (x .of) i)) (y .nodes)))
-            → Combined g h (combine H R (x .of) q (x .edges) (y .edges) (take n (x .nodes)) (take n k)) j → z ≡ madeAt q j → Answer g h items z
-        filled-made d s k j z k-is j-is z-is =
-            answer-same g h (combine H R (x .of) q (x .edges) (y .edges) (take n (x .nodes)) (take n k)) items z
-            (sym (filled-items isPassive ∙ ap₂ (λ a b. guard (a && b) joint) (eq-eqb c (x .plan) d) (eq-eqb (y .of) (edge .label) same) ∙ ap (combine H R (x .of) q (x .edges) (y .edges) (take n (x .nodes))) map-is))
-            (made-combined g h H R (x .of) q (x .edges) (y .edges) (take n (x .nodes)) (take n k) j z j-is z-is)
+        pub filled-made : l ≡ y .of → (places : List ℕ) → y .nodes ≡ places → t ≡ padded (attach n (edgeNodes g r i) (take (rankAt g (edgeLabel g r i)) places)) → Second g r q y t true
+        filled-made s places nodes t-is =
+            second-some
+            (λ H p m f d.
+            filled-items isPassive H p m f
+            ∙ ap₂ (λ a b. guard (a && b) (joint H m f)) (eq-eqb (planFirst g r q) p d) (eq-eqb (y .of) (edge .label) same)
+            ∙ ap (combine H R r q m (y .edges) f) map-is)
           where
             same : y .of ≡ edge .label
             same = sym s ∙ label ∙ sym edge-label
 
-            ranks : rankOf G (y .of) ≡ rankAt g (edgeLabel g (x .of) i)
-            ranks = ap (rankOf G) same ∙ sym (edge-ok g (x .of) i filled-known .listed .ranked) ∙ edge-rank g (x .of) i filled-known
+            ranks : rankOf G (y .of) ≡ rankAt g (edgeLabel g r i)
+            ranks = ap (rankOf G) same ∙ sym (edge-ok g r i filled-known .listed .ranked) ∙ edge-rank g r i filled-known
 
-            map-is : attach (R .production .right .nodes) (edge .attachment) (take (rankOf G (y .of)) (y .nodes)) ≡ take n k
+            map-is : attach (R .production .right .nodes) (edge .attachment) (take (rankOf G (y .of)) (y .nodes)) ≡ take n t
             map-is =
                 ap₂ (λ (s t : ℕ). attach s (edge .attachment) (take t (y .nodes))) size ranks
-                ∙ sym (ap (take n) k-is ∙ take-padded n (attach n (edge .attachment) (take (rankAt g (edgeLabel g (x .of) i)) (y .nodes))) (length-attach n (edge .attachment) _)
-                (nodes-few g (x .of) (here .node .grammar) (here .node .rule)))
+                ∙ ap (λ (l : List ℕ). attach n (edge .attachment) (take (rankAt g (edgeLabel g r i)) l)) nodes
+                ∙ sym (ap (take n) t-is ∙ take-padded n (attach n (edge .attachment) (take (rankAt g (edgeLabel g r i)) places)) (length-attach n (edge .attachment) _)
+                (nodes-few g r (known .grammar) (known .rule)))
 
     -- the join rule
-    module _ (kind : 2 ≤ planKind g (x .of) q) (c d : ℕ) (first : c ≡ planFirst g (x .of) q) (second : d ≡ planSecond g (x .of) q) where
-      join-node : planNode (planOf G (x .of)) q ≡ join c d
-      join-node = joined-is g (x .of) q (here .node) (planKind g (x .of) q) c d refl first second (λ e. omega arith) (λ e. omega arith)
+    module _ (kind d : ℕ) (a : kind ≡ planKind g r q) (second : d ≡ planSecond g r q) (not-leaf : kind ≡ 0 → ⊥) (not-introduce : kind ≡ 1 → ⊥) where
+      join-node : node ≡ join (planFirst g r q) d
+      join-node = joined-is g r q known kind (planFirst g r q) d a refl second not-leaf not-introduce
 
-      pub joined-passive : (y .kind ≡ 0 → ⊥) → Answer g h items noItem
+      pub joined-passive : (y .kind ≡ 0 → ⊥) → Second g r q y t false
       unfolding nonterminalAt
       joined-passive e =
-          nothing-made g h items
-          (with-passive e
-          ∙ ap (λ (n : PlanNode). nonterminalAt H R (x .of) (x .plan) (x .edges) (take (ruleNodes g (x .of)) (x .nodes)) (y .of) (y .edges) (take (rankOf G (y .of)) (y .nodes)) q n) join-node)
+          second-none
+          (λ H p m f. with-passive e H p m f ∙ ap (λ (n : PlanNode). nonterminalAt H R r p m f (y .of) (y .edges) (take (rankOf G (y .of)) (y .nodes)) q n) join-node)
 
-      abbrev both : List ℕ → List Item
-      both k = combine H R (x .of) q (x .edges) (y .edges) (take n (x .nodes)) k
+      module _ (isActive : y .kind ≡ 0) where
+        abbrev both : Graph → ℕ → List ℕ → List ℕ → List Item
+        both H m f k = combine H R r q m (y .edges) f k
 
-      joined-items : y .kind ≡ 0 → items ≡ guard (eqb (x .of) (y .of)) (guard (eqb c (x .plan) && eqb d (y .plan)) (both (take (rightOf G (y .of) .nodes) (y .nodes))))
-      unfolding joinAt
-      joined-items e =
-          with-active e
-          ∙ ap (λ (n : PlanNode). guard (eqb (x .of) (y .of)) (joinAt H R (x .of) (x .plan) (x .edges) (take (ruleNodes g (x .of)) (x .nodes)) (y .plan) (y .edges) (take (rightOf G (y .of) .nodes) (y .nodes)) q n)) join-node
+        joined-items : (H : Graph) (p m : ℕ) (f : List ℕ)
+            → binaryAt G H (active r p m f) (itemOf G y) q
+            ≡ guard (eqb r (y .of)) (guard (eqb (planFirst g r q) p && eqb d (y .plan)) (both H m f (take (rightOf G (y .of) .nodes) (y .nodes))))
+        unfolding joinAt
+        joined-items H p m f =
+            with-active isActive H p m f
+            ∙ ap (λ (n : PlanNode). guard (eqb r (y .of)) (joinAt H R r p m f (y .plan) (y .edges) (take (rightOf G (y .of) .nodes) (y .nodes)) q n)) join-node
 
-      joined-not : y .kind ≡ 0 → (eqb c (x .plan) && eqb d (y .plan)) ≡ false → Answer g h items noItem
-      joined-not e t =
-          nothing-made g h items
-          (joined-items e
-          ∙ ap (λ b. guard (eqb (x .of) (y .of)) (guard b (both (take (rightOf G (y .of) .nodes) (y .nodes))))) t
-          ∙ guard-none (eqb (x .of) (y .of)))
+        pub joined-rule : (y .of ≡ r → ⊥) → Second g r q y t false
+        joined-rule e =
+            second-none
+            (λ H p m f.
+            joined-items H p m f
+            ∙ ap (λ b. guard b (guard (eqb (planFirst g r q) p && eqb d (y .plan)) (both H m f (take (rightOf G (y .of) .nodes) (y .nodes))))) (ne-eqb r (y .of) (λ s. e (sym s))))
 
-      pub joined-first : y .kind ≡ 0 → (c ≡ x .plan → ⊥) → Answer g h items noItem
-      joined-first e s = joined-not e (ap (λ b. b && eqb d (y .plan)) (ne-eqb c (x .plan) s))
+        pub joined-second : (d ≡ y .plan → ⊥) → Second g r q y t false
+        joined-second e =
+            second-none
+            (λ H p m f.
+            joined-items H p m f
+            ∙ ap (λ b. guard (eqb r (y .of)) (guard b (both H m f (take (rightOf G (y .of) .nodes) (y .nodes))))) (and-no (eqb (planFirst g r q) p) (eqb d (y .plan)) (ne-eqb d (y .plan) e))
+            ∙ guard-none (eqb r (y .of)))
 
-      pub joined-second : y .kind ≡ 0 → (d ≡ y .plan → ⊥) → Answer g h items noItem
-      joined-second e s = joined-not e (and-no (eqb c (x .plan)) (eqb d (y .plan)) (ne-eqb d (y .plan) s))
+        pub joined-made : y .of ≡ r → d ≡ y .plan → (places : List ℕ) → y .nodes ≡ places → t ≡ places → Second g r q y t true
+        joined-made s e places nodes t-is =
+            second-some
+            (λ H p m f c.
+            joined-items H p m f
+            ∙ ap (λ b. guard b (guard (eqb (planFirst g r q) p && eqb d (y .plan)) (both H m f (take (rightOf G (y .of) .nodes) (y .nodes))))) (eq-eqb r (y .of) (sym s))
+            ∙ ap₂ (λ a b. guard (a && b) (both H m f (take (rightOf G (y .of) .nodes) (y .nodes)))) (eq-eqb (planFirst g r q) p c) (eq-eqb d (y .plan) e)
+            ∙ ap (both H m f) (ap (λ i. take (rightOf G i .nodes) (y .nodes)) s ∙ ap₂ (λ (i : ℕ) (l : List ℕ). take i l) size (nodes ∙ sym t-is)))
 
-      pub joined-made : y .kind ≡ 0 → x .of ≡ y .of → c ≡ x .plan → d ≡ y .plan → (j : Joined) (z : Made)
-          → Combined g h (both (take n (y .nodes))) j → z ≡ madeAt q j → Answer g h items z
-      joined-made e s a b j z j-is z-is =
-          answer-same g h (both (take n (y .nodes))) items z
-          (sym (joined-items e
-          ∙ ap (λ t. guard t (guard (eqb c (x .plan) && eqb d (y .plan)) (both (take (rightOf G (y .of) .nodes) (y .nodes))))) (eq-eqb (x .of) (y .of) s)
-          ∙ ap₂ (λ t u. guard (t && u) (both (take (rightOf G (y .of) .nodes) (y .nodes)))) (eq-eqb c (x .plan) a) (eq-eqb d (y .plan) b)
-          ∙ ap both (ap (λ i. take (rightOf G i .nodes) (y .nodes)) (sym s) ∙ ap (λ i. take i (y .nodes)) size)))
-          (made-combined g h H R (x .of) q (x .edges) (y .edges) (take n (x .nodes)) (take n (y .nodes)) j z j-is z-is)
+pub rest-same : (x : Record) → Rest x x
+rest-same x = record { kind = refl; count = refl; handled = refl; first = refl; second = refl }
+
+-- ---- over accepted tables
+module _ (g h : List ℕ) where
+  abbrev G′ : Grammar
+  G′ = grammarOf g
+
+  abbrev H : Graph
+  H = graphOf g h
+
+  -- ---- answers
+  pub into-none : (l : List Item) (w v : List ℕ) (o : ℕ) → l ≡ [] → Rest (ofWords w) (ofWords v) → Into g h l w (record { found = false; images = o }) v
+  into-none l w v o e rest = record { none = λ _. e; one = λ p. absurd (false≢true p); spans = λ p. absurd (false≢true p); rest = rest }
+
+  pub into-same : (l k : List Item) (w v : List ℕ) (z : Filled) → l ≡ k → Into g h l w z v → Into g h k w z v
+  into-same l k w v z e a = record {
+    none = λ p. sym e ∙ a .none p;
+    one = λ p. ap (map (λ (i : Item). recordOf i (ofWords w .count) (ofWords w .first) (ofWords w .second))) (sym e) ∙ a .one p;
+    spans = a .spans;
+    rest = a .rest;
+  }
 
   -- ---- a pair
   module _ (x y : Record) where
     abbrev pairs : List Item
-    pairs = binaryOf G H (itemOf G x) (itemOf G y)
+    pairs = binaryOf G′ H (itemOf G′ x) (itemOf G′ y)
 
-    pub answer-passive : (x .kind ≡ 0 → ⊥) → Answer g h pairs noItem
-    answer-passive k = nothing-made g h pairs (pair-passive G H x y (ne-eqb (x .kind) 0 k))
-
-    pub answer-rules : x .kind ≡ 0 → (eqb (y .kind) 0 && not (eqb (x .of) (y .of))) ≡ true → Answer g h pairs noItem
-    answer-rules k t =
-        let (a, b) = and-true (eqb (y .kind) 0) (not (eqb (x .of) (y .of))) t in
-        nothing-made g h pairs (pair-rules G H x y (eq-eqb (x .kind) 0 k) a (not-true (eqb (x .of) (y .of)) b))
-
-    pub answer-apart : (b : Bool) → b ≡ disjoint (x .edges) (y .edges) → b ≡ false → Answer g h pairs noItem
-    answer-apart b e t = nothing-made g h pairs (pair-apart G H x y (sym e ∙ t))
+    pub pair-not : (x .kind ≡ 0 → ⊥) → pairs ≡ []
+    pair-not k = pair-passive G′ H x y (ne-eqb (x .kind) 0 k)
 
     module _ (k : x .kind ≡ 0) (p : Place) (above : Above g (x .of) (x .plan) p) where
-      is : itemOf G x ≡ active (x .of) (x .plan) (x .edges) (take (rightOf G (x .of) .nodes) (x .nodes))
-      is = item-active G x (eq-eqb (x .kind) 0 k)
+      is : itemOf G′ x ≡ active (x .of) (x .plan) (x .edges) (take (rightOf G′ (x .of) .nodes) (x .nodes))
+      is = item-active G′ x (eq-eqb (x .kind) 0 k)
 
-      pub answer-nowhere : p .found ≡ false → Answer g h pairs noItem
-      answer-nowhere t = nothing-made g h pairs (ap (λ (i : Item). binaryOf G H i (itemOf G y)) is ∙ binary-missing g H _ _ _ _ p above t (itemOf G y))
+      pub pair-nowhere : p .found ≡ false → pairs ≡ []
+      pair-nowhere t = ap (λ (i : Item). binaryOf G′ H i (itemOf G′ y)) is ∙ binary-missing g H _ _ _ _ p above t (itemOf G′ y)
 
-      pub answer-at : p .found ≡ true → (z : Made) → Answer g h (binaryAt G H (itemOf G x) (itemOf G y) (p .node)) z → Answer g h pairs z
-      answer-at t z =
-          answer-same g h (binaryAt G H (itemOf G x) (itemOf G y) (p .node)) pairs z
-          (sym (ap (λ (i : Item). binaryOf G H i (itemOf G y)) is ∙ binary-above g H _ _ _ _ p above t (itemOf G y) ∙ sym (ap (λ (i : Item). binaryAt G H i (itemOf G y) (p .node)) is)))
+      module _ (found : p .found ≡ true) where
+        pair-at : pairs ≡ binaryAt G′ H (active (x .of) (x .plan) (x .edges) (take (rightOf G′ (x .of) .nodes) (x .nodes))) (itemOf G′ y) (p .node)
+        pair-at = ap (λ (i : Item). binaryOf G′ H i (itemOf G′ y)) is ∙ binary-above g H _ _ _ _ p above found (itemOf G′ y)
+
+        pub pair-other : (c : ℕ) → c ≡ planFirst g (x .of) (p .node) → (c ≡ x .plan → ⊥) → pairs ≡ []
+        pair-other c e other = pair-at ∙ first-other g (x .of) (p .node) (above .known found) c e H _ _ _ (itemOf G′ y) other
+
+        module _ (t : List ℕ) (b : Bool) (second : Second g (x .of) (p .node) y t b) where
+          pub pair-neither : b ≡ false → pairs ≡ []
+          pair-neither e = pair-at ∙ second .none e H _ _ _
+
+          pub pair-both : b ≡ true → (c : ℕ) → c ≡ planFirst g (x .of) (p .node) → c ≡ x .plan → (places : List ℕ) → x .nodes ≡ places
+              → combine H (ruleOf G′ (x .of)) (x .of) (p .node) (x .edges) (y .edges) (take (ruleNodes g (x .of)) places) (take (ruleNodes g (x .of)) t) ≡ pairs
+          pair-both e c first here places nodes =
+              let known = above .known found in
+              sym
+              (pair-at ∙ second .some e H _ _ _ (sym first ∙ here)
+              ∙ ap₂ (λ (i : ℕ) (l : List ℕ). combine H (ruleOf G′ (x .of)) (x .of) (p .node) (x .edges) (y .edges) (take i l) (take (ruleNodes g (x .of)) t))
+              (right-nodes g (x .of) (known .grammar) (known .rule)) nodes)
+
+  -- the one item as a record
+  pub into-made : (l k : List Item) (r q m : ℕ) (t : List ℕ) (j : Joined) (w v : List ℕ) → Makes g h l r q m t j → l ≡ k
+      → ofWords v ≡ record { kind = 0; of = r; plan = q; edges = m; count = ofWords w .count; handled = 0; nodes = t; first = ofWords w .first; second = ofWords w .second }
+      → Rest (ofWords w) (ofWords v) → Into g h k w (record { found = j .found; images = j .images }) v
+  into-made l k r q m t j w v makes e is rest = record {
+    none = λ p. sym e ∙ makes .none p;
+    one = λ p.
+        let one = makes .one p in
+        ap (map (λ (i : Item). recordOf i (ofWords w .count) (ofWords w .first) (ofWords w .second))) (sym e ∙ one .item)
+        ∙ ap (λ (t : List ℕ). record { kind = 0; of = r; plan = q; edges = m; count = ofWords w .count; handled = 0; nodes = t; first = ofWords w .first; second = ofWords w .second } ∷ []) (sym (one .places))
+        ∙ ap (λ (z : Record). z ∷ []) (sym is);
+    spans = λ p. subst (λ i. Spans g h i (j .images)) (sym (ap (λ (z : Record). z .edges) is)) (makes .spans p);
+    rest = rest;
+  }
 
   -- ---- a graph edge
   module _ (x : Record) (e : ℕ) (accepted : Accepted g h) (known : e < graphEdges h) where
@@ -303,16 +309,16 @@ module _ (g h : List ℕ) where
     graph-edge = edgeAt (H .edges) e
 
     abbrev edge-items : List Item
-    edge-items = terminalItems G H (itemOf G x) e
+    edge-items = terminalItems G′ H (itemOf G′ x) e
 
     edge-inside : e < length (H .edges)
     edge-inside = omega (arith, graph-size g h)
 
-    as-pair : edge-items ≡ binaryOf G H (itemOf G x) (passive (graph-edge .label) (single e) (graph-edge .attachment))
-    as-pair = edge-pair G H e (graph-ok g h accepted .terminals e edge-inside) (itemOf G x)
+    as-pair : edge-items ≡ binaryOf G′ H (itemOf G′ x) (passive (graph-edge .label) (single e) (graph-edge .attachment))
+    as-pair = edge-pair G′ H e (graph-ok g h accepted .terminals e edge-inside) (itemOf G′ x)
 
-    pub edge-passive : (x .kind ≡ 0 → ⊥) → Answer g h edge-items noItem
-    edge-passive k = nothing-made g h edge-items (terminal-passive G H x e (ne-eqb (x .kind) 0 k))
+    pub edge-passive : (x .kind ≡ 0 → ⊥) → edge-items ≡ []
+    edge-passive k = terminal-passive G′ H x e (ne-eqb (x .kind) 0 k)
 
     module _ (m : ℕ) (added : Added 0 e m) where
       set-is : m ≡ single e
@@ -323,31 +329,58 @@ module _ (g h : List ℕ) where
       unfolding _∪_
       edge-near near o s = spans-right g h m near o (subst (λ k. Spans g h k o) (sym set-is) s)
 
-      pub edge-apart : (b : Bool) → b ≡ disjoint (x .edges) m → b ≡ false → Answer g h edge-items noItem
+      pub edge-apart : (b : Bool) → b ≡ disjoint (x .edges) m → b ≡ false → edge-items ≡ []
       edge-apart b t f =
-          nothing-made g h edge-items
-          (as-pair ∙ binary-apart G H (itemOf G x) (passive (graph-edge .label) (single e) (graph-edge .attachment)) (ap₂ disjoint (item-edges G x) (sym set-is) ∙ sym t ∙ f))
+          as-pair ∙ binary-apart G′ H (itemOf G′ x) (passive (graph-edge .label) (single e) (graph-edge .attachment)) (ap₂ disjoint (item-edges G′ x) (sym set-is) ∙ sym t ∙ f)
 
       -- the record of the edge stands for the passive item
       module _ (s : ℕ) (l : List ℕ) (label : s ≡ graphLabel h e) (nodes : l ≡ padded (graph-edge .attachment)) where
-        abbrev y : Record
-        y = record { kind = 1; of = s; plan = 0; edges = m; count = 0; handled = 0; nodes = l; first = 0; second = 0 }
+        abbrev edge-record : Record
+        edge-record = record { kind = 1; of = s; plan = 0; edges = m; count = 0; handled = 0; nodes = l; first = 0; second = 0 }
 
-        ok : EdgeOk G (H .nodes) graph-edge
+        ok : EdgeOk G′ (H .nodes) graph-edge
         ok = graph-ok g h accepted .side .edge e edge-inside
 
-        few : rankOf G (graph-edge .label) ≤ 8
+        few : rankOf G′ (graph-edge .label) ≤ 8
         few = omega (arith, checked-grammar-ok g (accepted .grammar) .symbol (graph-edge .label) (ok .known) .upper)
 
-        list-is : take (rankOf G s) l ≡ graph-edge .attachment
+        list-is : take (rankOf G′ s) l ≡ graph-edge .attachment
         list-is =
-            ap₂ (λ (k : ℕ) (l : List ℕ). take (rankOf G k) l) (label ∙ sym (label-is g h e known)) nodes ∙ take-padded (rankOf G (graph-edge .label)) (graph-edge .attachment) (ok .listed .ranked) few
+            ap₂ (λ (k : ℕ) (l : List ℕ). take (rankOf G′ k) l) (label ∙ sym (label-is g h e known)) nodes
+            ∙ take-padded (rankOf G′ (graph-edge .label)) (graph-edge .attachment) (ok .listed .ranked) few
 
-        y-is : itemOf G y ≡ passive (graph-edge .label) (single e) (graph-edge .attachment)
+        y-is : itemOf G′ edge-record ≡ passive (graph-edge .label) (single e) (graph-edge .attachment)
         y-is =
-            item-passive G y refl
-            ∙ ap₂ (λ (s m : ℕ). passive s m (take (rankOf G (y .of)) l)) (label ∙ sym (label-is g h e known)) set-is
+            item-passive G′ edge-record refl
+            ∙ ap₂ (λ (s m : ℕ). passive s m (take (rankOf G′ (edge-record .of)) l)) (label ∙ sym (label-is g h e known)) set-is
             ∙ ap (passive (graph-edge .label) (single e)) list-is
 
-        pub edge-answer : (z : Made) → Answer g h (binaryOf G H (itemOf G x) (itemOf G y)) z → Answer g h edge-items z
-        edge-answer z = answer-same g h (binaryOf G H (itemOf G x) (itemOf G y)) edge-items z (ap (binaryOf G H (itemOf G x)) y-is ∙ sym as-pair)
+        pub edge-pairs : (y : Record) → y ≡ edge-record → binaryOf G′ H (itemOf G′ x) (itemOf G′ y) ≡ edge-items
+        edge-pairs y is = ap (λ (y : Record). binaryOf G′ H (itemOf G′ x) (itemOf G′ y)) is ∙ ap (binaryOf G′ H (itemOf G′ x)) y-is ∙ sym as-pair
+
+  -- ---- what callers read off an answer: the records that the rule makes
+  module _ (x : Record) (w v : List ℕ) (z : Filled) where
+    module _ (y : Record) (j k : ℕ) (answer : Into g h (binaryOf G′ H (itemOf G′ x) (itemOf G′ y)) w z v) where
+      pub pair-none : z .found ≡ false → pair G′ H x j y k ≡ []
+      unfolding pair
+      pair-none p = ap (map (λ (i : Item). recordOf i (plus (x .count) (y .count)) j k)) (answer .none p)
+
+      pub pair-one : z .found ≡ true → ofWords w .count ≡ plus (x .count) (y .count) → ofWords w .first ≡ j → ofWords w .second ≡ k → pair G′ H x j y k ≡ ofWords v ∷ []
+      unfolding pair
+      pair-one p n a b =
+          sym
+          (ap (λ i. map (λ (c : Item). recordOf c i (ofWords w .first) (ofWords w .second)) (binaryOf G′ H (itemOf G′ x) (itemOf G′ y))) n
+          ∙ ap₂ (λ (a b : ℕ). map (λ (c : Item). recordOf c (plus (x .count) (y .count)) a b) (binaryOf G′ H (itemOf G′ x) (itemOf G′ y))) a b)
+          ∙ answer .one p
+
+    module _ (n j e : ℕ) (answer : Into g h (terminalItems G′ H (itemOf G′ x) e) w z v) where
+      pub terminal-none : z .found ≡ false → withTerminal G′ H (itemOf G′ x) n j e ≡ []
+      terminal-none p = with-terminal G′ H (itemOf G′ x) n j e ∙ ap (map (λ (i : Item). recordOf i n j e)) (answer .none p)
+
+      pub terminal-one : z .found ≡ true → ofWords w .count ≡ n → ofWords w .first ≡ j → ofWords w .second ≡ e → withTerminal G′ H (itemOf G′ x) n j e ≡ ofWords v ∷ []
+      terminal-one p c a b =
+          with-terminal G′ H (itemOf G′ x) n j e
+          ∙ sym
+          (ap (λ i. map (λ (c : Item). recordOf c i (ofWords w .first) (ofWords w .second)) (terminalItems G′ H (itemOf G′ x) e)) c
+          ∙ ap₂ (λ (a b : ℕ). map (λ (c : Item). recordOf c n a b) (terminalItems G′ H (itemOf G′ x) e)) a b)
+          ∙ answer .one p

@@ -1,5 +1,5 @@
--- What a rule makes, over any grammar and graph: nothing but at one plan node, and there at most one item.
-use mathlib.Core.Path.{_≡_, refl, sym, ap, ap₂, _∙_, subst}
+-- What a rule makes, over any grammar and graph: nothing but at one plan node.
+use mathlib.Core.Path.{_≡_, refl, sym, ap, ap₂, _∙_}
 use mathlib.Core.Bool.{Bool, true, false, _&&_, cond}
 use mathlib.Core.List.{List, [], _∷_, _++_, map, append-nil}
 use Prim.Native.Nat.{ℕ, zero, suc, _<_}
@@ -18,13 +18,7 @@ use Rattle.hrg.proofs.Sums.{hit-self}
 use Rattle.agenda.specs.Records.{recordOf, itemOf}
 use Rattle.agenda.specs.Consequences.{terminalAt, withTerminal}
 use Rattle.agenda.specs.declared.Record.{Record}
-use Rattle.joins.specs.declared.Joined.{Joined}
-use Rattle.joins.specs.Joins.{Spans, joinedAs}
-use Rattle.rules.specs.declared.Made.{Made}
-use Rattle.rules.specs.Rules.{noItem, madeAs, Answer, madeAt, madeRecords, terminalItems, binaryAt}
-use Rattle.joins.proofs.EdgeMaps.{length-padded}
-use Rattle.joins.proofs.Openness.{spans-none}
-use Rattle.joins.proofs.Combining.{answer-none, answer-one}
+use Rattle.rules.specs.Rules.{terminalItems, binaryAt}
 
 -- ---- lists by tests
 pub guard-none : {A : Type 0} (b : Bool) → guard {A = A} b [] ≡ []
@@ -84,10 +78,6 @@ module _ (G : Grammar) (H : Graph) (r p m : ℕ) (f : List ℕ) where
     binary-nowhere (active r′ p′ m′ k) =
         ap (guard (eqb r r′)) (each-none (length pl) _ (λ q l. join-none H (ruleOf G r) r p m f p′ m′ k q (planNode pl q) (none q l))) ∙ guard-none (eqb r r′)
 
-    pub terminal-nowhere : (e : ℕ) → terminalItems G H (active r p m f) e ≡ []
-    unfolding terminalItems
-    terminal-nowhere e = each-none (length pl) _ (λ q l. terminal-none G H r p m f e q (planNode pl q) (none q l))
-
   module _ (q : ℕ) (known : q < length pl) (only : (q′ : ℕ) → q′ < length pl → (q′ ≡ q → ⊥) → occurs p (children (planNode pl q′)) ≡ 0) where
     pub binary-place : (b : Item) → binaryOf G H (active r p m f) b ≡ binaryAt G H (active r p m f) b q
     unfolding binaryOf binaryAt
@@ -104,106 +94,29 @@ module _ (G : Grammar) (H : Graph) (r p m : ℕ) (f : List ℕ) where
     terminal-place e =
         each-only (length pl) q (λ q. terminalAt G H r p m f e q (planNode pl q)) known (λ q′ l n. terminal-none G H r p m f e q′ (planNode pl q′) (only q′ l n))
 
--- the same at one plan node
-pub place-none : (G : Grammar) (H : Graph) (r p m : ℕ) (f : List ℕ) (b : Item) (q : ℕ) → occurs p (children (planNode (planOf G r) q)) ≡ 0 → binaryAt G H (active r p m f) b q ≡ []
-unfolding binaryAt
-place-none G H r p m f (passive s m′ L) q h = nonterminal-none H (ruleOf G r) r p m f s m′ L q (planNode (planOf G r) q) h
-place-none G H r p m f (active r′ p′ m′ k) q h =
-    ap (guard (eqb r r′)) (join-none H (ruleOf G r) r p m f p′ m′ k q (planNode (planOf G r) q) h) ∙ guard-none (eqb r r′)
+-- ---- a plan node whose first child is not p makes nothing of a first item at p
+abbrev pub firstIs : PlanNode → ℕ → Bool
+firstIs leaf p = false
+firstIs (introduce c i) p = eqb c p
+firstIs (join a b) p = eqb a p
 
--- ---- at most one item, active and of rule r
-pub data AtMostOne (r : ℕ) : List Item → Type 0 where
-  none : AtMostOne r []
-  one : (p m : ℕ) (t : List ℕ) → AtMostOne r (active r p m t ∷ [])
-
-guard-one : (r : ℕ) (b : Bool) (l : List Item) → AtMostOne r l → AtMostOne r (guard b l)
-guard-one r true l x = x
-guard-one r false l x = none
-
-combine-one : (H : Graph) (R : Rule) (r q m₁ m₂ : ℕ) (f k : List ℕ) → AtMostOne r (combine H R r q m₁ m₂ f k)
-combine-one H R r q m₁ m₂ f k = go (j .found) refl
-  where
-    j : Joined
-    j = joinedAs (combine H R r q m₁ m₂ f k) 0
-
-    go : (b : Bool) → j .found ≡ b → AtMostOne r (combine H R r q m₁ m₂ f k)
-    go true h = let o = answer-one H R r q m₁ m₂ f k j 0 refl h in subst (AtMostOne r) (sym (o .item)) (one q (j .edges) (o .map))
-    go false h = subst (AtMostOne r) (sym (answer-none H R r q m₁ m₂ f k j 0 refl h)) none
-
-terminal-one : (G : Grammar) (H : Graph) (r p m : ℕ) (f : List ℕ) (e q : ℕ) (n : PlanNode) → AtMostOne r (terminalAt G H r p m f e q n)
-unfolding terminalAt withEdge
-terminal-one G H r p m f e q leaf = none
-terminal-one G H r p m f e q (introduce c i) =
-    let rule-edge = edgeAt (rightOf G r .edges) i in
-    let graph-edge = edgeAt (H .edges) e in
-    let map = attach (rightOf G r .nodes) (rule-edge .attachment) (graph-edge .attachment) in
-    let made = combine H (ruleOf G r) r q m (single e) f map in
-    guard-one r (eqb c p && isTerminal (kindOf G (rule-edge .label))) (guard (eqb (graph-edge .label) (rule-edge .label)) made)
-    (guard-one r (eqb (graph-edge .label) (rule-edge .label)) made (combine-one H (ruleOf G r) r q m (single e) f map))
-terminal-one G H r p m f e q (join a b) = none
-
-nonterminal-one : (H : Graph) (R : Rule) (r p m : ℕ) (f : List ℕ) (s m′ : ℕ) (L : List ℕ) (q : ℕ) (n : PlanNode) → AtMostOne r (nonterminalAt H R r p m f s m′ L q n)
+nonterminal-first : (H : Graph) (R : Rule) (r p m : ℕ) (f : List ℕ) (s m′ : ℕ) (L : List ℕ) (q : ℕ) (n : PlanNode) → firstIs n p ≡ false → nonterminalAt H R r p m f s m′ L q n ≡ []
 unfolding nonterminalAt
-nonterminal-one H R r p m f s m′ L q leaf = none
-nonterminal-one H R r p m f s m′ L q (introduce c i) =
-    let edge = edgeAt (R .production .right .edges) i in
-    let map = attach (R .production .right .nodes) (edge .attachment) L in
-    guard-one r (eqb c p && eqb s (edge .label)) (combine H R r q m m′ f map) (combine-one H R r q m m′ f map)
-nonterminal-one H R r p m f s m′ L q (join a b) = none
+nonterminal-first H R r p m f s m′ L q leaf h = refl
+nonterminal-first H R r p m f s m′ L q (introduce c i) h = rw h
+nonterminal-first H R r p m f s m′ L q (join a b) h = refl
 
-join-one : (H : Graph) (R : Rule) (r p m : ℕ) (f : List ℕ) (p′ m′ : ℕ) (k : List ℕ) (q : ℕ) (n : PlanNode) → AtMostOne r (joinAt H R r p m f p′ m′ k q n)
+join-first : (H : Graph) (R : Rule) (r p m : ℕ) (f : List ℕ) (p′ m′ : ℕ) (k : List ℕ) (q : ℕ) (n : PlanNode) → firstIs n p ≡ false → joinAt H R r p m f p′ m′ k q n ≡ []
 unfolding joinAt
-join-one H R r p m f p′ m′ k q leaf = none
-join-one H R r p m f p′ m′ k q (introduce c i) = none
-join-one H R r p m f p′ m′ k q (join a b) = guard-one r (eqb a p && eqb b p′) (combine H R r q m m′ f k) (combine-one H R r q m m′ f k)
+join-first H R r p m f p′ m′ k q leaf h = refl
+join-first H R r p m f p′ m′ k q (introduce c i) h = refl
+join-first H R r p m f p′ m′ k q (join a b) h = rw h
 
-pub at-place-one : (G : Grammar) (H : Graph) (r p m : ℕ) (f : List ℕ) (b : Item) (q : ℕ) → AtMostOne r (binaryAt G H (active r p m f) b q)
+pub first-none : (G : Grammar) (H : Graph) (r p m : ℕ) (f : List ℕ) (b : Item) (q : ℕ) → firstIs (planNode (planOf G r) q) p ≡ false → binaryAt G H (active r p m f) b q ≡ []
 unfolding binaryAt
-at-place-one G H r p m f (passive s m′ L) q = nonterminal-one H (ruleOf G r) r p m f s m′ L q (planNode (planOf G r) q)
-at-place-one G H r p m f (active r′ p′ m′ k) q =
-    guard-one r (eqb r r′) (joinAt H (ruleOf G r) r p m f p′ m′ k q (planNode (planOf G r) q)) (join-one H (ruleOf G r) r p m f p′ m′ k q (planNode (planOf G r) q))
-
-pub terminal-place-one : (G : Grammar) (H : Graph) (r p m : ℕ) (f : List ℕ) (e q : ℕ) → AtMostOne r (terminalAt G H r p m f e q (planNode (planOf G r) q))
-terminal-place-one G H r p m f e q = terminal-one G H r p m f e q (planNode (planOf G r) q)
-
--- its record is that of the answer
-pub one-records : (r n a b : ℕ) (l : List Item) (o : ℕ) → AtMostOne r l → map (λ (i : Item). recordOf i n a b) l ≡ madeRecords r (madeAs l o) n a b
-unfolding madeAs madeRecords
-one-records r n a b _ o none = refl
-one-records r n a b _ o (one p m t) = refl
-
--- the answer where nothing is made
-pub nothing-made : (g h : List ℕ) (l : List Item) → l ≡ [] → Answer g h l noItem
-unfolding madeAs
-nothing-made g h l e = (sym (ap (λ (l : List Item). madeAs l 0) e), spans-none g h 0)
-
--- an answer for the same list
-pub answer-same : (g h : List ℕ) (l k : List Item) (z : Made) → l ≡ k → Answer g h l z → Answer g h k z
-answer-same g h l k z e a = (a .0 ∙ ap (λ (l : List Item). madeAs l (z .images)) e, a .1)
-
--- an answer has eight places
-pub made-eight : (l : List Item) (o : ℕ) → length (madeAs l o .nodes) ≡ 8
-unfolding madeAs
-made-eight [] o = refl
-made-eight (active r p m t ∷ is) o = length-padded t
-made-eight (passive s m L ∷ is) o = refl
-
--- what `combine` promises of its answer
-abbrev pub Combined : List ℕ → List ℕ → List Item → Joined → Type 0
-Combined g h l j = (j ≡ joinedAs l (j .images)) × Spans g h (j .edges) (j .images)
-
--- what `combine` made, as an item at its plan node
-pub made-combined : (g h : List ℕ) (H : Graph) (R : Rule) (r q m₁ m₂ : ℕ) (f k : List ℕ) (j : Joined) (z : Made) → Combined g h (combine H R r q m₁ m₂ f k) j → z ≡ madeAt q j
-    → Answer g h (combine H R r q m₁ m₂ f k) z
-unfolding madeAs
-made-combined g h H R r q m₁ m₂ f k j z e is = subst (λ (z : Made). Answer g h (combine H R r q m₁ m₂ f k) z) (sym is) (go (j .found) refl)
-  where
-    go : (b : Bool) → j .found ≡ b
-        → Answer g h (combine H R r q m₁ m₂ f k) (cond b (record { found = true; plan = q; edges = j .edges; nodes = j .nodes; images = j .images }) noItem)
-    go true p =
-        let o = answer-one H R r q m₁ m₂ f k j (j .images) (e .0) p in
-        (sym (ap (λ (l : List Item). madeAs l (j .images)) (o .item) ∙ ap (λ (t : List ℕ). record { found = true; plan = q; edges = j .edges; nodes = t; images = j .images }) (sym (o .nodes))), e .1)
-    go false p = nothing-made g h (combine H R r q m₁ m₂ f k) (answer-none H R r q m₁ m₂ f k j (j .images) (e .0) p)
+first-none G H r p m f (passive s m′ L) q h = nonterminal-first H (ruleOf G r) r p m f s m′ L q (planNode (planOf G r) q) h
+first-none G H r p m f (active r′ p′ m′ k) q h =
+    ap (guard (eqb r r′)) (join-first H (ruleOf G r) r p m f p′ m′ k q (planNode (planOf G r) q) h) ∙ guard-none (eqb r r′)
 
 -- ---- records and items
 pub item-active : (G : Grammar) (x : Record) → eqb (x .kind) 0 ≡ true → itemOf G x ≡ active (x .of) (x .plan) (x .edges) (take (rightOf G (x .of) .nodes) (x .nodes))

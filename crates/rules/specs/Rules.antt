@@ -1,46 +1,24 @@
 -- What one rule of the closure makes of one or two records of a chart, over accepted tables: at most one new active item.
 use mathlib.Core.Path.{_≡_}
-use mathlib.Core.Bool.{true, false, cond}
-use mathlib.Core.List.{List, [], _∷_}
+use mathlib.Core.Bool.{Bool, true, false}
+use mathlib.Core.List.{List, [], _∷_, map}
 use Prim.Native.Nat.{ℕ, _<_}
-use lib.ListN.{length, replicate}
+use lib.ListN.{length, take}
 use lib.Dec.{eqb}
 use Rattle.hrg.specs.Counts.{occurs}
 use Rattle.hrg.specs.Grammars.{Grammar, Graph, ruleOf, planOf, planNode}
-use Rattle.hrg.specs.Trees.{unplaced, padded}
 use Rattle.hrg.specs.Items.{Item, active, passive}
 use Rattle.hrg.specs.WellFormed.{children}
-use Rattle.hrg.specs.ClosureRun.{guard, eachTo, nonterminalAt, joinAt}
+use Rattle.hrg.specs.ClosureRun.{guard, eachTo, combine, nonterminalAt, joinAt}
+use Rattle.agenda.specs.Records.{recordOf, itemOf}
 use Rattle.agenda.specs.Consequences.{terminalAt}
 use Rattle.agenda.specs.declared.Record.{Record}
-use Rattle.questions.specs.Layout.{rulePlan}
+use Rattle.records.specs.Words.{ofWords}
+use Rattle.questions.specs.Layout.{ruleNodes, rulePlan, planFirst}
 use Rattle.questions.specs.Abstract.{grammarOf}
 use Rattle.joins.specs.Joins.{Accepted, KnownNode, Spans}
-use Rattle.joins.specs.declared.Joined.{Joined}
-use Rattle.rules.specs.declared.Made.{Made}
+use Rattle.rules.specs.declared.Filled.{Filled}
 use Rattle.rules.specs.declared.Place.{Place}
-
--- ---- the item that a rule makes
-abbrev pub noItem : Made
-noItem = record { found = false; plan = 0; edges = 0; nodes = replicate 8 unplaced; images = 0 }
-
--- the first item of a list, which is active and has its map in eight places, and o for the images
-unfoldable pub madeAs : List Item → ℕ → Made
-madeAs [] o = noItem
-madeAs (active r p m t ∷ is) o = record { found = true; plan = p; edges = m; nodes = padded t; images = o }
-madeAs (passive s m L ∷ is) o = noItem
-
--- z is that item, and its images have the open graph nodes of its set
-abbrev pub Answer : List ℕ → List ℕ → List Item → Made → Type 0
-Answer g h l z = (z ≡ madeAs l (z .images)) × Spans g h (z .edges) (z .images)
-
--- what `combine` makes at plan node q
-abbrev pub madeAt : ℕ → Joined → Made
-madeAt q j = cond (j .found) (record { found = true; plan = q; edges = j .edges; nodes = j .nodes; images = j .images }) noItem
-
--- its record, with count n and partners a and b
-unfoldable pub madeRecords : ℕ → Made → ℕ → ℕ → ℕ → List Record
-madeRecords r x n a b = guard (x .found) (record { kind = 0; of = r; plan = x .plan; edges = x .edges; count = n; handled = 0; nodes = x .nodes; first = a; second = b } ∷ [])
 
 -- ---- the rules
 -- the terminal rule with graph edge e
@@ -55,6 +33,28 @@ unfolding nonterminalAt joinAt
 binaryAt G H (active r p m f) (passive s m′ L) q = nonterminalAt H (ruleOf G r) r p m f s m′ L q (planNode (planOf G r) q)
 binaryAt G H (active r p m f) (active r′ p′ m′ k) q = guard (eqb r r′) (joinAt H (ruleOf G r) r p m f p′ m′ k q (planNode (planOf G r) q))
 binaryAt G H (passive s m L) b q = []
+
+-- whether record y can be the second at plan node q of rule r, where t has its map: with an item at the first child it makes what two sets and maps make, else nothing
+pub record Second (g : List ℕ) (r q : ℕ) (y : Record) (t : List ℕ) (b : Bool) : Type 0 where
+  pub none : b ≡ false → (H : Graph) (p m : ℕ) (f : List ℕ) → binaryAt (grammarOf g) H (active r p m f) (itemOf (grammarOf g) y) q ≡ []
+  pub some : b ≡ true → (H : Graph) (p m : ℕ) (f : List ℕ) → planFirst g r q ≡ p
+      → binaryAt (grammarOf g) H (active r p m f) (itemOf (grammarOf g) y) q ≡ combine H (ruleOf (grammarOf g) r) r q m (y .edges) f (take (ruleNodes g r) t)
+
+-- ---- the item that a rule makes, put into the sixteen words of a record
+-- the words that stay
+pub record Rest (before after : Record) : Type 0 where
+  pub kind : after .kind ≡ before .kind
+  pub count : after .count ≡ before .count
+  pub handled : after .handled ≡ before .handled
+  pub first : after .first ≡ before .first
+  pub second : after .second ≡ before .second
+
+-- z says whether a list of items has one; the words are its record then, with the count and the partners that they had, and the images have the open graph nodes of its set
+pub record Into (g h : List ℕ) (l : List Item) (before : List ℕ) (z : Filled) (after : List ℕ) : Type 0 where
+  pub none : z .found ≡ false → l ≡ []
+  pub one : z .found ≡ true → map (λ (i : Item). recordOf i (ofWords before .count) (ofWords before .first) (ofWords before .second)) l ≡ ofWords after ∷ []
+  pub spans : z .found ≡ true → Spans g h (ofWords after .edges) (z .images)
+  pub rest : Rest (ofWords before) (ofWords after)
 
 -- ---- the plan
 -- plan node p is a child of q or of no plan node

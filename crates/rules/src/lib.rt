@@ -1,7 +1,7 @@
 // What one rule of the closure makes of one or two records of a chart: at most one new active item.
 ghost use mathlib.Core.Path.{_≡_};
 ghost use mathlib.Core.Bool.{true, cond};
-ghost use Prim.Native.Nat.{_+_, _*_, _≤_, _<_};
+ghost use Prim.Native.Nat.{_+_, _*_, _<_};
 ghost use lib.ListN.{length, getD, take};
 ghost use lib.Bits.{bitAnd};
 ghost use lib.Dec.{ltb};
@@ -12,26 +12,22 @@ ghost use Rattle.hrg.specs.WellFormed.{children};
 ghost use Rattle.hrg.specs.ClosureRun.{binaryOf};
 ghost use Rattle.agenda.specs.Records.{itemOf};
 ghost use Rattle.records.specs.Words.{ofWords};
-ghost use Rattle.questions.specs.Layout.{ruleCount, ruleNodes, planKind, graphEdges};
+ghost use Rattle.questions.specs.Layout.{ruleCount, ruleNodes, graphEdges};
 ghost use Rattle.questions.specs.Checking.{checkGrammar};
 ghost use Rattle.questions.specs.Abstract.{grammarOf, graphOf};
-ghost use Rattle.joins.specs.Joins.{KnownNode, Accepted, OpenAt, Spans};
+ghost use Rattle.joins.specs.Joins.{KnownNode, Accepted, Spans};
 ghost use Rattle.joins.specs.Graphs.{GraphTable};
-ghost use Rattle.rules.specs.Rules.{Answer, madeAt, terminalItems, binaryAt, ParentOf, Above, ActiveAt};
+ghost use Rattle.rules.specs.Rules.{Into, Second, terminalItems, ParentOf, Above};
 ghost use Rattle.rules.specs.Wants.{wantOf};
 ghost use Rattle.rules.specs.Plans.{PlanTable};
 ghost use Rattle.rules.specs.Candidates.{Introduces, Candidates};
-use joins::Joined;
 
 pub mod plans;
 pub mod wants;
 
-// The active item that a rule makes: nothing where found is false. The images are the graph nodes of its map.
-pub struct Made {
+// Whether a rule makes an item, and the graph nodes of its map.
+pub struct Filled {
     pub found: bool,
-    pub plan: u64,
-    pub edges: u64,
-    pub nodes: [u64; 8],
     pub images: u64,
 }
 
@@ -100,20 +96,19 @@ pub fn place_above(g: &[u64], r: u64, p: u64) -> Place
 }
 
 // ---- lists of graph nodes: eight places, 64 where there is none
-// The images of a rule's external nodes by a map.
-pub fn root_nodes(g: &[u64], r: u64, f: &[u64]) -> [u64; 8]
-    requires { ⌜ (checkGrammar (now g) ≡ true) × (r < ruleCount (now g)) × (length (now f) ≡ 8) ⌝ }
-    ensures { λ x. ⌜ x ≡ padded (images (take (ruleNodes (now (g .entry)) r) (now (f .entry))) (rightOf (grammarOf (now (g .entry))) r .externals)) ⌝ }
+// The images of a rule's external nodes by a map, into the places of l.
+pub fn root_into(g: &[u64], r: u64, f: &[u64], l: &mut [u64])
+    requires { ⌜ (checkGrammar (now g) ≡ true) × (r < ruleCount (now g)) × (length (now f) ≡ 8) × (length (now l) ≡ 8) ⌝ }
+    ensures { λ x. ⌜ now (l .exit) ≡ padded (images (take (ruleNodes (now (g .entry)) r) (now (f .entry))) (rightOf (grammarOf (now (g .entry))) r .externals)) ⌝ }
 {
+    joins::clear(l);
     let rank = layout::rank_at(g, layout::rule_symbol(g, r));
-    let mut l = [64u64; 8];
     let mut k: u64 = 0;
     while k < rank {
         let x = layout::rule_external(g, r, k);
         l[k as usize] = f[x as usize];
         k += 1;
     }
-    l
 }
 
 // The nodes of graph edge e.
@@ -132,115 +127,57 @@ pub fn edge_nodes(g: &[u64], h: &[u64], e: u64) -> [u64; 8]
 }
 
 // ---- the rules
-// What two sets and maps make at plan node q.
-fn made_at(q: u64, j: Joined) -> Made
-    ensures { λ x. ⌜ x ≡ madeAt q j ⌝ }
+// Eight places, word by word.
+fn copy_map(l: &[u64], t: &mut [u64])
+    requires { ⌜ (length (now l) ≡ 8) × (length (now t) ≡ 8) ⌝ }
+    ensures { λ x. ⌜ now (t .exit) ≡ now (l .entry) ⌝ }
 {
-    if !j.found {
-        return Made {
-            found: false,
-            plan: 0,
-            edges: 0,
-            nodes: [64u64; 8],
-            images: 0,
-        };
-    }
-    let nodes = j.nodes;
-    Made {
-        found: true,
-        plan: q,
-        edges: j.edges,
-        nodes,
-        images: j.images,
-    }
+    t[0] = l[0];
+    t[1] = l[1];
+    t[2] = l[2];
+    t[3] = l[3];
+    t[4] = l[4];
+    t[5] = l[5];
+    t[6] = l[6];
+    t[7] = l[7];
 }
 
-// The nonterminal rule: plan node q introduces an edge above x's, and y is passive and has the edge's symbol. The maps are lent as parts of the words.
-fn filled_edge(
-    g: &[u64],
-    h: &[u64],
-    graph: &[u64; 577],
-    x: &[u64],
-    y: &[u64],
-    near: u64,
-    q: u64,
-    stays: u64,
-) -> Made
-    requires { ⌜ (length (now x) ≡ 16) × (length (now y) ≡ 16) × ActiveAt (now g) (now h) (ofWords (now x)) q × (planKind (now g) (ofWords (now x) .of) q ≡ 1) × GraphTable (now g) (now h) (now graph) × OpenAt (now g) (ofWords (now x) .of) q stays × Spans (now g) (now h) (ofWords (now x) .edges) near × Spans (now g) (now h) (ofWords (now y) .edges) near ⌝ }
-    ensures { λ z. ⌜ Answer (now (g .entry)) (now (h .entry)) (binaryAt (grammarOf (now (g .entry))) (graphOf (now (g .entry)) (now (h .entry))) (itemOf (grammarOf (now (g .entry))) (ofWords (now (x .entry)))) (itemOf (grammarOf (now (g .entry))) (ofWords (now (y .entry)))) q) z ⌝ }
+// Whether y can be the second at plan node q of rule `of`, and its map into t. By the nonterminal rule q introduces an edge and y is passive and has the edge's symbol; by the join rule y is active and at the second child.
+fn second_map(g: &[u64], of: u64, q: u64, y: &[u64], t: &mut [u64]) -> bool
+    requires { ⌜ KnownNode (now g) of q × (length (now y) ≡ 16) × (length (now t) ≡ 8) ⌝ }
+    ensures { λ b. ⌜ Second (now (g .entry)) of q (ofWords (now (y .entry))) (now (t .exit)) b ⌝ }
 {
-    let none = Made {
-        found: false,
-        plan: 0,
-        edges: 0,
-        nodes: [64u64; 8],
-        images: 0,
-    };
-    if y[0] == 0 {
-        return none;
+    let kind = plans::kind_at(g, of, q);
+    let second = plans::second_at(g, of, q);
+    if kind == 1 {
+        if y[0] == 0 {
+            return false;
+        }
+        if plans::label_at(g, of, second) != y[1] {
+            return false;
+        }
+        joins::attach(g, of, second, &y[6..14], t);
+        return true;
     }
-    let of = x[1];
-    if plans::first_at(g, of, q) != x[2] {
-        return none;
+    if kind == 0 {
+        return false;
     }
-    let i = plans::second_at(g, of, q);
-    if plans::label_at(g, of, i) != y[1] {
-        return none;
-    }
-    let k = joins::attach(g, of, i, &y[6..14]);
-    let j = joins::combine(g, h, graph, of, q, stays, x[3], y[3], near, &x[6..14], &k);
-    made_at(q, j)
-}
-
-// The join rule: plan node q has two children, x's first and y's second.
-fn joined_pair(
-    g: &[u64],
-    h: &[u64],
-    graph: &[u64; 577],
-    x: &[u64],
-    y: &[u64],
-    near: u64,
-    q: u64,
-    stays: u64,
-) -> Made
-    requires { ⌜ (length (now x) ≡ 16) × (length (now y) ≡ 16) × ActiveAt (now g) (now h) (ofWords (now x)) q × (2 ≤ planKind (now g) (ofWords (now x) .of) q) × (ofWords (now y) .kind ≡ 0 → ofWords (now x) .of ≡ ofWords (now y) .of) × GraphTable (now g) (now h) (now graph) × OpenAt (now g) (ofWords (now x) .of) q stays × Spans (now g) (now h) (ofWords (now x) .edges) near × Spans (now g) (now h) (ofWords (now y) .edges) near ⌝ }
-    ensures { λ z. ⌜ Answer (now (g .entry)) (now (h .entry)) (binaryAt (grammarOf (now (g .entry))) (graphOf (now (g .entry)) (now (h .entry))) (itemOf (grammarOf (now (g .entry))) (ofWords (now (x .entry)))) (itemOf (grammarOf (now (g .entry))) (ofWords (now (y .entry)))) q) z ⌝ }
-{
-    let none = Made {
-        found: false,
-        plan: 0,
-        edges: 0,
-        nodes: [64u64; 8],
-        images: 0,
-    };
     if y[0] != 0 {
-        return none;
+        return false;
     }
-    let of = x[1];
-    if plans::first_at(g, of, q) != x[2] {
-        return none;
+    if y[1] != of {
+        return false;
     }
-    if plans::second_at(g, of, q) != y[2] {
-        return none;
+    if second != y[2] {
+        return false;
     }
-    let j = joins::combine(
-        g,
-        h,
-        graph,
-        of,
-        q,
-        stays,
-        x[3],
-        y[3],
-        near,
-        &x[6..14],
-        &y[6..14],
-    );
-    made_at(q, j)
+    copy_map(&y[6..14], t);
+    true
 }
 
 // What x first and y second make, each given as its sixteen words. Records may hold any words: an unknown rule or plan node makes nothing.
-pub fn pair(
+// The item goes into the words of `out`: its rule, plan node, edges and map. The other words stay.
+pub fn pair_into(
     g: &[u64],
     h: &[u64],
     plans: &[u64; 2048],
@@ -248,42 +185,54 @@ pub fn pair(
     x: &[u64],
     y: &[u64],
     near: u64,
-) -> Made
-    requires { ⌜ Accepted (now g) (now h) × PlanTable (now g) (now plans) × GraphTable (now g) (now h) (now graph) × (length (now x) ≡ 16) × (length (now y) ≡ 16) × Spans (now g) (now h) (ofWords (now x) .edges) near × Spans (now g) (now h) (ofWords (now y) .edges) near ⌝ }
-    ensures { λ z. ⌜ Answer (now (g .entry)) (now (h .entry)) (binaryOf (grammarOf (now (g .entry))) (graphOf (now (g .entry)) (now (h .entry))) (itemOf (grammarOf (now (g .entry))) (ofWords (now (x .entry)))) (itemOf (grammarOf (now (g .entry))) (ofWords (now (y .entry))))) z ⌝ }
+    out: &mut [u64],
+) -> Filled
+    requires { ⌜ Accepted (now g) (now h) × PlanTable (now g) (now plans) × GraphTable (now g) (now h) (now graph) × (length (now x) ≡ 16) × (length (now y) ≡ 16) × Spans (now g) (now h) (ofWords (now x) .edges) near × Spans (now g) (now h) (ofWords (now y) .edges) near × (length (now out) ≡ 16) × (ofWords (now out) .kind ≡ 0) × (ofWords (now out) .handled ≡ 0) ⌝ }
+    ensures { λ z. ⌜ Into (now (g .entry)) (now (h .entry)) (binaryOf (grammarOf (now (g .entry))) (graphOf (now (g .entry)) (now (h .entry))) (itemOf (grammarOf (now (g .entry))) (ofWords (now (x .entry)))) (itemOf (grammarOf (now (g .entry))) (ofWords (now (y .entry))))) (now (out .entry)) z (now (out .exit)) ⌝ }
 {
-    let none = Made {
+    let none = Filled {
         found: false,
-        plan: 0,
-        edges: 0,
-        nodes: [64u64; 8],
         images: 0,
     };
     if x[0] != 0 {
         return none;
     }
     let of = x[1];
-    if (y[0] == 0) & (of != y[1]) {
-        return none;
-    }
-    if !masks::disjoint(x[3], y[3]) {
-        return none;
-    }
     let above = plans::parent_in(g, plans, of, x[2]);
     if above.node >= 16 {
         return none;
     }
     let q = above.node;
-    let kind = plans::kind_at(g, of, q);
-    match kind {
-        0 => none,
-        1 => filled_edge(g, h, graph, x, y, near, q, above.stays),
-        _ => joined_pair(g, h, graph, x, y, near, q, above.stays),
+    if plans::first_at(g, of, q) != x[2] {
+        return none;
+    }
+    if !second_map(g, of, q, y, &mut out[6..14]) {
+        return none;
+    }
+    out[1] = of;
+    out[2] = q;
+    out[3] = x[3] | y[3];
+    let j = joins::combine(
+        g,
+        h,
+        graph,
+        of,
+        q,
+        above.stays,
+        x[3],
+        y[3],
+        near,
+        &x[6..14],
+        &mut out[6..14],
+    );
+    Filled {
+        found: j.found,
+        images: j.images,
     }
 }
 
 // What x and graph edge e make: the same as with a passive item of the edge's symbol, set and nodes.
-pub fn terminal(
+pub fn terminal_into(
     g: &[u64],
     h: &[u64],
     plans: &[u64; 2048],
@@ -291,15 +240,13 @@ pub fn terminal(
     x: &[u64],
     e: u64,
     near: u64,
-) -> Made
-    requires { ⌜ Accepted (now g) (now h) × (e < graphEdges (now h)) × PlanTable (now g) (now plans) × GraphTable (now g) (now h) (now graph) × (length (now x) ≡ 16) × Spans (now g) (now h) (ofWords (now x) .edges) near ⌝ }
-    ensures { λ z. ⌜ Answer (now (g .entry)) (now (h .entry)) (terminalItems (grammarOf (now (g .entry))) (graphOf (now (g .entry)) (now (h .entry))) (itemOf (grammarOf (now (g .entry))) (ofWords (now (x .entry)))) e) z ⌝ }
+    out: &mut [u64],
+) -> Filled
+    requires { ⌜ Accepted (now g) (now h) × (e < graphEdges (now h)) × PlanTable (now g) (now plans) × GraphTable (now g) (now h) (now graph) × (length (now x) ≡ 16) × Spans (now g) (now h) (ofWords (now x) .edges) near × (length (now out) ≡ 16) × (ofWords (now out) .kind ≡ 0) × (ofWords (now out) .handled ≡ 0) ⌝ }
+    ensures { λ z. ⌜ Into (now (g .entry)) (now (h .entry)) (terminalItems (grammarOf (now (g .entry))) (graphOf (now (g .entry)) (now (h .entry))) (itemOf (grammarOf (now (g .entry))) (ofWords (now (x .entry)))) e) (now (out .entry)) z (now (out .exit)) ⌝ }
 {
-    let none = Made {
+    let none = Filled {
         found: false,
-        plan: 0,
-        edges: 0,
-        nodes: [64u64; 8],
         images: 0,
     };
     if x[0] != 0 {
@@ -330,7 +277,7 @@ pub fn terminal(
         0,
     ];
     let all = near | joins::edge_span(g, h, graph, e);
-    pair(g, h, plans, graph, x, &y, all)
+    pair_into(g, h, plans, graph, x, &y, all, out)
 }
 
 // Those of the edges m whose node at place k is a, if that is one.

@@ -2,10 +2,12 @@
 ghost use mathlib.Core.Path.{_≡_};
 ghost use mathlib.Core.Bool.{true};
 ghost use Prim.Native.Nat.{_<_};
+ghost use lib.ListN.{length};
 ghost use Rattle.questions.specs.Checking.{checkGrammar};
 ghost use Rattle.questions.specs.Layout.{planKind, planFirst, planSecond, edgeLabel, edgeNode};
 ghost use Rattle.joins.specs.Joins.{KnownNode, KnownEdge};
-ghost use Rattle.rules.specs.Plans.{ParentAt, PlanTable};
+ghost use Rattle.records.specs.Words.{ofWords};
+ghost use Rattle.rules.specs.Plans.{ParentAt, PlanTable, Leads};
 
 // A plan node, 16 where there is none, and the rule nodes that are open there.
 pub(crate) struct Parent {
@@ -97,4 +99,20 @@ pub(crate) fn node_at(g: &[u64], r: u64, i: u64, k: u64) -> u64
     ensures { λ x. ⌜ x ≡ edgeNode (now (g .entry)) r i k ⌝ }
 {
     layout::word_in(g, 66 + 25 * r + i, 1 + k)
+}
+
+// Whether x comes first where it makes something with another record: the plan node above it has x's as its first child. If not, x comes second, for a plan node is a child at most once.
+pub fn leads(g: &[u64], plans: &[u64; 2048], x: &[u64]) -> bool
+    requires { ⌜ (checkGrammar (now g) ≡ true) × PlanTable (now g) (now plans) × (length (now x) ≡ 16) ⌝ }
+    ensures { λ r. ⌜ Leads (now (g .entry)) (ofWords (now (x .entry))) r ⌝ }
+{
+    if x[0] != 0 {
+        return false;
+    }
+    let of = x[1];
+    let above = parent_in(g, plans, of, x[2]);
+    if above.node >= 16 {
+        return false;
+    }
+    first_at(g, of, above.node) == x[2]
 }

@@ -8,4 +8,5 @@ pub mod ReadyLaws
 pub mod StepLaws
 pub mod CandidateSteps
 pub mod ListedLaws
+pub mod ModeLaws
 pub mod RunLaws

@@ -35,7 +35,7 @@ use Rattle.index.proofs.KeyLists.{keys-length, keys-at, keys-grown}
 use Rattle.steps.specs.Partners.{withRecord}
 use Rattle.steps.specs.Ready.{Ready, Regular}
 use Rattle.steps.proofs.PartnerLaws.{unjoined-none, waiting-none, overlap-none}
-use Rattle.steps.proofs.StepLaws.{Gathered, record-whole, gathered-none, gathered-skip, gathered-all, partners-next, added-longer}
+use Rattle.steps.proofs.StepLaws.{Gathered, record-whole, gathered-none, gathered-skip, gathered-all, partners-next}
 
 -- ---- a record that may be done already
 pub next-done : (w : List ℕ) → Fits w → (done k : ℕ) (xs : List Record) → k < done → w ≡ grownBy w (guard (leb done k) xs)
@@ -53,22 +53,27 @@ few-items w n l h = omega arith
 pub query-within : (wants pivots : List ℕ) (x : Record) (q : List ℕ) → q ≡ queryOf wants pivots x → Within 2048 q
 query-within wants pivots x q e i h = rw e (query-few wants pivots x i)
 
-pub query-starts : (wants pivots : List ℕ) (x : Record) (q cs ws : List ℕ) → q ≡ queryOf wants pivots x → cs ≡ startsOf ws q → cs ≡ startsOf ws (queryOf wants pivots x)
-query-starts wants pivots x q cs ws e p = p ∙ ap (startsOf ws) e
-
 -- one key, and four that are none
-pub query-alone : (wants pivots : List ℕ) (x : Record) (q : List ℕ) → q ≡ queryOf wants pivots x → length q ≡ 5
-    → ((eqb (getD q 1 0) 0 && eqb (getD q 2 0) 0) && eqb (getD q 3 0) 0) && eqb (getD q 4 0) 0 ≡ true → queryOf wants pivots x ≡ alone (getD q 0 0)
-query-alone wants pivots x q e l t =
+pub alone-by : (q : List ℕ) → length q ≡ 5 → ((eqb (getD q 1 0) 0 && eqb (getD q 2 0) 0) && eqb (getD q 3 0) 0) && eqb (getD q 4 0) 0 ≡ true → q ≡ alone (getD q 0 0)
+alone-by q l t =
     let (abc, d) = and-true ((eqb (getD q 1 0) 0 && eqb (getD q 2 0) 0) && eqb (getD q 3 0) 0) (eqb (getD q 4 0) 0) t in
     let (ab, c) = and-true (eqb (getD q 1 0) 0 && eqb (getD q 2 0) 0) (eqb (getD q 3 0) 0) abc in
     let (a, b) = and-true (eqb (getD q 1 0) 0) (eqb (getD q 2 0) 0) ab in
-    sym e
-    ∙ ext-getD 0 q (alone (getD q 0 0)) l
+    ext-getD 0 q (alone (getD q 0 0)) l
     (λ i h. five (λ k. getD q k 0 ≡ getD (alone (getD q 0 0)) k 0) refl (eqb-true _ _ a) (eqb-true _ _ b) (eqb-true _ _ c) (eqb-true _ _ d) i (omega arith))
 
-pub key-few : (wants pivots : List ℕ) (x : Record) (b : ℕ) → queryOf wants pivots x ≡ alone b → b ≤ 2048
-key-few wants pivots x b e = subst (λ (q : List ℕ). getD q 0 0 ≤ 2048) e (query-few wants pivots x 0)
+-- ---- one cursor, as five of which four are at the end
+start-alone : (ws : List ℕ) (b r : ℕ) → getD ws 0 0 ≡ 0 → r ≡ getD ws b 0 → alone r ≡ startsOf ws (alone b)
+unfolding startsOf
+start-alone ws b r z p = rw (p, z)
+
+pub alone-opens : (ws q : List ℕ) (r : ℕ) → getD ws 0 0 ≡ 0 → q ≡ alone (getD q 0 0) → r ≡ getD ws (getD q 0 0) 0 → alone r ≡ startsOf ws q
+alone-opens ws q r z e p = start-alone ws (getD q 0 0) r z p ∙ ap (startsOf ws) (sym e)
+
+pub alone-goes : (ws cs : List ℕ) (k n r : ℕ) → cs ≡ alone (getD cs 0 0) → k ≡ leastOf cs → k < n → n ≤ 4096 → r ≡ getD ws (4097 + getD cs 0 0) 0 → alone r ≡ passedOf ws cs k
+alone-goes ws cs k n r e q l h p =
+    let there = alone-at (getD cs 0 0) k n (q ∙ ap leastOf e) l h in
+    alone-passed ws (getD cs 0 0) k r (there .0) (there .1) p ∙ ap (λ (ds : List ℕ). passedOf ws ds k) (sym e)
 
 -- ---- records that make nothing, whatever their keys
 pub quiet-none : (G : Grammar) (H : Graph) (x : Record) (j : ℕ) (w : List ℕ) (k : ℕ) → quietIn w (x .edges) k ≡ true → withRecord G H x j (recordAt w k) k ≡ []
@@ -146,21 +151,6 @@ module _ (g h wants pivots : List ℕ) (H : Graph) (w : List ℕ) (x : Record) (
       grown : v ≡ grownBy w (gather done partner)
       grown = S .gathered .is
 
-      few-keys : length (keysIn v) ≤ 20480
-      few-keys = S .ready .indexed .listed .few
-
-      pub going-within : Within 20480 cs
-      going-within = ahead-within quiet (keysIn v) (queryOf wants pivots x) n done cs (S .ahead) few-keys
-
-      pub going-known : k < n → k < itemCount v
-      going-known l = omega (arith, added-longer w v (gather done partner) f (whole-gather done partner partner-whole) grown)
-
-      -- one cursor goes on
-      pub going-alone : (ws : List ℕ) (c r : ℕ) → cs ≡ alone c → k < n → capacity w ≤ 4096 → r ≡ getD ws (4097 + c) 0 → alone r ≡ passedOf ws (alone c) k
-      going-alone ws c r e l h p =
-          let there = alone-at c k n (S .at ∙ ap leastOf e) l (few-items w n all h) in
-          alone-passed ws c k r (there .0) (there .1) p
-
       -- the key of a record of w is where it was
       key-there : (i e : ℕ) → i < itemCount w → e < 5 → getD (keysIn v) (5 * i + e) 0 ≡ getD (keysOf wants pivots (recordAt w i)) e 0
       key-there i e l h =
@@ -204,11 +194,6 @@ module _ (g h wants pivots : List ℕ) (H : Graph) (w : List ℕ) (x : Record) (
               let ys = guard (leb done k) (withRecord G H x j (recordAt v k) k) in
               let m = keys-grown wants pivots v u ys (S .ready .fits) (whole-guard (leb done k) (withRecord G H x j (recordAt v k) k) (record-whole G H x j (recordAt v k) k)) p in
               subst (λ (ks : List ℕ). Ahead quiet ks (queryOf wants pivots x) n done cs) (sym (m .is)) (ahead-grown quiet (keysIn v) (m .more) (queryOf wants pivots x) n done cs (S .ahead))
-
-          pub next-count : n ≤ itemCount u
-          next-count =
-              let o = dealt (leb done k) refl p in
-              omega (arith, added-longer w u (gather later partner) f (whole-gather later partner partner-whole) (o .is))
 
           module _ (bs ds : List ℕ) (e : bs ≡ passedOf (listsOf jx) cs k) (s : SkimsAll (quietIn u (x .edges)) (listsOf jx) n bs ds) where
             -- the cursors that pass record k

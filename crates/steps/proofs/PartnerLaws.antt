@@ -1,11 +1,10 @@
 -- What a record makes with graph edges and with another record, as the functions of crate joins tell it.
 use Prim.Native.Nat.{ℕ, _+_}
-use mathlib.Core.Path.{_≡_, refl, sym, ap, ap₂, _∙_}
-use mathlib.Core.Bool.{Bool, true, false, _&&_, false≢true}
+use mathlib.Core.Path.{_≡_, refl, sym, ap, ap₂, _∙_, subst}
+use mathlib.Core.Bool.{Bool, true, false, cond, _&&_, false≢true}
 use mathlib.Core.List.{List, [], _∷_, _++_, map}
 use lib.Bits.{and-comm}
 use lib.Dec.{eqb}
-use lib.ListN.{length}
 use Rattle.masks.specs.Masks.{disjoint}
 use Rattle.hrg.specs.Grammars.{Graph, Grammar}
 use Rattle.hrg.specs.Items.{Item}
@@ -15,54 +14,30 @@ use Rattle.agenda.specs.Records.{recordOf, itemOf, isHandled, plus}
 use Rattle.agenda.specs.Consequences.{withTerminal, pair}
 use Rattle.questions.specs.Checking.{checkGrammar}
 use Rattle.questions.specs.Abstract.{grammarOf, graphOf}
-use Rattle.joins.specs.Joins.{Accepted}
-use Rattle.rules.specs.Rules.{madeAs, madeRecords, terminalItems}
 use Rattle.rules.specs.Wants.{wantIn, WantTable, meets}
-use Rattle.rules.specs.declared.Made.{Made}
-use Rattle.rules.proofs.RuleItems.{with-terminal, pair-apart}
-use Rattle.rules.proofs.RuleAnswers.{pair-records, terminal-records}
+use Rattle.rules.specs.Plans.{Leads}
+use Rattle.rules.proofs.RuleItems.{pair-apart}
+use Rattle.rules.specs.Rules.{terminalItems, Into}
+use Rattle.rules.specs.declared.Filled.{Filled}
+use Rattle.rules.proofs.RuleAnswers.{terminal-one, pair-one}
 use Rattle.rules.proofs.Meeting.{apart, unwanting}
-use Rattle.records.specs.Words.{Fits, fieldAt, recordAt, addedTo, grownBy}
-use Rattle.records.proofs.WordLaws.{kind-of, rule-of, plan-of, edges-of, handled-yes, handled-no}
+use Rattle.records.specs.Words.{Fits, ofWords, fieldAt, recordAt, addedTo, grownBy}
+use Rattle.records.proofs.WordLaws.{eight-words, kind-of, rule-of, plan-of, edges-of, handled-yes, handled-no}
 use Rattle.records.proofs.Grown.{grown-none, grown-one}
 use Rattle.steps.specs.Partners.{withRecord, mayMeet}
 
--- ---- the record of a made item
-module _ (w : List ℕ) (o : Fits w) (made : Made) (r n a b : ℕ) where
-  pub made-none : made .found ≡ false → w ≡ grownBy w (madeRecords r made n a b)
-  unfolding madeRecords
-  made-none h = sym (grown-none w o) ∙ ap (λ (t : Bool). grownBy w (guard t (madeRecord ∷ []))) (sym h)
-    where
-      madeRecord : Record
-      madeRecord = record { kind = 0; of = r; plan = made .plan; edges = made .edges; count = n; handled = 0; nodes = made .nodes; first = a; second = b }
+-- ---- the one record that a rule makes, by the words that it is put into
+words-added : (w v xs : List ℕ) (ys : List Record) → Fits w → v ≡ addedTo w (ofWords xs) → ys ≡ ofWords xs ∷ [] → v ≡ grownBy w ys
+words-added w v xs ys o p q = p ∙ grown-one w o (ofWords xs) (eight-words xs) ∙ ap (grownBy w) (sym q)
 
-  pub made-one : (v : List ℕ) → made .found ≡ true → length (made .nodes) ≡ 8
-      → v ≡ addedTo w (record { kind = 0; of = r; plan = made .plan; edges = made .edges; count = n; handled = 0; nodes = made .nodes; first = a; second = b }) → v ≡ grownBy w (madeRecords r made n a b)
-  unfolding madeRecords
-  made-one v h e p = p ∙ grown-one w o madeRecord e ∙ ap (λ (t : Bool). grownBy w (guard t (madeRecord ∷ []))) (sym h)
-    where
-      madeRecord : Record
-      madeRecord = record { kind = 0; of = r; plan = made .plan; edges = made .edges; count = n; handled = 0; nodes = made .nodes; first = a; second = b }
+module _ (g h : List ℕ) (x : Record) (before after : List ℕ) (z : Filled) (w v : List ℕ) (o : Fits w) where
+  pub terminal-added : (n j e : ℕ) → Into g h (terminalItems (grammarOf g) (graphOf g h) (itemOf (grammarOf g) x) e) before z after → z .found ≡ true → ofWords before .count ≡ n → ofWords before .first ≡ j → ofWords before .second ≡ e
+      → v ≡ addedTo w (ofWords after) → v ≡ grownBy w (withTerminal (grammarOf g) (graphOf g h) (itemOf (grammarOf g) x) n j e)
+  terminal-added n j e answer found c a b p = words-added w v after _ o p (terminal-one g h x before after z n j e answer found c a b)
 
--- ---- a graph edge, and a record
-module _ (g h : List ℕ) (accepted : Accepted g h) (x : Record) (w v : List ℕ) (made : Made) where
-  pub terminal-added : (j e : ℕ) → made ≡ madeAs (terminalItems (grammarOf g) (graphOf g h) (itemOf (grammarOf g) x) e) (made .images) → v ≡ grownBy w (madeRecords (x .of) made (x .count) j e)
-      → v ≡ grownBy w (withTerminal (grammarOf g) (graphOf g h) (itemOf (grammarOf g) x) (x .count) j e)
-  terminal-added j e q p =
-      p
-      ∙ ap (λ (m : Made). grownBy w (madeRecords (x .of) m (x .count) j e)) q
-      ∙ ap (grownBy w) (sym (with-terminal (grammarOf g) (graphOf g h) (itemOf (grammarOf g) x) (x .count) j e ∙ terminal-records g h accepted x e (x .count) j e (made .images)))
-
-  pair-is : (y : Record) (j k : ℕ) → pair (grammarOf g) (graphOf g h) x j y k ≡ madeRecords (x .of) (madeAs (binaryOf (grammarOf g) (graphOf g h) (itemOf (grammarOf g) x) (itemOf (grammarOf g) y)) (made .images)) (plus (x .count) (y .count)) j k
-  unfolding pair
-  pair-is y j k = pair-records g h accepted x y (plus (x .count) (y .count)) j k (made .images)
-
-  pub pair-added : (y : Record) (n j k : ℕ) → made ≡ madeAs (binaryOf (grammarOf g) (graphOf g h) (itemOf (grammarOf g) x) (itemOf (grammarOf g) y)) (made .images) → n ≡ plus (x .count) (y .count)
-      → v ≡ grownBy w (madeRecords (x .of) made n j k) → v ≡ grownBy w (pair (grammarOf g) (graphOf g h) x j y k)
-  pair-added y n j k q c p =
-      p
-      ∙ ap₂ (λ (m : Made) (i : ℕ). grownBy w (madeRecords (x .of) m i j k)) q c
-      ∙ ap (grownBy w) (sym (pair-is y j k))
+  pub pair-added : (y : Record) (j k : ℕ) → Into g h (binaryOf (grammarOf g) (graphOf g h) (itemOf (grammarOf g) x) (itemOf (grammarOf g) y)) before z after → z .found ≡ true → ofWords before .count ≡ plus (x .count) (y .count) → ofWords before .first ≡ j → ofWords before .second ≡ k
+      → v ≡ addedTo w (ofWords after) → v ≡ grownBy w (pair (grammarOf g) (graphOf g h) x j y k)
+  pair-added y j k answer found c a b p = words-added w v after _ o p (pair-one g h x before after z y j k answer found c a b)
 
 -- ---- pairs that can make nothing
 disjoint-flip : (a b : ℕ) → disjoint a b ≡ false → disjoint b a ≡ false
@@ -168,3 +143,38 @@ module _ (t w : List ℕ) (want : ℕ) (x : Record) (k e : ℕ) (d : Bool) (at :
     meet-words z kind of plan m a b c q =
         rw (told ∙ h, handled-yes w k r handled z)
         (q ∙ (λ i. meets t (x .kind) (x .of) want ((a ∙ sym (kind-of w k)) i) ((b ∙ sym (rule-of w k)) i) ((c ∙ sym (plan-of w k)) i)) ∙ and-both met)
+
+-- ---- a record that comes only first, or only second
+pub append-nil : (xs : List Record) → xs ++ [] ≡ xs
+append-nil [] = refl
+append-nil (x ∷ xs) = ap (λ (l : List Record). x ∷ l) (append-nil xs)
+
+pub pick-by : (P : ℕ → Type 0) (lead : Bool) (j k i : ℕ) → i ≡ cond lead j k → P j → P k → P i
+pick-by P true j k i e a b = subst P (sym e) a
+pick-by P false j k i e a b = subst P (sym e) b
+
+pair-nil : (G : Grammar) (H : Graph) (x y : Record) (j k : ℕ) → binaryOf G H (itemOf G x) (itemOf G y) ≡ [] → pair G H x j y k ≡ []
+unfolding pair
+pair-nil G H x y j k e = ap (map (λ (i : Item). recordOf i (plus (x .count) (y .count)) j k)) e
+
+module _ (g : List ℕ) (H : Graph) (w : List ℕ) (j k : ℕ) where
+  abbrev own : Record
+  own = recordAt w j
+
+  abbrev other : Record
+  other = recordAt w k
+
+  at-places : (i m a b : ℕ) → i ≡ a → m ≡ b → pair (grammarOf g) H (recordAt w i) i (recordAt w m) m ≡ pair (grammarOf g) H (recordAt w a) a (recordAt w b) b
+  at-places i m a b p q = ap₂ (λ (i m : ℕ). pair (grammarOf g) H (recordAt w i) i (recordAt w m) m) p q
+
+  led : (lead : Bool) → Leads g own lead → (i m : ℕ) → i ≡ cond lead j k → m ≡ cond lead k j
+      → pair (grammarOf g) H (recordAt w i) i (recordAt w m) m ≡ pair (grammarOf g) H own j other k ++ pair (grammarOf g) H other k own j
+  led true L i m p q =
+      at-places i m j k p q
+      ∙ sym (append-nil (pair (grammarOf g) H own j other k))
+      ∙ ap (λ (l : List Record). pair (grammarOf g) H own j other k ++ l) (sym (pair-nil (grammarOf g) H other own k j (L .yes refl H other)))
+  led false L i m p q = at-places i m k j p q ∙ ap (λ (l : List Record). l ++ pair (grammarOf g) H other k own j) (sym (pair-nil (grammarOf g) H own other j k (L .not refl H other)))
+
+  pub partner-led : (lead : Bool) → Leads g own lead → (v t : List ℕ) (want : ℕ) (b : Bool) (i m : ℕ) → b ≡ mayMeet t want own other → b ≡ true → i ≡ cond lead j k → m ≡ cond lead k j
+      → v ≡ grownBy w (pair (grammarOf g) H (recordAt w i) i (recordAt w m) m) → v ≡ grownBy w (withRecord (grammarOf g) H own j other k)
+  partner-led lead L v t want b i m q h p₁ p₂ p = p ∙ ap (grownBy w) (led lead L i m p₁ p₂ ∙ sym (partner-both (grammarOf g) H own other j k t want b q h))

@@ -1,22 +1,27 @@
 -- Words and index stay ready as records are added and handled.
 use Prim.Native.Nat.{ℕ, _+_, _-_, _*_, _/_, _≤_, _<_, min}
-use mathlib.Core.Path.{_≡_, sym, ap, ap₂, _∙_, subst}
+use mathlib.Core.Path.{_≡_, refl, sym, ap, ap₂, _∙_, subst}
 use mathlib.Core.List.{List, [], _∷_, List·Memᴰ·head as here, List·Memᴰ·tail as there, List·Memᴰ·not-nil as in-nil}
 use native.Mathlib.Omega.{arith}
 use lib.ListN.{length, set, length-set}
-use lib.Seq.{getD-set-other}
+use lib.Seq.{getD-set-same, getD-set-other}
 use Rattle.masks.specs.Masks.{_∪_}
+use Rattle.agenda.specs.Records.{isHandled}
 use Rattle.agenda.specs.Consequences.{recordIn}
+use Rattle.hrg.specs.Items.{Item}
 use Rattle.joins.specs.Joins.{Spans}
+use Rattle.rules.specs.Rules.{Into}
+use Rattle.rules.specs.declared.Filled.{Filled}
 use Rattle.joins.proofs.Openness.{spans-left, spans-right}
 use Rattle.agenda.specs.declared.Record.{Record}
-use Rattle.records.specs.Words.{Fits, ofWords, capacity, itemCount, recordAt, recordsAt, chartOf, addedTo, markedAt, grownBy}
-use Rattle.records.proofs.WordLaws.{eight-words, length-records, record-in, mark-some}
+use Rattle.records.specs.Words.{Fits, ofWords, capacity, itemCount, fieldAt, recordAt, recordsAt, chartOf, addedTo, markedAt, grownBy}
+use Rattle.records.proofs.WordLaws.{eight-words, length-records, record-in, mark-some, item-fits, handled-yes}
 use Rattle.records.proofs.Written.{handle-written, capacity-written, fits-written}
 use Rattle.records.proofs.Rewritten.{handledIn, grown-handled}
-use Rattle.records.proofs.Grown.{Whole, holds-own, grown-one, grown-fits, grown-capacity}
-use Rattle.index.specs.Index.{Indexed, nearOf, Spanned}
-use Rattle.steps.specs.Ready.{Ready}
+use Rattle.records.proofs.Grown.{Whole, holds-own, grown-one, grown-fits, grown-capacity, grown-longer, grown-record}
+use Rattle.index.specs.Index.{Indexed, nearOf, Spanned, NearKept}
+use Rattle.index.proofs.NearLaws.{spanned-kept}
+use Rattle.steps.specs.Ready.{Ready, Handled}
 
 module _ (g h wants pivots w ix : List ℕ) (R : Ready g h wants pivots w ix) (v jx : List ℕ) (I : Indexed wants pivots jx (chartOf v .records)) (S : Spanned g h jx (chartOf v .records)) where
   -- a record is added
@@ -37,6 +42,10 @@ module _ (g h wants pivots w ix : List ℕ) (R : Ready g h wants pivots w ix) (v
 
   pub words-ready : (xs : List ℕ) → v ≡ addedTo w (ofWords xs) → Ready g h wants pivots v jx
   words-ready xs = added-ready (ofWords xs) (eight-words xs)
+
+  -- .. by the words that a rule put it into
+  pub into-ready : (l : List Item) (before after : List ℕ) (z : Filled) → Into g h l before z after → v ≡ addedTo w (ofWords after) → Ready g h wants pivots v jx
+  into-ready l before after z answer = words-ready after
 
   -- a record is handled
   pub handled-ready : (j : ℕ) → j < itemCount w → v ≡ markedAt w j → Ready g h wants pivots v jx
@@ -72,6 +81,10 @@ span-own g h m a b u e s = subst (Spans g h m) (sym e) (spans-left g h m a b s)
 pub span-other : (g h : List ℕ) (m a b u : ℕ) → u ≡ a ∪ b → Spans g h m b → Spans g h m u
 span-other g h m a b u e s = subst (Spans g h m) (sym e) (spans-right g h m a b s)
 
+-- .. by the words of one
+pub span-same : (g h : List ℕ) (x y : Record) (o : ℕ) → x ≡ y → Spans g h (y .edges) o → Spans g h (x .edges) o
+span-same g h x y o e s = subst (λ (z : Record). Spans g h (z .edges) o) (sym e) s
+
 -- that of the record at place k
 pub span-of : (g h w ix : List ℕ) (k : ℕ) → Spanned g h ix (chartOf w .records) → k < itemCount w → (x : Record) → x ≡ recordAt w k → (o : ℕ) → o ≡ nearOf ix k → Spans g h (x .edges) o
 unfolding chartOf
@@ -86,3 +99,33 @@ unfolding itemCount capacity
 marked-count w v j l p =
     let is : v ≡ set w (2 + 16 * j + 5) 1 = p ∙ sym (mark-some w j (omega arith)) in
     rw is (ap₂ (λ a b. min a ((b - 2) / 16)) (getD-set-other w (2 + 16 * j + 5) 0 1 0 (λ e. omega arith)) (length-set w (2 + 16 * j + 5) 1))
+
+-- ---- the record that a step handles
+pub handled-now : (g h w v ix : List ℕ) (j near : ℕ) → j < itemCount w → v ≡ markedAt w j → Spanned g h ix (chartOf v .records) → near ≡ nearOf ix j → Handled g h v j near
+unfolding fieldAt capacity itemCount
+handled-now g h w v ix j near l p S q =
+    let is : v ≡ set w (2 + 16 * j + 5) 1 = p ∙ sym (mark-some w j (omega arith)) in
+    let inside : j < itemCount v = subst (λ n. j < n) (sym (marked-count w v j l p)) l in
+    let one : 1 ≡ fieldAt v j 5 = sym (ap (λ (u : List ℕ). fieldAt u j 5) is ∙ getD-set-same w (2 + 16 * j + 5) 1 0 (omega (arith, item-fits w j l))) in
+    record {
+      there = inside;
+      done = handled-yes v j 1 one (λ e. omega arith);
+      spans = span-of g h v ix j S inside (recordAt v j) refl near q;
+    }
+
+-- it stays as it is while others are added
+module _ (g h w v : List ℕ) (j near : ℕ) (xs : List Record) (f : Fits w) (e : Whole xs) (p : v ≡ grownBy w xs) (D : Handled g h w j near) where
+  pub stays-record : recordAt v j ≡ recordAt w j
+  stays-record = ap (λ (u : List ℕ). recordAt u j) p ∙ grown-record w f xs e j (D .there) (D .done)
+
+  pub stays-handled : Handled g h v j near
+  stays-handled = record {
+    there = omega (arith, D .there, ap itemCount p, grown-longer w f xs e);
+    done = ap isHandled stays-record ∙ D .done;
+    spans = subst (λ (y : Record). Spans g h (y .edges) near) (sym stays-record) (D .spans);
+  }
+
+-- the ranking is made anew
+pub next-ready : (g h wants pivots w ix new : List ℕ) → Ready g h wants pivots w ix → (Indexed wants pivots ix (chartOf w .records) → Indexed wants pivots new (chartOf w .records)) → NearKept ix new
+    → Ready g h wants pivots w new
+next-ready g h wants pivots w ix new R f k = record { fits = R .fits; small = R .small; indexed = f (R .indexed); spanned = spanned-kept g h ix new (chartOf w .records) k (R .spanned) }

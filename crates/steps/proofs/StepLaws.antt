@@ -2,7 +2,7 @@
 use Prim.Native.Nat.{ℕ, zero, suc, _+_, _-_, _≤_, _<_}
 use mathlib.Core.Path.{_≡_, refl, sym, ap, ap₂, _∙_, subst}
 use mathlib.Core.Bool.{Bool, true, false}
-use mathlib.Core.List.{List, [], _∷_, _++_}
+use mathlib.Core.List.{List, [], _++_}
 use native.Mathlib.Omega.{arith}
 use native.Mathlib.Decide.{decLt}
 use lib.ListN.{length, length-set}
@@ -21,12 +21,10 @@ use Rattle.records.proofs.WordLaws.{length-records}
 use Rattle.records.proofs.Written.{handle-written, chart-of-written, fits-written, written-over}
 use Rattle.records.proofs.Rewritten.{Grown, handledIn, grown-handled, count-on, capacity-on, record-on}
 use Rattle.records.proofs.Grown.{Whole, whole-none, whole-guard, whole-append, whole-map, whole-items, whole-gather, holds-own, grown-all, grown-none, grown-fits, grown-more, grown-longer, grown-flag, grown-record}
-use Rattle.steps.specs.Partners.{withRecord, mayMeet}
-use Rattle.steps.proofs.PartnerLaws.{partner-both}
-
-append-nil : (xs : List Record) → xs ++ [] ≡ xs
-append-nil [] = refl
-append-nil (x ∷ xs) = ap (λ (l : List Record). x ∷ l) (append-nil xs)
+use Rattle.steps.specs.Partners.{withRecord}
+use Rattle.steps.specs.Ready.{Handled}
+use Rattle.steps.proofs.PartnerLaws.{append-nil}
+use Rattle.steps.proofs.ReadyLaws.{stays-record, stays-handled}
 
 -- ---- a loop from 0 on
 -- the words v are w with what f gives for the numbers below i
@@ -127,13 +125,6 @@ module _ (G : Grammar) (H : Graph) where
   partner-same w xs v x j k o e p l =
       ap (λ (u : List ℕ). withRecord G H x j (recordAt u k) k) p
       ∙ record-same x j (recordAt (grownBy w xs) k) (recordAt w k) k (grown-flag w o xs e k l) (grown-record w o xs e k l)
-
-  pub partner-added : (w v u t : List ℕ) (want : ℕ) (x y : Record) (j k : ℕ) (b : Bool) → Fits w → y ≡ recordAt w k → b ≡ mayMeet t want x (recordAt w k) → b ≡ true
-      → v ≡ grownBy w (pair G H x j y k) → u ≡ grownBy v (pair G H y k x j) → u ≡ grownBy w (withRecord G H x j (recordAt w k) k)
-  partner-added w v u t want x y j k b o q m h p₁ p₂ =
-      added-then w v u (pair G H x j y k) (pair G H y k x j) o (pair-whole x j y k) (pair-whole y k x j) p₁ p₂
-      ∙ ap (λ (z : Record). grownBy w (pair G H x j z k ++ pair G H z k x j)) q
-      ∙ ap (grownBy w) (sym (partner-both G H x (recordAt w k) j k t want b m h))
 
   -- no partner makes anything
   pub no-partners : (w : List ℕ) (f : ℕ → List Record) (n : ℕ) → Fits w → ((k : ℕ) → f k ≡ []) → w ≡ grownBy w (gather n f)
@@ -247,3 +238,33 @@ module _ (G : Grammar) (H : Graph) where
           ∙ ap (λ (m : ℕ). (atRoot G (itemOf G (recordAt v j)) (recordAt v j .count) j ++ gather (length (H .edges)) (λ e. withTerminal G H (itemOf G (recordAt v j)) (recordAt v j .count) j e)) ++ gather m (λ k. withRecord G H (recordAt v j) j (recordAt v k) k)) (qn ∙ counted)
           ∙ read-consequences v (c .records) j (record-on w c (held .holds) v v-is) (omega (arith, counted, length-set (chartOf w .records) j (handledNow (recordIn (chartOf w .records) j)), known)) in
           added-then v v₃ v₄ (xs ++ ys) zs marked-fits (whole-append xs ys ex ey) ez both (p₄ ∙ ap (grownBy v₃) same) ∙ ap (grownBy v) read ∙ all-grown
+
+      -- .. with the record read again at its place, where it stays as it is
+      module _ (g h : List ℕ) (near : ℕ) (D : Handled g h v j near) (v₂ : List ℕ) (p₂ : v₂ ≡ grownBy v (atRoot G (itemOf G (recordAt v j)) (recordAt v j .count) j)) where
+        root-record : recordAt v₂ j ≡ recordAt v j
+        root-record = stays-record g h v v₂ j near (atRoot G (itemOf G (recordAt v j)) (recordAt v j .count) j) marked-fits (root-whole (itemOf G (recordAt v j)) (recordAt v j .count) j) p₂ D
+
+        pub root-handled : Handled g h v₂ j near
+        root-handled = stays-handled g h v v₂ j near (atRoot G (itemOf G (recordAt v j)) (recordAt v j .count) j) marked-fits (root-whole (itemOf G (recordAt v j)) (recordAt v j .count) j) p₂ D
+
+        module _ (v₃ : List ℕ) (p₃ : v₃ ≡ grownBy v₂ (gather (length (H .edges)) (λ e. withTerminal G H (itemOf G (recordAt v₂ j)) (recordAt v₂ j .count) j e))) where
+          abbrev edge : Record → List Record
+          edge x = gather (length (H .edges)) (λ e. withTerminal G H (itemOf G x) (x .count) j e)
+
+          edge-whole : (x : Record) → Whole (edge x)
+          edge-whole x = whole-gather (length (H .edges)) (λ e. withTerminal G H (itemOf G x) (x .count) j e) (λ e. terminal-whole (itemOf G x) (x .count) j e)
+
+          edges-record : recordAt v₃ j ≡ recordAt v₂ j
+          edges-record = stays-record g h v₂ v₃ j near (edge (recordAt v₂ j)) (root-fits (recordAt v j) v₂ p₂) (edge-whole (recordAt v₂ j)) p₃ root-handled
+
+          pub edges-handled : Handled g h v₃ j near
+          edges-handled = stays-handled g h v₂ v₃ j near (edge (recordAt v₂ j)) (root-fits (recordAt v j) v₂ p₂) (edge-whole (recordAt v₂ j)) p₃ root-handled
+
+          by-root : v₃ ≡ grownBy v₂ (edge (recordAt v j))
+          by-root = p₃ ∙ ap (λ (x : Record). grownBy v₂ (edge x)) root-record
+
+          pub edges-room : (n : ℕ) → n ≡ itemCount v → n ≤ itemCount v₃
+          edges-room n q = edges-fits (recordAt v j) v₂ p₂ n v₃ q by-root .1
+
+          pub step-by : (n : ℕ) (v₄ : List ℕ) → n ≡ itemCount v → v₄ ≡ grownBy v₃ (gather n (λ k. withRecord G H (recordAt v₃ j) j (recordAt v₃ k) k)) → v₄ ≡ written w (handledAt G H (capacity w) j (chartOf w))
+          step-by n v₄ q p₄ = step-is n (recordAt v j) v₂ v₃ v₄ q refl p₂ by-root (p₄ ∙ ap (λ (x : Record). grownBy v₃ (gather n (λ k. withRecord G H x j (recordAt v₃ k) k))) (edges-record ∙ root-record))

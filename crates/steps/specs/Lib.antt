@@ -3,3 +3,4 @@ pub mod Leaves
 pub mod Partners
 pub mod Ready
 pub mod Runs
+pub mod Ways

@@ -5,14 +5,15 @@ use mathlib.Core.Path.{_≡_}
 use Prim.Native.Nat.{ℕ, _≤_, _<_}
 use lib.ListN.{length}
 use Rattle.agenda.specs.declared.Record.{Record}
+use Rattle.agenda.specs.Records.{isHandled}
 use Rattle.agenda.specs.Consequences.{recordIn}
-use Rattle.joins.specs.Joins.{Accepted}
+use Rattle.joins.specs.Joins.{Accepted, Spans}
 use Rattle.joins.specs.Graphs.{GraphTable}
 use Rattle.rules.specs.Wants.{WantTable}
 use Rattle.rules.specs.Plans.{PlanTable}
 use Rattle.pivots.specs.Pivots.{PivotTable}
 use Rattle.pivots.specs.Keys.{regularOf}
-use Rattle.records.specs.Words.{Fits, capacity, chartOf}
+use Rattle.records.specs.Words.{Fits, capacity, itemCount, recordAt, chartOf}
 use Rattle.index.specs.Index.{Indexed, Spanned}
 
 -- accepted tables, and what a run works out from them once
@@ -29,6 +30,12 @@ pub record Ready (g h wants pivots w ix : List ℕ) : Type 0 where
   pub small : capacity w ≤ 4096
   pub indexed : Indexed wants pivots ix (chartOf w .records)
   pub spanned : Spanned g h ix (chartOf w .records)
+
+-- the record at place j is handled, so that it stays as it is while others are added; the set near spans its edges
+pub record Handled (g h w : List ℕ) (j near : ℕ) : Type 0 where
+  pub there : j < itemCount w
+  pub done : isHandled (recordAt w j) ≡ true
+  pub spans : Spans g h (recordAt w j .edges) near
 
 -- records whose keys tell what they can be joined with
 abbrev pub Regular : List ℕ → List Record → Type 0

@@ -1,9 +1,9 @@
-// What a handled record makes: by the root rule, with graph edges, and with handled records.
+// What a handled record makes: by the root rule, with graph edges, and with handled records. It is told by its place j, and stays as it is while others are added.
 ghost use mathlib.Core.Path.{_≡_};
-ghost use mathlib.Core.Bool.{true};
+ghost use mathlib.Core.Bool.{true, cond};
 ghost use Prim.Native.Nat.{_+_, _≤_, _<_, max};
 ghost use lib.Dec.{leb};
-ghost use lib.ListN.{length};
+ghost use lib.ListN.{length, getD};
 ghost use Rattle.hrg.specs.ClosureRun.{guard};
 ghost use Rattle.agenda.specs.Records.{itemOf, plus};
 ghost use Rattle.agenda.specs.Consequences.{gather, atRoot, withTerminal, pair};
@@ -11,15 +11,17 @@ ghost use Rattle.questions.specs.Layout.{graphEdges};
 ghost use Rattle.questions.specs.Checking.{checkGrammar};
 ghost use Rattle.questions.specs.Abstract.{grammarOf, graphOf};
 ghost use Rattle.joins.specs.Joins.{Spans};
-ghost use Rattle.rules.specs.Rules.{madeRecords};
 ghost use Rattle.rules.specs.Wants.{wantIn};
+ghost use Rattle.rules.specs.Plans.{Leads};
 ghost use Rattle.rules.specs.Candidates.{Candidates};
-ghost use Rattle.lists.specs.Cursors.{alone};
-ghost use Rattle.pivots.specs.Keys.{queryOf, regularOf};
-ghost use Rattle.records.specs.Words.{ofWords, itemCount, recordAt, chartOf, grownBy};
+ghost use Rattle.lists.specs.Lists.{Within};
+ghost use Rattle.lists.specs.Cursors.{alone, SkimsAll};
+ghost use Rattle.index.specs.Index.{indexWords, listsOf, markOf};
+ghost use Rattle.index.specs.Quiet.{quietIn};
+ghost use Rattle.records.specs.Words.{itemCount, recordAt, grownBy};
 ghost use Rattle.steps.specs.Partners.{withRecord, mayMeet};
-ghost use Rattle.steps.specs.Ready.{Tables, Ready, Regular};
-use rules::Made;
+ghost use Rattle.steps.specs.Ready.{Tables, Ready, Handled};
+ghost use Rattle.steps.specs.Ways.{Poised, Opens, Goes};
 use rules::wants;
 
 // A sum that stays in a word.
@@ -32,7 +34,7 @@ fn plus(a: u64, b: u64) -> u64
     a + b
 }
 
-// The passive item of a root item, made of the record x at place j.
+// The passive item of a root item, made of the record at place j.
 pub(crate) fn add_root(
     g: &[u64],
     h: &[u64],
@@ -40,93 +42,51 @@ pub(crate) fn add_root(
     pivots: &[u64; 1088],
     chart: &mut [u64],
     index: &mut [u32],
-    x: &[u64],
     j: u64,
     near: u64,
 )
-    requires { ⌜ (checkGrammar (now g) ≡ true) × Ready (now g) (now h) (now wants) (now pivots) (now chart) (now index) × (length (now x) ≡ 16) × Spans (now g) (now h) (ofWords (now x) .edges) near ⌝ }
-    ensures { λ r. ⌜ (now (chart .exit) ≡ grownBy (now (chart .entry)) (atRoot (grammarOf (now (g .entry))) (itemOf (grammarOf (now (g .entry))) (ofWords (now (x .entry)))) (ofWords (now (x .entry)) .count) j)) × Ready (now (g .entry)) (now (h .entry)) (now (wants .entry)) (now (pivots .entry)) (now (chart .exit)) (now (index .exit)) ⌝ }
+    requires { ⌜ (checkGrammar (now g) ≡ true) × Ready (now g) (now h) (now wants) (now pivots) (now chart) (now index) × Handled (now g) (now h) (now chart) j near ⌝ }
+    ensures { λ r. ⌜ (now (chart .exit) ≡ grownBy (now (chart .entry)) (atRoot (grammarOf (now (g .entry))) (itemOf (grammarOf (now (g .entry))) (recordAt (now (chart .entry)) j)) (recordAt (now (chart .entry)) j .count) j)) × Ready (now (g .entry)) (now (h .entry)) (now (wants .entry)) (now (pivots .entry)) (now (chart .exit)) (now (index .exit)) ⌝ }
 {
-    if x[0] != 0 {
+    let at = (2 + 16 * j) as usize;
+    if chart[at] != 0 {
         return;
     }
-    let of = x[1];
+    let of = chart[at + 1];
     if of >= layout::rule_count(g) {
         return;
     }
     let n = layout::rule_plan(g, of);
-    if x[2] >= n {
+    let p = chart[at + 2];
+    if p >= n {
         return;
     }
-    if x[2] + 1 != n {
+    if p + 1 != n {
         return;
     }
-    let l = rules::root_nodes(g, of, &x[6..14]);
-    let y = [
+    let mut y = [
         1,
         layout::rule_symbol(g, of),
         0,
-        x[3],
-        plus(x[4], 1),
+        chart[at + 3],
+        plus(chart[at + 4], 1),
         0,
-        l[0],
-        l[1],
-        l[2],
-        l[3],
-        l[4],
-        l[5],
-        l[6],
-        l[7],
+        64,
+        64,
+        64,
+        64,
+        64,
+        64,
+        64,
+        64,
         j,
         0,
     ];
+    rules::root_into(g, of, &chart[at + 6..at + 14], &mut y[6..14]);
     index::add(wants, pivots, chart, index, &y, near);
 }
 
-// The active item of rule r that was made, if one was.
-fn add_made(
-    g: &[u64],
-    h: &[u64],
-    wants: &[u64; 1024],
-    pivots: &[u64; 1088],
-    chart: &mut [u64],
-    index: &mut [u32],
-    made: Made,
-    r: u64,
-    count: u64,
-    first: u64,
-    second: u64,
-)
-    requires { ⌜ Ready (now g) (now h) (now wants) (now pivots) (now chart) (now index) × Spans (now g) (now h) (made .edges) (made .images) ⌝ }
-    ensures { λ x. ⌜ (now (chart .exit) ≡ grownBy (now (chart .entry)) (madeRecords r made count first second)) × Ready (now (g .entry)) (now (h .entry)) (now (wants .entry)) (now (pivots .entry)) (now (chart .exit)) (now (index .exit)) ⌝ }
-{
-    if !made.found {
-        return;
-    }
-    let l = made.nodes;
-    let images = made.images;
-    let x = [
-        0,
-        r,
-        made.plan,
-        made.edges,
-        count,
-        0,
-        l[0],
-        l[1],
-        l[2],
-        l[3],
-        l[4],
-        l[5],
-        l[6],
-        l[7],
-        first,
-        second,
-    ];
-    index::add(wants, pivots, chart, index, &x, images);
-}
-
-// What x makes with graph edge e, if that is one of the candidates m.
+// What it makes with graph edge e, if that is one of the candidates m.
 fn add_candidate(
     g: &[u64],
     h: &[u64],
@@ -136,23 +96,44 @@ fn add_candidate(
     graph: &[u64; 577],
     chart: &mut [u64],
     index: &mut [u32],
-    x: &[u64],
     j: u64,
     m: u64,
     e: u64,
     near: u64,
 )
-    requires { ⌜ Tables (now g) (now h) (now wants) (now plans) (now pivots) (now graph) × Ready (now g) (now h) (now wants) (now pivots) (now chart) (now index) × Candidates (now g) (now h) (ofWords (now x)) m × (e < graphEdges (now h)) × (length (now x) ≡ 16) × Spans (now g) (now h) (ofWords (now x) .edges) near ⌝ }
-    ensures { λ r. ⌜ (now (chart .exit) ≡ grownBy (now (chart .entry)) (withTerminal (grammarOf (now (g .entry))) (graphOf (now (g .entry)) (now (h .entry))) (itemOf (grammarOf (now (g .entry))) (ofWords (now (x .entry)))) (ofWords (now (x .entry)) .count) j e)) × Ready (now (g .entry)) (now (h .entry)) (now (wants .entry)) (now (pivots .entry)) (now (chart .exit)) (now (index .exit)) ⌝ }
+    requires { ⌜ Tables (now g) (now h) (now wants) (now plans) (now pivots) (now graph) × Ready (now g) (now h) (now wants) (now pivots) (now chart) (now index) × Handled (now g) (now h) (now chart) j near × Candidates (now g) (now h) (recordAt (now chart) j) m × (e < graphEdges (now h)) ⌝ }
+    ensures { λ r. ⌜ (now (chart .exit) ≡ grownBy (now (chart .entry)) (withTerminal (grammarOf (now (g .entry))) (graphOf (now (g .entry)) (now (h .entry))) (itemOf (grammarOf (now (g .entry))) (recordAt (now (chart .entry)) j)) (recordAt (now (chart .entry)) j .count) j e)) × Ready (now (g .entry)) (now (h .entry)) (now (wants .entry)) (now (pivots .entry)) (now (chart .exit)) (now (index .exit)) ⌝ }
 {
     if !masks::has(m, e) {
         return;
     }
-    let made = rules::terminal(g, h, plans, graph, x, e, near);
-    add_made(g, h, wants, pivots, chart, index, made, x[1], x[4], j, e);
+    let at = (2 + 16 * j) as usize;
+    let mut out = [
+        0,
+        0,
+        0,
+        0,
+        chart[at + 4],
+        0,
+        64,
+        64,
+        64,
+        64,
+        64,
+        64,
+        64,
+        64,
+        j,
+        e,
+    ];
+    let made = rules::terminal_into(g, h, plans, graph, &chart[at..at + 16], e, near, &mut out);
+    if !made.found {
+        return;
+    }
+    index::add(wants, pivots, chart, index, &out, made.images);
 }
 
-// What x makes with each graph edge: only those of the label that it wants, and that fit its map, are tried.
+// What it makes with each graph edge: only those of the label that it wants, and that fit its map, are tried.
 pub(crate) fn add_terminals(
     g: &[u64],
     h: &[u64],
@@ -162,15 +143,15 @@ pub(crate) fn add_terminals(
     graph: &[u64; 577],
     chart: &mut [u64],
     index: &mut [u32],
-    x: &[u64],
     j: u64,
     near: u64,
 )
-    requires { ⌜ Tables (now g) (now h) (now wants) (now plans) (now pivots) (now graph) × Ready (now g) (now h) (now wants) (now pivots) (now chart) (now index) × (length (now x) ≡ 16) × Spans (now g) (now h) (ofWords (now x) .edges) near ⌝ }
-    ensures { λ r. ⌜ (now (chart .exit) ≡ grownBy (now (chart .entry)) (gather (length (graphOf (now (g .entry)) (now (h .entry)) .edges)) (λ e. withTerminal (grammarOf (now (g .entry))) (graphOf (now (g .entry)) (now (h .entry))) (itemOf (grammarOf (now (g .entry))) (ofWords (now (x .entry)))) (ofWords (now (x .entry)) .count) j e))) × Ready (now (g .entry)) (now (h .entry)) (now (wants .entry)) (now (pivots .entry)) (now (chart .exit)) (now (index .exit)) ⌝ }
+    requires { ⌜ Tables (now g) (now h) (now wants) (now plans) (now pivots) (now graph) × Ready (now g) (now h) (now wants) (now pivots) (now chart) (now index) × Handled (now g) (now h) (now chart) j near ⌝ }
+    ensures { λ r. ⌜ (now (chart .exit) ≡ grownBy (now (chart .entry)) (gather (length (graphOf (now (g .entry)) (now (h .entry)) .edges)) (λ e. withTerminal (grammarOf (now (g .entry))) (graphOf (now (g .entry)) (now (h .entry))) (itemOf (grammarOf (now (g .entry))) (recordAt (now (chart .entry)) j)) (recordAt (now (chart .entry)) j .count) j e))) × Ready (now (g .entry)) (now (h .entry)) (now (wants .entry)) (now (pivots .entry)) (now (chart .exit)) (now (index .exit)) ⌝ }
 {
-    let want = wants::want_of(wants, x[1], x[2]);
-    let m = rules::candidates(g, h, plans, graph, want, x);
+    let at = (2 + 16 * j) as usize;
+    let want = wants::want_of(wants, chart[at + 1], chart[at + 2]);
+    let m = rules::candidates(g, h, plans, graph, want, &chart[at..at + 16]);
     if m == 0 {
         return;
     }
@@ -186,7 +167,6 @@ pub(crate) fn add_terminals(
             graph,
             chart,
             index,
-            x,
             j,
             m,
             e,
@@ -196,7 +176,7 @@ pub(crate) fn add_terminals(
     }
 }
 
-// What x at place j makes with y at place k, x first: nothing where x is passive.
+// What the record at place j makes with the one at place k, the former first.
 fn add_pair(
     g: &[u64],
     h: &[u64],
@@ -206,42 +186,58 @@ fn add_pair(
     graph: &[u64; 577],
     chart: &mut [u64],
     index: &mut [u32],
-    x: &[u64],
     j: u64,
-    y: &[u64],
     k: u64,
     near: u64,
 )
-    requires { ⌜ Tables (now g) (now h) (now wants) (now plans) (now pivots) (now graph) × Ready (now g) (now h) (now wants) (now pivots) (now chart) (now index) × (length (now x) ≡ 16) × (length (now y) ≡ 16) × Spans (now g) (now h) (ofWords (now x) .edges) near × Spans (now g) (now h) (ofWords (now y) .edges) near ⌝ }
-    ensures { λ r. ⌜ (now (chart .exit) ≡ grownBy (now (chart .entry)) (pair (grammarOf (now (g .entry))) (graphOf (now (g .entry)) (now (h .entry))) (ofWords (now (x .entry))) j (ofWords (now (y .entry))) k)) × Ready (now (g .entry)) (now (h .entry)) (now (wants .entry)) (now (pivots .entry)) (now (chart .exit)) (now (index .exit)) ⌝ }
+    requires { ⌜ Tables (now g) (now h) (now wants) (now plans) (now pivots) (now graph) × Ready (now g) (now h) (now wants) (now pivots) (now chart) (now index) × (j < itemCount (now chart)) × (k < itemCount (now chart)) × Spans (now g) (now h) (recordAt (now chart) j .edges) near × Spans (now g) (now h) (recordAt (now chart) k .edges) near ⌝ }
+    ensures { λ r. ⌜ (now (chart .exit) ≡ grownBy (now (chart .entry)) (pair (grammarOf (now (g .entry))) (graphOf (now (g .entry)) (now (h .entry))) (recordAt (now (chart .entry)) j) j (recordAt (now (chart .entry)) k) k)) × Ready (now (g .entry)) (now (h .entry)) (now (wants .entry)) (now (pivots .entry)) (now (chart .exit)) (now (index .exit)) ⌝ }
 {
-    if x[0] != 0 {
-        return;
-    }
-    let made = rules::pair(g, h, plans, graph, x, y, near);
-    add_made(
-        g,
-        h,
-        wants,
-        pivots,
-        chart,
-        index,
-        made,
-        x[1],
-        plus(x[4], y[4]),
+    let a = (2 + 16 * j) as usize;
+    let b = (2 + 16 * k) as usize;
+    let mut out = [
+        0,
+        0,
+        0,
+        0,
+        plus(chart[a + 4], chart[b + 4]),
+        0,
+        64,
+        64,
+        64,
+        64,
+        64,
+        64,
+        64,
+        64,
         j,
         k,
+    ];
+    let made = rules::pair_into(
+        g,
+        h,
+        plans,
+        graph,
+        &chart[a..a + 16],
+        &chart[b..b + 16],
+        near,
+        &mut out,
     );
+    if !made.found {
+        return;
+    }
+    index::add(wants, pivots, chart, index, &out, made.images);
 }
 
-// Whether the record at place k may make something with x, which wants `want` if it is active. Only the words that tell are read, first those that tell the most.
-fn may_meet(wants: &[u64; 1024], chart: &[u64], k: u64, x: &[u64], want: u64) -> bool
-    requires { ⌜ (k < itemCount (now chart)) × (itemCount (now chart) ≤ 4096) × (length (now x) ≡ 16) ⌝ }
-    ensures { λ r. ⌜ r ≡ mayMeet (now (wants .entry)) want (ofWords (now (x .entry))) (recordAt (now (chart .entry)) k) ⌝ }
+// Whether the record at place k may make something with the one at place j, which wants `want` if it is active. Only the words that tell are read, first those that tell the most.
+fn may_meet(wants: &[u64; 1024], chart: &[u64], j: u64, k: u64, want: u64) -> bool
+    requires { ⌜ (j < itemCount (now chart)) × (k < itemCount (now chart)) × (itemCount (now chart) ≤ 4096) ⌝ }
+    ensures { λ r. ⌜ r ≡ mayMeet (now (wants .entry)) want (recordAt (now (chart .entry)) j) (recordAt (now (chart .entry)) k) ⌝ }
 {
     let at = (2 + 16 * k) as usize;
+    let own = (2 + 16 * j) as usize;
     let edges = chart[at + 3];
-    if !masks::disjoint(x[3], edges) {
+    if !masks::disjoint(chart[own + 3], edges) {
         return false;
     }
     if chart[at + 5] == 0 {
@@ -249,8 +245,8 @@ fn may_meet(wants: &[u64; 1024], chart: &[u64], k: u64, x: &[u64], want: u64) ->
     }
     wants::meet(
         wants,
-        x[0],
-        x[1],
+        chart[own],
+        chart[own + 1],
         want,
         chart[at],
         chart[at + 1],
@@ -258,7 +254,17 @@ fn may_meet(wants: &[u64; 1024], chart: &[u64], k: u64, x: &[u64], want: u64) ->
     )
 }
 
-// What x at place j makes with the record at place k, in both orders, if that one is handled.
+// The one of two that comes first.
+fn pick(lead: bool, j: u64, k: u64) -> u64
+    ensures { λ r. ⌜ r ≡ cond lead j k ⌝ }
+{
+    if lead {
+        return j;
+    }
+    k
+}
+
+// What the record at place j makes with the one at place k, if that one is handled. It can come only first, where it leads, or only second.
 fn add_partner(
     g: &[u64],
     h: &[u64],
@@ -268,20 +274,21 @@ fn add_partner(
     graph: &[u64; 577],
     chart: &mut [u64],
     index: &mut [u32],
-    x: &[u64],
     want: u64,
+    lead: bool,
     j: u64,
     k: u64,
     near: u64,
 )
-    requires { ⌜ Tables (now g) (now h) (now wants) (now plans) (now pivots) (now graph) × Ready (now g) (now h) (now wants) (now pivots) (now chart) (now index) × (want ≡ wantIn (now wants) (ofWords (now x) .of) (ofWords (now x) .plan)) × (k < itemCount (now chart)) × (length (now x) ≡ 16) × Spans (now g) (now h) (ofWords (now x) .edges) near ⌝ }
-    ensures { λ r. ⌜ (now (chart .exit) ≡ grownBy (now (chart .entry)) (withRecord (grammarOf (now (g .entry))) (graphOf (now (g .entry)) (now (h .entry))) (ofWords (now (x .entry))) j (recordAt (now (chart .entry)) k) k)) × Ready (now (g .entry)) (now (h .entry)) (now (wants .entry)) (now (pivots .entry)) (now (chart .exit)) (now (index .exit)) ⌝ }
+    requires { ⌜ Tables (now g) (now h) (now wants) (now plans) (now pivots) (now graph) × Ready (now g) (now h) (now wants) (now pivots) (now chart) (now index) × Handled (now g) (now h) (now chart) j near × (want ≡ wantIn (now wants) (recordAt (now chart) j .of) (recordAt (now chart) j .plan)) × Leads (now g) (recordAt (now chart) j) lead × (k < itemCount (now chart)) ⌝ }
+    ensures { λ r. ⌜ (now (chart .exit) ≡ grownBy (now (chart .entry)) (withRecord (grammarOf (now (g .entry))) (graphOf (now (g .entry)) (now (h .entry))) (recordAt (now (chart .entry)) j) j (recordAt (now (chart .entry)) k) k)) × Ready (now (g .entry)) (now (h .entry)) (now (wants .entry)) (now (pivots .entry)) (now (chart .exit)) (now (index .exit)) ⌝ }
 {
-    if !may_meet(wants, chart, k, x, want) {
+    if !may_meet(wants, chart, j, k, want) {
         return;
     }
-    let y = records::words_in(chart, k);
     let both = masks::union(near, index::near(index, k));
+    let first = pick(lead, j, k);
+    let second = pick(lead, k, j);
     add_pair(
         g,
         h,
@@ -291,70 +298,13 @@ fn add_partner(
         graph,
         chart,
         index,
-        x,
-        j,
-        &y,
-        k,
-        both,
-    );
-    add_pair(
-        g,
-        h,
-        wants,
-        plans,
-        pivots,
-        graph,
-        chart,
-        index,
-        &y,
-        k,
-        x,
-        j,
+        first,
+        second,
         both,
     );
 }
 
-// What x at place j makes with each of the first n records, gone through one by one.
-fn add_each(
-    g: &[u64],
-    h: &[u64],
-    wants: &[u64; 1024],
-    plans: &[u64; 2048],
-    pivots: &[u64; 1088],
-    graph: &[u64; 577],
-    chart: &mut [u64],
-    index: &mut [u32],
-    x: &[u64],
-    want: u64,
-    j: u64,
-    n: u64,
-    near: u64,
-)
-    requires { ⌜ Tables (now g) (now h) (now wants) (now plans) (now pivots) (now graph) × Ready (now g) (now h) (now wants) (now pivots) (now chart) (now index) × (n ≤ itemCount (now chart)) × (want ≡ wantIn (now wants) (ofWords (now x) .of) (ofWords (now x) .plan)) × (length (now x) ≡ 16) × Spans (now g) (now h) (ofWords (now x) .edges) near ⌝ }
-    ensures { λ r. ⌜ (now (chart .exit) ≡ grownBy (now (chart .entry)) (gather n (λ k. withRecord (grammarOf (now (g .entry))) (graphOf (now (g .entry)) (now (h .entry))) (ofWords (now (x .entry))) j (recordAt (now (chart .entry)) k) k))) × Ready (now (g .entry)) (now (h .entry)) (now (wants .entry)) (now (pivots .entry)) (now (chart .exit)) (now (index .exit)) ⌝ }
-{
-    let mut k: u64 = 0;
-    while k < n {
-        add_partner(
-            g,
-            h,
-            wants,
-            plans,
-            pivots,
-            graph,
-            chart,
-            index,
-            x,
-            want,
-            j,
-            k,
-            near,
-        );
-        k += 1;
-    }
-}
-
-// The same with record k, where it is not among the first `done`; how many are done then.
+// The same, where k is not among the first `past` records; how many are past then.
 fn add_next(
     g: &[u64],
     h: &[u64],
@@ -364,18 +314,18 @@ fn add_next(
     graph: &[u64; 577],
     chart: &mut [u64],
     index: &mut [u32],
-    x: &[u64],
     want: u64,
+    lead: bool,
     j: u64,
     k: u64,
-    done: u64,
+    past: u64,
     near: u64,
 ) -> u64
-    requires { ⌜ Tables (now g) (now h) (now wants) (now plans) (now pivots) (now graph) × Ready (now g) (now h) (now wants) (now pivots) (now chart) (now index) × (want ≡ wantIn (now wants) (ofWords (now x) .of) (ofWords (now x) .plan)) × (k < itemCount (now chart)) × (length (now x) ≡ 16) × Spans (now g) (now h) (ofWords (now x) .edges) near ⌝ }
-    ensures { λ r. ⌜ (now (chart .exit) ≡ grownBy (now (chart .entry)) (guard (leb done k) (withRecord (grammarOf (now (g .entry))) (graphOf (now (g .entry)) (now (h .entry))) (ofWords (now (x .entry))) j (recordAt (now (chart .entry)) k) k))) × Ready (now (g .entry)) (now (h .entry)) (now (wants .entry)) (now (pivots .entry)) (now (chart .exit)) (now (index .exit)) × (r ≡ max done (k + 1)) ⌝ }
+    requires { ⌜ Tables (now g) (now h) (now wants) (now plans) (now pivots) (now graph) × Ready (now g) (now h) (now wants) (now pivots) (now chart) (now index) × Handled (now g) (now h) (now chart) j near × (want ≡ wantIn (now wants) (recordAt (now chart) j .of) (recordAt (now chart) j .plan)) × Leads (now g) (recordAt (now chart) j) lead × (k < itemCount (now chart)) ⌝ }
+    ensures { λ r. ⌜ (now (chart .exit) ≡ grownBy (now (chart .entry)) (guard (leb past k) (withRecord (grammarOf (now (g .entry))) (graphOf (now (g .entry)) (now (h .entry))) (recordAt (now (chart .entry)) j) j (recordAt (now (chart .entry)) k) k))) × Ready (now (g .entry)) (now (h .entry)) (now (wants .entry)) (now (pivots .entry)) (now (chart .exit)) (now (index .exit)) × (r ≡ max past (k + 1)) ⌝ }
 {
-    if k < done {
-        return done;
+    if k < past {
+        return past;
     }
     add_partner(
         g,
@@ -386,8 +336,8 @@ fn add_next(
         graph,
         chart,
         index,
-        x,
         want,
+        lead,
         j,
         k,
         near,
@@ -395,8 +345,80 @@ fn add_next(
     k + 1
 }
 
-// The same as add_each, where the records that can meet x are on the list of one key: one cursor goes through it.
-fn add_alone(
+// Where the partners are gone through: the next one, and the cursors on lists by which it was found.
+struct Cursors {
+    k: u64,
+    cs: [u64; 5],
+}
+
+// How the partners are found: 0 one by one, where keys tell nothing of some record; 1 on one list; 2 on five.
+fn mode_of(index: &[u32], query: [u64; 5]) -> u64
+    requires { ⌜ length (now index) ≡ indexWords ⌝ }
+    ensures { λ r. ⌜ ((r ≡ 0 → ⊥) → markOf (now (index .entry)) ≡ 0) × (r ≡ 1 → query ≡ alone (getD query 0 0)) ⌝ }
+{
+    if !index::regular(index) {
+        return 0;
+    }
+    if (query[1] == 0) & (query[2] == 0) & (query[3] == 0) & (query[4] == 0) {
+        return 1;
+    }
+    2
+}
+
+// Cursors on lists skim over quiet records, most of what is listed.
+fn resting(chart: &[u64], index: &[u32], edges: u64, n: u64, mode: u64, cs: [u64; 5]) -> Cursors
+    requires { ⌜ (length (now index) ≡ indexWords) × (n ≤ itemCount (now chart)) × (n ≤ 4096) × (mode ≡ 0 → ⊥) × (mode ≡ 1 → cs ≡ alone (getD cs 0 0)) ⌝ }
+    ensures { λ r. ⌜ Poised mode (r .k) (r .cs) × SkimsAll (quietIn (now (chart .entry)) edges) (listsOf (now (index .entry))) n cs (r .cs) ⌝ }
+{
+    if mode == 1 {
+        let c = index::sought(chart, index, edges, n, cs[0]);
+        let k = lists::record_of(c);
+        return Cursors {
+            k,
+            cs: [c, 0, 0, 0, 0],
+        };
+    }
+    let es = index::skimmed(chart, index, edges, n, cs);
+    let k = lists::least(es);
+    Cursors { k, cs: es }
+}
+
+// The first of the n records that may be a partner.
+fn opening(chart: &[u64], index: &[u32], edges: u64, n: u64, mode: u64, query: [u64; 5]) -> Cursors
+    requires { ⌜ (length (now index) ≡ indexWords) × (getD (listsOf (now index)) 0 0 ≡ 0) × (n ≤ itemCount (now chart)) × (n ≤ 4096) × Within 2048 query × (mode ≡ 1 → query ≡ alone (getD query 0 0)) ⌝ }
+    ensures { λ r. ⌜ Opens (quietIn (now (chart .entry)) edges) (listsOf (now (index .entry))) n mode query (r .k) (r .cs) ⌝ }
+{
+    if mode == 0 {
+        return Cursors { k: 0, cs: query };
+    }
+    if mode == 1 {
+        let d = index::first(index, query[0]);
+        return resting(chart, index, edges, n, mode, [d, 0, 0, 0, 0]);
+    }
+    let ds = index::starts(index, query);
+    resting(chart, index, edges, n, mode, ds)
+}
+
+// The next one.
+fn onward(chart: &[u64], index: &[u32], edges: u64, n: u64, mode: u64, at: Cursors) -> Cursors
+    requires { ⌜ (length (now index) ≡ indexWords) × (n ≤ itemCount (now chart)) × (n ≤ 4096) × (at .k < n) × Poised mode (at .k) (at .cs) × ((mode ≡ 0 → ⊥) → Within 20480 (at .cs)) ⌝ }
+    ensures { λ r. ⌜ Goes (quietIn (now (chart .entry)) edges) (listsOf (now (index .entry))) n mode (at .k) (at .cs) (r .k) (r .cs) ⌝ }
+{
+    let k = at.k;
+    let cs = at.cs;
+    if mode == 0 {
+        return Cursors { k: k + 1, cs };
+    }
+    if mode == 1 {
+        let d = index::after(index, cs[0]);
+        return resting(chart, index, edges, n, mode, [d, 0, 0, 0, 0]);
+    }
+    let ds = index::passed(index, cs, k);
+    resting(chart, index, edges, n, mode, ds)
+}
+
+// What the record at place j makes with each of the first n records. Only those that keys let through are tried.
+fn add_each(
     g: &[u64],
     h: &[u64],
     wants: &[u64; 1024],
@@ -405,21 +427,22 @@ fn add_alone(
     graph: &[u64; 577],
     chart: &mut [u64],
     index: &mut [u32],
-    x: &[u64],
     want: u64,
+    lead: bool,
     j: u64,
     n: u64,
     near: u64,
-    key: u64,
 )
-    requires { ⌜ Tables (now g) (now h) (now wants) (now plans) (now pivots) (now graph) × Ready (now g) (now h) (now wants) (now pivots) (now chart) (now index) × (n ≤ itemCount (now chart)) × (want ≡ wantIn (now wants) (ofWords (now x) .of) (ofWords (now x) .plan)) × Regular (now pivots) (chartOf (now chart) .records) × (regularOf (now pivots) (ofWords (now x)) ≡ true) × (length (now x) ≡ 16) × Spans (now g) (now h) (ofWords (now x) .edges) near × (queryOf (now wants) (now pivots) (ofWords (now x)) ≡ alone key) ⌝ }
-    ensures { λ r. ⌜ (now (chart .exit) ≡ grownBy (now (chart .entry)) (gather n (λ k. withRecord (grammarOf (now (g .entry))) (graphOf (now (g .entry)) (now (h .entry))) (ofWords (now (x .entry))) j (recordAt (now (chart .entry)) k) k))) × Ready (now (g .entry)) (now (h .entry)) (now (wants .entry)) (now (pivots .entry)) (now (chart .exit)) (now (index .exit)) ⌝ }
+    requires { ⌜ Tables (now g) (now h) (now wants) (now plans) (now pivots) (now graph) × Ready (now g) (now h) (now wants) (now pivots) (now chart) (now index) × Handled (now g) (now h) (now chart) j near × (want ≡ wantIn (now wants) (recordAt (now chart) j .of) (recordAt (now chart) j .plan)) × Leads (now g) (recordAt (now chart) j) lead × (n ≤ itemCount (now chart)) ⌝ }
+    ensures { λ r. ⌜ (now (chart .exit) ≡ grownBy (now (chart .entry)) (gather n (λ k. withRecord (grammarOf (now (g .entry))) (graphOf (now (g .entry)) (now (h .entry))) (recordAt (now (chart .entry)) j) j (recordAt (now (chart .entry)) k) k))) × Ready (now (g .entry)) (now (h .entry)) (now (wants .entry)) (now (pivots .entry)) (now (chart .exit)) (now (index .exit)) ⌝ }
 {
-    let b = index::first(index, key);
-    let mut c = index::sought(chart, index, x[3], n, b);
-    let mut k = lists::record_of(c);
+    let own = (2 + 16 * j) as usize;
+    let edges = chart[own + 3];
+    let query = pivots::query(wants, pivots, &chart[own..own + 16]);
+    let mode = mode_of(index, query);
+    let mut at = opening(chart, index, edges, n, mode, query);
     let mut past: u64 = 0;
-    while k < n {
+    while at.k < n {
         past = add_next(
             g,
             h,
@@ -429,125 +452,18 @@ fn add_alone(
             graph,
             chart,
             index,
-            x,
             want,
+            lead,
             j,
-            k,
+            at.k,
             past,
             near,
         );
-        let d = index::after(index, c);
-        c = index::sought(chart, index, x[3], n, d);
-        k = lists::record_of(c);
+        at = onward(chart, index, edges, n, mode, at);
     }
 }
 
-// The same, where they are on the lists of several keys, in rising order. Cursors skim over quiet records, most of what is listed.
-fn add_listed(
-    g: &[u64],
-    h: &[u64],
-    wants: &[u64; 1024],
-    plans: &[u64; 2048],
-    pivots: &[u64; 1088],
-    graph: &[u64; 577],
-    chart: &mut [u64],
-    index: &mut [u32],
-    x: &[u64],
-    want: u64,
-    j: u64,
-    n: u64,
-    near: u64,
-    query: [u64; 5],
-)
-    requires { ⌜ Tables (now g) (now h) (now wants) (now plans) (now pivots) (now graph) × Ready (now g) (now h) (now wants) (now pivots) (now chart) (now index) × (n ≤ itemCount (now chart)) × (want ≡ wantIn (now wants) (ofWords (now x) .of) (ofWords (now x) .plan)) × Regular (now pivots) (chartOf (now chart) .records) × (regularOf (now pivots) (ofWords (now x)) ≡ true) × (length (now x) ≡ 16) × Spans (now g) (now h) (ofWords (now x) .edges) near × (query ≡ queryOf (now wants) (now pivots) (ofWords (now x))) ⌝ }
-    ensures { λ r. ⌜ (now (chart .exit) ≡ grownBy (now (chart .entry)) (gather n (λ k. withRecord (grammarOf (now (g .entry))) (graphOf (now (g .entry)) (now (h .entry))) (ofWords (now (x .entry))) j (recordAt (now (chart .entry)) k) k))) × Ready (now (g .entry)) (now (h .entry)) (now (wants .entry)) (now (pivots .entry)) (now (chart .exit)) (now (index .exit)) ⌝ }
-{
-    let bs = index::starts(index, query);
-    let mut cs = index::skimmed(chart, index, x[3], n, bs);
-    let mut k = lists::least(cs);
-    let mut done: u64 = 0;
-    while k < n {
-        done = add_next(
-            g,
-            h,
-            wants,
-            plans,
-            pivots,
-            graph,
-            chart,
-            index,
-            x,
-            want,
-            j,
-            k,
-            done,
-            near,
-        );
-        let ds = index::passed(index, cs, k);
-        let es = index::skimmed(chart, index, x[3], n, ds);
-        cs = es;
-        k = lists::least(cs);
-    }
-}
-
-// The same as add_each, with those of the first n records that can meet x, by the keys that these have.
-fn add_keyed(
-    g: &[u64],
-    h: &[u64],
-    wants: &[u64; 1024],
-    plans: &[u64; 2048],
-    pivots: &[u64; 1088],
-    graph: &[u64; 577],
-    chart: &mut [u64],
-    index: &mut [u32],
-    x: &[u64],
-    want: u64,
-    j: u64,
-    n: u64,
-    near: u64,
-)
-    requires { ⌜ Tables (now g) (now h) (now wants) (now plans) (now pivots) (now graph) × Ready (now g) (now h) (now wants) (now pivots) (now chart) (now index) × (n ≤ itemCount (now chart)) × (want ≡ wantIn (now wants) (ofWords (now x) .of) (ofWords (now x) .plan)) × Regular (now pivots) (chartOf (now chart) .records) × (regularOf (now pivots) (ofWords (now x)) ≡ true) × (length (now x) ≡ 16) × Spans (now g) (now h) (ofWords (now x) .edges) near ⌝ }
-    ensures { λ r. ⌜ (now (chart .exit) ≡ grownBy (now (chart .entry)) (gather n (λ k. withRecord (grammarOf (now (g .entry))) (graphOf (now (g .entry)) (now (h .entry))) (ofWords (now (x .entry))) j (recordAt (now (chart .entry)) k) k))) × Ready (now (g .entry)) (now (h .entry)) (now (wants .entry)) (now (pivots .entry)) (now (chart .exit)) (now (index .exit)) ⌝ }
-{
-    let query = pivots::query(wants, pivots, x);
-    if (query[1] == 0) & (query[2] == 0) & (query[3] == 0) & (query[4] == 0) {
-        add_alone(
-            g,
-            h,
-            wants,
-            plans,
-            pivots,
-            graph,
-            chart,
-            index,
-            x,
-            want,
-            j,
-            n,
-            near,
-            query[0],
-        );
-        return;
-    }
-    add_listed(
-        g,
-        h,
-        wants,
-        plans,
-        pivots,
-        graph,
-        chart,
-        index,
-        x,
-        want,
-        j,
-        n,
-        near,
-        query,
-    );
-}
-
-// The same; an active item that wants nothing is tried with none. Keys tell nothing of a chart with irregular records, which no run makes of a fresh one.
+// The same; an active item that wants nothing is tried with none.
 pub(crate) fn add_partners(
     g: &[u64],
     h: &[u64],
@@ -557,55 +473,20 @@ pub(crate) fn add_partners(
     graph: &[u64; 577],
     chart: &mut [u64],
     index: &mut [u32],
-    x: &[u64],
     j: u64,
     n: u64,
     near: u64,
 )
-    requires { ⌜ Tables (now g) (now h) (now wants) (now plans) (now pivots) (now graph) × Ready (now g) (now h) (now wants) (now pivots) (now chart) (now index) × (n ≤ itemCount (now chart)) × (length (now x) ≡ 16) × Spans (now g) (now h) (ofWords (now x) .edges) near ⌝ }
-    ensures { λ r. ⌜ (now (chart .exit) ≡ grownBy (now (chart .entry)) (gather n (λ k. withRecord (grammarOf (now (g .entry))) (graphOf (now (g .entry)) (now (h .entry))) (ofWords (now (x .entry))) j (recordAt (now (chart .entry)) k) k))) × Ready (now (g .entry)) (now (h .entry)) (now (wants .entry)) (now (pivots .entry)) (now (chart .exit)) (now (index .exit)) ⌝ }
+    requires { ⌜ Tables (now g) (now h) (now wants) (now plans) (now pivots) (now graph) × Ready (now g) (now h) (now wants) (now pivots) (now chart) (now index) × Handled (now g) (now h) (now chart) j near × (n ≤ itemCount (now chart)) ⌝ }
+    ensures { λ r. ⌜ (now (chart .exit) ≡ grownBy (now (chart .entry)) (gather n (λ k. withRecord (grammarOf (now (g .entry))) (graphOf (now (g .entry)) (now (h .entry))) (recordAt (now (chart .entry)) j) j (recordAt (now (chart .entry)) k) k))) × Ready (now (g .entry)) (now (h .entry)) (now (wants .entry)) (now (pivots .entry)) (now (chart .exit)) (now (index .exit)) ⌝ }
 {
-    let want = wants::want_of(wants, x[1], x[2]);
-    if (x[0] == 0) & (want == 80) {
+    let own = (2 + 16 * j) as usize;
+    let want = wants::want_of(wants, chart[own + 1], chart[own + 2]);
+    if (chart[own] == 0) & (want == 80) {
         return;
     }
-    if !index::regular(index) {
-        add_each(
-            g,
-            h,
-            wants,
-            plans,
-            pivots,
-            graph,
-            chart,
-            index,
-            x,
-            want,
-            j,
-            n,
-            near,
-        );
-        return;
-    }
-    if !pivots::regular(pivots, x) {
-        add_each(
-            g,
-            h,
-            wants,
-            plans,
-            pivots,
-            graph,
-            chart,
-            index,
-            x,
-            want,
-            j,
-            n,
-            near,
-        );
-        return;
-    }
-    add_keyed(
+    let lead = rules::plans::leads(g, plans, &chart[own..own + 16]);
+    add_each(
         g,
         h,
         wants,
@@ -614,8 +495,8 @@ pub(crate) fn add_partners(
         graph,
         chart,
         index,
-        x,
         want,
+        lead,
         j,
         n,
         near,

@@ -1,7 +1,8 @@
 // What a start and the steps of a run make of a lent chart's words, over accepted tables.
 ghost use mathlib.Core.Path.{_≡_};
 ghost use mathlib.Core.Bool.{true};
-ghost use Prim.Native.Nat.{_≤_, _<_};
+ghost use mathlib.Core.List.{List};
+ghost use Prim.Native.Nat.{ℕ, _≤_, _<_};
 ghost use lib.ListN.{length};
 ghost use Rattle.agenda.specs.Steps.{startChart, handledAt, runChart};
 ghost use Rattle.questions.specs.Checking.{checkGrammar};
@@ -10,7 +11,7 @@ ghost use Rattle.joins.specs.Joins.{Accepted};
 ghost use Rattle.records.specs.Words.{Fits, capacity, itemCount, chartOf, written};
 ghost use Rattle.steps.specs.Runs.{nextIn};
 ghost use Rattle.ranking.specs.Ranking.{Ranked};
-ghost use Rattle.index.specs.Index.{indexWords, ranksOf};
+ghost use Rattle.index.specs.Index.{indexWords, ranksOf, Indexed, NearKept};
 ghost use Rattle.steps.specs.Ready.{Tables, Ready};
 use agenda::Found;
 
@@ -28,9 +29,9 @@ pub fn restart(g: &[u64], chart: &mut [u64])
 }
 
 // The record that the next step takes: none where nothing waits or the chart is marked.
-fn next(chart: &[u64], index: &[u32]) -> Found
+fn next(chart: &[u64], index: &mut [u32]) -> Found
     requires { ⌜ (length (now index) ≡ indexWords) × Ranked (ranksOf (now index)) (chartOf (now chart) .records) × (length (chartOf (now chart) .records) ≤ 4096) ⌝ }
-    ensures { λ r. ⌜ r ≡ nextIn (chartOf (now (chart .entry))) ⌝ }
+    ensures { λ r. ⌜ (r ≡ nextIn (chartOf (now (chart .entry)))) × ((wants pivots : List ℕ) → Indexed wants pivots (now (index .entry)) (chartOf (now (chart .entry)) .records) → Indexed wants pivots (now (index .exit)) (chartOf (now (chart .entry)) .records)) × NearKept (now (index .entry)) (now (index .exit)) ⌝ }
 {
     if records::mark_of(chart) != 0 {
         return Found::Nowhere;
@@ -55,24 +56,10 @@ fn step(
 {
     index::handle(chart, index, j);
     let n = records::item_count(chart);
-    let x = records::words_in(chart, j);
     let near = index::near(index, j);
-    consequences::add_root(g, h, wants, pivots, chart, index, &x, j, near);
-    consequences::add_terminals(g, h, wants, plans, pivots, graph, chart, index, &x, j, near);
-    consequences::add_partners(
-        g,
-        h,
-        wants,
-        plans,
-        pivots,
-        graph,
-        chart,
-        index,
-        &x,
-        j,
-        n,
-        near,
-    );
+    consequences::add_root(g, h, wants, pivots, chart, index, j, near);
+    consequences::add_terminals(g, h, wants, plans, pivots, graph, chart, index, j, near);
+    consequences::add_partners(g, h, wants, plans, pivots, graph, chart, index, j, n, near);
 }
 
 // So many steps, or as many as are left, with an index of the chart's records.

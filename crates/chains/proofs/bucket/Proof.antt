@@ -1,67 +1,68 @@
 -- Each word is brought below a bound, so no sum wraps.
 use native.Mathlib.Omega.{arith}
 use mathlib.Core.Path.{refl}
+use borrow.Author.Needs.{needs}
 use Rattle.records.specs.Words.{ofWords}
 use Rattle.chains.specs.Chains.{mixed, bucketOf}
 use Rattle.chains.proofs.bucket.Statement.{statement}
 use Rattle.chains.proofs.bucket.Tie as tie
 
 shared-slice-read-edges : tie.Need-shared-slice-read-edges
-shared-slice-read-edges c = omega arith
+shared-slice-read-edges c = search needs
 
-mul-item : tie.Need-mul-item
-mul-item c = omega arith
+shared-slice-read-small : tie.Need-shared-slice-read-small
+shared-slice-read-small c = search needs
 
-mul-item-2 : tie.Need-mul-item-2
-mul-item-2 c = omega (arith, c .shared-slice-known .given 3)
+shared-slice-read-small-2 : tie.Need-shared-slice-read-small-2
+shared-slice-read-small-2 c = search needs
 
-add-item : tie.Need-add-item
-add-item c = omega (arith, c .shared-slice-known .given 3)
+mul-small : tie.Need-mul-small
+mul-small c = search needs
 
-shared-slice-read-item : tie.Need-shared-slice-read-item
-shared-slice-read-item c = omega arith
+add-small : tie.Need-add-small
+add-small c = search needs
 
-mul-item-3 : tie.Need-mul-item-3
-mul-item-3 c = omega arith
+shared-slice-read-small-3 : tie.Need-shared-slice-read-small-3
+shared-slice-read-small-3 c = search needs
 
-add-item-2 : tie.Need-add-item-2
-add-item-2 c = omega (arith, c .before .shared-slice-known .given 3)
+mul-small-2 : tie.Need-mul-small-2
+mul-small-2 c = search needs
 
-shared-slice-read-item-2 : tie.Need-shared-slice-read-item-2
-shared-slice-read-item-2 c = omega arith
+add-small-2 : tie.Need-add-small-2
+add-small-2 c = search needs
 
-mul-item-4 : tie.Need-mul-item-4
-mul-item-4 c = omega arith
+shared-slice-read-small-4 : tie.Need-shared-slice-read-small-4
+shared-slice-read-small-4 c = search needs
 
-add-item-3 : tie.Need-add-item-3
-add-item-3 c = omega (arith, c .before .before .shared-slice-known .given 3)
+mul-small-3 : tie.Need-mul-small-3
+mul-small-3 c = search needs
 
-shared-slice-read-mix : tie.Need-shared-slice-read-mix
-shared-slice-read-mix c = omega arith
+add-small-3 : tie.Need-add-small-3
+add-small-3 c = search needs
+
+shared-slice-read-small-5 : tie.Need-shared-slice-read-small-5
+shared-slice-read-small-5 c = search needs
+
+mul-small-4 : tie.Need-mul-small-4
+mul-small-4 c = search needs
+
+add-small-4 : tie.Need-add-small-4
+add-small-4 c = search needs
 
 mul-mix : tie.Need-mul-mix
-mul-mix c = omega arith
-
-add-mix : tie.Need-add-mix
-add-mix c = omega (arith, c .before .before .before .shared-slice-known .given 3)
-
-shared-slice-read-mix-2 : tie.Need-shared-slice-read-mix-2
-shared-slice-read-mix-2 c = omega arith
+mul-mix c = search needs
 
 mul-mix-2 : tie.Need-mul-mix-2
-mul-mix-2 c = omega arith
+mul-mix-2 c = omega (arith, c .before .before .before .before .before .shared-slice-known .given 3)
 
-add-mix-2 : tie.Need-add-mix-2
-add-mix-2 c = omega (arith, c .before .before .before .before .shared-slice-known .given 3)
-
-shared-slice-read-mix-3 : tie.Need-shared-slice-read-mix-3
-shared-slice-read-mix-3 c = omega arith
+add-mix : tie.Need-add-mix
+add-mix c = omega (arith, c .before .before .before .before .before .shared-slice-known .given 3)
 
 mul-mix-3 : tie.Need-mul-mix-3
-mul-mix-3 c = omega arith
+mul-mix-3 c = search needs
 
-add-mix-3 : tie.Need-add-mix-3
-add-mix-3 c = omega (arith, c .before .before .before .before .before .shared-slice-known .given 3)
+add-mix-2 : tie.Need-add-mix-2
+add-mix-2 c = omega (arith, c .before .before .before .before .before .shared-slice-known .given 3)
 
 returns : tie.Need-returns
 unfolding bucketOf mixed ofWords
@@ -72,22 +73,22 @@ bucket-spec =
     tie.close
     (tie.spec
     shared-slice-read-edges
-    mul-item
-    mul-item-2
-    add-item
-    shared-slice-read-item
-    mul-item-3
-    add-item-2
-    shared-slice-read-item-2
-    mul-item-4
-    add-item-3
-    shared-slice-read-mix
+    shared-slice-read-small
+    shared-slice-read-small-2
+    mul-small
+    add-small
+    shared-slice-read-small-3
+    mul-small-2
+    add-small-2
+    shared-slice-read-small-4
+    mul-small-3
+    add-small-3
+    shared-slice-read-small-5
+    mul-small-4
+    add-small-4
     mul-mix
-    add-mix
-    shared-slice-read-mix-2
     mul-mix-2
-    add-mix-2
-    shared-slice-read-mix-3
+    add-mix
     mul-mix-3
-    add-mix-3
+    add-mix-2
     returns)

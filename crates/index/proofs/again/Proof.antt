@@ -1,17 +1,12 @@
 -- A law for each way.
 use mathlib.Core.Path.{refl}
 use Rattle.records.specs.Words.{ofWords, chartOf}
-use Rattle.index.proofs.AddLaws.{inside, waits, again-handled, again-less, again-more}
+use Rattle.index.proofs.AddLaws.{inside, is-waiting, has-count, again-handled, again-less, again-more}
 use Rattle.index.proofs.NearLaws.{near-same}
 use Rattle.records.proofs.WordLaws.{item-fits}
 use borrow.Author.Needs.{needs}
 use Rattle.index.proofs.again.Statement.{statement}
 use Rattle.index.proofs.again.Tie as tie
-use Rattle.index.proofs.again.Reads as reads
-use Rattle.index.proofs.again.Lts as lts
-use Rattle.index.proofs.recount.Reads as recount-reads
-use Rattle.records.proofs.field.Reads as field-reads
-use Rattle.records.proofs.improve_words.Reads as improve-words-reads
 
 field-requires : tie.Need-field-requires
 field-requires c κs = search needs
@@ -65,7 +60,7 @@ returns-3 c =
     let i = c .before .before .before .before .before .before .before .before .before .before .before .before .before .if1 in
     let m = c .before .before .before .before .before .before .before .before .before .before .before .field2 in
     let t = c .before .before .before .before .before .before .recount in
-    (c .before .before .improve-words .ensures, λ wants pivots I. again-more (s .chart .now) (s .index .now) (s .j) (ofWords (s .x .now)) (p .1) (h .result) (h .ensures) (i .left) (m .result) (m .ensures) wants pivots (t .last .0) (c .before .before .before .before .before .before .before .before .before .if2 .left) (t .ensures .0 wants pivots (chartOf (s .chart .now) .records) (ofWords (s .x .now)) I (inside (s .chart .now) (s .j) (p .1)) (waits (s .chart .now) (s .index .now) (s .j) (ofWords (s .x .now)) (p .1) (h .result) (h .ensures) (i .left) (m .result) (m .ensures)) refl), t .ensures .1)
+    (c .before .before .improve-words .ensures, λ wants pivots I. again-more (s .chart .now) (s .index .now) (s .j) (ofWords (s .x .now)) (p .1) (h .result) (h .ensures) (i .left) (m .result) (m .ensures) wants pivots (t .last .0) (c .before .before .before .before .before .before .before .before .before .if2 .left) (t .ensures .0 wants pivots (chartOf (s .chart .now) .records) (ofWords (s .x .now)) I (inside (s .chart .now) (s .j) (p .1)) (is-waiting (s .chart .now) (s .j) (p .1) (h .result) (h .ensures) (i .left)) (has-count (s .chart .now) (s .j) (p .1) (h .result) (h .ensures) (m .result) (m .ensures)) refl), t .ensures .1)
 
 pub again-spec : {M : Type 1} → statement M
 again-spec =

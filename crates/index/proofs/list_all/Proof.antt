@@ -1,19 +1,14 @@
--- The first j records are on the lists.
+-- The first j records are on the lists; each is lent as a part of the chart.
 use native.Mathlib.Omega.{arith}
-use Prim.Native.Nat.{_+_, _-_, _≤_}
+use Prim.Native.Nat.{_+_, _-_, _*_, _≤_}
 use mathlib.Core.Path.{refl, sym, _∙_}
-use Rattle.records.specs.Words.{ofWords, recordsAt}
-use Rattle.records.proofs.WordLaws.{record-of-block}
+use borrow.Author.Needs.{needs}
+use Rattle.records.specs.Words.{recordsAt}
+use Rattle.records.proofs.WordLaws.{item-fits, part-length, part-record-at}
 use Rattle.index.specs.Index.{Keyed, Kept}
 use Rattle.index.proofs.IndexLaws.{keyed-first, keyed-ready, keyed-next, keyed-all, kept-same, kept-on}
-use borrow.Author.Needs.{needs}
 use Rattle.index.proofs.list_all.Statement.{statement}
 use Rattle.index.proofs.list_all.Tie as tie
-use Rattle.index.proofs.list_all.Reads as reads
-use Rattle.index.proofs.list_all.Lts as lts
-use Rattle.index.proofs.list.Reads as list-reads
-use Rattle.records.proofs.item_count.Reads as item-count-reads
-use Rattle.records.proofs.words_at.Reads as words-at-reads
 
 abbrev Inv-loop : tie.InvT-loop
 Inv-loop wants pivots chart index₀ n j₀ index j = (j ≤ n) × Keyed wants pivots index (recordsAt chart j) × Kept index₀ index
@@ -29,29 +24,52 @@ loop-holds c =
     let s = c .before .before .before .args in
     (omega arith, keyed-first (s .wants .now) (s .pivots .now) (s .chart .now) (s .index .now) (c .before .before .before .pre .0) (c .before .before .before .pre .1), kept-same (s .index .now))
 
-words-at-requires : tie.Need-words-at-requires Inv-loop μ-loop
-words-at-requires c κs = search needs
+mul-at : tie.Need-mul-at Inv-loop μ-loop
+mul-at c = omega (arith, item-fits (c .before .before .before .before .before .args .chart .now) (c .before .loop .j) (omega (arith, c .loop-test .taken, c .before .before .item-count .ensures)))
 
-slice-aggregate-list : tie.Need-slice-aggregate-list Inv-loop μ-loop
-slice-aggregate-list c = search needs
+add-at : tie.Need-add-at Inv-loop μ-loop
+add-at c = omega (arith, item-fits (c .before .before .before .before .before .args .chart .now) (c .before .loop .j) (omega (arith, c .loop-test .taken, c .before .before .item-count .ensures)))
+
+add-list : tie.Need-add-list Inv-loop μ-loop
+add-list c = omega (arith, item-fits (c .before .before .before .before .before .before .args .chart .now) (c .before .before .loop .j) (omega (arith, c .before .loop-test .taken, c .before .before .before .item-count .ensures)))
+
+mul-list : tie.Need-mul-list Inv-loop μ-loop
+mul-list c = omega (arith, item-fits (c .before .before .before .before .before .before .args .chart .now) (c .before .before .loop .j) (omega (arith, c .before .loop-test .taken, c .before .before .before .item-count .ensures)))
+
+sub-list : tie.Need-sub-list Inv-loop μ-loop
+sub-list c = omega (arith, item-fits (c .before .before .before .before .before .before .args .chart .now) (c .before .before .loop .j) (omega (arith, c .before .loop-test .taken, c .before .before .before .item-count .ensures)))
+
+part-list-start : tie.Need-part-list-start Inv-loop μ-loop
+part-list-start c = omega (arith, item-fits (c .before .before .before .before .before .before .args .chart .now) (c .before .before .loop .j) (omega (arith, c .before .loop-test .taken, c .before .before .before .item-count .ensures)))
+
+part-list-end : tie.Need-part-list-end Inv-loop μ-loop
+part-list-end c = omega (arith, item-fits (c .before .before .before .before .before .before .args .chart .now) (c .before .before .loop .j) (omega (arith, c .before .loop-test .taken, c .before .before .before .item-count .ensures)))
 
 list-requires : tie.Need-list-requires Inv-loop μ-loop
 list-requires c κs =
-    let s = c .before .before .before .before .before .before .before .before .args in
-    let l = c .before .before .before .before .loop in
-    (l .inv .1 .size, keyed-ready (s .wants .now) (s .pivots .now) (l .index) (recordsAt (s .chart .now) (l .j)) (l .inv .1), omega (arith, c .before .before .before .loop-test .taken, c .before .before .before .before .before .before .before .before .pre .2, c .before .before .before .before .before .item-count .ensures), search needs)
+    let s = c .before .before .before .before .before .before .before .args in
+    let l = c .before .before .before .loop in
+    let n = c .before .before .before .before .item-count in (
+      l .inv .1 .size,
+      keyed-ready (s .wants .now) (s .pivots .now) (l .index) (recordsAt (s .chart .now) (l .j)) (l .inv .1),
+      omega (arith, c .before .before .loop-test .taken, c .before .before .before .before .before .before .before .pre .2, n .ensures),
+      part-length (s .chart .now) (l .j) (2 + 16 * l .j) (2 + 16 * l .j + 16 - (2 + 16 * l .j)) refl (omega arith) (item-fits (s .chart .now) (l .j) (omega (arith, c .before .before .loop-test .taken, n .ensures))),
+    )
 
 add-j : tie.Need-add-j Inv-loop μ-loop
-add-j c = search needs
+add-j c = omega arith
 
 loop-less : tie.Need-loop-less Inv-loop μ-loop
-loop-less c = search needs
+loop-less c = omega arith
 
 loop-again : tie.Need-loop-again Inv-loop μ-loop
 loop-again c =
-    let s = c .before .before .before .before .before .before .before .before .before .before .before .args in
-    let l = c .before .before .before .before .before .before .before .loop in
-    let r = keyed-next (s .wants .now) (s .pivots .now) (s .chart .now) (l .index) _ (l .j) (ofWords (c .before .before .before .before .before .words-at .result)) (l .inv .1) (omega (arith, c .before .before .before .before .before .before .loop-test .taken, c .before .before .before .before .before .before .before .before .before .before .before .pre .2, c .before .before .before .before .before .before .before .before .item-count .ensures)) (record-of-block _ _ _ _ (c .before .before .before .before .before .words-at .ensures) refl) (c .before .before .list .ensures) in
+    let s = c .before .before .before .before .before .before .before .before .before .before .args in
+    let l = c .before .before .before .before .before .before .loop in
+    let n = c .before .before .before .before .before .before .before .item-count in
+    let fits = item-fits (s .chart .now) (l .j) (omega (arith, c .before .before .before .before .before .loop-test .taken, n .ensures)) in
+    let own = part-record-at (s .chart .now) (l .j) (2 + 16 * l .j) (2 + 16 * l .j + 16 - (2 + 16 * l .j)) refl (omega arith) fits in
+    let r = keyed-next (s .wants .now) (s .pivots .now) (s .chart .now) (l .index) _ (l .j) _ (l .inv .1) (omega (arith, c .before .before .before .before .before .loop-test .taken, c .before .before .before .before .before .before .before .before .before .before .pre .2, n .ensures)) own (c .before .before .list .ensures) in
     (omega arith, r .0, kept-on (s .index .now) (l .index) _ (l .inv .2) (r .1))
 
 same-length : tie.Need-same-length Inv-loop μ-loop
@@ -71,8 +89,13 @@ list-all-spec =
     μ-loop
     item-count-requires
     loop-holds
-    words-at-requires
-    slice-aggregate-list
+    mul-at
+    add-at
+    add-list
+    mul-list
+    sub-list
+    part-list-start
+    part-list-end
     list-requires
     add-j
     loop-less

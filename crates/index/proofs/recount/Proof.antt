@@ -1,4 +1,4 @@
--- One leaf is placed.
+-- One leaf is another.
 use Rattle.index.proofs.IndexLaws.{recounted}
 use Rattle.index.proofs.NearLaws.{near-put}
 use native.Mathlib.Omega.{arith}
@@ -6,17 +6,17 @@ use borrow.Author.Needs.{needs}
 use Rattle.index.proofs.recount.Statement.{statement}
 use Rattle.index.proofs.recount.Tie as tie
 
-sub-place : tie.Need-sub-place
-sub-place c = search needs
+sub-recount : tie.Need-sub-recount
+sub-recount c = search needs
 
-part-place-start : tie.Need-part-place-start
-part-place-start c = search needs
+part-recount-start : tie.Need-part-recount-start
+part-recount-start c = search needs
 
-part-place-end : tie.Need-part-place-end
-part-place-end c = search needs
+part-recount-end : tie.Need-part-recount-end
+part-recount-end c = search needs
 
-place-requires : tie.Need-place-requires
-place-requires c κs = search needs
+recount-requires : tie.Need-recount-requires
+recount-requires c κs = search needs
 
 same-length : tie.Need-same-length
 same-length c = search needs
@@ -24,11 +24,11 @@ same-length c = search needs
 returns : tie.Need-returns
 returns c =
     let s = c .before .before .before .before .before .args in
-    let t = c .before .before .place in
+    let t = c .before .before .recount in
     let d = t .kept in
-    (λ wants pivots rs x I l h e. recounted (s .index .now) (t .last .0) (s .j) wants pivots rs I l x (s .count) h e (t .ensures rs _), near-put 8192 8192 (s .index .now) (t .last .0) (c .before .before .before .before .before .pre .0) (omega arith) (omega arith))
+    (λ wants pivots rs x I l h o e. recounted (s .index .now) (t .last .0) (s .j) wants pivots rs I l x (s .old) (s .count) h o e (t .ensures rs _), near-put 8192 8192 (s .index .now) (t .last .0) (c .before .before .before .before .before .pre .0) (omega arith) (omega arith))
 
 pub recount-spec : {M : Type 1} → statement M
 recount-spec =
     tie.close
-    (tie.spec sub-place part-place-start part-place-end place-requires same-length returns)
+    (tie.spec sub-recount part-recount-start part-recount-end recount-requires same-length returns)

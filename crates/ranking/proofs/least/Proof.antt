@@ -1,48 +1,63 @@
--- The root tells, unless the tree is marked: then the records do.
-use native.Mathlib.Omega.{arith}
-use borrow.Author.Needs.{needs}
+-- The set tells, unless it is empty or the words say nothing: then the records do.
 use Rattle.records.specs.Words.{chartOf}
-use Rattle.ranking.proofs.Tournament.{least-none, least-at, least-all}
+use Rattle.ranking.proofs.LeastLaws.{least-held}
+use borrow.Author.Needs.{needs}
 use Rattle.ranking.proofs.least.Statement.{statement}
 use Rattle.ranking.proofs.least.Tie as tie
 
-shared-slice-read-if1 : tie.Need-shared-slice-read-if1
-shared-slice-read-if1 c = search needs
+slice-read-if1 : tie.Need-slice-read-if1
+slice-read-if1 c = search needs
 
-item-count-requires : tie.Need-item-count-requires
-item-count-requires c κs = search needs
+again-requires : tie.Need-again-requires
+again-requires c κs = search needs
 
-least-requires : tie.Need-least-requires
-least-requires c κs = search needs
+same-length : tie.Need-same-length
+same-length c = search needs
 
 returns : tie.Need-returns
-returns c = least-all _ _ _ (c .before .item-count .ensures) (c .least .ensures)
+returns c = search needs
 
-shared-slice-read-key : tie.Need-shared-slice-read-key
-shared-slice-read-key c = search needs
+sub-first : tie.Need-sub-first
+sub-first c = search needs
 
-cast-key : tie.Need-cast-key
-cast-key c = omega (arith, c .shared-slice-known4 .given 1)
+part-first-start : tie.Need-part-first-start
+part-first-start c = search needs
+
+part-first-end : tie.Need-part-first-end
+part-first-end c = search needs
+
+first-requires : tie.Need-first-requires
+first-requires c κs = c .before .before .before .before .before .before .pre .0 .levels (c .before .before .if1 .left)
+
+same-length-2 : tie.Need-same-length-2
+same-length-2 c = search needs
 
 returns-2 : tie.Need-returns-2
-returns-2 c = least-none (chartOf (c .before .before .before .before .before .before .args .chart .now) .records) (c .before .before .before .before .before .before .args .ranks .now) (c .before .before .before .before .before .before .pre .1) (c .before .before .if1 .left) (c .before .before .before .before .before .before .pre .2) (c .if2 .taken)
+returns-2 c = (least-held (chartOf (c .before .before .before .before .before .before .before .before .args .chart .now) .records) (c .before .before .before .before .before .before .before .before .args .ranks .now) (c .before .first .result) (c .before .before .before .before .before .before .before .before .pre .0) (c .before .before .before .before .if1 .left) (c .before .before .before .before .before .before .before .before .pre .1) (c .before .first .ensures) (c .if2 .taken), c .before .before .before .before .before .before .before .before .pre .0)
 
-sub-t9 : tie.Need-sub-t9
-sub-t9 c = omega (arith, c .before .shared-slice-known4 .given 1)
+again-requires-2 : tie.Need-again-requires-2
+again-requires-2 c κs = search needs
+
+same-length-3 : tie.Need-same-length-3
+same-length-3 c = search needs
 
 returns-3 : tie.Need-returns-3
-returns-3 c = least-at (chartOf (c .before .before .before .before .before .before .args .chart .now) .records) (c .before .before .before .before .before .before .args .ranks .now) (c .before .before .before .before .before .before .pre .1) (c .before .before .if1 .left) (c .before .before .before .before .before .before .pre .2) (c .if2 .left)
+returns-3 c = search needs
 
 pub least-spec : {M : Type 1} → statement M
 least-spec =
     tie.close
     (tie.spec
-    shared-slice-read-if1
-    item-count-requires
-    least-requires
+    slice-read-if1
+    again-requires
+    same-length
     returns
-    shared-slice-read-key
-    cast-key
+    sub-first
+    part-first-start
+    part-first-end
+    first-requires
+    same-length-2
     returns-2
-    sub-t9
+    again-requires-2
+    same-length-3
     returns-3)

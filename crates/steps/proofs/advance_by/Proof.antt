@@ -6,7 +6,7 @@ use lib.ListN.{length}
 use borrow.Author.Needs.{needs}
 use Rattle.questions.specs.Abstract.{grammarOf, graphOf}
 use Rattle.steps.specs.Ready.{Ready}
-use Rattle.steps.proofs.ReadyLaws.{records-small}
+use Rattle.steps.proofs.ReadyLaws.{records-small, next-ready}
 use Rattle.steps.proofs.RunLaws.{Ran, ran-none, next-known, ran-step, ran-idle, ran-all}
 use Rattle.steps.proofs.advance_by.Statement.{statement}
 use Rattle.steps.proofs.advance_by.Tie as tie
@@ -31,36 +31,39 @@ enum-told : tie.Need-enum-told Inv-loop μ-loop
 enum-told c = search needs
 
 same-length : tie.Need-same-length Inv-loop μ-loop
-same-length c = c .before .before .before .before .before .before .loop .inv .1
+same-length c = c .before .before .before .before .before .before .before .before .loop .inv .1
 
 same-length-2 : tie.Need-same-length-2 Inv-loop μ-loop
-same-length-2 c = c .before .before .before .before .before .before .loop .inv .3
+same-length-2 c = let k = c .before .before .before .before .next .kept in omega (arith, c .before .before .before .before .before .before .before .before .loop .inv .3)
 
 returns : tie.Need-returns Inv-loop μ-loop
 returns c =
-    let s = c .before .before .before .before .before .before .before .before .before .before .before .args in
+    let s = c .before .before .before .before .before .before .before .before .before .before .before .before .before .args in
     let G = grammarOf (s .g .now) in
     let H = graphOf (s .g .now) (s .h .now) in
-    ran-idle G H (s .chart .now) (c .before .before .before .before .before .before .loop .i) (c .before .before .before .before .before .before .loop .chart) (c .before .before .before .before .before .before .loop .inv .2) (s .steps) (c .before .before .next .result) (c .before .before .before .before .before .before .loop .inv .0) (c .enum-told .given .1) (c .before .before .next .ensures)
+    ran-idle G H (s .chart .now) (c .before .before .before .before .before .before .before .before .loop .i) (c .before .before .before .before .before .before .before .before .loop .chart) (c .before .before .before .before .before .before .before .before .loop .inv .2) (s .steps) (c .before .before .before .before .next .result) (c .before .before .before .before .before .before .before .before .loop .inv .0) (c .enum-told .given .1) (c .before .before .before .before .next .ensures .0)
 
 enum-known-j : tie.Need-enum-known-j Inv-loop μ-loop
 enum-known-j c = search needs
 
 step-requires : tie.Need-step-requires Inv-loop μ-loop
-step-requires c κs = (c .before .before .before .before .before .before .before .before .before .before .before .before .before .before .pre .0, c .before .before .before .before .before .before .before .before .before .loop .inv .4, next-known (c .before .before .before .before .before .before .before .before .before .loop .chart) _ (c .before .before .before .before .before .next .result) (c .before .before .before .j .given .1) (c .before .before .before .before .before .next .ensures))
+step-requires c κs =
+    let s = c .before .before .before .before .before .before .before .before .before .before .before .before .before .before .before .before .args in
+    let l = c .before .before .before .before .before .before .before .before .before .before .before .loop in
+    (c .before .before .before .before .before .before .before .before .before .before .before .before .before .before .before .before .pre .0, next-ready (s .g .now) (s .h .now) (s .wants .now) (s .pivots .now) (l .chart) (l .index) (c .before .before .before .before .before .before .before .next .last .1 .0) (l .inv .4) (c .before .before .before .before .before .before .before .next .ensures .1 (s .wants .now) (s .pivots .now)) (c .before .before .before .before .before .before .before .next .ensures .2), next-known (c .before .before .before .before .before .before .before .before .before .before .before .loop .chart) _ (c .before .before .before .before .before .before .before .next .result) (c .before .before .before .j .given .1) (c .before .before .before .before .before .before .before .next .ensures .0))
 
 add-i : tie.Need-add-i Inv-loop μ-loop
 add-i c = search needs
 
 loop-less : tie.Need-loop-less Inv-loop μ-loop
-loop-less c = omega (arith, c .before .before .before .before .before .before .before .before .before .before .before .before .before .loop-test .taken)
+loop-less c = omega (arith, c .before .before .before .before .before .before .before .before .before .before .before .before .before .before .before .loop-test .taken)
 
 loop-again : tie.Need-loop-again Inv-loop μ-loop
 loop-again c =
-    let s = c .before .before .before .before .before .before .before .before .before .before .before .before .before .before .before .before .before .before .before .args in
+    let s = c .before .before .before .before .before .before .before .before .before .before .before .before .before .before .before .before .before .before .before .before .before .args in
     let G = grammarOf (s .g .now) in
     let H = graphOf (s .g .now) (s .h .now) in
-    (omega (arith, c .before .before .before .before .before .before .before .before .before .before .before .before .before .loop-test .taken), c .before .before .before .before .step .kept .1 .1 .1 .1 .1 .1 .0 ∙ c .before .before .before .before .before .before .before .before .before .before .before .before .before .before .loop .inv .1, ran-step G H (s .chart .now) (c .before .before .before .before .before .before .before .before .before .before .before .before .before .before .loop .i) (c .before .before .before .before .before .before .before .before .before .before .before .before .before .before .loop .chart) (c .before .before .before .before .before .before .before .before .before .before .before .before .before .before .loop .inv .2) _ _ (c .before .before .before .before .before .before .before .before .before .before .next .result) _ (omega arith) (c .before .before .before .before .before .before .before .before .j .given .1) (c .before .before .before .before .before .before .before .before .before .before .next .ensures) (c .before .before .before .before .step .ensures .0), c .before .before .before .before .step .kept .1 .1 .1 .1 .1 .1 .1 .0 ∙ c .before .before .before .before .before .before .before .before .before .before .before .before .before .before .loop .inv .3, c .before .before .before .before .step .ensures .1)
+    (omega (arith, c .before .before .before .before .before .before .before .before .before .before .before .before .before .before .before .loop-test .taken), c .before .before .before .before .step .kept .1 .1 .1 .1 .1 .1 .0 ∙ c .before .before .before .before .before .before .before .before .before .before .before .before .before .before .before .before .loop .inv .1, ran-step G H (s .chart .now) (c .before .before .before .before .before .before .before .before .before .before .before .before .before .before .before .before .loop .i) (c .before .before .before .before .before .before .before .before .before .before .before .before .before .before .before .before .loop .chart) (c .before .before .before .before .before .before .before .before .before .before .before .before .before .before .before .before .loop .inv .2) _ _ (c .before .before .before .before .before .before .before .before .before .before .before .before .next .result) _ (omega arith) (c .before .before .before .before .before .before .before .before .j .given .1) (c .before .before .before .before .before .before .before .before .before .before .before .before .next .ensures .0) (c .before .before .before .before .step .ensures .0), (let k = c .before .before .before .before .before .before .before .before .before .before .before .before .next .kept in let m = c .before .before .before .before .step .kept .1 .1 .1 .1 .1 .1 .1 .0 in omega (arith, c .before .before .before .before .before .before .before .before .before .before .before .before .before .before .before .before .loop .inv .3)), c .before .before .before .before .step .ensures .1)
 
 same-length-3 : tie.Need-same-length-3 Inv-loop μ-loop
 same-length-3 c = c .before .loop .inv .1

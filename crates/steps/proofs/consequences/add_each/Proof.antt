@@ -1,66 +1,95 @@
--- The partners so far; handled records stay while others are added.
+-- One loop for the three ways to go through the partners (proofs/ModeLaws).
 use native.Mathlib.Omega.{arith}
-use Prim.Native.Nat.{ℕ, _-_, _≤_}
-use mathlib.Core.Path.{_≡_, refl, _∙_}
+use Prim.Native.Nat.{_+_, _*_, _-_}
+use mathlib.Core.Path.{_≡_, refl, ap, _∙_}
 use lib.ListN.{length}
-use Rattle.agenda.specs.Consequences.{gather}
-use Rattle.records.proofs.Grown.{Whole, whole-gather}
-use mathlib.Core.List.{List}
-use Rattle.agenda.specs.declared.Record.{Record}
 use borrow.Author.Needs.{needs}
-use Rattle.questions.specs.Abstract.{grammarOf, graphOf}
-use Rattle.records.specs.Words.{ofWords, recordAt}
-use Rattle.steps.specs.Partners.{withRecord}
-use Rattle.steps.specs.Ready.{Ready}
-use Rattle.steps.proofs.StepLaws.{Gathered, added-longer, record-whole, gathered-none, gathered-all, partners-next}
+use Rattle.hrg.specs.Counts.{tabulate}
+use Rattle.agenda.specs.declared.Record.{Record}
+use Rattle.questions.specs.Abstract.{graphOf}
+use Rattle.pivots.specs.Keys.{queryOf}
+use Rattle.records.specs.Words.{ofWords, fieldAt, blockAt, recordAt}
+use Rattle.records.proofs.WordLaws.{part-length, part-record-at, item-fits}
+use Rattle.steps.proofs.ReadyLaws.{handled-small}
+use Rattle.steps.proofs.ListedLaws.{few-items, query-within}
+use Rattle.steps.proofs.ModeLaws.{leftIn, Turning, turning-start, turning-known, turning-handled, turning-want, turning-lead, turning-end, turn-count, turn-within, turning-next, turning-less}
 use Rattle.steps.proofs.consequences.add_each.Statement.{statement}
 use Rattle.steps.proofs.consequences.add_each.Tie as tie
 
 abbrev Inv-loop : tie.InvT-loop
-Inv-loop g h wants plans pivots graph chart₀ index₀ x want j n near k₀ chart index k = (k ≤ n) × (length chart ≡ length chart₀) × Gathered chart₀ (λ i. withRecord (grammarOf g) (graphOf g h) (ofWords x) j (recordAt chart₀ i) i) chart k × (length index ≡ length index₀) × Ready g h wants pivots chart index
+Inv-loop g h wants plans pivots graph chart₀ index₀ want lead j n near own edges mode at₀ past₀ chart index at past = (length chart ≡ length chart₀) × (length index ≡ length index₀) × Turning g h wants pivots (graphOf g h) chart₀ j n mode chart index (at .k) (at .cs) past
 
 abbrev μ-loop : tie.MeasureT-loop
-μ-loop g h wants plans pivots graph chart₀ index₀ x want j n near k₀ chart index k = n - k
+μ-loop g h wants plans pivots graph chart₀ index₀ want lead j n near own edges mode at₀ past₀ chart index at past = leftIn mode n (at .k) (at .cs)
+
+mul-own : tie.Need-mul-own Inv-loop μ-loop
+mul-own c = omega (arith, handled-small _ _ (c .before .before .before .before .pre .1 .small) (c .before .before .before .before .pre .2 .there))
+
+add-own : tie.Need-add-own Inv-loop μ-loop
+add-own c = omega (arith, handled-small _ _ (c .before .before .before .before .pre .1 .small) (c .before .before .before .before .pre .2 .there))
+
+add-edges : tie.Need-add-edges Inv-loop μ-loop
+add-edges c = omega (arith, handled-small _ _ (c .before .before .before .before .pre .1 .small) (c .before .before .before .before .pre .2 .there))
+
+mul-edges : tie.Need-mul-edges Inv-loop μ-loop
+mul-edges c = omega (arith, handled-small _ _ (c .before .before .before .before .pre .1 .small) (c .before .before .before .before .pre .2 .there))
+
+slice-read-edges : tie.Need-slice-read-edges Inv-loop μ-loop
+slice-read-edges c = omega (arith, item-fits (c .before .before .before .before .before .args .chart .now) (c .before .before .before .before .before .args .j) (c .before .before .before .before .before .pre .2 .there))
+
+add-query : tie.Need-add-query Inv-loop μ-loop
+add-query c = omega (arith, handled-small _ _ (c .before .before .before .before .before .pre .1 .small) (c .before .before .before .before .before .pre .2 .there))
+
+mul-query : tie.Need-mul-query Inv-loop μ-loop
+mul-query c = omega (arith, handled-small _ _ (c .before .before .before .before .before .pre .1 .small) (c .before .before .before .before .before .pre .2 .there))
+
+sub-query : tie.Need-sub-query Inv-loop μ-loop
+sub-query c = omega arith
+
+part-query-start : tie.Need-part-query-start Inv-loop μ-loop
+part-query-start c = search needs
+
+part-query-end : tie.Need-part-query-end Inv-loop μ-loop
+part-query-end c = omega (arith, item-fits (c .before .before .before .before .before .before .args .chart .now) (c .before .before .before .before .before .before .args .j) (c .before .before .before .before .before .before .pre .2 .there))
+
+query-requires : tie.Need-query-requires Inv-loop μ-loop
+query-requires c κs = part-length (c .before .before .before .before .before .before .before .args .chart .now) (c .before .before .before .before .before .before .before .args .j) (2 + 16 * c .before .before .before .before .before .before .before .args .j) (2 + 16 * c .before .before .before .before .before .before .before .args .j + 16 - (2 + 16 * c .before .before .before .before .before .before .before .args .j)) refl (omega arith) (item-fits (c .before .before .before .before .before .before .before .args .chart .now) (c .before .before .before .before .before .before .before .args .j) (c .before .before .before .before .before .before .before .pre .2 .there))
+
+mode-of-requires : tie.Need-mode-of-requires Inv-loop μ-loop
+mode-of-requires c κs = c .before .before .before .before .before .before .before .before .before .pre .1 .indexed .size
+
+opening-requires : tie.Need-opening-requires Inv-loop μ-loop
+opening-requires c κs = (c .before .before .before .before .before .before .before .before .before .before .before .before .pre .1 .indexed .size, c .before .before .before .before .before .before .before .before .before .before .before .before .pre .1 .indexed .listed .none, c .before .before .before .before .before .before .before .before .before .before .before .before .pre .5, few-items _ _ (c .before .before .before .before .before .before .before .before .before .before .before .before .pre .5) (c .before .before .before .before .before .before .before .before .before .before .before .before .pre .1 .small), query-within _ _ _ _ (c .before .before .before .before .query .ensures), c .before .before .mode-of .ensures .1)
 
 loop-holds : tie.Need-loop-holds Inv-loop μ-loop
-loop-holds c =
-    let s = c .before .before .before .before .before .args in
-    let G = grammarOf (s .g .now) in
-    let H = graphOf (s .g .now) (s .h .now) in
-    (omega arith, refl, gathered-none (s .chart .now) (c .before .before .before .before .before .pre .1 .fits) (λ i. withRecord G H (ofWords (s .x .now)) (s .j) (recordAt (s .chart .now) i) i) (λ i. record-whole G H (ofWords (s .x .now)) (s .j) (recordAt (s .chart .now) i) i), refl, c .before .before .before .before .before .pre .1)
+unfolding recordAt ofWords blockAt fieldAt tabulate
+loop-holds c = (refl, refl, turning-start (c .before .before .before .before .before .before .before .before .before .before .before .before .before .args .g .now) (c .before .before .before .before .before .before .before .before .before .before .before .before .before .args .h .now) (c .before .before .before .before .before .before .before .before .before .before .before .before .before .args .wants .now) (c .before .before .before .before .before .before .before .before .before .before .before .before .before .args .pivots .now) (graphOf (c .before .before .before .before .before .before .before .before .before .before .before .before .before .args .g .now) (c .before .before .before .before .before .before .before .before .before .before .before .before .before .args .h .now)) (c .before .before .before .before .before .before .before .before .before .before .before .before .before .args .chart .now) (c .before .before .before .before .before .before .before .before .before .before .before .before .before .args .j) (c .before .before .before .before .before .before .before .before .before .before .before .before .before .args .n) (c .before .before .before .before .before .before .before .before .before .before .before .before .before .args .plans .now) (c .before .before .before .before .before .before .before .before .before .before .before .before .before .args .graph .now) (c .before .before .before .before .before .before .before .before .before .before .before .before .before .args .index .now) (c .before .before .before .before .before .before .before .before .before .before .before .before .before .args .near) (c .before .before .before .before .before .before .before .before .before .before .before .before .before .pre .0) (c .before .before .before .before .before .before .before .before .before .before .before .before .before .pre .1) (c .before .before .before .before .before .before .before .before .before .before .before .before .before .pre .2) (c .before .before .before .before .before .before .before .before .before .before .before .before .before .pre .5) (c .before .before .before .mode-of .result) (c .before .before .before .mode-of .ensures .0) _ refl (c .before .before .before .before .before .query .result) (c .before .before .before .before .before .query .ensures ∙ ap (λ (z : Record). queryOf (c .before .before .before .before .before .before .before .before .before .before .before .before .before .args .wants .now) (c .before .before .before .before .before .before .before .before .before .before .before .before .before .args .pivots .now) z) (part-record-at (c .before .before .before .before .before .before .before .before .before .before .before .before .before .args .chart .now) (c .before .before .before .before .before .before .before .before .before .before .before .before .before .args .j) (2 + 16 * c .before .before .before .before .before .before .before .before .before .before .before .before .before .args .j) (2 + 16 * c .before .before .before .before .before .before .before .before .before .before .before .before .before .args .j + 16 - (2 + 16 * c .before .before .before .before .before .before .before .before .before .before .before .before .before .args .j)) refl (omega arith) (item-fits (c .before .before .before .before .before .before .before .before .before .before .before .before .before .args .chart .now) (c .before .before .before .before .before .before .before .before .before .before .before .before .before .args .j) (c .before .before .before .before .before .before .before .before .before .before .before .before .before .pre .2 .there)))) _ _ (c .opening .ensures))
 
-add-partner-requires : tie.Need-add-partner-requires Inv-loop μ-loop
-add-partner-requires c κs =
-    let s = c .before .before .before .before .before .before .before .before .before .args in
-    let f : ℕ → List Record = λ i. withRecord (grammarOf (s .g .now)) (graphOf (s .g .now) (s .h .now)) (ofWords (s .x .now)) (s .j) (recordAt (s .chart .now) i) i in
-    let whole : (i : ℕ) → Whole (f i) = λ i. record-whole (grammarOf (s .g .now)) (graphOf (s .g .now) (s .h .now)) (ofWords (s .x .now)) (s .j) (recordAt (s .chart .now) i) i in
-    (c .before .before .before .before .before .before .before .before .before .pre .0, c .before .before .before .loop .inv .4, c .before .before .before .before .before .before .before .before .before .pre .3, omega (arith, c .before .before .loop-test .taken, c .before .before .before .before .before .before .before .before .before .pre .2, added-longer (s .chart .now) (c .before .before .before .loop .chart) (gather (c .before .before .before .loop .k) f) (c .before .before .before .before .before .before .before .before .before .pre .1 .fits) (whole-gather (c .before .before .before .loop .k) f whole) (c .before .before .before .loop .inv .2 .is)), c .before .before .before .before .before .before .before .before .before .pre .4, c .before .before .before .before .before .before .before .before .before .pre .5)
+add-next-requires : tie.Need-add-next-requires Inv-loop μ-loop
+unfolding recordAt ofWords blockAt fieldAt tabulate
+add-next-requires c κs = (c .before .before .before .before .before .before .before .before .before .before .before .before .before .before .before .before .before .before .pre .0, c .before .before .before .before .loop .inv .2 .ready, turning-handled (c .before .before .before .before .before .before .before .before .before .before .before .before .before .before .before .before .before .before .args .g .now) (c .before .before .before .before .before .before .before .before .before .before .before .before .before .before .before .before .before .before .args .h .now) (c .before .before .before .before .before .before .before .before .before .before .before .before .before .before .before .before .before .before .args .wants .now) (c .before .before .before .before .before .before .before .before .before .before .before .before .before .before .before .before .before .before .args .pivots .now) (graphOf (c .before .before .before .before .before .before .before .before .before .before .before .before .before .before .before .before .before .before .args .g .now) (c .before .before .before .before .before .before .before .before .before .before .before .before .before .before .before .before .before .before .args .h .now)) (c .before .before .before .before .before .before .before .before .before .before .before .before .before .before .before .before .before .before .args .chart .now) (c .before .before .before .before .before .before .before .before .before .before .before .before .before .before .before .before .before .before .args .j) (c .before .before .before .before .before .before .before .before .before .before .before .before .before .before .before .before .before .before .args .n) (c .before .before .before .before .before .before .before .before .before .before .before .before .before .before .before .before .before .before .args .plans .now) (c .before .before .before .before .before .before .before .before .before .before .before .before .before .before .before .before .before .before .args .graph .now) (c .before .before .before .before .before .before .before .before .before .before .before .before .before .before .before .before .before .before .args .index .now) (c .before .before .before .before .before .before .before .before .before .before .before .before .before .before .before .before .before .before .args .near) (c .before .before .before .before .before .before .before .before .before .before .before .before .before .before .before .before .before .before .pre .0) (c .before .before .before .before .before .before .before .before .before .before .before .before .before .before .before .before .before .before .pre .1) (c .before .before .before .before .before .before .before .before .before .before .before .before .before .before .before .before .before .before .pre .2) (c .before .before .before .before .before .before .before .before .before .before .before .before .before .before .before .before .before .before .pre .5) (c .before .before .before .before .before .before .before .before .mode-of .result) (c .before .before .before .before .before .before .before .before .mode-of .ensures .0) _ refl (c .before .before .before .before .loop .chart) (c .before .before .before .before .loop .index) (c .before .before .before .before .loop .at .k) (c .before .before .before .before .loop .at .cs) (c .before .before .before .before .loop .past) (c .before .before .before .before .loop .inv .2), turning-want (c .before .before .before .before .before .before .before .before .before .before .before .before .before .before .before .before .before .before .args .g .now) (c .before .before .before .before .before .before .before .before .before .before .before .before .before .before .before .before .before .before .args .h .now) (c .before .before .before .before .before .before .before .before .before .before .before .before .before .before .before .before .before .before .args .wants .now) (c .before .before .before .before .before .before .before .before .before .before .before .before .before .before .before .before .before .before .args .pivots .now) (graphOf (c .before .before .before .before .before .before .before .before .before .before .before .before .before .before .before .before .before .before .args .g .now) (c .before .before .before .before .before .before .before .before .before .before .before .before .before .before .before .before .before .before .args .h .now)) (c .before .before .before .before .before .before .before .before .before .before .before .before .before .before .before .before .before .before .args .chart .now) (c .before .before .before .before .before .before .before .before .before .before .before .before .before .before .before .before .before .before .args .j) (c .before .before .before .before .before .before .before .before .before .before .before .before .before .before .before .before .before .before .args .n) (c .before .before .before .before .before .before .before .before .before .before .before .before .before .before .before .before .before .before .args .plans .now) (c .before .before .before .before .before .before .before .before .before .before .before .before .before .before .before .before .before .before .args .graph .now) (c .before .before .before .before .before .before .before .before .before .before .before .before .before .before .before .before .before .before .args .index .now) (c .before .before .before .before .before .before .before .before .before .before .before .before .before .before .before .before .before .before .args .near) (c .before .before .before .before .before .before .before .before .before .before .before .before .before .before .before .before .before .before .pre .0) (c .before .before .before .before .before .before .before .before .before .before .before .before .before .before .before .before .before .before .pre .1) (c .before .before .before .before .before .before .before .before .before .before .before .before .before .before .before .before .before .before .pre .2) (c .before .before .before .before .before .before .before .before .before .before .before .before .before .before .before .before .before .before .pre .5) (c .before .before .before .before .before .before .before .before .mode-of .result) (c .before .before .before .before .before .before .before .before .mode-of .ensures .0) _ refl (c .before .before .before .before .loop .chart) (c .before .before .before .before .loop .index) (c .before .before .before .before .loop .at .k) (c .before .before .before .before .loop .at .cs) (c .before .before .before .before .loop .past) (c .before .before .before .before .loop .inv .2) (c .before .before .before .before .before .before .before .before .before .before .before .before .before .before .before .before .before .before .args .want) (c .before .before .before .before .before .before .before .before .before .before .before .before .before .before .before .before .before .before .pre .3), turning-lead (c .before .before .before .before .before .before .before .before .before .before .before .before .before .before .before .before .before .before .args .g .now) (c .before .before .before .before .before .before .before .before .before .before .before .before .before .before .before .before .before .before .args .h .now) (c .before .before .before .before .before .before .before .before .before .before .before .before .before .before .before .before .before .before .args .wants .now) (c .before .before .before .before .before .before .before .before .before .before .before .before .before .before .before .before .before .before .args .pivots .now) (graphOf (c .before .before .before .before .before .before .before .before .before .before .before .before .before .before .before .before .before .before .args .g .now) (c .before .before .before .before .before .before .before .before .before .before .before .before .before .before .before .before .before .before .args .h .now)) (c .before .before .before .before .before .before .before .before .before .before .before .before .before .before .before .before .before .before .args .chart .now) (c .before .before .before .before .before .before .before .before .before .before .before .before .before .before .before .before .before .before .args .j) (c .before .before .before .before .before .before .before .before .before .before .before .before .before .before .before .before .before .before .args .n) (c .before .before .before .before .before .before .before .before .before .before .before .before .before .before .before .before .before .before .args .plans .now) (c .before .before .before .before .before .before .before .before .before .before .before .before .before .before .before .before .before .before .args .graph .now) (c .before .before .before .before .before .before .before .before .before .before .before .before .before .before .before .before .before .before .args .index .now) (c .before .before .before .before .before .before .before .before .before .before .before .before .before .before .before .before .before .before .args .near) (c .before .before .before .before .before .before .before .before .before .before .before .before .before .before .before .before .before .before .pre .0) (c .before .before .before .before .before .before .before .before .before .before .before .before .before .before .before .before .before .before .pre .1) (c .before .before .before .before .before .before .before .before .before .before .before .before .before .before .before .before .before .before .pre .2) (c .before .before .before .before .before .before .before .before .before .before .before .before .before .before .before .before .before .before .pre .5) (c .before .before .before .before .before .before .before .before .mode-of .result) (c .before .before .before .before .before .before .before .before .mode-of .ensures .0) _ refl (c .before .before .before .before .loop .chart) (c .before .before .before .before .loop .index) (c .before .before .before .before .loop .at .k) (c .before .before .before .before .loop .at .cs) (c .before .before .before .before .loop .past) (c .before .before .before .before .loop .inv .2) (c .before .before .before .before .before .before .before .before .before .before .before .before .before .before .before .before .before .before .args .lead) (c .before .before .before .before .before .before .before .before .before .before .before .before .before .before .before .before .before .before .pre .4), turning-known (c .before .before .before .before .before .before .before .before .before .before .before .before .before .before .before .before .before .before .args .g .now) (c .before .before .before .before .before .before .before .before .before .before .before .before .before .before .before .before .before .before .args .h .now) (c .before .before .before .before .before .before .before .before .before .before .before .before .before .before .before .before .before .before .args .wants .now) (c .before .before .before .before .before .before .before .before .before .before .before .before .before .before .before .before .before .before .args .pivots .now) (graphOf (c .before .before .before .before .before .before .before .before .before .before .before .before .before .before .before .before .before .before .args .g .now) (c .before .before .before .before .before .before .before .before .before .before .before .before .before .before .before .before .before .before .args .h .now)) (c .before .before .before .before .before .before .before .before .before .before .before .before .before .before .before .before .before .before .args .chart .now) (c .before .before .before .before .before .before .before .before .before .before .before .before .before .before .before .before .before .before .args .j) (c .before .before .before .before .before .before .before .before .before .before .before .before .before .before .before .before .before .before .args .n) (c .before .before .before .before .before .before .before .before .before .before .before .before .before .before .before .before .before .before .args .plans .now) (c .before .before .before .before .before .before .before .before .before .before .before .before .before .before .before .before .before .before .args .graph .now) (c .before .before .before .before .before .before .before .before .before .before .before .before .before .before .before .before .before .before .args .index .now) (c .before .before .before .before .before .before .before .before .before .before .before .before .before .before .before .before .before .before .args .near) (c .before .before .before .before .before .before .before .before .before .before .before .before .before .before .before .before .before .before .pre .0) (c .before .before .before .before .before .before .before .before .before .before .before .before .before .before .before .before .before .before .pre .1) (c .before .before .before .before .before .before .before .before .before .before .before .before .before .before .before .before .before .before .pre .2) (c .before .before .before .before .before .before .before .before .before .before .before .before .before .before .before .before .before .before .pre .5) (c .before .before .before .before .before .before .before .before .mode-of .result) (c .before .before .before .before .before .before .before .before .mode-of .ensures .0) _ refl (c .before .before .before .before .loop .chart) (c .before .before .before .before .loop .index) (c .before .before .before .before .loop .at .k) (c .before .before .before .before .loop .at .cs) (c .before .before .before .before .loop .past) (c .before .before .before .before .loop .inv .2) (c .before .before .if1 .taken))
 
-add-k : tie.Need-add-k Inv-loop μ-loop
-add-k c = omega (arith, c .before .before .before .before .before .before .before .loop-test .taken)
+onward-requires : tie.Need-onward-requires Inv-loop μ-loop
+unfolding recordAt ofWords blockAt fieldAt tabulate
+onward-requires c κs = (c .before .before .before .before .before .before .add-next .ensures .1 .indexed .size, turn-count (c .before .before .before .before .before .before .before .before .before .before .before .before .before .before .before .before .before .before .before .before .before .before .before .before .before .args .g .now) (c .before .before .before .before .before .before .before .before .before .before .before .before .before .before .before .before .before .before .before .before .before .before .before .before .before .args .h .now) (c .before .before .before .before .before .before .before .before .before .before .before .before .before .before .before .before .before .before .before .before .before .before .before .before .before .args .wants .now) (c .before .before .before .before .before .before .before .before .before .before .before .before .before .before .before .before .before .before .before .before .before .before .before .before .before .args .pivots .now) (graphOf (c .before .before .before .before .before .before .before .before .before .before .before .before .before .before .before .before .before .before .before .before .before .before .before .before .before .args .g .now) (c .before .before .before .before .before .before .before .before .before .before .before .before .before .before .before .before .before .before .before .before .before .before .before .before .before .args .h .now)) (c .before .before .before .before .before .before .before .before .before .before .before .before .before .before .before .before .before .before .before .before .before .before .before .before .before .args .chart .now) (c .before .before .before .before .before .before .before .before .before .before .before .before .before .before .before .before .before .before .before .before .before .before .before .before .before .args .j) (c .before .before .before .before .before .before .before .before .before .before .before .before .before .before .before .before .before .before .before .before .before .before .before .before .before .args .n) (c .before .before .before .before .before .before .before .before .before .before .before .before .before .before .before .before .before .before .before .before .before .before .before .before .before .args .plans .now) (c .before .before .before .before .before .before .before .before .before .before .before .before .before .before .before .before .before .before .before .before .before .before .before .before .before .args .graph .now) (c .before .before .before .before .before .before .before .before .before .before .before .before .before .before .before .before .before .before .before .before .before .before .before .before .before .args .index .now) (c .before .before .before .before .before .before .before .before .before .before .before .before .before .before .before .before .before .before .before .before .before .before .before .before .before .args .near) (c .before .before .before .before .before .before .before .before .before .before .before .before .before .before .before .before .before .before .before .before .before .before .before .before .before .pre .0) (c .before .before .before .before .before .before .before .before .before .before .before .before .before .before .before .before .before .before .before .before .before .before .before .before .before .pre .1) (c .before .before .before .before .before .before .before .before .before .before .before .before .before .before .before .before .before .before .before .before .before .before .before .before .before .pre .2) (c .before .before .before .before .before .before .before .before .before .before .before .before .before .before .before .before .before .before .before .before .before .before .before .before .before .pre .5) (c .before .before .before .before .before .before .before .before .before .before .before .before .before .before .before .mode-of .result) (c .before .before .before .before .before .before .before .before .before .before .before .before .before .before .before .mode-of .ensures .0) _ refl (c .before .before .before .before .before .before .before .before .before .before .before .loop .chart) (c .before .before .before .before .before .before .before .before .before .before .before .loop .index) (c .before .before .before .before .before .before .before .before .before .before .before .loop .at .k) (c .before .before .before .before .before .before .before .before .before .before .before .loop .at .cs) (c .before .before .before .before .before .before .before .before .before .before .before .loop .past) (c .before .before .before .before .before .before .before .before .before .before .before .loop .inv .2) _ _ (c .before .before .before .before .before .before .add-next .result) (c .before .before .before .before .before .before .before .before .before .if1 .taken) (c .before .before .before .before .before .before .add-next .ensures .0) (c .before .before .before .before .before .before .add-next .ensures .1) (c .before .before .before .before .before .before .add-next .ensures .2), few-items _ _ (c .before .before .before .before .before .before .before .before .before .before .before .before .before .before .before .before .before .before .before .before .before .before .before .before .before .pre .5) (c .before .before .before .before .before .before .before .before .before .before .before .before .before .before .before .before .before .before .before .before .before .before .before .before .before .pre .1 .small), c .before .before .before .before .before .before .before .before .before .if1 .taken, c .before .before .before .before .before .before .before .before .before .before .before .loop .inv .2 .poised, turn-within (c .before .before .before .before .before .before .before .before .before .before .before .before .before .before .before .before .before .before .before .before .before .before .before .before .before .args .g .now) (c .before .before .before .before .before .before .before .before .before .before .before .before .before .before .before .before .before .before .before .before .before .before .before .before .before .args .h .now) (c .before .before .before .before .before .before .before .before .before .before .before .before .before .before .before .before .before .before .before .before .before .before .before .before .before .args .wants .now) (c .before .before .before .before .before .before .before .before .before .before .before .before .before .before .before .before .before .before .before .before .before .before .before .before .before .args .pivots .now) (graphOf (c .before .before .before .before .before .before .before .before .before .before .before .before .before .before .before .before .before .before .before .before .before .before .before .before .before .args .g .now) (c .before .before .before .before .before .before .before .before .before .before .before .before .before .before .before .before .before .before .before .before .before .before .before .before .before .args .h .now)) (c .before .before .before .before .before .before .before .before .before .before .before .before .before .before .before .before .before .before .before .before .before .before .before .before .before .args .chart .now) (c .before .before .before .before .before .before .before .before .before .before .before .before .before .before .before .before .before .before .before .before .before .before .before .before .before .args .j) (c .before .before .before .before .before .before .before .before .before .before .before .before .before .before .before .before .before .before .before .before .before .before .before .before .before .args .n) (c .before .before .before .before .before .before .before .before .before .before .before .before .before .before .before .before .before .before .before .before .before .before .before .before .before .args .plans .now) (c .before .before .before .before .before .before .before .before .before .before .before .before .before .before .before .before .before .before .before .before .before .before .before .before .before .args .graph .now) (c .before .before .before .before .before .before .before .before .before .before .before .before .before .before .before .before .before .before .before .before .before .before .before .before .before .args .index .now) (c .before .before .before .before .before .before .before .before .before .before .before .before .before .before .before .before .before .before .before .before .before .before .before .before .before .args .near) (c .before .before .before .before .before .before .before .before .before .before .before .before .before .before .before .before .before .before .before .before .before .before .before .before .before .pre .0) (c .before .before .before .before .before .before .before .before .before .before .before .before .before .before .before .before .before .before .before .before .before .before .before .before .before .pre .1) (c .before .before .before .before .before .before .before .before .before .before .before .before .before .before .before .before .before .before .before .before .before .before .before .before .before .pre .2) (c .before .before .before .before .before .before .before .before .before .before .before .before .before .before .before .before .before .before .before .before .before .before .before .before .before .pre .5) (c .before .before .before .before .before .before .before .before .before .before .before .before .before .before .before .mode-of .result) (c .before .before .before .before .before .before .before .before .before .before .before .before .before .before .before .mode-of .ensures .0) _ refl (c .before .before .before .before .before .before .before .before .before .before .before .loop .chart) (c .before .before .before .before .before .before .before .before .before .before .before .loop .index) (c .before .before .before .before .before .before .before .before .before .before .before .loop .at .k) (c .before .before .before .before .before .before .before .before .before .before .before .loop .at .cs) (c .before .before .before .before .before .before .before .before .before .before .before .loop .past) (c .before .before .before .before .before .before .before .before .before .before .before .loop .inv .2) _ _ (c .before .before .before .before .before .before .add-next .result) (c .before .before .before .before .before .before .before .before .before .if1 .taken) (c .before .before .before .before .before .before .add-next .ensures .0) (c .before .before .before .before .before .before .add-next .ensures .1) (c .before .before .before .before .before .before .add-next .ensures .2))
 
 loop-less : tie.Need-loop-less Inv-loop μ-loop
-loop-less c = omega (arith, c .before .before .before .before .before .before .before .loop-test .taken)
+unfolding recordAt ofWords blockAt fieldAt tabulate
+loop-less c = turning-less (c .before .before .before .before .before .before .before .before .before .before .before .before .before .before .before .before .before .before .before .before .before .before .before .before .before .before .args .g .now) (c .before .before .before .before .before .before .before .before .before .before .before .before .before .before .before .before .before .before .before .before .before .before .before .before .before .before .args .h .now) (c .before .before .before .before .before .before .before .before .before .before .before .before .before .before .before .before .before .before .before .before .before .before .before .before .before .before .args .wants .now) (c .before .before .before .before .before .before .before .before .before .before .before .before .before .before .before .before .before .before .before .before .before .before .before .before .before .before .args .pivots .now) (graphOf (c .before .before .before .before .before .before .before .before .before .before .before .before .before .before .before .before .before .before .before .before .before .before .before .before .before .before .args .g .now) (c .before .before .before .before .before .before .before .before .before .before .before .before .before .before .before .before .before .before .before .before .before .before .before .before .before .before .args .h .now)) (c .before .before .before .before .before .before .before .before .before .before .before .before .before .before .before .before .before .before .before .before .before .before .before .before .before .before .args .chart .now) (c .before .before .before .before .before .before .before .before .before .before .before .before .before .before .before .before .before .before .before .before .before .before .before .before .before .before .args .j) (c .before .before .before .before .before .before .before .before .before .before .before .before .before .before .before .before .before .before .before .before .before .before .before .before .before .before .args .n) (c .before .before .before .before .before .before .before .before .before .before .before .before .before .before .before .before .before .before .before .before .before .before .before .before .before .before .args .plans .now) (c .before .before .before .before .before .before .before .before .before .before .before .before .before .before .before .before .before .before .before .before .before .before .before .before .before .before .args .graph .now) (c .before .before .before .before .before .before .before .before .before .before .before .before .before .before .before .before .before .before .before .before .before .before .before .before .before .before .args .index .now) (c .before .before .before .before .before .before .before .before .before .before .before .before .before .before .before .before .before .before .before .before .before .before .before .before .before .before .args .near) (c .before .before .before .before .before .before .before .before .before .before .before .before .before .before .before .before .before .before .before .before .before .before .before .before .before .before .pre .0) (c .before .before .before .before .before .before .before .before .before .before .before .before .before .before .before .before .before .before .before .before .before .before .before .before .before .before .pre .1) (c .before .before .before .before .before .before .before .before .before .before .before .before .before .before .before .before .before .before .before .before .before .before .before .before .before .before .pre .2) (c .before .before .before .before .before .before .before .before .before .before .before .before .before .before .before .before .before .before .before .before .before .before .before .before .before .before .pre .5) (c .before .before .before .before .before .before .before .before .before .before .before .before .before .before .before .before .mode-of .result) (c .before .before .before .before .before .before .before .before .before .before .before .before .before .before .before .before .mode-of .ensures .0) _ refl (c .before .before .before .before .before .before .before .before .before .before .before .before .loop .chart) (c .before .before .before .before .before .before .before .before .before .before .before .before .loop .index) (c .before .before .before .before .before .before .before .before .before .before .before .before .loop .at .k) (c .before .before .before .before .before .before .before .before .before .before .before .before .loop .at .cs) (c .before .before .before .before .before .before .before .before .before .before .before .before .loop .past) (c .before .before .before .before .before .before .before .before .before .before .before .before .loop .inv .2) _ _ (c .before .before .before .before .before .before .before .add-next .result) (c .before .before .before .before .before .before .before .before .before .before .if1 .taken) (c .before .before .before .before .before .before .before .add-next .ensures .0) (c .before .before .before .before .before .before .before .add-next .ensures .1) (c .before .before .before .before .before .before .before .add-next .ensures .2) _ _ (c .onward .ensures)
 
 loop-again : tie.Need-loop-again Inv-loop μ-loop
-loop-again c =
-    let s = c .before .before .before .before .before .before .before .before .before .before .before .before .before .before .args in
-    let G = grammarOf (s .g .now) in
-    let H = graphOf (s .g .now) (s .h .now) in
-    (omega (arith, c .before .before .before .before .before .before .before .loop-test .taken), c .before .before .before .before .add-partner .kept .1 .1 .1 .1 .1 .1 .0 ∙ c .before .before .before .before .before .before .before .before .loop .inv .1, partners-next G H (s .chart .now) (c .before .before .before .before .before .before .before .before .before .before .before .before .before .before .pre .1 .fits) (ofWords (s .x .now)) (s .j) (c .before .before .before .before .before .before .before .before .loop .chart) _ (c .before .before .before .before .before .before .before .before .loop .k) _ (omega arith) (omega (arith, c .before .before .before .before .before .before .before .loop-test .taken, c .before .before .before .before .before .before .before .before .before .before .before .before .before .before .pre .2)) (c .before .before .before .before .before .before .before .before .loop .inv .2) (c .before .before .before .before .add-partner .ensures .0), c .before .before .before .before .add-partner .kept .1 .1 .1 .1 .1 .1 .1 .0 ∙ c .before .before .before .before .before .before .before .before .loop .inv .3, c .before .before .before .before .add-partner .ensures .1)
+unfolding recordAt ofWords blockAt fieldAt tabulate
+loop-again c = (c .before .before .before .before .before .before .before .add-next .kept .1 .1 .1 .1 .1 .1 .0 ∙ c .before .before .before .before .before .before .before .before .before .before .before .before .loop .inv .0, c .before .before .before .before .before .before .before .add-next .kept .1 .1 .1 .1 .1 .1 .1 .0 ∙ c .before .before .before .before .before .before .before .before .before .before .before .before .loop .inv .1, turning-next (c .before .before .before .before .before .before .before .before .before .before .before .before .before .before .before .before .before .before .before .before .before .before .before .before .before .before .args .g .now) (c .before .before .before .before .before .before .before .before .before .before .before .before .before .before .before .before .before .before .before .before .before .before .before .before .before .before .args .h .now) (c .before .before .before .before .before .before .before .before .before .before .before .before .before .before .before .before .before .before .before .before .before .before .before .before .before .before .args .wants .now) (c .before .before .before .before .before .before .before .before .before .before .before .before .before .before .before .before .before .before .before .before .before .before .before .before .before .before .args .pivots .now) (graphOf (c .before .before .before .before .before .before .before .before .before .before .before .before .before .before .before .before .before .before .before .before .before .before .before .before .before .before .args .g .now) (c .before .before .before .before .before .before .before .before .before .before .before .before .before .before .before .before .before .before .before .before .before .before .before .before .before .before .args .h .now)) (c .before .before .before .before .before .before .before .before .before .before .before .before .before .before .before .before .before .before .before .before .before .before .before .before .before .before .args .chart .now) (c .before .before .before .before .before .before .before .before .before .before .before .before .before .before .before .before .before .before .before .before .before .before .before .before .before .before .args .j) (c .before .before .before .before .before .before .before .before .before .before .before .before .before .before .before .before .before .before .before .before .before .before .before .before .before .before .args .n) (c .before .before .before .before .before .before .before .before .before .before .before .before .before .before .before .before .before .before .before .before .before .before .before .before .before .before .args .plans .now) (c .before .before .before .before .before .before .before .before .before .before .before .before .before .before .before .before .before .before .before .before .before .before .before .before .before .before .args .graph .now) (c .before .before .before .before .before .before .before .before .before .before .before .before .before .before .before .before .before .before .before .before .before .before .before .before .before .before .args .index .now) (c .before .before .before .before .before .before .before .before .before .before .before .before .before .before .before .before .before .before .before .before .before .before .before .before .before .before .args .near) (c .before .before .before .before .before .before .before .before .before .before .before .before .before .before .before .before .before .before .before .before .before .before .before .before .before .before .pre .0) (c .before .before .before .before .before .before .before .before .before .before .before .before .before .before .before .before .before .before .before .before .before .before .before .before .before .before .pre .1) (c .before .before .before .before .before .before .before .before .before .before .before .before .before .before .before .before .before .before .before .before .before .before .before .before .before .before .pre .2) (c .before .before .before .before .before .before .before .before .before .before .before .before .before .before .before .before .before .before .before .before .before .before .before .before .before .before .pre .5) (c .before .before .before .before .before .before .before .before .before .before .before .before .before .before .before .before .mode-of .result) (c .before .before .before .before .before .before .before .before .before .before .before .before .before .before .before .before .mode-of .ensures .0) _ refl (c .before .before .before .before .before .before .before .before .before .before .before .before .loop .chart) (c .before .before .before .before .before .before .before .before .before .before .before .before .loop .index) (c .before .before .before .before .before .before .before .before .before .before .before .before .loop .at .k) (c .before .before .before .before .before .before .before .before .before .before .before .before .loop .at .cs) (c .before .before .before .before .before .before .before .before .before .before .before .before .loop .past) (c .before .before .before .before .before .before .before .before .before .before .before .before .loop .inv .2) _ _ (c .before .before .before .before .before .before .before .add-next .result) (c .before .before .before .before .before .before .before .before .before .before .if1 .taken) (c .before .before .before .before .before .before .before .add-next .ensures .0) (c .before .before .before .before .before .before .before .add-next .ensures .1) (c .before .before .before .before .before .before .before .add-next .ensures .2) _ _ (c .onward .ensures))
 
 same-length : tie.Need-same-length Inv-loop μ-loop
-same-length c = c .before .loop .inv .1
+same-length c = c .before .before .loop .inv .0
 
 same-length-2 : tie.Need-same-length-2 Inv-loop μ-loop
-same-length-2 c = c .before .loop .inv .3
+same-length-2 c = c .before .before .loop .inv .1
 
 returns : tie.Need-returns Inv-loop μ-loop
-returns c =
-    let s = c .before .before .before .before .before .before .before .args in
-    let G = grammarOf (s .g .now) in
-    let H = graphOf (s .g .now) (s .h .now) in
-    (gathered-all (s .chart .now) (c .before .before .before .before .before .before .before .pre .1 .fits) (λ i. withRecord G H (ofWords (s .x .now)) (s .j) (recordAt (s .chart .now) i) i) (λ i. record-whole G H (ofWords (s .x .now)) (s .j) (recordAt (s .chart .now) i) i) _ (c .before .loop .k) (s .n) (omega (arith, c .loop-test .left, c .before .loop .inv .0)) (c .before .loop .inv .2), c .before .loop .inv .4)
+unfolding recordAt ofWords blockAt fieldAt tabulate
+returns c = (turning-end (c .before .before .before .before .before .before .before .before .before .before .before .before .before .before .before .before .args .g .now) (c .before .before .before .before .before .before .before .before .before .before .before .before .before .before .before .before .args .h .now) (c .before .before .before .before .before .before .before .before .before .before .before .before .before .before .before .before .args .wants .now) (c .before .before .before .before .before .before .before .before .before .before .before .before .before .before .before .before .args .pivots .now) (graphOf (c .before .before .before .before .before .before .before .before .before .before .before .before .before .before .before .before .args .g .now) (c .before .before .before .before .before .before .before .before .before .before .before .before .before .before .before .before .args .h .now)) (c .before .before .before .before .before .before .before .before .before .before .before .before .before .before .before .before .args .chart .now) (c .before .before .before .before .before .before .before .before .before .before .before .before .before .before .before .before .args .j) (c .before .before .before .before .before .before .before .before .before .before .before .before .before .before .before .before .args .n) (c .before .before .before .before .before .before .before .before .before .before .before .before .before .before .before .before .args .plans .now) (c .before .before .before .before .before .before .before .before .before .before .before .before .before .before .before .before .args .graph .now) (c .before .before .before .before .before .before .before .before .before .before .before .before .before .before .before .before .args .index .now) (c .before .before .before .before .before .before .before .before .before .before .before .before .before .before .before .before .args .near) (c .before .before .before .before .before .before .before .before .before .before .before .before .before .before .before .before .pre .0) (c .before .before .before .before .before .before .before .before .before .before .before .before .before .before .before .before .pre .1) (c .before .before .before .before .before .before .before .before .before .before .before .before .before .before .before .before .pre .2) (c .before .before .before .before .before .before .before .before .before .before .before .before .before .before .before .before .pre .5) (c .before .before .before .before .before .before .mode-of .result) (c .before .before .before .before .before .before .mode-of .ensures .0) _ refl (c .before .before .loop .chart) (c .before .before .loop .index) (c .before .before .loop .at .k) (c .before .before .loop .at .cs) (c .before .before .loop .past) (c .before .before .loop .inv .2) (c .if1 .left), c .before .before .loop .inv .2 .ready)
 
 pub add-each-spec : {M : Type 1} → statement M
 add-each-spec =
@@ -68,9 +97,22 @@ add-each-spec =
     (tie.spec
     Inv-loop
     μ-loop
+    mul-own
+    add-own
+    add-edges
+    mul-edges
+    slice-read-edges
+    add-query
+    mul-query
+    sub-query
+    part-query-start
+    part-query-end
+    query-requires
+    mode-of-requires
+    opening-requires
     loop-holds
-    add-partner-requires
-    add-k
+    add-next-requires
+    onward-requires
     loop-less
     loop-again
     same-length

@@ -1,5 +1,4 @@
--- A record that is done already is passed by.
-use mathlib.Core.Path.{refl}
+-- A record that is past already is passed by.
 use native.Mathlib.Omega.{arith}
 use borrow.Author.Needs.{needs}
 use Rattle.steps.proofs.ReadyLaws.{count-small}
@@ -9,14 +8,14 @@ use Rattle.steps.proofs.consequences.add_next.Tie as tie
 
 returns : tie.Need-returns
 returns c =
-    let s = c .before .before .before .before .before .before .args in
-    (next-done (s .chart .now) (c .before .before .before .before .before .before .pre .1 .fits) (s .done) (s .k) _ (c .if1 .taken), c .before .before .before .before .before .before .pre .1, omega (arith, c .if1 .taken))
+    let s = c .before .before .before .before .before .args in
+    (next-done (s .chart .now) (c .before .before .before .before .before .pre .1 .fits) (s .past) (s .k) _ (c .if1 .taken), c .before .before .before .before .before .pre .1, omega (arith, c .if1 .taken))
 
 add-partner-requires : tie.Need-add-partner-requires
-add-partner-requires c κs = c .before .before .before .before .before .before .before .before .pre
+add-partner-requires c κs = c .before .before .before .before .before .before .before .pre
 
 add-result : tie.Need-add-result
-add-result c = omega (arith, c .before .before .before .before .before .before .before .before .before .before .before .before .before .pre .3, count-small _ (c .before .before .before .before .before .before .before .before .before .before .before .before .before .pre .1 .small))
+add-result c = omega (arith, c .before .before .before .before .before .before .before .before .before .before .before .before .pre .5, count-small _ (c .before .before .before .before .before .before .before .before .before .before .before .before .pre .1 .small))
 
 same-length : tie.Need-same-length
 same-length c = search needs
@@ -26,8 +25,8 @@ same-length-2 c = search needs
 
 returns-2 : tie.Need-returns-2
 returns-2 c =
-    let s = c .before .before .before .before .before .before .before .before .before .before .before .before .before .args in
-    (next-dealt (s .chart .now) _ (s .done) (s .k) _ (c .before .before .before .before .before .before .before .if1 .left) (c .before .before .before .before .add-partner .ensures .0), c .before .before .before .before .add-partner .ensures .1, omega (arith, c .before .before .before .before .before .before .before .if1 .left))
+    let s = c .before .before .before .before .before .before .before .before .before .before .before .before .args in
+    (next-dealt (s .chart .now) _ (s .past) (s .k) _ (c .before .before .before .before .before .before .before .if1 .left) (c .before .before .before .before .add-partner .ensures .0), c .before .before .before .before .add-partner .ensures .1, omega (arith, c .before .before .before .before .before .before .before .if1 .left))
 
 pub add-next-spec : {M : Type 1} → statement M
 add-next-spec =

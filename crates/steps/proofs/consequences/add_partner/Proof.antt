@@ -1,61 +1,62 @@
--- Where the pair may make something, both orders are tried.
-use mathlib.Core.Path.{refl, _∙_}
-use Rattle.records.proofs.WordLaws.{record-of-block, item-fits}
-use Rattle.steps.proofs.ReadyLaws.{count-small, handled-small, span-of, span-own, span-other}
+-- Where the pair may make something, the one order that can is tried.
+use mathlib.Core.Path.{refl}
+use Prim.Native.Nat.{ℕ, _<_}
 use borrow.Author.Needs.{needs}
 use borrow.Author.Tests.{not-true, not-false}
-use Rattle.records.specs.Words.{ofWords, recordAt}
-use Rattle.questions.specs.Abstract.{grammarOf, graphOf}
-use Rattle.steps.proofs.PartnerLaws.{partner-none}
-use Rattle.steps.proofs.StepLaws.{partner-added}
+use Rattle.questions.specs.Abstract.{graphOf}
+use Rattle.joins.specs.Joins.{Spans}
+use Rattle.records.specs.Words.{itemCount, recordAt}
+use Rattle.steps.proofs.ReadyLaws.{count-small, handled-small, span-of, span-own, span-other}
+use Rattle.steps.proofs.PartnerLaws.{partner-none, pick-by, partner-led}
 use Rattle.steps.proofs.consequences.add_partner.Statement.{statement}
 use Rattle.steps.proofs.consequences.add_partner.Tie as tie
 
 may-meet-requires : tie.Need-may-meet-requires
-may-meet-requires c κs = (c .before .before .before .before .before .before .pre .3, count-small _ (c .before .before .before .before .before .before .pre .1 .small), c .before .before .before .before .before .before .pre .4)
+may-meet-requires c κs = (c .before .before .before .before .before .pre .2 .there, c .before .before .before .before .before .pre .5, count-small _ (c .before .before .before .before .before .pre .1 .small))
 
 same-length : tie.Need-same-length
 same-length c = search needs
 
 returns : tie.Need-returns
 returns c =
-    let s = c .before .before .before .before .before .before .before .before .args in
-    let H = graphOf (s .g .now) (s .h .now) in
-    (partner-none (s .g .now) (c .before .before .before .before .before .before .before .before .pre .0 .accepted .grammar) H (s .wants .now) (c .before .before .before .before .before .before .before .before .pre .0 .wanted) (ofWords (s .x .now)) (recordAt (s .chart .now) (s .k)) (s .want) (c .before .before .before .before .before .before .before .before .pre .2) (s .j) (s .k) (s .chart .now) _ (c .before .before .before .before .before .before .before .before .pre .1 .fits) (c .before .may-meet .ensures) (not-true _ (c .if1 .taken)), c .before .before .before .before .before .before .before .before .pre .1)
-
-words-in-requires : tie.Need-words-in-requires
-words-in-requires c κs = item-fits (c .before .before .before .before .before .before .before .before .before .args .chart .now) (c .before .before .before .before .before .before .before .before .before .args .k) (c .before .before .before .before .before .before .before .before .before .pre .3)
+    let s = c .before .before .before .before .before .before .before .args in
+    (partner-none (s .g .now) (c .before .before .before .before .before .before .before .pre .0 .accepted .grammar) (graphOf (s .g .now) (s .h .now)) (s .wants .now) (c .before .before .before .before .before .before .before .pre .0 .wanted) (recordAt (s .chart .now) (s .j)) (recordAt (s .chart .now) (s .k)) (s .want) (c .before .before .before .before .before .before .before .pre .3) (s .j) (s .k) (s .chart .now) _ (c .before .before .before .before .before .before .before .pre .1 .fits) (c .before .may-meet .ensures) (not-true _ (c .if1 .taken)), c .before .before .before .before .before .before .before .pre .1)
 
 near-requires : tie.Need-near-requires
-near-requires c κs = (c .before .before .before .before .before .before .before .before .before .before .before .pre .1 .indexed .size, handled-small _ _ (c .before .before .before .before .before .before .before .before .before .before .before .pre .1 .small) (c .before .before .before .before .before .before .before .before .before .before .before .pre .3))
+near-requires c κs = (c .before .before .before .before .before .before .before .before .pre .1 .indexed .size, handled-small _ _ (c .before .before .before .before .before .before .before .before .pre .1 .small) (c .before .before .before .before .before .before .before .before .pre .5))
 
 union-requires : tie.Need-union-requires
 union-requires c κs = search needs
 
-slice-aggregate-add-pair : tie.Need-slice-aggregate-add-pair
-slice-aggregate-add-pair c = search needs
+pick-requires : tie.Need-pick-requires
+pick-requires c κs = search needs
+
+pick-requires-2 : tie.Need-pick-requires-2
+pick-requires-2 c κs = search needs
 
 add-pair-requires : tie.Need-add-pair-requires
-add-pair-requires c κs = (c .before .before .before .before .before .before .before .before .before .before .before .before .before .before .before .before .pre .0, c .before .before .before .before .before .before .before .before .before .before .before .before .before .before .before .before .pre .1, c .before .before .before .before .before .before .before .before .before .before .before .before .before .before .before .before .pre .4, search needs, span-own _ _ _ _ _ _ (c .before .before .before .union .ensures .value) (c .before .before .before .before .before .before .before .before .before .before .before .before .before .before .before .before .pre .5), span-other _ _ _ _ _ _ (c .before .before .before .union .ensures .value) (span-of _ _ _ _ _ (c .before .before .before .before .before .before .before .before .before .before .before .before .before .before .before .before .pre .1 .spanned) (c .before .before .before .before .before .before .before .before .before .before .before .before .before .before .before .before .pre .3) _ (record-of-block _ _ _ _ (c .before .before .before .before .before .before .words-in .ensures) refl) _ (c .before .before .before .before .near .ensures)))
-
-slice-aggregate-add-pair-2 : tie.Need-slice-aggregate-add-pair-2
-slice-aggregate-add-pair-2 c = search needs
-
-add-pair-requires-2 : tie.Need-add-pair-requires-2
-add-pair-requires-2 c κs = (c .before .before .before .before .before .before .before .before .before .before .before .before .before .before .before .before .before .before .before .before .before .before .before .before .pre .0, c .before .before .before .before .before .before .before .add-pair .ensures .1, search needs, c .before .before .before .before .before .before .before .before .before .before .before .before .before .before .before .before .before .before .before .before .before .before .before .before .pre .4, span-other _ _ _ _ _ _ (c .before .before .before .before .before .before .before .before .before .before .before .union .ensures .value) (span-of _ _ _ _ _ (c .before .before .before .before .before .before .before .before .before .before .before .before .before .before .before .before .before .before .before .before .before .before .before .before .pre .1 .spanned) (c .before .before .before .before .before .before .before .before .before .before .before .before .before .before .before .before .before .before .before .before .before .before .before .before .pre .3) _ (record-of-block _ _ _ _ (c .before .before .before .before .before .before .before .before .before .before .before .before .before .before .words-in .ensures) refl) _ (c .before .before .before .before .before .before .before .before .before .before .before .before .near .ensures)), span-own _ _ _ _ _ _ (c .before .before .before .before .before .before .before .before .before .before .before .union .ensures .value) (c .before .before .before .before .before .before .before .before .before .before .before .before .before .before .before .before .before .before .before .before .before .before .before .before .pre .5))
+add-pair-requires c κs =
+    let s = c .before .before .before .before .before .before .before .before .before .before .before .before .before .before .args in
+    let inside : ℕ → Type 0 = λ i. i < itemCount (c .before .before .before .before .before .before .before .before .before .before .before .before .before .before .args .chart .now) in
+    let spans : ℕ → Type 0 = λ i. Spans (s .g .now) (s .h .now) (recordAt (c .before .before .before .before .before .before .before .before .before .before .before .before .before .before .args .chart .now) i .edges) (c .before .before .before .before .union .result) in (
+      c .before .before .before .before .before .before .before .before .before .before .before .before .before .before .pre .0,
+      c .before .before .before .before .before .before .before .before .before .before .before .before .before .before .pre .1,
+      pick-by inside (s .lead) (s .j) (s .k) (c .before .before .before .pick .result) (c .before .before .before .pick .ensures) (c .before .before .before .before .before .before .before .before .before .before .before .before .before .before .pre .2 .there) (c .before .before .before .before .before .before .before .before .before .before .before .before .before .before .pre .5),
+      pick-by inside (s .lead) (s .k) (s .j) (c .before .before .pick2 .result) (c .before .before .pick2 .ensures) (c .before .before .before .before .before .before .before .before .before .before .before .before .before .before .pre .5) (c .before .before .before .before .before .before .before .before .before .before .before .before .before .before .pre .2 .there),
+      pick-by spans (s .lead) (s .j) (s .k) (c .before .before .before .pick .result) (c .before .before .before .pick .ensures) (span-own _ _ _ _ _ _ (c .before .before .before .before .union .ensures .value) (c .before .before .before .before .before .before .before .before .before .before .before .before .before .before .pre .2 .spans)) (span-other _ _ _ _ _ _ (c .before .before .before .before .union .ensures .value) (span-of _ _ _ _ _ (c .before .before .before .before .before .before .before .before .before .before .before .before .before .before .pre .1 .spanned) (c .before .before .before .before .before .before .before .before .before .before .before .before .before .before .pre .5) (recordAt (c .before .before .before .before .before .before .before .before .before .before .before .before .before .before .args .chart .now) (c .before .before .before .before .before .before .before .before .before .before .before .before .before .before .args .k)) refl _ (c .before .before .before .before .before .near .ensures))),
+      pick-by spans (s .lead) (s .k) (s .j) (c .before .before .pick2 .result) (c .before .before .pick2 .ensures) (span-other _ _ _ _ _ _ (c .before .before .before .before .union .ensures .value) (span-of _ _ _ _ _ (c .before .before .before .before .before .before .before .before .before .before .before .before .before .before .pre .1 .spanned) (c .before .before .before .before .before .before .before .before .before .before .before .before .before .before .pre .5) (recordAt (c .before .before .before .before .before .before .before .before .before .before .before .before .before .before .args .chart .now) (c .before .before .before .before .before .before .before .before .before .before .before .before .before .before .args .k)) refl _ (c .before .before .before .before .before .near .ensures))) (span-own _ _ _ _ _ _ (c .before .before .before .before .union .ensures .value) (c .before .before .before .before .before .before .before .before .before .before .before .before .before .before .pre .2 .spans)),
+    )
 
 same-length-2 : tie.Need-same-length-2
-same-length-2 c = c .before .before .before .before .add-pair2 .kept .1 .1 .1 .1 .1 .1 .0 ∙ c .before .before .before .before .before .before .before .before .before .before .before .before .add-pair .kept .1 .1 .1 .1 .1 .1 .0
+same-length-2 c = search needs
 
 same-length-3 : tie.Need-same-length-3
-same-length-3 c = c .before .before .before .before .add-pair2 .kept .1 .1 .1 .1 .1 .1 .1 .0 ∙ c .before .before .before .before .before .before .before .before .before .before .before .before .add-pair .kept .1 .1 .1 .1 .1 .1 .1 .0
+same-length-3 c = search needs
 
 returns-2 : tie.Need-returns-2
 returns-2 c =
-    let s = c .before .before .before .before .before .before .before .before .before .before .before .before .before .before .before .before .before .before .before .before .before .before .before .before .before .before .before .before .before .args in
-    let G = grammarOf (s .g .now) in
-    let H = graphOf (s .g .now) (s .h .now) in
-    (partner-added G H (s .chart .now) _ _ (s .wants .now) (s .want) (ofWords (s .x .now)) (ofWords (c .before .before .before .before .before .before .before .before .before .before .before .before .before .before .before .before .before .before .before .words-in .result)) (s .j) (s .k) _ (c .before .before .before .before .before .before .before .before .before .before .before .before .before .before .before .before .before .before .before .before .before .before .before .before .before .before .before .before .before .pre .1 .fits) (record-of-block _ _ _ _ (c .before .before .before .before .before .before .before .before .before .before .before .before .before .before .before .before .before .before .before .words-in .ensures) refl) (c .before .before .before .before .before .before .before .before .before .before .before .before .before .before .before .before .before .before .before .before .before .before .may-meet .ensures) (not-false _ (c .before .before .before .before .before .before .before .before .before .before .before .before .before .before .before .before .before .before .before .before .before .if1 .left)) (c .before .before .before .before .before .before .before .before .before .before .before .before .add-pair .ensures .0) (c .before .before .before .before .add-pair2 .ensures .0), c .before .before .before .before .add-pair2 .ensures .1)
+    let s = c .before .before .before .before .before .before .before .before .before .before .before .before .before .before .before .before .before .before .before .args in
+    (partner-led (s .g .now) (graphOf (s .g .now) (s .h .now)) (c .before .before .before .before .before .before .before .before .before .before .before .before .before .before .before .before .before .before .before .args .chart .now) (s .j) (s .k) (s .lead) (c .before .before .before .before .before .before .before .before .before .before .before .before .before .before .before .before .before .before .before .pre .4) _ (s .wants .now) (s .want) _ (c .before .before .before .before .before .before .before .before .pick .result) (c .before .before .before .before .before .before .before .pick2 .result) (c .before .before .before .before .before .before .before .before .before .before .before .before .before .may-meet .ensures) (not-false _ (c .before .before .before .before .before .before .before .before .before .before .before .before .if1 .left)) (c .before .before .before .before .before .before .before .before .pick .ensures) (c .before .before .before .before .before .before .before .pick2 .ensures) (c .before .before .before .before .add-pair .ensures .0), c .before .before .before .before .add-pair .ensures .1)
 
 pub add-partner-spec : {M : Type 1} → statement M
 add-partner-spec =
@@ -64,13 +65,11 @@ add-partner-spec =
     may-meet-requires
     same-length
     returns
-    words-in-requires
     near-requires
     union-requires
-    slice-aggregate-add-pair
+    pick-requires
+    pick-requires-2
     add-pair-requires
-    slice-aggregate-add-pair-2
-    add-pair-requires-2
     same-length-2
     same-length-3
     returns-2)

@@ -1,114 +1,138 @@
 -- A law for each test, and one for the record that is added.
 use native.Mathlib.Omega.{arith}
-use Prim.Native.Nat.{suc, _-_}
-use mathlib.Core.Path.{_∙_}
-use native.Mathlib.Numerals.{add-one}
-use Rattle.steps.proofs.RecordWords.{spelt, root-images, spelt-added}
+use mathlib.Core.Path.{refl, sym, ap, _∙_}
+use mathlib.Core.List.{List}
+use Prim.Native.Nat.{ℕ, _+_, _*_, _-_}
+use lib.ListN.{length, take}
 use borrow.Author.Needs.{needs}
-use Rattle.records.specs.Words.{ofWords}
+use Rattle.hrg.specs.Counts.{tabulate}
+use Rattle.hrg.specs.Grammars.{rightOf}
+use Rattle.hrg.specs.Trees.{padded, images}
+use Rattle.questions.specs.Layout.{ruleNodes}
+use Rattle.questions.specs.Abstract.{grammarOf}
+use Rattle.records.specs.Words.{ofWords, fieldAt, blockAt, recordAt}
+use Rattle.records.proofs.WordLaws.{item-fits}
+use Rattle.records.proofs.Written.{eight-nodes}
+use Rattle.steps.proofs.RecordWords.{spelt, spelt-long, spelt-added, kind-word, part-nodes}
 use Rattle.steps.proofs.RootLaws.{skip-passive, skip-unknown, skip-inner, root-added}
-use Rattle.steps.proofs.ReadyLaws.{words-ready}
+use Rattle.steps.proofs.ReadyLaws.{handled-small, words-ready}
 use Rattle.steps.proofs.consequences.add_root.Statement.{statement}
 use Rattle.steps.proofs.consequences.add_root.Tie as tie
 
-shared-slice-read-if1 : tie.Need-shared-slice-read-if1
-shared-slice-read-if1 c = omega (arith, c .before .before .before .before .before .before .pre .2)
+mul-at : tie.Need-mul-at
+mul-at c = omega (arith, handled-small _ _ (c .before .before .before .before .pre .1 .small) (c .before .before .before .before .pre .2 .there))
+
+add-at : tie.Need-add-at
+add-at c = omega (arith, handled-small _ _ (c .before .before .before .before .pre .1 .small) (c .before .before .before .before .pre .2 .there))
+
+mul-if1 : tie.Need-mul-if1
+mul-if1 c = omega (arith, handled-small _ _ (c .before .before .before .before .pre .1 .small) (c .before .before .before .before .pre .2 .there))
+
+slice-read-if1 : tie.Need-slice-read-if1
+slice-read-if1 c = omega (arith, item-fits (c .before .before .before .before .before .args .chart .now) (c .before .before .before .before .before .args .j) (c .before .before .before .before .before .pre .2 .there))
 
 returns : tie.Need-returns
-unfolding ofWords
-returns c =
-    let s = c .before .before .before .before .before .before .before .args in
-    (skip-passive (s .g .now) (ofWords (s .x .now)) (s .j) (s .chart .now) (c .before .before .before .before .before .before .before .pre .1 .fits) (c .if1 .taken), c .before .before .before .before .before .before .before .pre .1)
+unfolding recordAt ofWords blockAt fieldAt tabulate
+returns c = (skip-passive (c .before .before .before .before .before .before .args .g .now) (recordAt (c .before .before .before .before .before .before .args .chart .now) (c .before .before .before .before .before .before .args .j)) (c .before .before .before .before .before .before .args .j) (c .before .before .before .before .before .before .args .chart .now) (c .before .before .before .before .before .before .pre .1 .fits) (λ e. c .if1 .taken ((kind-word (c .before .before .before .before .before .before .args .chart .now) (c .before .before .before .before .before .before .args .j)) ∙ e)), c .before .before .before .before .before .before .pre .1)
 
-shared-slice-read-of : tie.Need-shared-slice-read-of
-shared-slice-read-of c = omega (arith, c .before .before .before .before .before .before .before .before .pre .2)
+add-of : tie.Need-add-of
+add-of c = omega (arith, handled-small _ _ (c .before .before .before .before .before .before .pre .1 .small) (c .before .before .before .before .before .before .pre .2 .there))
+
+mul-of : tie.Need-mul-of
+mul-of c = omega (arith, handled-small _ _ (c .before .before .before .before .before .before .pre .1 .small) (c .before .before .before .before .before .before .pre .2 .there))
+
+slice-read-of : tie.Need-slice-read-of
+slice-read-of c = omega (arith, item-fits (c .before .before .before .before .before .before .before .args .chart .now) (c .before .before .before .before .before .before .before .args .j) (c .before .before .before .before .before .before .before .pre .2 .there))
 
 rule-count-requires : tie.Need-rule-count-requires
 rule-count-requires c κs = search needs
 
 returns-2 : tie.Need-returns-2
-unfolding ofWords
-returns-2 c =
-    let s = c .before .before .before .before .before .before .before .before .before .before .args in
-    (skip-unknown (s .g .now) (ofWords (s .x .now)) (s .j) (s .chart .now) (c .before .before .before .before .before .before .before .before .before .before .pre .1 .fits) (c .before .rule-count .result) (c .before .before .before .if1 .left) (c .before .rule-count .ensures) (c .if2 .taken), c .before .before .before .before .before .before .before .before .before .before .pre .1)
+unfolding recordAt ofWords blockAt fieldAt tabulate
+returns-2 c = (skip-unknown (c .before .before .before .before .before .before .before .before .before .args .g .now) (recordAt (c .before .before .before .before .before .before .before .before .before .args .chart .now) (c .before .before .before .before .before .before .before .before .before .args .j)) (c .before .before .before .before .before .before .before .before .before .args .j) (c .before .before .before .before .before .before .before .before .before .args .chart .now) (c .before .before .before .before .before .before .before .before .before .pre .1 .fits) (c .before .rule-count .result) (sym (kind-word (c .before .before .before .before .before .before .before .before .before .args .chart .now) (c .before .before .before .before .before .before .before .before .before .args .j)) ∙ c .before .before .before .if1 .left) (c .before .rule-count .ensures) (c .if2 .taken), c .before .before .before .before .before .before .before .before .before .pre .1)
 
 rule-plan-requires : tie.Need-rule-plan-requires
 rule-plan-requires c κs = search needs
 
-shared-slice-read-if3 : tie.Need-shared-slice-read-if3
-shared-slice-read-if3 c = omega (arith, c .before .before .before .before .before .before .before .before .before .before .before .before .pre .2)
+add-p : tie.Need-add-p
+add-p c = omega (arith, handled-small _ _ (c .before .before .before .before .before .before .before .before .before .before .pre .1 .small) (c .before .before .before .before .before .before .before .before .before .before .pre .2 .there))
+
+mul-p : tie.Need-mul-p
+mul-p c = omega (arith, handled-small _ _ (c .before .before .before .before .before .before .before .before .before .before .pre .1 .small) (c .before .before .before .before .before .before .before .before .before .before .pre .2 .there))
+
+slice-read-p : tie.Need-slice-read-p
+slice-read-p c = omega (arith, item-fits (c .before .before .before .before .before .before .before .before .before .before .before .args .chart .now) (c .before .before .before .before .before .before .before .before .before .before .before .args .j) (c .before .before .before .before .before .before .before .before .before .before .before .pre .2 .there))
 
 returns-3 : tie.Need-returns-3
-unfolding ofWords
-returns-3 c =
-    let s = c .before .before .before .before .before .before .before .before .before .before .before .before .before .args in
-    (skip-inner (s .g .now) (ofWords (s .x .now)) (s .j) (s .chart .now) (c .before .before .before .before .before .before .before .before .before .before .before .before .before .pre .1 .fits) (c .before .before .before .before .before .before .if1 .left) (c .before .before .before .before .before .before .before .before .before .before .before .before .before .pre .0) (omega (arith, c .before .before .before .before .rule-count .ensures, c .before .before .before .if2 .left)) (c .before .before .rule-plan .result) (c .before .before .rule-plan .ensures) (λ q. omega (arith, c .if3 .taken)), c .before .before .before .before .before .before .before .before .before .before .before .before .before .pre .1)
-
-shared-slice-read-if4 : tie.Need-shared-slice-read-if4
-shared-slice-read-if4 c = omega (arith, c .before .before .before .before .before .before .before .before .before .before .before .before .before .before .pre .2)
+unfolding recordAt ofWords blockAt fieldAt tabulate
+returns-3 c = (skip-inner (c .before .before .before .before .before .before .before .before .before .before .before .before .args .g .now) (recordAt (c .before .before .before .before .before .before .before .before .before .before .before .before .args .chart .now) (c .before .before .before .before .before .before .before .before .before .before .before .before .args .j)) (c .before .before .before .before .before .before .before .before .before .before .before .before .args .j) (c .before .before .before .before .before .before .before .before .before .before .before .before .args .chart .now) (c .before .before .before .before .before .before .before .before .before .before .before .before .pre .1 .fits) (sym (kind-word (c .before .before .before .before .before .before .before .before .before .before .before .before .args .chart .now) (c .before .before .before .before .before .before .before .before .before .before .before .before .args .j)) ∙ c .before .before .before .before .before .before .if1 .left) (c .before .before .before .before .before .before .before .before .before .before .before .before .pre .0) (omega (arith, c .before .before .before .before .rule-count .ensures, c .before .before .before .if2 .left)) (c .before .before .rule-plan .result) (c .before .before .rule-plan .ensures) (λ q. omega (arith, c .if3 .taken)), c .before .before .before .before .before .before .before .before .before .before .before .before .pre .1)
 
 add-if4 : tie.Need-add-if4
 add-if4 c = search needs
 
 returns-4 : tie.Need-returns-4
-unfolding ofWords
-returns-4 c =
-    let s = c .before .before .before .before .before .before .before .before .before .before .before .before .before .before .before .args in
-    (skip-inner (s .g .now) (ofWords (s .x .now)) (s .j) (s .chart .now) (c .before .before .before .before .before .before .before .before .before .before .before .before .before .before .before .pre .1 .fits) (c .before .before .before .before .before .before .before .before .if1 .left) (c .before .before .before .before .before .before .before .before .before .before .before .before .before .before .before .pre .0) (omega (arith, c .before .before .before .before .before .before .rule-count .ensures, c .before .before .before .before .before .if2 .left)) (c .before .before .before .before .rule-plan .result) (c .before .before .before .before .rule-plan .ensures) (λ q. c .if4 .taken (omega arith)), c .before .before .before .before .before .before .before .before .before .before .before .before .before .before .before .pre .1)
-
-sub-root-nodes : tie.Need-sub-root-nodes
-sub-root-nodes c = search needs
-
-part-root-nodes-start : tie.Need-part-root-nodes-start
-part-root-nodes-start c = search needs
-
-part-root-nodes-end : tie.Need-part-root-nodes-end
-part-root-nodes-end c = search needs
-
-root-nodes-requires : tie.Need-root-nodes-requires
-root-nodes-requires c κs = (c .before .before .before .before .before .before .before .before .before .before .before .before .before .before .before .before .pre .0, omega (arith, c .before .before .before .before .before .before .before .rule-count .ensures, c .before .before .before .before .before .before .if2 .left), search needs)
+unfolding recordAt ofWords blockAt fieldAt tabulate
+returns-4 c = (skip-inner (c .before .before .before .before .before .before .before .before .before .before .before .before .before .args .g .now) (recordAt (c .before .before .before .before .before .before .before .before .before .before .before .before .before .args .chart .now) (c .before .before .before .before .before .before .before .before .before .before .before .before .before .args .j)) (c .before .before .before .before .before .before .before .before .before .before .before .before .before .args .j) (c .before .before .before .before .before .before .before .before .before .before .before .before .before .args .chart .now) (c .before .before .before .before .before .before .before .before .before .before .before .before .before .pre .1 .fits) (sym (kind-word (c .before .before .before .before .before .before .before .before .before .before .before .before .before .args .chart .now) (c .before .before .before .before .before .before .before .before .before .before .before .before .before .args .j)) ∙ c .before .before .before .before .before .before .before .if1 .left) (c .before .before .before .before .before .before .before .before .before .before .before .before .before .pre .0) (omega (arith, c .before .before .before .before .before .rule-count .ensures, c .before .before .before .before .if2 .left)) (c .before .before .before .rule-plan .result) (c .before .before .before .rule-plan .ensures) (λ q. c .if4 .taken (omega arith)), c .before .before .before .before .before .before .before .before .before .before .before .before .before .pre .1)
 
 rule-symbol-requires : tie.Need-rule-symbol-requires
 rule-symbol-requires c κs = search needs
 
-shared-slice-read-t20 : tie.Need-shared-slice-read-t20
-shared-slice-read-t20 c = omega (arith, c .before .before .before .before .before .before .before .before .before .before .before .before .before .before .before .before .before .before .before .pre .2)
+add-t16 : tie.Need-add-t16
+add-t16 c = omega (arith, handled-small _ _ (c .before .before .before .before .before .before .before .before .before .before .before .before .before .before .pre .1 .small) (c .before .before .before .before .before .before .before .before .before .before .before .before .before .before .pre .2 .there))
 
-shared-slice-read-plus : tie.Need-shared-slice-read-plus
-shared-slice-read-plus c = omega (arith, c .before .before .before .before .before .before .before .before .before .before .before .before .before .before .before .before .before .before .before .before .pre .2)
+mul-t19 : tie.Need-mul-t19
+mul-t19 c = omega (arith, handled-small _ _ (c .before .before .before .before .before .before .before .before .before .before .before .before .before .before .pre .1 .small) (c .before .before .before .before .before .before .before .before .before .before .before .before .before .before .pre .2 .there))
+
+slice-read-t14 : tie.Need-slice-read-t14
+slice-read-t14 c = omega (arith, item-fits (c .before .before .before .before .before .before .before .before .before .before .before .before .before .before .before .args .chart .now) (c .before .before .before .before .before .before .before .before .before .before .before .before .before .before .before .args .j) (c .before .before .before .before .before .before .before .before .before .before .before .before .before .before .before .pre .2 .there))
+
+add-plus : tie.Need-add-plus
+add-plus c = omega (arith, handled-small _ _ (c .before .before .before .before .before .before .before .before .before .before .before .before .before .before .before .pre .1 .small) (c .before .before .before .before .before .before .before .before .before .before .before .before .before .before .before .pre .2 .there))
+
+mul-plus : tie.Need-mul-plus
+mul-plus c = omega (arith, handled-small _ _ (c .before .before .before .before .before .before .before .before .before .before .before .before .before .before .before .pre .1 .small) (c .before .before .before .before .before .before .before .before .before .before .before .before .before .before .before .pre .2 .there))
+
+slice-read-plus : tie.Need-slice-read-plus
+slice-read-plus c = omega (arith, item-fits (c .before .before .before .before .before .before .before .before .before .before .before .before .before .before .before .before .args .chart .now) (c .before .before .before .before .before .before .before .before .before .before .before .before .before .before .before .before .args .j) (c .before .before .before .before .before .before .before .before .before .before .before .before .before .before .before .before .pre .2 .there))
 
 plus-requires : tie.Need-plus-requires
 plus-requires c κs = search needs
 
-array-read-t32 : tie.Need-array-read-t32
-array-read-t32 c = omega arith
+add-root-into : tie.Need-add-root-into
+add-root-into c = omega (arith, handled-small _ _ (c .before .before .before .before .before .before .before .before .before .before .before .before .before .before .before .before .before .pre .1 .small) (c .before .before .before .before .before .before .before .before .before .before .before .before .before .before .before .before .before .pre .2 .there))
 
-array-read-t35 : tie.Need-array-read-t35
-array-read-t35 c = omega arith
+add-root-into-2 : tie.Need-add-root-into-2
+add-root-into-2 c = omega (arith, handled-small _ _ (c .before .before .before .before .before .before .before .before .before .before .before .before .before .before .before .before .before .pre .1 .small) (c .before .before .before .before .before .before .before .before .before .before .before .before .before .before .before .before .before .pre .2 .there))
 
-array-read-t38 : tie.Need-array-read-t38
-array-read-t38 c = omega arith
+mul-root-into : tie.Need-mul-root-into
+mul-root-into c = omega (arith, handled-small _ _ (c .before .before .before .before .before .before .before .before .before .before .before .before .before .before .before .before .before .pre .1 .small) (c .before .before .before .before .before .before .before .before .before .before .before .before .before .before .before .before .before .pre .2 .there))
 
-array-read-t41 : tie.Need-array-read-t41
-array-read-t41 c = omega arith
+sub-root-into : tie.Need-sub-root-into
+sub-root-into c = omega arith
 
-array-read-t44 : tie.Need-array-read-t44
-array-read-t44 c = omega arith
+part-root-into-start : tie.Need-part-root-into-start
+part-root-into-start c = omega arith
 
-array-read-t47 : tie.Need-array-read-t47
-array-read-t47 c = omega arith
+part-root-into-end : tie.Need-part-root-into-end
+part-root-into-end c = omega (arith, item-fits (c .before .before .before .before .before .before .before .before .before .before .before .before .before .before .before .before .before .before .args .chart .now) (c .before .before .before .before .before .before .before .before .before .before .before .before .before .before .before .before .before .before .args .j) (c .before .before .before .before .before .before .before .before .before .before .before .before .before .before .before .before .before .before .pre .2 .there))
 
-array-read-t50 : tie.Need-array-read-t50
-array-read-t50 c = omega arith
+sub-root-into-2 : tie.Need-sub-root-into-2
+sub-root-into-2 c = omega arith
 
-array-read-t53 : tie.Need-array-read-t53
-array-read-t53 c = omega arith
+part-y-start : tie.Need-part-y-start
+part-y-start c = omega arith
+
+part-y-end : tie.Need-part-y-end
+part-y-end c = omega arith
+
+root-into-requires : tie.Need-root-into-requires
+root-into-requires c κs = (c .before .before .before .before .before .before .before .before .before .before .before .before .before .before .before .before .before .before .before .before .pre .0, (omega (arith, c .before .before .before .before .before .before .before .before .before .before .before .before .rule-count .ensures, c .before .before .before .before .before .before .before .before .before .before .before .if2 .left)), ap (λ (l : List ℕ). length l) (part-nodes (c .before .before .before .before .before .before .before .before .before .before .before .before .before .before .before .before .before .before .before .before .args .chart .now) (c .before .before .before .before .before .before .before .before .before .before .before .before .before .before .before .before .before .before .before .before .args .j) (2 + 16 * c .before .before .before .before .before .before .before .before .before .before .before .before .before .before .before .before .before .before .before .before .args .j + 6) (2 + 16 * c .before .before .before .before .before .before .before .before .before .before .before .before .before .before .before .before .before .before .before .before .args .j + 14 - (2 + 16 * c .before .before .before .before .before .before .before .before .before .before .before .before .before .before .before .before .before .before .before .before .args .j + 6)) refl (omega arith) (item-fits (c .before .before .before .before .before .before .before .before .before .before .before .before .before .before .before .before .before .before .before .before .args .chart .now) (c .before .before .before .before .before .before .before .before .before .before .before .before .before .before .before .before .before .before .before .before .args .j) (c .before .before .before .before .before .before .before .before .before .before .before .before .before .before .before .before .before .before .before .before .pre .2 .there))) ∙ eight-nodes (c .before .before .before .before .before .before .before .before .before .before .before .before .before .before .before .before .before .before .before .before .args .chart .now) (c .before .before .before .before .before .before .before .before .before .before .before .before .before .before .before .before .before .before .before .before .args .j), search needs)
 
 slice-aggregate-add : tie.Need-slice-aggregate-add
-slice-aggregate-add c = search needs
+slice-aggregate-add c = sym (spelt-long _ _ (c .before .before .before .before .root-into .ensures) 0 0 0 0 0 0 (c .before .before .before .before .before .before .before .before .before .before .before .before .before .before .before .before .before .before .before .before .before .before .before .before .before .args .j) 0)
 
 add-requires : tie.Need-add-requires
-add-requires c κs = (c .before .before .before .before .before .before .before .before .before .before .before .before .before .before .before .before .before .before .before .before .before .before .before .before .pre .1 .indexed, c .before .before .before .before .before .before .before .before .before .before .before .before .before .before .before .before .before .before .before .before .before .before .before .before .pre .1 .fits, c .before .before .before .before .before .before .before .before .before .before .before .before .before .before .before .before .before .before .before .before .before .before .before .before .pre .1 .small, search needs)
+add-requires c κs = (c .before .before .before .before .before .before .before .before .before .before .before .before .before .before .before .before .before .before .before .before .before .before .before .before .before .pre .1 .indexed, c .before .before .before .before .before .before .before .before .before .before .before .before .before .before .before .before .before .before .before .before .before .before .before .before .before .pre .1 .fits, c .before .before .before .before .before .before .before .before .before .before .before .before .before .before .before .before .before .before .before .before .before .before .before .before .before .pre .1 .small, spelt-long _ _ (c .before .before .before .before .root-into .ensures) 0 0 0 0 0 0 (c .before .before .before .before .before .before .before .before .before .before .before .before .before .before .before .before .before .before .before .before .before .before .before .before .before .args .j) 0)
 
 same-length : tie.Need-same-length
 same-length c = search needs
@@ -117,42 +141,55 @@ same-length-2 : tie.Need-same-length-2
 same-length-2 c = search needs
 
 returns-5 : tie.Need-returns-5
-unfolding ofWords
+unfolding recordAt ofWords blockAt fieldAt tabulate
 returns-5 c =
-    let s = c .before .before .before .before .before .before .before .before .before .before .before .before .before .before .before .before .before .before .before .before .before .before .before .before .before .before .before .before .before .args in
-    (root-added (s .g .now) (ofWords (s .x .now)) (s .j) (s .chart .now) (c .before .before .before .before .before .before .before .before .before .before .before .before .before .before .before .before .before .before .before .before .before .before .before .before .before .before .before .before .before .pre .1 .fits) (c .before .before .before .before .before .before .before .before .before .before .before .before .before .before .before .before .before .before .before .before .before .before .if1 .left) (c .before .before .before .before .before .before .before .before .before .before .before .before .before .before .before .before .before .before .before .before .before .before .before .before .before .before .before .before .before .pre .0) (omega (arith, c .before .before .before .before .before .before .before .before .before .before .before .before .before .before .before .before .before .before .before .before .rule-count .ensures, c .before .before .before .before .before .before .before .before .before .before .before .before .before .before .before .before .before .before .before .if2 .left)) (c .before .before .before .before .before .before .before .before .before .before .before .before .before .before .before .before .before .before .rule-plan .result) (c .before .before .before .before .before .before .before .before .before .before .before .before .before .before .before .before .before .before .rule-plan .ensures) _ _ _ _ (omega (arith, c .before .before .before .before .before .before .before .before .before .before .before .before .before .before .if4 .left)) (c .before .before .before .before .before .before .before .before .before .before .before .rule-symbol .ensures) (c .before .before .before .before .before .before .before .before .plus .ensures) (root-images (s .g .now) (s .x .now) (c .before .before .before .before .before .before .before .before .before .before .before .before .root-nodes .result) (c .before .before .before .before .before .before .before .before .before .before .before .before .before .before .before .before .before .before .before .before .before .before .before .before .before .before .before .before .before .pre .2) (c .before .before .before .before .before .before .before .before .before .before .before .before .root-nodes .ensures)) (spelt-added 1 _ 0 _ _ 0 (c .before .before .before .before .before .before .before .before .before .before .before .before .root-nodes .result) (s .j) 0 (s .chart .now) _ (search needs) (c .before .before .before .before .add .ensures .0)), words-ready (s .g .now) (s .h .now) (s .wants .now) (s .pivots .now) (s .chart .now) (s .index .now) (c .before .before .before .before .before .before .before .before .before .before .before .before .before .before .before .before .before .before .before .before .before .before .before .before .before .before .before .before .before .pre .1) _ _ (c .before .before .before .before .add .ensures .1) (c .before .before .before .before .add .ensures .2 (s .g .now) (s .h .now) (c .before .before .before .before .before .before .before .before .before .before .before .before .before .before .before .before .before .before .before .before .before .before .before .before .before .before .before .before .before .pre .1 .spanned) (c .before .before .before .before .before .before .before .before .before .before .before .before .before .before .before .before .before .before .before .before .before .before .before .before .before .before .before .before .before .pre .3)) (spelt 1 (c .before .before .before .before .before .before .before .before .before .before .before .rule-symbol .result) 0 (ofWords (s .x .now) .edges) (c .before .before .before .before .before .before .before .before .plus .result) 0 (c .before .before .before .before .before .before .before .before .before .before .before .before .root-nodes .result) (s .j) 0) (c .before .before .before .before .add .ensures .0))
+    let s = c .before .before .before .before .before .before .before .before .before .before .before .before .before .before .before .before .before .before .before .before .before .before .before .before .before .before .before .before .before .before .args in
+    let x = recordAt (s .chart .now) (s .j) in
+    let g = s .g .now in (
+      root-added (c .before .before .before .before .before .before .before .before .before .before .before .before .before .before .before .before .before .before .before .before .before .before .before .before .before .before .before .before .before .before .args .g .now) (recordAt (c .before .before .before .before .before .before .before .before .before .before .before .before .before .before .before .before .before .before .before .before .before .before .before .before .before .before .before .before .before .before .args .chart .now) (c .before .before .before .before .before .before .before .before .before .before .before .before .before .before .before .before .before .before .before .before .before .before .before .before .before .before .before .before .before .before .args .j)) (c .before .before .before .before .before .before .before .before .before .before .before .before .before .before .before .before .before .before .before .before .before .before .before .before .before .before .before .before .before .before .args .j) (c .before .before .before .before .before .before .before .before .before .before .before .before .before .before .before .before .before .before .before .before .before .before .before .before .before .before .before .before .before .before .args .chart .now) (c .before .before .before .before .before .before .before .before .before .before .before .before .before .before .before .before .before .before .before .before .before .before .before .before .before .before .before .before .before .before .pre .1 .fits) (sym (kind-word (c .before .before .before .before .before .before .before .before .before .before .before .before .before .before .before .before .before .before .before .before .before .before .before .before .before .before .before .before .before .before .args .chart .now) (c .before .before .before .before .before .before .before .before .before .before .before .before .before .before .before .before .before .before .before .before .before .before .before .before .before .before .before .before .before .before .args .j)) ∙ c .before .before .before .before .before .before .before .before .before .before .before .before .before .before .before .before .before .before .before .before .before .before .before .before .if1 .left) (c .before .before .before .before .before .before .before .before .before .before .before .before .before .before .before .before .before .before .before .before .before .before .before .before .before .before .before .before .before .before .pre .0) (omega (arith, c .before .before .before .before .before .before .before .before .before .before .before .before .before .before .before .before .before .before .before .before .before .before .rule-count .ensures, c .before .before .before .before .before .before .before .before .before .before .before .before .before .before .before .before .before .before .before .before .before .if2 .left)) (c .before .before .before .before .before .before .before .before .before .before .before .before .before .before .before .before .before .before .before .before .rule-plan .result) (c .before .before .before .before .before .before .before .before .before .before .before .before .before .before .before .before .before .before .before .before .rule-plan .ensures) _ _ _ _ (omega (arith, c .before .before .before .before .before .before .before .before .before .before .before .before .before .before .before .before .before .if4 .left)) (c .before .before .before .before .before .before .before .before .before .before .before .before .before .before .before .before .rule-symbol .ensures) (c .before .before .before .before .before .before .before .before .before .before .before .before .before .plus .ensures)
+          (c .before .before .before .before .before .before .before .before .before .root-into .ensures ∙ ap (λ (l : List ℕ). padded (images (take (ruleNodes g (x .of)) l) (rightOf (grammarOf g) (x .of) .externals))) (part-nodes (c .before .before .before .before .before .before .before .before .before .before .before .before .before .before .before .before .before .before .before .before .before .before .before .before .before .before .before .before .before .before .args .chart .now) (c .before .before .before .before .before .before .before .before .before .before .before .before .before .before .before .before .before .before .before .before .before .before .before .before .before .before .before .before .before .before .args .j) (2 + 16 * c .before .before .before .before .before .before .before .before .before .before .before .before .before .before .before .before .before .before .before .before .before .before .before .before .before .before .before .before .before .before .args .j + 6) (2 + 16 * c .before .before .before .before .before .before .before .before .before .before .before .before .before .before .before .before .before .before .before .before .before .before .before .before .before .before .before .before .before .before .args .j + 14 - (2 + 16 * c .before .before .before .before .before .before .before .before .before .before .before .before .before .before .before .before .before .before .before .before .before .before .before .before .before .before .before .before .before .before .args .j + 6)) refl (omega arith) (item-fits (c .before .before .before .before .before .before .before .before .before .before .before .before .before .before .before .before .before .before .before .before .before .before .before .before .before .before .before .before .before .before .args .chart .now) (c .before .before .before .before .before .before .before .before .before .before .before .before .before .before .before .before .before .before .before .before .before .before .before .before .before .before .before .before .before .before .args .j) (c .before .before .before .before .before .before .before .before .before .before .before .before .before .before .before .before .before .before .before .before .before .before .before .before .before .before .before .before .before .before .pre .2 .there)))) (spelt-added _ _ (c .before .before .before .before .before .before .before .before .before .root-into .ensures) 1 (c .before .before .before .before .before .before .before .before .before .before .before .before .before .before .before .before .rule-symbol .result) 0 (x .edges) (c .before .before .before .before .before .before .before .before .before .before .before .before .before .plus .result) 0 (s .j) 0 (s .chart .now) _ (c .before .before .before .before .add .ensures .0)),
+      words-ready g (s .h .now) (s .wants .now) (s .pivots .now) (s .chart .now) (s .index .now) (c .before .before .before .before .before .before .before .before .before .before .before .before .before .before .before .before .before .before .before .before .before .before .before .before .before .before .before .before .before .before .pre .1) _ _ (c .before .before .before .before .add .ensures .1) (c .before .before .before .before .add .ensures .2 g (s .h .now) (c .before .before .before .before .before .before .before .before .before .before .before .before .before .before .before .before .before .before .before .before .before .before .before .before .before .before .before .before .before .before .pre .1 .spanned) (c .before .before .before .before .before .before .before .before .before .before .before .before .before .before .before .before .before .before .before .before .before .before .before .before .before .before .before .before .before .before .pre .2 .spans)) (spelt _ _ (c .before .before .before .before .before .before .before .before .before .root-into .ensures) 1 (c .before .before .before .before .before .before .before .before .before .before .before .before .before .before .before .before .rule-symbol .result) 0 (x .edges) (c .before .before .before .before .before .before .before .before .before .before .before .before .before .plus .result) 0 (s .j) 0) (c .before .before .before .before .add .ensures .0),
+    )
 
 pub add-root-spec : {M : Type 1} → statement M
 add-root-spec =
     tie.close
     (tie.spec
-    shared-slice-read-if1
+    mul-at
+    add-at
+    mul-if1
+    slice-read-if1
     returns
-    shared-slice-read-of
+    add-of
+    mul-of
+    slice-read-of
     rule-count-requires
     returns-2
     rule-plan-requires
-    shared-slice-read-if3
+    add-p
+    mul-p
+    slice-read-p
     returns-3
-    shared-slice-read-if4
     add-if4
     returns-4
-    sub-root-nodes
-    part-root-nodes-start
-    part-root-nodes-end
-    root-nodes-requires
     rule-symbol-requires
-    shared-slice-read-t20
-    shared-slice-read-plus
+    add-t16
+    mul-t19
+    slice-read-t14
+    add-plus
+    mul-plus
+    slice-read-plus
     plus-requires
-    array-read-t32
-    array-read-t35
-    array-read-t38
-    array-read-t41
-    array-read-t44
-    array-read-t47
-    array-read-t50
-    array-read-t53
+    add-root-into
+    add-root-into-2
+    mul-root-into
+    sub-root-into
+    part-root-into-start
+    part-root-into-end
+    sub-root-into-2
+    part-y-start
+    part-y-end
+    root-into-requires
     slice-aggregate-add
     add-requires
     same-length

@@ -1,0 +1,40 @@
+-- A shifted 1 is the set of one number.
+use lib.Bits.{bitOr}
+use Rattle.masks.specs.Masks.{_∪_}
+use Rattle.queues.specs.Queues.{withBit}
+use Rattle.queues.proofs.BitLaws.{shifted}
+use mathlib.Core.Path.{ap}
+use lib.ListN.{getD, set}
+use borrow.Author.Needs.{needs}
+use Rattle.queues.proofs.raise.Statement.{statement}
+use Rattle.queues.proofs.raise.Tie as tie
+
+mul-ws : tie.Need-mul-ws
+mul-ws c = search needs
+
+slice-read-ws : tie.Need-slice-read-ws
+slice-read-ws c = search needs
+
+cast-ws : tie.Need-cast-ws
+cast-ws c = search needs
+
+shl-ws : tie.Need-shl-ws
+shl-ws c = search needs
+
+mul-ws-2 : tie.Need-mul-ws-2
+mul-ws-2 c = search needs
+
+slice-write-ws : tie.Need-slice-write-ws
+slice-write-ws c = search needs
+
+same-length : tie.Need-same-length
+same-length c = search needs
+
+returns : tie.Need-returns
+unfolding withBit _∪_
+returns c = ap (λ x. set (c .before .args .ws .now) (c .before .args .i) (bitOr (getD (c .before .args .ws .now) (c .before .args .i) 0) x)) (shifted (c .before .args .k) (c .before .pre .2))
+
+pub raise-spec : {M : Type 1} → statement M
+raise-spec =
+    tie.close
+    (tie.spec mul-ws slice-read-ws cast-ws shl-ws mul-ws-2 slice-write-ws same-length returns)

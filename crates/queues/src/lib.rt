@@ -1,0 +1,106 @@
+// A set of numbers below 131072 in lent words: the lowest words hold the numbers as bits, and two levels of words above them
+// tell which words are not 0, so that a number comes, goes and the least is found by three words.
+ghost use mathlib.Core.Path.{_≡_};
+ghost use Prim.Native.Nat.{_+_, _≤_, _<_};
+ghost use lib.ListN.{length, getD};
+ghost use Rattle.queues.specs.Queues.{Levels, withBit, withoutBit, Inserted, Removed, Least, Started, Reached, Stepped, Cleared};
+
+// Bit k of word i is set.
+fn raise(ws: &mut [u32], i: u64, k: u64)
+    requires { ⌜ (length (now ws) ≡ 4228) × (i < 4228) × (k < 32) ⌝ }
+    ensures { λ r. ⌜ now (ws .exit) ≡ withBit (now (ws .entry)) i k ⌝ }
+{
+    ws[i as usize] = ws[i as usize] | (1u32 << k);
+}
+
+// Bit k of word i is cleared: the word that is left.
+fn lower(ws: &mut [u32], i: u64, k: u64) -> u32
+    requires { ⌜ (length (now ws) ≡ 4228) × (i < 4228) × (k < 32) ⌝ }
+    ensures { λ r. ⌜ (now (ws .exit) ≡ withoutBit (now (ws .entry)) i k) × (r ≡ getD (now (ws .exit)) i 0) ⌝ }
+{
+    let left = ws[i as usize] & !(1u32 << k);
+    ws[i as usize] = left;
+    left
+}
+
+// The number p comes into the set, and the words above it tell so.
+pub fn insert(ws: &mut [u32], p: u64)
+    requires { ⌜ (length (now ws) ≡ 4228) × (p < 131072) ⌝ }
+    ensures { λ r. ⌜ Inserted (now (ws .entry)) p (now (ws .exit)) ⌝ }
+{
+    let a = p / 32;
+    let b = a / 32;
+    raise(ws, 132 + a, p % 32);
+    raise(ws, 4 + b, a % 32);
+    raise(ws, b / 32, b % 32);
+}
+
+// The number p leaves the set. A word that is still not 0 leaves the words above it as they are.
+pub fn remove(ws: &mut [u32], p: u64)
+    requires { ⌜ (length (now ws) ≡ 4228) × (p < 131072) ⌝ }
+    ensures { λ r. ⌜ Removed (now (ws .entry)) p (now (ws .exit)) ⌝ }
+{
+    let a = p / 32;
+    if lower(ws, 132 + a, p % 32) != 0 {
+        return;
+    }
+    let b = a / 32;
+    if lower(ws, 4 + b, a % 32) != 0 {
+        return;
+    }
+    lower(ws, b / 32, b % 32);
+}
+
+// The first of the four highest words that is not 0, 4 for none.
+fn start(ws: &[u32]) -> u64
+    requires { ⌜ length (now ws) ≡ 4228 ⌝ }
+    ensures { λ r. ⌜ Started (now (ws .entry)) r ⌝ }
+{
+    if ws[0] != 0 {
+        return 0;
+    }
+    if ws[1] != 0 {
+        return 1;
+    }
+    if ws[2] != 0 {
+        return 2;
+    }
+    if ws[3] != 0 {
+        return 3;
+    }
+    4
+}
+
+// Of the words from word a on, word a + m is the first that is not 0: the first bit of them that is set.
+fn down(ws: &[u32], a: u64, m: u64) -> u64
+    requires { ⌜ (length (now ws) ≡ 4228) × (a ≤ 132) × (a + m < 4228) × Reached (now ws) a m ⌝ }
+    ensures { λ r. ⌜ Stepped (now (ws .entry)) a m r ⌝ }
+{
+    32 * m + u32::trailing_zeros(ws[(a + m) as usize]) as u64
+}
+
+// The least number of the set, 131072 where it has none: at each level the first word that is not 0 leads to the next.
+pub fn first(ws: &[u32]) -> u64
+    requires { ⌜ Levels (now ws) ⌝ }
+    ensures { λ r. ⌜ Least (now (ws .entry)) r ⌝ }
+{
+    let i = start(ws);
+    if i == 4 {
+        return 131072;
+    }
+    let j = down(ws, 0, i);
+    let k = down(ws, 4, j);
+    down(ws, 132, k)
+}
+
+// No number is in the set.
+pub fn clear(ws: &mut [u32])
+    requires { ⌜ length (now ws) ≡ 4228 ⌝ }
+    ensures { λ r. ⌜ Cleared (now (ws .exit)) ⌝ }
+{
+    let mut i: usize = 0;
+    while i < 4228 {
+        ws[i] = 0;
+        i += 1;
+    }
+}

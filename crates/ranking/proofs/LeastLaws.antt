@@ -1,0 +1,125 @@
+-- The least number of the set is that of the first waiting record of least count.
+use Prim.Native.Nat.{ℕ, zero, suc, _+_, _-_, _*_, _%_, _≤_, _<_}
+use mathlib.Core.Path.{_≡_, refl, sym, ap, _∙_}
+use mathlib.Core.List.{List}
+use mathlib.Core.Bool.{Bool, true, false, cond}
+use native.Mathlib.Omega.{arith}
+use native.Mathlib.Decide.{decLt}
+use lib.Dec.{leb}
+use lib.ListN.{length, getD}
+use borrow.Author.Tests.{eqb-true, eqb-false, le-leb, lt-leb}
+use Rattle.agenda.specs.declared.Record.{Record}
+use Rattle.agenda.specs.declared.Found.{Found}
+use Rattle.agenda.specs.declared.Found.the-variants.{At, Nowhere}
+use Rattle.agenda.specs.Records.{isHandled}
+use Rattle.agenda.specs.Consequences.{recordIn}
+use Rattle.agenda.specs.Steps.{lesser, leastWaiting}
+use Rattle.records.specs.Words.{itemCount, recordsAt, chartOf}
+use Rattle.records.proofs.WordLaws.{length-records}
+use Rattle.queues.specs.Queues.{holds, Least}
+use Rattle.ranking.specs.Ranking.{leafOf, setOf, Ranked}
+use Rattle.ranking.proofs.Leaves.{leaf-handled, leaf-waits, leaf-some}
+
+module _ (rs : List Record) where
+  abbrev Waits : ℕ → Type 0
+  Waits j = leafOf rs j ≡ 0 → ⊥
+
+  -- ---- the choice of a step: of the first n, the one of least leaf
+  data Chosen (n : ℕ) : Found → Type 0 where
+    chosen-none : ((k : ℕ) → k < n → leafOf rs k ≡ 0) → Chosen n Nowhere
+    chosen-at : (j : ℕ) → j < n → Waits j → ((k : ℕ) → k < n → Waits k → leafOf rs j ≤ leafOf rs k) → Chosen n (At j)
+
+  -- what holds of the first n and of the next
+  one-more : (P : ℕ → Type 0) (n : ℕ) → ((k : ℕ) → k < n → P k) → P n → (k : ℕ) → k < suc n → P k
+  one-more P n f x k h = go (decLt k n)
+    where
+      go : Dec (k < n) → P k
+      go (yes l) = f k l
+      go (no l) = rw (let e : k ≡ n = omega arith in e) x
+
+  chosen-handled : (n : ℕ) (f : Found) → isHandled (recordIn rs n) ≡ true → Chosen n f → Chosen (suc n) (lesser rs n f)
+  unfolding lesser
+  chosen-handled n Nowhere h (chosen-none a) = rw h (chosen-none (one-more (λ k. leafOf rs k ≡ 0) n a (leaf-handled rs n h)))
+  chosen-handled n (At j) h (chosen-at i a b c) =
+      rw h (chosen-at i (omega arith) b (one-more (λ k. Waits k → leafOf rs j ≤ leafOf rs k) n c (λ d. absurd (d (leaf-handled rs n h)))))
+
+  chosen-waits : (n : ℕ) (f : Found) → n < length rs → n < 4096 → isHandled (recordIn rs n) ≡ false → Chosen n f → Chosen (suc n) (lesser rs n f)
+  unfolding lesser
+  chosen-waits n Nowhere l m h (chosen-none a) =
+      rw h (chosen-at n (omega arith) (λ q. omega (arith, leaf-waits rs n l h)) (one-more (λ k. Waits k → leafOf rs n ≤ leafOf rs k) n (λ k b d. absurd (d (a k b))) (λ d. omega arith)))
+  chosen-waits n (At j) l m h (chosen-at i a b c) = rw h (go (decLt (recordIn rs n .count) (recordIn rs j .count)))
+    where
+      own : leafOf rs n ≡ 4096 * recordIn rs n .count + n + 1
+      own = leaf-waits rs n l h
+
+      best : leafOf rs j ≡ 4096 * recordIn rs j .count + j + 1
+      best = leaf-some rs j b .1
+
+      go : Dec (recordIn rs n .count < recordIn rs j .count) → Chosen (suc n) (cond (leb (recordIn rs j .count) (recordIn rs n .count)) (At j) (At n))
+      go (yes d) =
+          rw (lt-leb (recordIn rs j .count) (recordIn rs n .count) d)
+          (chosen-at n (omega arith) (λ q. omega (arith, own)) (one-more (λ k. Waits k → leafOf rs n ≤ leafOf rs k) n (λ k t w. omega (arith, c k t w, own, best)) (λ w. omega arith)))
+      go (no d) =
+          rw (le-leb (recordIn rs j .count) (recordIn rs n .count) (omega arith))
+          (chosen-at j (omega arith) b (one-more (λ k. Waits k → leafOf rs j ≤ leafOf rs k) n c (λ w. omega (arith, own, best))))
+
+  chosen-next : (n : ℕ) (f : Found) → n < length rs → n < 4096 → Chosen n f → Chosen (suc n) (lesser rs n f)
+  chosen-next n f l m C = go (isHandled (recordIn rs n)) refl
+    where
+      go : (t : Bool) → isHandled (recordIn rs n) ≡ t → Chosen (suc n) (lesser rs n f)
+      go true h = chosen-handled n f h C
+      go false h = chosen-waits n f l m h C
+
+  chosen : (n : ℕ) → n ≤ length rs → n ≤ 4096 → Chosen n (leastWaiting rs n)
+  unfolding leastWaiting
+  chosen zero h m = chosen-none (λ k l. absurd (omega arith))
+  chosen (suc n) h m = chosen-next n (leastWaiting rs n) (omega arith) (omega arith) (chosen n (omega arith) (omega arith))
+
+  -- ---- by the set
+  module _ (w : List ℕ) (r : ℕ) (R : Ranked w rs) (z : getD w 0 0 ≡ 0) (m : length rs ≤ 4096) (L : Least (setOf w) r) (h : r < 131072) where
+    base : ℕ
+    base = getD w 1 0
+
+    leaf-least : leafOf rs (r % 4096) ≡ 4096 * getD w 1 0 + r + 1
+    leaf-least = eqb-true _ _ (sym (R .held z r h) ∙ L .here h)
+
+    -- a waiting record has no lesser number
+    none-below : (j : ℕ) → j < 4096 → Waits j → leafOf rs j < leafOf rs (r % 4096) → ⊥
+    none-below j l d b =
+        let s = leaf-some rs j d .1 in
+        let a = R .based z j d in
+        let p = leafOf rs j - 1 - 4096 * getD w 1 0 in
+        let at : p % 4096 ≡ j = omega arith in
+        let less : p < r = omega (arith, leaf-least) in
+        eqb-false (leafOf rs (p % 4096)) (4096 * getD w 1 0 + p + 1) (sym (R .held z p (omega arith)) ∙ L .none p less) (ap (leafOf rs) at ∙ omega arith)
+
+    told : (f : Found) → Chosen (length rs) f → At (r % 4096) ≡ f
+    told Nowhere (chosen-none a) =
+        let s = leaf-some rs (r % 4096) (λ q. omega (arith, leaf-least)) in
+        absurd (omega (arith, a (r % 4096) (s .0), leaf-least))
+    told (At j) (chosen-at i a b c) =
+        let s = leaf-some rs (r % 4096) (λ q. omega (arith, leaf-least)) in
+        let t = leaf-some rs j b .1 in
+        let u = c (r % 4096) (s .0) (λ q. omega (arith, leaf-least)) in
+        ap At (go (decLt (leafOf rs j) (leafOf rs (r % 4096))) t u (s .1))
+      where
+        go : Dec (leafOf rs j < leafOf rs (r % 4096)) → leafOf rs j ≡ 4096 * recordIn rs j .count + j + 1 → leafOf rs j ≤ leafOf rs (r % 4096)
+            → leafOf rs (r % 4096) ≡ 4096 * recordIn rs (r % 4096) .count + r % 4096 + 1 → r % 4096 ≡ j
+        go (yes d) t u s = absurd (none-below j (omega arith) b d)
+        go (no d) t u s = omega arith
+
+    pub least-held : At (r % 4096) ≡ leastWaiting rs (length rs)
+    least-held = told (leastWaiting rs (length rs)) (chosen (length rs) (omega arith) m)
+
+-- ---- the records looked through
+pub least-all : (w : List ℕ) (n : ℕ) (r : Found) → n ≡ itemCount w → r ≡ leastWaiting (recordsAt w n) n → r ≡ leastWaiting (chartOf w .records) (length (chartOf w .records))
+unfolding chartOf
+least-all w n r e q = q ∙ ap (λ k. leastWaiting (recordsAt w k) k) e ∙ ap (leastWaiting (recordsAt w (itemCount w))) (sym (length-records w (itemCount w)))
+
+pub least-told : (w : List ℕ) (n : ℕ) (r f : Found) → r ≡ f → n ≡ itemCount w → r ≡ leastWaiting (recordsAt w n) n → f ≡ leastWaiting (chartOf w .records) (length (chartOf w .records))
+least-told w n r f e q p = sym e ∙ least-all w n r q p
+
+-- as many as the words say
+pub few : (w : List ℕ) → length (chartOf w .records) ≤ 4096 → itemCount w ≤ 4096
+unfolding chartOf
+few w h = omega (arith, length-records w (itemCount w))
