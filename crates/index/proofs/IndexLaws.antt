@@ -17,8 +17,8 @@ use Rattle.records.specs.Words.{itemCount, recordAt, recordsAt, chartOf}
 use Rattle.records.proofs.WordLaws.{length-records}
 use Rattle.chains.specs.Chains.{bucketOf, Chained, Cleared, linked}
 use Rattle.chains.proofs.ChainLaws.{chained-more, chained-improved, chained-handled}
-use Rattle.ranking.specs.Ranking.{playerOf, leafOf, Ranked, Replaces}
-use Rattle.ranking.proofs.Leaves.{leaf-past, leaf-handled, waiting-leaf, appended-leaf, improved-leaf, handled-leaf}
+use Rattle.ranking.specs.Ranking.{orderOf, orderAt, Ranked, Replaces}
+use Rattle.ranking.proofs.Orders.{order-past, order-handled, waiting-order, appended-order, improved-order, handled-order}
 use Rattle.ranking.proofs.SetLaws.{ranked-still}
 use Rattle.lists.specs.Lists.{Listed, Unlisted, Ready, Within, enteredAll}
 use Rattle.lists.proofs.ListLaws.{listed-none, listed-ready, listed-entered-all}
@@ -293,18 +293,18 @@ module _ (wants pivots ix listed links ranks : List ℕ) (n b : ℕ) (x : Record
   not-not true = refl
   not-not false = refl
 
-  leaf : Replaces n (playerOf (eqb (x .handled) 0) n (x .count)) rs (rs ++ (x ∷ []))
-  leaf =
-      subst (λ k. Replaces k (playerOf (eqb (x .handled) 0) k (x .count)) rs (rs ++ (x ∷ []))) (sym e)
-      (subst (λ (t : Bool). Replaces (length rs) (playerOf t (length rs) (x .count)) rs (rs ++ (x ∷ []))) (not-not (eqb (x .handled) 0)) (appended-leaf rs x))
+  order : Replaces n (orderOf (eqb (x .handled) 0) n (x .count)) rs (rs ++ (x ∷ []))
+  order =
+      subst (λ k. Replaces k (orderOf (eqb (x .handled) 0) k (x .count)) rs (rs ++ (x ∷ []))) (sym e)
+      (subst (λ (t : Bool). Replaces (length rs) (orderOf t (length rs) (x .count)) rs (rs ++ (x ∷ []))) (not-not (eqb (x .handled) 0)) (appended-order rs x))
 
   pub entered : listed ≡ listedWith wants pivots ix n x → b ≡ bucketOf x → links ≡ linked (linksOf listed) n b
-      → (Ranked (ranksOf (put 0 8192 listed links)) rs → leafOf rs n ≡ 0 → Replaces n (playerOf (eqb (x .handled) 0) n (x .count)) rs (rs ++ (x ∷ [])) → Ranked ranks (rs ++ (x ∷ [])))
+      → (Ranked (ranksOf (put 0 8192 listed links)) rs → orderAt rs n ≡ 0 → Replaces n (orderOf (eqb (x .handled) 0) n (x .count)) rs (rs ++ (x ∷ [])) → Ranked ranks (rs ++ (x ∷ [])))
       → Indexed wants pivots (put 8192 8192 (put 0 8192 listed links) ranks) (rs ++ (x ∷ []))
   entered o p q f =
       let K = keyed o in
       let c = longer (K .1) p q in
-      indexed-both wants pivots listed links ranks (rs ++ (x ∷ [])) (K .0) c (f (rw (links-ranks listed links (K .0 .size) (c .words), K .1 .ranks) (I .ranked)) (leaf-past rs n (omega arith)) leaf)
+      indexed-both wants pivots listed links ranks (rs ++ (x ∷ [])) (K .0) c (f (rw (links-ranks listed links (K .0 .size) (c .words), K .1 .ranks) (I .ranked)) (order-past rs n (omega arith)) order)
 
   pub entered-near : listed ≡ listedWith wants pivots ix n x → length links ≡ 8192 → length ranks ≡ 8192 → NearKept ix (put 8192 8192 (put 0 8192 listed links) ranks)
   entered-near o p q =
@@ -329,12 +329,12 @@ module _ (ix ranks : List ℕ) (j : ℕ) (wants pivots : List ℕ) (rs : List Re
       at z k h (no e) = ap (regularOf pivots) (getD-set-other rs j k y noRecord e) ∙ I .regular z k h
 
   pub recounted : (x : Record) (old n : ℕ) → isHandled (recordIn rs j) ≡ false → old ≡ recordIn rs j .count → n ≡ x .count
-      → (Ranked (ranksOf ix) rs → leafOf rs j ≡ playerOf true j old → Replaces j (playerOf true j n) rs (set rs j (improved (recordIn rs j) x)) → Ranked ranks (set rs j (improved (recordIn rs j) x)))
+      → (Ranked (ranksOf ix) rs → orderAt rs j ≡ orderOf true j old → Replaces j (orderOf true j n) rs (set rs j (improved (recordIn rs j) x)) → Ranked ranks (set rs j (improved (recordIn rs j) x)))
       → Indexed wants pivots (put 8192 8192 ix ranks) (set rs j (improved (recordIn rs j) x))
   recounted x old n h o e f =
       let y = recordIn rs j in
       indexed-ranks wants pivots ix ranks (set rs j (improved y x)) (keyed-set (improved y x) (improved-keys wants pivots y x) (improved-regular pivots y x))
-      (chained-improved (linksOf ix) rs j x (I .chained)) (f (I .ranked) (waiting-leaf rs j old l h o) (rw e (improved-leaf rs j x l h)))
+      (chained-improved (linksOf ix) rs j x (I .chained)) (f (I .ranked) (waiting-order rs j old l h o) (rw e (improved-order rs j x l h)))
 
   -- handled, with the ranking given for it
   handled-by : Ranked ranks (set rs j (handledNow (recordIn rs j))) → Indexed wants pivots (put 8192 8192 ix ranks) (set rs j (handledNow (recordIn rs j)))
@@ -343,16 +343,16 @@ module _ (ix ranks : List ℕ) (j : ℕ) (wants pivots : List ℕ) (rs : List Re
       indexed-ranks wants pivots ix ranks (set rs j (handledNow y)) (keyed-set (handledNow y) (handled-keys wants pivots y) (handled-regular pivots y)) (chained-handled (linksOf ix) rs j (I .chained)) r
 
   pub settled : (n : ℕ) → isHandled (recordIn rs j) ≡ false → n ≡ recordIn rs j .count
-      → (Ranked (ranksOf ix) rs → leafOf rs j ≡ playerOf true j n → Replaces j 0 rs (set rs j (handledNow (recordIn rs j))) → Ranked ranks (set rs j (handledNow (recordIn rs j))))
+      → (Ranked (ranksOf ix) rs → orderAt rs j ≡ orderOf true j n → Replaces j 0 rs (set rs j (handledNow (recordIn rs j))) → Ranked ranks (set rs j (handledNow (recordIn rs j))))
       → Indexed wants pivots (put 8192 8192 ix ranks) (set rs j (handledNow (recordIn rs j)))
-  settled n h e f = handled-by (f (I .ranked) (waiting-leaf rs j n l h e) (handled-leaf rs j l))
+  settled n h e f = handled-by (f (I .ranked) (waiting-order rs j n l h e) (handled-order rs j l))
 
   -- .. of a record that is handled already
   pub settled-still : isHandled (recordIn rs j) ≡ true → Indexed wants pivots ix (set rs j (handledNow (recordIn rs j)))
   settled-still h =
       let y = recordIn rs j in
       indexed-by wants pivots ix (set rs j (handledNow y)) (keyed-set (handledNow y) (handled-keys wants pivots y) (handled-regular pivots y)) (chained-handled (linksOf ix) rs j (I .chained))
-      (ranked-still (ranksOf ix) j rs (set rs j (handledNow y)) (I .ranked) (leaf-handled rs j h) (handled-leaf rs j l))
+      (ranked-still (ranksOf ix) j rs (set rs j (handledNow y)) (I .ranked) (order-handled rs j h) (handled-order rs j l))
 
 -- ---- the ranking is made anew of the same records
 pub reranked : (wants pivots ix ranks : List ℕ) (rs : List Record) → Ranked ranks rs → Indexed wants pivots ix rs → Indexed wants pivots (put 8192 8192 ix ranks) rs

@@ -36,9 +36,10 @@ fn list(wants: &[u64; 1024], pivots: &[u64; 1088], index: &mut [u32], n: u64, x:
     requires { ⌜ (length (now index) ≡ indexWords) × Ready (listsOf (now index)) × (n < 4096) × (length (now x) ≡ 16) ⌝ }
     ensures { λ r. ⌜ now (index .exit) ≡ listedWith (now (wants .entry)) (now (pivots .entry)) (now (index .entry)) n (ofWords (now (x .entry))) ⌝ }
 {
-    let keys = pivots::keys(wants, pivots, x);
+    let listing = pivots::listing(wants, pivots, x);
+    let keys = listing.keys;
     lists::enter_all(&mut index[LISTS..MARK], 5 * n, keys);
-    if pivots::regular(pivots, x) {
+    if listing.regular {
         return;
     }
     index[MARK] = 1;
@@ -146,7 +147,7 @@ pub fn passed(index: &[u32], cs: [u64; 5], k: u64) -> [u64; 5]
 }
 
 // Whether the record at place k makes nothing with what has these edges: it has one of them, or it is not handled.
-fn quiet(chart: &[u64], edges: u64, k: u64) -> bool
+pub fn quiet(chart: &[u64], edges: u64, k: u64) -> bool
     requires { ⌜ (k < itemCount (now chart)) × (k < 4096) ⌝ }
     ensures { λ r. ⌜ r ≡ quietIn (now (chart .entry)) edges k ⌝ }
 {

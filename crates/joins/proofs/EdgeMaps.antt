@@ -21,7 +21,7 @@ use Rattle.questions.proofs.StoredLaws.{getD-tabulate}
 use Rattle.questions.proofs.WellFormedLists.{tabulate-list}
 use Rattle.questions.proofs.WellFormedLent.{checked-grammar-ok}
 use Rattle.questions.proofs.WellFormedAccepted.{rule-is, edge-is}
-use Rattle.joins.specs.Joins.{KnownEdge, edgeNodes}
+use Rattle.joins.specs.Joins.{KnownEdge, edgeNodes, BareFrom}
 use Rattle.joins.proofs.Known.{rule-ok, right-nodes, right-edges, nodes-few}
 
 -- ---- maps in eight places
@@ -38,6 +38,16 @@ at-past f x h = List·getD-eq-default f unplaced h
 
 pub is-padded : (f F : List ℕ) → length f ≡ 8 → ((x : ℕ) → x < 8 → at f x ≡ at F x) → f ≡ padded F
 is-padded f F size same = ext-getD unplaced f (padded F) (size ∙ sym (length-padded F)) (λ x h. same x (omega (arith, h, size)) ∙ sym (at-padded F x (omega (arith, h, size))))
+
+pub padded-bare : (n : ℕ) (f : List ℕ) → length f ≤ n → BareFrom n (padded f)
+padded-bare n f few = record { past = λ x h. go x h (decLt x 8) }
+  where
+    go : (x : ℕ) → n ≤ x → Dec (x < 8) → at (padded f) x ≡ unplaced
+    go x h (yes d) = at-padded f x d ∙ at-past f x (omega arith)
+    go x h (no d) = at-past (padded f) x (omega (arith, length-padded f))
+
+pub same-bare : (n m : ℕ) (t u : List ℕ) → n ≡ m → t ≡ u → BareFrom m u → BareFrom n t
+same-bare n m t u e s bare = record { past = λ x h. ap (λ (t : List ℕ). at t x) s ∙ bare .past x (omega arith) }
 
 -- ---- words one by one
 pub as-words : (n : ℕ) (l : List ℕ) → length l ≡ n → tabulate n (λ k. getD l k 0) ≡ l

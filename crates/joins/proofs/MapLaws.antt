@@ -2,15 +2,16 @@
 use mathlib.Core.Path.{_≡_, refl, sym, ap, ap₂, _∙_}
 use mathlib.Core.Bool.{Bool, true, false, _&&_, _||_, not, false≢true, and-false}
 use mathlib.Core.List.{List, [], _∷_}
-use Prim.Native.Nat.{ℕ, zero, suc, _+_, _≤_, _<_, min}
+use Prim.Native.Nat.{ℕ, zero, suc, _+_, _/_, _%_, _^_, _≤_, _<_, min}
 use native.Mathlib.Omega.{arith}
 use native.Mathlib.Decide.{decLt}
 use lib.ListN.{length, getD, set, take, replicate, length-set}
-use lib.Seq.{getD-set-same, getD-set-other, getD-take, take-length, length-take-le, ext-getD}
+use lib.Seq.{getD-set-same, getD-set-other, take-length}
 use lib.Dec.{eqb, leb, ltb}
+use lib.Pow.{shr-shr}
 use borrow.Author.Tests.{lt-ltb, le-leb, lt-leb, ltb-true, ltb-false, eq-eqb, ne-eqb, eqb-true, eqb-false, not-true, not-false}
 use lib.Bits.{bitAnd, bitOr}
-use Rattle.masks.specs.Masks.{member, full, _∪_, Added, Found, Filled}
+use Rattle.masks.specs.Masks.{bit, member, full, _∪_, Added, Found, Filled}
 use Rattle.masks.specs.Laws.{true-member, nonempty, member-union, member-full}
 use Rattle.hrg.specs.Counts.{hit, occurs, tabulate}
 use Rattle.hrg.specs.Trees.{unplaced, at, padded}
@@ -21,7 +22,7 @@ use Rattle.hrg.proofs.Sums.{hit-self, hit-ne, length-tabulate, at-tabulate, occ
 use Rattle.hrg.proofs.Degrees.{and-true}
 use Rattle.hrg.proofs.WellFormedTest.{every-false}
 use Rattle.joins.specs.declared.Merged.{Merged}
-use Rattle.joins.specs.Joins.{NodesIn, openBy, openJoined, lostAt, noneLost, Merges}
+use Rattle.joins.specs.Joins.{NodesIn, openBy, BareFrom, openJoined, lostAt, noneLost, Merges}
 use Rattle.joins.proofs.PlanMasks.{member-none, some-sum, some-hit}
 use Rattle.joins.proofs.EdgeMaps.{at-past, is-padded, at-none}
 use Rattle.joins.proofs.Touching.{member-both}
@@ -133,15 +134,13 @@ over-next t k i v f h e p = record {
     go x l (yes d) = getD-set-other f i x v unplaced (λ s. omega arith) ∙ p .before x d
     go x l (no d) = let s : x ≡ i = omega arith in rw s (getD-set-same f i v unplaced (omega (arith, p .size)) ∙ e)
 
--- its first n places, and none from there on
-pub over-all : (t : ℕ → ℕ) (k : List ℕ) (n i : ℕ) (f : List ℕ) → n ≤ 8 → n ≤ i → Over t k i f → padded (take n f) ≡ padded (tabulate n t)
-over-all t k n i f few b p = ap padded (ext-getD unplaced (take n f) (tabulate n t) (long ∙ sym (length-tabulate n t)) (λ x h. go x (omega (arith, long))))
+-- all n places, where the other map has none from there on
+pub over-all : (t : ℕ → ℕ) (k : List ℕ) (n i : ℕ) (f : List ℕ) → BareFrom n k → i ≤ n → n ≤ i → Over t k i f → f ≡ padded (tabulate n t)
+over-all t k n i f bare a b p = is-padded f (tabulate n t) (p .size) (λ x h. go x (decLt x n))
   where
-    long : length (take n f) ≡ n
-    long = length-take-le n f (omega (arith, p .size))
-
-    go : (x : ℕ) → x < n → at (take n f) x ≡ at (tabulate n t) x
-    go x d = getD-take n f x unplaced d ∙ p .before x (omega arith) ∙ sym (at-tabulate n t x d)
+    go : (x : ℕ) → Dec (x < n) → at f x ≡ at (tabulate n t) x
+    go x (yes d) = p .before x (omega arith) ∙ sym (at-tabulate n t x d)
+    go x (no d) = p .after x (omega arith) ∙ bare .past x (omega arith) ∙ sym (at-past (tabulate n t) x (omega (arith, length-tabulate n t)))
 
 -- two maps as one
 module _ (f k : List ℕ) (size : length f ≡ 8) (size′ : length k ≡ 8) where
@@ -203,6 +202,17 @@ pub once-all : (nodes : ℕ) (j : List ℕ) (i seen : ℕ) → i ≡ length j �
 unfolding oneToOne
 once-all nodes j i seen e o =
     sym (every-true nodes (λ v. leb (occurs v j) 1) (λ v l. le-leb (occurs v j) 1 (rw (e, take-length j) at (o .once v l))))
+
+-- ---- a set that is halved each turn
+pub low-member : (m i rest : ℕ) → rest ≡ m / 2 ^ i → Found m i (eqb (rest % 2) 1)
+unfolding member bit
+low-member m i rest e = record { value = ap (λ r. eqb (r % 2) 1) e }
+
+pub halved-none : (m : ℕ) → m ≡ m / 2 ^ 0
+halved-none m = omega arith
+
+pub halved-next : (m i rest : ℕ) → rest ≡ m / 2 ^ i → rest / 2 ≡ m / 2 ^ (i + 1)
+halved-next m i rest e = ap (λ r. r / 2) e ∙ shr-shr m i 1
 
 -- ---- two maps joined and closed in one pass
 pub record Joining (n nodes stays : ℕ) (table : List ℕ) (m : ℕ) (f k t : List ℕ) (seen images i : ℕ) : Type 0 where
@@ -341,7 +351,7 @@ module _ (n nodes stays : ℕ) (table : List ℕ) (m : ℕ) (f k : List ℕ) (si
         (sym (and-false merged) ∙ ap (λ b. merged && b) (every-false n (λ x. not (lostAt stays table m f k x)) i h (ap not (lost-is here stay c e ∙ fails))))
 
     pub joining-next : ((ltb a 64 && ltb b 64 && not (eqb a b)) || again) ≡ false → (here : Bool) → Found stays i here → (c : Bool) → c ≡ (not here && openBy table m v) → c ≡ false → (w : ℕ) → w ≡ keepIf here v
-        → (part : ℕ) → ((x : ℕ) → member part x ≡ (member stays i && member on x)) → Joining n nodes stays table m f k (set t i w) (bitOr seen on) (bitOr images part) (i + 1)
+        → (part : ℕ) → ((x : ℕ) → member part x ≡ (here && member on x)) → Joining n nodes stays table m f k (set t i w) (bitOr seen on) (bitOr images part) (i + 1)
     joining-next passes here stay c e stuck w is part chosen =
         let (p, q) = either-false (ltb a 64 && ltb b 64 && not (eqb a b)) again passes in
         let there : w ≡ keepIf (member stays i) (orElse (at f i) (at k i)) = is ∙ ap₂ keepIf (stay .value) image in
@@ -355,7 +365,7 @@ module _ (n nodes stays : ℕ) (table : List ℕ) (m : ℕ) (f k : List ℕ) (si
           kept =
               seen-next (openJoined n stays f k) i w images (bitOr images part) long
               (there ∙ sym (at-tabulate n (λ x. keepIf (member stays x) (orElse (at f x) (at k x))) i h) ∙ getD-any (openJoined n stays f k) i unplaced 0 long)
-              (λ x l. gains-open images v on stays i part added chosen x l ∙ ap (λ u. member images x || eqb x u) open-is) (o .kept);
+              (λ x l. gains-open images v on stays i part added (λ x. chosen x ∙ ap (λ b. b && member on x) (stay .value)) x l ∙ ap (λ u. member images x || eqb x u) open-is) (o .kept);
           closed = λ z l. go z l (decLt z i);
         }
       where
@@ -363,17 +373,17 @@ module _ (n nodes stays : ℕ) (table : List ℕ) (m : ℕ) (f k : List ℕ) (si
         go z l (yes d) = o .closed z d
         go z l (no d) = let same : z ≡ i = omega arith in ap (lostAt stays table m f k) same ∙ lost-is here stay c e ∙ stuck
 
-  pub joining-all : (t : List ℕ) (seen images i : ℕ) → n ≤ i → Joining n nodes stays table m f k t seen images i → (made : List ℕ) → made ≡ padded (take n t)
-      → Merges n nodes stays table m f k made (record { ok = true; seen = seen; images = images })
+  pub joining-all : BareFrom n k → (t : List ℕ) (seen images i : ℕ) → n ≤ i → Joining n nodes stays table m f k t seen images i
+      → Merges n nodes stays table m f k t (record { ok = true; seen = seen; images = images })
   unfolding noneLost
-  joining-all t seen images i h o made e′ =
+  joining-all bare t seen images i h o =
       let e : i ≡ n = omega (arith, o .few) in
       record {
         test =
             ap₂ _&&_
             (ap₂ _&&_ (agree-all f k size size′ n i h (o .agreed)) (once-all nodes (joined n f k) i seen (e ∙ sym (length-joined n f k)) (o .once)))
             (sym (every-true n (λ x. not (lostAt stays table m f k x)) (λ x l. ap not (o .closed x (omega arith)))));
-        map = λ p. e′ ∙ over-all (λ x. keepIf (member stays x) (orElse (at f x) (at k x))) k n i t few h (o .placed);
+        map = λ p. over-all (λ x. keepIf (member stays x) (orElse (at f x) (at k x))) k n i t bare (o .few) h (o .placed);
         seen = λ p. seen-all (joined n f k) i seen (e ∙ sym (length-joined n f k)) (o .once .seen);
         images = λ p. seen-all (openJoined n stays f k) i images (e ∙ sym (length-tabulate n (λ x. keepIf (member stays x) (orElse (at f x) (at k x))))) (o .kept);
       }

@@ -2,14 +2,14 @@
 use mathlib.Core.Path.{_≡_}
 use mathlib.Core.Bool.{Bool, true, false, _&&_, _||_, not}
 use mathlib.Core.List.{List, [], _∷_}
-use Prim.Native.Nat.{ℕ, zero, suc, _+_, _-_, _^_, _<_}
+use Prim.Native.Nat.{ℕ, zero, suc, _+_, _-_, _^_, _≤_, _<_}
 use lib.ListN.{getD}
 use lib.Bits.{bitOr, bitAnd}
 use lib.Dec.{eqb, ltb}
 use Rattle.masks.specs.Masks.{member, _∪_}
 use Rattle.hrg.specs.Counts.{occurs, tabulate}
 use Rattle.hrg.specs.Grammars.{ruleOf, rightOf, planOf, edgeAt}
-use Rattle.hrg.specs.Trees.{at, padded}
+use Rattle.hrg.specs.Trees.{unplaced, at, padded}
 use Rattle.hrg.specs.Items.{Item, active, below, isOpen, isOpenAt, orElse, joined, keepIf}
 use Rattle.hrg.specs.WellFormedTest.{every}
 use Rattle.hrg.specs.ClosureRun.{agree, oneToOne}
@@ -105,6 +105,10 @@ openBy t m v =
 -- the nodes of edge i of rule r
 abbrev pub edgeNodes : List ℕ → ℕ → ℕ → List ℕ
 edgeNodes g r i = edgeAt (rightOf (grammarOf g) r .edges) i .attachment
+
+-- no place of t from n on has an image
+pub record BareFrom (n : ℕ) (t : List ℕ) : Type 0 where
+  pub past : (x : ℕ) → n ≤ x → at t x ≡ unplaced
 
 -- ---- what two sets and maps make
 -- two maps of n nodes as one, without the nodes that are not in the set `stays`

@@ -26,7 +26,7 @@ fn edge_sets(g: &[u64], h: &[u64]) -> [u64; 64]
 }
 
 // The set `on` where k is in v, else none.
-pub(crate) fn chosen(v: u64, k: u64, on: u64) -> u64
+fn chosen(v: u64, k: u64, on: u64) -> u64
     ensures { λ m. ⌜ ((x : ℕ) → member m x ≡ (member v k && member on x)) ⌝ }
 {
     if masks::has(v, k) {

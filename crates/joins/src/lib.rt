@@ -4,7 +4,7 @@ ghost use mathlib.Core.Bool.{true, false, _&&_, not};
 ghost use mathlib.Core.List.{List};
 ghost use Prim.Native.Nat.{ℕ, _+_, _*_, _≤_, _<_};
 ghost use lib.ListN.{length, take, replicate};
-ghost use Rattle.masks.specs.Masks.{single, _∪_};
+ghost use Rattle.masks.specs.Masks.{member, single, _∪_};
 ghost use Rattle.hrg.specs.Trees.{unplaced, padded};
 ghost use Rattle.hrg.specs.Counts.{tabulate};
 ghost use Rattle.hrg.specs.Grammars.{ruleOf};
@@ -13,7 +13,7 @@ ghost use Rattle.hrg.specs.ClosureRun.{covering, combine};
 ghost use Rattle.questions.specs.Layout.{word, rankAt, startSymbol, ruleSymbol, ruleNodes, ruleExternal, edgeLabel, graphEdges, graphExternal};
 ghost use Rattle.questions.specs.Checking.{checkGrammar};
 ghost use Rattle.questions.specs.Abstract.{grammarOf, graphOf};
-ghost use Rattle.joins.specs.Joins.{KnownNode, KnownEdge, Accepted, EdgesBelow, MasksBelow, NodesIn, sideWith, SidesOf, Boundary, OpenAt, OpenIn, Spans, Keeps, edgeNodes, openBy, Merges, Makes};
+ghost use Rattle.joins.specs.Joins.{KnownNode, KnownEdge, Accepted, EdgesBelow, MasksBelow, NodesIn, sideWith, SidesOf, Boundary, OpenAt, OpenIn, Spans, Keeps, edgeNodes, openBy, BareFrom, Merges, Makes};
 ghost use Rattle.joins.specs.Graphs.{GraphTable, Touched};
 
 pub mod graphs;
@@ -201,7 +201,7 @@ pub fn clear(t: &mut [u64])
 }
 
 // None from place n on.
-fn clear_from(n: u64, t: &mut [u64])
+pub fn clear_from(n: u64, t: &mut [u64])
     requires { ⌜ (n ≤ 8) × (length (now t) ≡ 8) ⌝ }
     ensures { λ x. ⌜ now (t .exit) ≡ padded (take n (now (t .entry))) ⌝ }
 {
@@ -243,6 +243,16 @@ fn lost(graph: &[u64; 577], m: u64, stays: bool, v: u64) -> bool
     (on & m != 0) & (masks::has(graph[256], v) | (on & !m != 0))
 }
 
+// The set `on` where `here` holds, else none.
+fn when(here: bool, on: u64) -> u64
+    ensures { λ m. ⌜ ((x : ℕ) → member m x ≡ (here && member on x)) ⌝ }
+{
+    if here {
+        return on;
+    }
+    0
+}
+
 // Of two maps that are made one: whether they agree, are one-to-one together and drop no open graph node, the images of all nodes, and those of the open ones.
 struct Merged {
     ok: bool,
@@ -260,8 +270,8 @@ fn not_merged() -> Merged
     }
 }
 
-// Two maps of n rule nodes to `nodes` graph nodes as one without the closed nodes, in one pass: the rule nodes in `stays` are open. The set of an image is made once and serves each test.
-// The second map is t's, and the joined one is put over it: places are written where they are read, so that nothing is copied.
+// Two maps of n rule nodes to `nodes` graph nodes as one without the closed nodes, in one pass: the rule nodes in `stays` are open. The set of an image is made once and serves each test; `rest` is halved each turn, so that its lowest bit says whether the node stays.
+// The second map is t's, and the joined one is put over it: places are written where they are read, so that nothing is copied. From n on it has no images, and keeps none.
 fn merge_maps(
     n: u64,
     nodes: u64,
@@ -271,10 +281,11 @@ fn merge_maps(
     f: &[u64],
     t: &mut [u64],
 ) -> Merged
-    requires { ⌜ (n ≤ 8) × (nodes ≤ 64) × (length (now f) ≡ 8) × (length (now t) ≡ 8) ⌝ }
+    requires { ⌜ (n ≤ 8) × (nodes ≤ 64) × (length (now f) ≡ 8) × (length (now t) ≡ 8) × BareFrom n (now t) ⌝ }
     ensures { λ x. ⌜ Merges n nodes stays (now (graph .entry)) m (now (f .entry)) (now (t .entry)) (now (t .exit)) x ⌝ }
 {
     let known = masks::full(nodes);
+    let mut rest = stays;
     let mut seen: u64 = 0;
     let mut images: u64 = 0;
     let mut i: u64 = 0;
@@ -286,16 +297,16 @@ fn merge_maps(
         if ((a < 64) & (b < 64) & (a != b)) | (seen & on & known != 0) {
             return not_merged();
         }
-        let here = masks::has(stays, i);
+        let here = rest % 2 == 1;
         if lost(graph, m, here, v) {
             return not_merged();
         }
         seen |= on;
         t[i as usize] = maps::kept(here, v);
-        images |= graphs::chosen(stays, i, on);
+        images |= when(here, on);
+        rest /= 2;
         i += 1;
     }
-    clear_from(n, t);
     Merged {
         ok: true,
         seen,
@@ -353,7 +364,7 @@ pub fn combine(
     f: &[u64],
     t: &mut [u64],
 ) -> Joined
-    requires { ⌜ Accepted (now g) (now h) × KnownNode (now g) r q × GraphTable (now g) (now h) (now graph) × OpenAt (now g) r q stays × Spans (now g) (now h) m1 near × Spans (now g) (now h) m2 near × (length (now f) ≡ 8) × (length (now t) ≡ 8) ⌝ }
+    requires { ⌜ Accepted (now g) (now h) × KnownNode (now g) r q × GraphTable (now g) (now h) (now graph) × OpenAt (now g) r q stays × Spans (now g) (now h) m1 near × Spans (now g) (now h) m2 near × (length (now f) ≡ 8) × (length (now t) ≡ 8) × BareFrom (ruleNodes (now g) r) (now t) ⌝ }
     ensures { λ x. ⌜ Makes (now (g .entry)) (now (h .entry)) (combine (graphOf (now (g .entry)) (now (h .entry))) (ruleOf (grammarOf (now (g .entry))) r) r q m1 m2 (take (ruleNodes (now (g .entry)) r) (now (f .entry))) (take (ruleNodes (now (g .entry)) r) (now (t .entry)))) r q (m1 ∪ m2) (now (t .exit)) x ⌝ }
 {
     if !masks::disjoint(m1, m2) {

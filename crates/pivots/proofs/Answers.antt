@@ -13,7 +13,7 @@ use Rattle.records.specs.Words.{ofWords}
 use Rattle.rules.specs.Wants.{wantIn}
 use Rattle.pivots.specs.Pivots.{positionOf, nodeOf, pivotIn, usesIn}
 use Rattle.pivots.specs.Keys.{bucketOf, imageOf, activeKey, placeKey, fiveKeys, placeOf, nodeAt, listedKeys, keysOf, queryOf, allPlaced, regularOf}
-use Rattle.pivots.proofs.KeyLaws.{key-edge, key-join, key-none, image-there, image-none, node-there, node-none, listed-one, listed-all}
+use Rattle.pivots.proofs.KeyLaws.{key-edge, key-join, key-none, image-there, image-none, node-there, node-none, listed-one, listed-all, placed-only}
 
 -- ---- words of a record
 node-word : (x : List ℕ) (v : ℕ) → v < 8 → getD x (6 + v) 0 ≡ at (ofWords x .nodes) v
@@ -35,33 +35,16 @@ image-no w f h = sym (image-none w f h)
 pub image-read : (w : ℕ) (x : List ℕ) → nodeOf w < 8 → getD x (6 + nodeOf w) 0 ≡ imageOf w (ofWords x .nodes)
 image-read w x h = node-word x (nodeOf w) h ∙ sym (image-there w (ofWords x .nodes) h)
 
-module _ (pivots : List ℕ) (tag want p : ℕ) (x : List ℕ) where
-  abbrev own : ℕ
-  own = pivotIn pivots (ofWords x .of) (ofWords x .plan)
+-- of an active record, where a is the image of its pivot w
+module _ (tag want w a r p : ℕ) (f : List ℕ) (is : a ≡ imageOf w f) where
+  pub unwanting : want ≡ 80 → 0 ≡ activeKey tag want w r p f
+  unwanting e = sym (key-none tag want w r p f e)
 
-  abbrev key : ℕ
-  key = activeKey tag want own (ofWords x .of) p (ofWords x .nodes)
+  pub edge-key : (k : ℕ) → want < 64 → k ≡ bucketOf tag want (positionOf w) a → k ≡ activeKey tag want w r p f
+  edge-key k h e = e ∙ ap (bucketOf tag want (positionOf w)) is ∙ sym (key-edge tag want w r p f h)
 
-  pub unwanting : want ≡ 80 → 0 ≡ key
-  unwanting e = sym (key-none tag want own (ofWords x .of) p (ofWords x .nodes) e)
-
-  module _ (w a k : ℕ) (pivot : w ≡ pivotIn pivots (getD x 1 0) (getD x 2 0)) (is : a ≡ imageOf w (ofWords x .nodes)) where
-    own-is : w ≡ own
-    unfolding ofWords
-    own-is = pivot
-
-    image-is : a ≡ imageOf own (ofWords x .nodes)
-    image-is = is ∙ ap (λ w. imageOf w (ofWords x .nodes)) own-is
-
-    pub edge-key : want < 64 → k ≡ bucketOf tag want (positionOf w) a → k ≡ key
-    edge-key h e = e ∙ ap₂ (λ w a. bucketOf tag want (positionOf w) a) own-is image-is ∙ sym (key-edge tag want own (ofWords x .of) p (ofWords x .nodes) h)
-
-    rule-is : getD x 1 0 ≡ ofWords x .of
-    unfolding ofWords
-    rule-is = refl
-
-    pub join-key : (want ≡ 80 → ⊥) → 64 ≤ want → k ≡ bucketOf 3 (getD x 1 0) p a → k ≡ key
-    join-key n h e = e ∙ ap₂ (λ r a. bucketOf 3 r p a) rule-is image-is ∙ sym (key-join tag want own (ofWords x .of) p (ofWords x .nodes) h n)
+  pub join-key : (k : ℕ) → (want ≡ 80 → ⊥) → 64 ≤ want → k ≡ bucketOf 3 r p a → k ≡ activeKey tag want w r p f
+  join-key k n h e = e ∙ ap (bucketOf 3 r p) is ∙ sym (key-join tag want w r p f h n)
 
 module _ (used tag s i a : ℕ) where
   pub place-unused : used ≡ 0 → 0 ≡ placeKey used tag s i a
@@ -123,17 +106,21 @@ module _ (wants pivots x : List ℕ) where
   unfolding queryOf ofWords
   query-passive ks n e = rw (ne-eqb (getD x 0 0) 0 n) e
 
-  module _ (active : getD x 0 0 ≡ 0) (want key : ℕ) (is : want ≡ wantIn wants (getD x 1 0) (getD x 2 0)) where
-    abbrev key-for : ℕ → ℕ → ℕ → ℕ
-    key-for tag want p = activeKey tag want (pivotIn pivots (ofWords x .of) (ofWords x .plan)) (ofWords x .of) p (ofWords x .nodes)
+  module _ (active : getD x 0 0 ≡ 0) (want w a key : ℕ) (is : want ≡ wantIn wants (getD x 1 0) (getD x 2 0)) (pivot : w ≡ pivotIn pivots (getD x 1 0) (getD x 2 0)) (image : a ≡ imageOf w (ofWords x .nodes)) where
+    abbrev key-for : ℕ → ℕ → ℕ → ℕ → ℕ
+    key-for tag want w p = activeKey tag want w (getD x 1 0) p (ofWords x .nodes)
 
-    pub keys-active : key ≡ key-for 2 want (getD x 2 0) → (key ∷ 0 ∷ 0 ∷ 0 ∷ 0 ∷ []) ≡ keysOf wants pivots (ofWords x)
+    pub keys-active : ((f : List ℕ) → a ≡ imageOf w f → key ≡ activeKey 2 want w (getD x 1 0) (getD x 2 0) f) → (key ∷ 0 ∷ 0 ∷ 0 ∷ 0 ∷ []) ≡ keysOf wants pivots (ofWords x)
     unfolding keysOf ofWords
-    keys-active e = rw (eq-eqb (getD x 0 0) 0 active) (ap (λ k. k ∷ 0 ∷ 0 ∷ 0 ∷ 0 ∷ []) (e ∙ ap (λ want. key-for 2 want (getD x 2 0)) is))
+    keys-active e =
+        rw (eq-eqb (getD x 0 0) 0 active)
+        (ap (λ k. k ∷ 0 ∷ 0 ∷ 0 ∷ 0 ∷ []) (e (ofWords x .nodes) image ∙ ap₂ (λ want w. key-for 2 want w (getD x 2 0)) is pivot))
 
-    pub query-active : key ≡ key-for 1 want (want % 64) → (key ∷ 0 ∷ 0 ∷ 0 ∷ 0 ∷ []) ≡ queryOf wants pivots (ofWords x)
+    pub query-active : ((f : List ℕ) → a ≡ imageOf w f → key ≡ activeKey 1 want w (getD x 1 0) (want % 64) f) → (key ∷ 0 ∷ 0 ∷ 0 ∷ 0 ∷ []) ≡ queryOf wants pivots (ofWords x)
     unfolding queryOf ofWords
-    query-active e = rw (eq-eqb (getD x 0 0) 0 active) (ap (λ k. k ∷ 0 ∷ 0 ∷ 0 ∷ 0 ∷ []) (e ∙ ap (λ want. key-for 1 want (want % 64)) is))
+    query-active e =
+        rw (eq-eqb (getD x 0 0) 0 active)
+        (ap (λ k. k ∷ 0 ∷ 0 ∷ 0 ∷ 0 ∷ []) (e (ofWords x .nodes) image ∙ ap₂ (λ want w. key-for 1 want w (want % 64)) is pivot))
 
 -- ---- regular records
 pub all-placed : (u : ℕ) (x : List ℕ)
@@ -145,6 +132,12 @@ module _ (pivots x : List ℕ) where
   pub regular-listed : (t : Bool) (u : ℕ) → (getD x 0 0 ≡ 0 → ⊥) → u ≡ usesIn pivots (getD x 1 0) → t ≡ allPlaced u (ofWords x .nodes) → t ≡ regularOf pivots (ofWords x)
   unfolding regularOf ofWords
   regular-listed t u n a e = rw (ne-eqb (getD x 0 0) 0 n) (e ∙ ap (λ u. allPlaced u (ofWords x .nodes)) a)
+
+  -- the node of an only place is the only one that is asked for
+  pub regular-only : (u i a : ℕ) → (getD x 0 0 ≡ 0 → ⊥) → u ≡ usesIn pivots (getD x 1 0) → i ≡ placeOf u → i < 5 → a ≡ nodeAt (ofWords x .nodes) i → (leb 4 i || ltb a 64) ≡ regularOf pivots (ofWords x)
+  regular-only u i a n e p h d =
+      regular-listed (leb 4 i || ltb a 64) u n e
+      (ap (λ a. leb 4 i || ltb a 64) d ∙ ap (λ i. leb 4 i || ltb (nodeAt (ofWords x .nodes) i) 64) p ∙ sym (placed-only u (ofWords x .nodes) (omega arith)))
 
   pub regular-mapped : (w a : ℕ) → getD x 0 0 ≡ 0 → w ≡ pivotIn pivots (getD x 1 0) (getD x 2 0) → a ≡ imageOf w (ofWords x .nodes) → (leb 8 (nodeOf w) || ltb a 64) ≡ regularOf pivots (ofWords x)
   unfolding regularOf ofWords

@@ -303,6 +303,23 @@ placed-at u L h k few e =
     go (suc (suc (suc zero))) few e a b c d = ltb-true _ 64 (used-placed (bit u 3) _ e d)
     go (suc (suc (suc (suc k)))) few e a b c d = absurd (omega arith)
 
+-- where a set has an only place, that place tells
+and-true : (t : Bool) → (t && true) ≡ t
+and-true true = refl
+and-true false = refl
+
+placed-single : (i : ℕ) (L : List ℕ) → i < 5 → allPlaced (single i) L ≡ (leb 4 i || ltb (nodeAt L i) 64)
+unfolding allPlaced nodeAt single bit
+placed-single zero L h = simp and-true
+placed-single (suc zero) L h = simp and-true
+placed-single (suc (suc zero)) L h = simp and-true
+placed-single (suc (suc (suc zero))) L h = refl
+placed-single (suc (suc (suc (suc zero)))) L h = refl
+placed-single (suc (suc (suc (suc (suc i))))) L h = absurd (omega arith)
+
+pub placed-only : (u : ℕ) (L : List ℕ) → placeOf u < 5 → allPlaced u L ≡ (leb 4 (placeOf u) || ltb (nodeAt L (placeOf u)) 64)
+placed-only u L h = ap (λ u. allPlaced u L) (only-is u h) ∙ placed-single (placeOf u) L h
+
 module _ (pivots : List ℕ) (x : Record) (ok : regularOf pivots x ≡ true) where
   pub regular-active : eqb (x .kind) 0 ≡ true → nodeOf (pivotIn pivots (x .of) (x .plan)) < 8 → at (x .nodes) (nodeOf (pivotIn pivots (x .of) (x .plan))) < 64
   unfolding regularOf

@@ -2,7 +2,8 @@
 // A record comes as its sixteen words, in the order of crate `records`.
 ghost use mathlib.Core.Path.{_≡_};
 ghost use mathlib.Core.Bool.{true};
-ghost use Prim.Native.Nat.{_≤_};
+ghost use mathlib.Core.List.{List};
+ghost use Prim.Native.Nat.{ℕ, _≤_};
 ghost use lib.ListN.{length};
 ghost use Rattle.questions.specs.Checking.{checkGrammar};
 ghost use Rattle.questions.specs.Abstract.{grammarOf};
@@ -155,17 +156,13 @@ fn image(w: u64, x: &[u64]) -> u64
     x[(6 + v) as usize]
 }
 
-// The key of an active record that wants `want`; a join's stands at plan node p.
-fn active_key(pivots: &[u64; 1088], tag: u64, want: u64, p: u64, x: &[u64]) -> u64
-    requires { ⌜ length (now x) ≡ 16 ⌝ }
-    ensures { λ k. ⌜ k ≡ activeKey tag want (pivotIn (now (pivots .entry)) (ofWords (now (x .entry)) .of) (ofWords (now (x .entry)) .plan)) (ofWords (now (x .entry)) .of) p (ofWords (now (x .entry)) .nodes) ⌝ }
+// The key of an active record of rule r that wants `want`, whose pivot w has the image a; a join's stands at plan node p.
+fn active_key(tag: u64, want: u64, w: u64, a: u64, r: u64, p: u64) -> u64
+    ensures { λ k. ⌜ ((f : List ℕ) → a ≡ imageOf w f → k ≡ activeKey tag want w r p f) ⌝ }
 {
     if want == 80 {
         return 0;
     }
-    let r = x[1];
-    let w = pivot_of(pivots, r, x[2]);
-    let a = image(w, x);
     if want < 64 {
         return bucket(tag, want, w / 16, a);
     }
@@ -207,32 +204,6 @@ fn node_at(x: &[u64], i: u64) -> u64
     x[(6 + i) as usize]
 }
 
-// The keys that a record has, 0 for none. That of an only place comes first.
-pub fn keys(wants: &[u64; 1024], pivots: &[u64; 1088], x: &[u64]) -> [u64; 5]
-    requires { ⌜ length (now x) ≡ 16 ⌝ }
-    ensures { λ ks. ⌜ ks ≡ keysOf (now (wants .entry)) (now (pivots .entry)) (ofWords (now (x .entry))) ⌝ }
-{
-    if x[0] != 0 {
-        let s = x[1];
-        let u = uses_of(pivots, s);
-        let i = place_of(u);
-        if i < 5 {
-            return [bucket(1, s, i, node_at(x, i)), 0, 0, 0, 0];
-        }
-        return [
-            place_key(u % 2, 1, s, 0, x[6]),
-            place_key(u / 2 % 2, 1, s, 1, x[7]),
-            place_key(u / 4 % 2, 1, s, 2, x[8]),
-            place_key(u / 8 % 2, 1, s, 3, x[9]),
-            place_key(u / 16 % 2, 1, s, 4, 64),
-        ];
-    }
-    let p = x[2];
-    let want = rules::wants::want_of(wants, x[1], p);
-    let key = active_key(pivots, 2, want, p, x);
-    [key, 0, 0, 0, 0]
-}
-
 // The keys that its partners have, 0 for none.
 pub fn query(wants: &[u64; 1024], pivots: &[u64; 1088], x: &[u64]) -> [u64; 5]
     requires { ⌜ length (now x) ≡ 16 ⌝ }
@@ -253,9 +224,12 @@ pub fn query(wants: &[u64; 1024], pivots: &[u64; 1088], x: &[u64]) -> [u64; 5]
             place_key(u / 16 % 2, 2, s, 4, 64),
         ];
     }
+    let r = x[1];
     let p = x[2];
-    let want = rules::wants::want_of(wants, x[1], p);
-    let key = active_key(pivots, 1, want, want % 64, x);
+    let want = rules::wants::want_of(wants, r, p);
+    let w = pivot_of(pivots, r, p);
+    let a = image(w, x);
+    let key = active_key(1, want, w, a, r, want % 64);
     [key, 0, 0, 0, 0]
 }
 
@@ -270,17 +244,45 @@ fn all_placed(u: u64, x: &[u64]) -> bool
         & ((u / 8 % 2 == 0) | (x[9] < 64))
 }
 
-// Whether the nodes by which a record is keyed are there.
-pub fn regular(pivots: &[u64; 1088], x: &[u64]) -> bool
+// The keys that a record has, 0 for none, and whether the nodes by which it is keyed are there. Both rest on the same words, which are looked up once.
+pub struct Entries {
+    pub keys: [u64; 5],
+    pub regular: bool,
+}
+
+// Of a record. The key of an only place comes first.
+pub fn listing(wants: &[u64; 1024], pivots: &[u64; 1088], x: &[u64]) -> Entries
     requires { ⌜ length (now x) ≡ 16 ⌝ }
-    ensures { λ b. ⌜ b ≡ regularOf (now (pivots .entry)) (ofWords (now (x .entry))) ⌝ }
+    ensures { λ r. ⌜ (r .keys ≡ keysOf (now (wants .entry)) (now (pivots .entry)) (ofWords (now (x .entry)))) × (r .regular ≡ regularOf (now (pivots .entry)) (ofWords (now (x .entry)))) ⌝ }
 {
     let of = x[1];
     if x[0] != 0 {
         let u = uses_of(pivots, of);
-        return all_placed(u, x);
+        let i = place_of(u);
+        if i < 5 {
+            let a = node_at(x, i);
+            return Entries {
+                keys: [bucket(1, of, i, a), 0, 0, 0, 0],
+                regular: (4 <= i) | (a < 64),
+            };
+        }
+        return Entries {
+            keys: [
+                place_key(u % 2, 1, of, 0, x[6]),
+                place_key(u / 2 % 2, 1, of, 1, x[7]),
+                place_key(u / 4 % 2, 1, of, 2, x[8]),
+                place_key(u / 8 % 2, 1, of, 3, x[9]),
+                place_key(u / 16 % 2, 1, of, 4, 64),
+            ],
+            regular: all_placed(u, x),
+        };
     }
-    let w = pivot_of(pivots, of, x[2]);
+    let p = x[2];
+    let want = rules::wants::want_of(wants, of, p);
+    let w = pivot_of(pivots, of, p);
     let a = image(w, x);
-    (8 <= w % 16) | (a < 64)
+    Entries {
+        keys: [active_key(2, want, w, a, of, p), 0, 0, 0, 0],
+        regular: (8 <= w % 16) | (a < 64),
+    }
 }

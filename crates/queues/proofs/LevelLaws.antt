@@ -75,6 +75,10 @@ pub record But (ws : List ℕ) (n : ℕ) : Type 0 where
 pub but-top : (ws : List ℕ) (n : ℕ) → n < 4 → But ws n → Levels ws
 but-top ws n h B = record { size = B .size; agrees = λ q l. B .agrees q l (λ e. omega arith) }
 
+-- with no word to be put right
+but-none : (ws : List ℕ) → Levels ws → But ws 0
+but-none ws L = record { size = L .size; agrees = λ q b n. L .agrees q b }
+
 -- what a bit tells stays right where neither it nor its word changes
 agrees-by : (ws new : List ℕ) (i q : ℕ) → Changed ws i new → (4 + q ≡ i → ⊥) → bitFrom new 0 q ≡ bitFrom ws 0 q → Agrees ws q → Agrees new q
 agrees-by ws new i q C n e A = e ∙ A ∙ ap (ltb 0) (sym (C .words (4 + q) n))
@@ -136,6 +140,16 @@ raised-some : (ws : List ℕ) (i k : ℕ) → i < length ws → 0 < getD (withBi
 unfolding withBit
 raised-some ws i k l = member-some _ k (ap (λ w. member w k) (getD-set-same ws i (getD ws i 0 ∪ single k) 0 l) ∙ set-self (getD ws i 0) k)
 
+-- a word that a bit is set in is told as before if it was not 0
+raise-alive : (ws : List ℕ) (n i k : ℕ) → i < 4228 → But ws n → (4 ≤ i → i ≡ n → ⊥) → But (withBit ws i k) i → 0 < getD ws i 0 → Levels (withBit ws i k)
+raise-alive ws n i k l B d N old = record { size = N .size; agrees = λ q b. go q b (ℕ-discrete (4 + q) i) }
+  where
+    go : (q : ℕ) → q < 4224 → Dec (4 + q ≡ i) → Agrees (withBit ws i k) q
+    go q b (no x) = N .agrees q b x
+    go q b (yes x) =
+        raised-other ws 0 q i k (omega (arith, B .size)) (λ y z. omega arith) ∙ B .agrees q b (λ y. d (omega arith) (omega arith)) ∙ ap (λ j. ltb 0 (getD ws j 0)) x ∙ lt-ltb 0 (getD ws i 0) old
+        ∙ sym (ap (λ j. ltb 0 (getD (withBit ws i k) j 0)) x ∙ lt-ltb 0 (getD (withBit ws i k) i 0) (raised-some ws i k (omega (arith, B .size))))
+
 -- ---- a number comes
 module _ (ws : List ℕ) (p a b : ℕ) (x : a ≡ p / 32) (y : b ≡ a / 32) (size : length ws ≡ 4228) (l : p < 131072) where
   low : List ℕ
@@ -155,33 +169,66 @@ module _ (ws : List ℕ) (p a b : ℕ) (x : a ≡ p / 32) (y : b ≡ a / 32) (si
   unfolding middle low
   middle-size = raised low (4 + b) (a % 32) .size ∙ low-size
 
+  low-but : Levels ws → But low (132 + a)
+  unfolding low
+  low-but L = raise-low ws (132 + a) (p % 32) (omega arith) (omega arith) L (omega arith)
+
+  middle-but : Levels ws → But middle (4 + b)
+  unfolding middle low
+  middle-but L = raise-next low (132 + a) (4 + b) (a % 32) (omega arith) (low-but L) (omega arith) (omega arith) (raised-some ws (132 + a) (p % 32) (omega arith))
+
   high-levels : Levels ws → Levels high
   unfolding high middle low
   high-levels L =
-      let low-but = raise-low ws (132 + a) (p % 32) (omega arith) (omega arith) L (omega arith) in
-      let middle-but = raise-next low (132 + a) (4 + b) (a % 32) (omega arith) low-but (omega arith) (omega arith) (raised-some ws (132 + a) (p % 32) (omega arith)) in
-      but-top high (b / 32) (omega arith) (raise-next middle (4 + b) (b / 32) (b % 32) (omega arith) middle-but (omega arith) (omega arith) (raised-some low (4 + b) (a % 32) (omega (arith, low-size))))
+      but-top high (b / 32) (omega arith) (raise-next middle (4 + b) (b / 32) (b % 32) (omega arith) (middle-but L) (omega arith) (omega arith) (raised-some low (4 + b) (a % 32) (omega (arith, low-size))))
 
   -- the words above hold no numbers
-  high-holds : (q : ℕ) → holds high q ≡ bitFrom low 132 q
-  unfolding high middle low holds
-  high-holds q =
-      raised-other middle 132 q (b / 32) (b % 32) (omega (arith, middle-size)) (λ m n. omega arith) ∙ raised-other low 132 q (4 + b) (a % 32) (omega (arith, low-size)) (λ m n. omega arith)
+  low-self : holds low p ≡ true
+  unfolding low holds
+  low-self = raised-self ws 132 p (132 + a) (p % 32) (omega arith) (omega arith) refl
 
-  pub inserted : Inserted ws p (withBit (withBit (withBit ws (132 + a) (p % 32)) (4 + b) (a % 32)) (b / 32) (b % 32))
+  low-others : (q : ℕ) → (q ≡ p → ⊥) → holds low q ≡ holds ws q
+  unfolding low holds
+  low-others q n = raised-other ws 132 q (132 + a) (p % 32) (omega arith) (λ s t. n (omega arith))
+
+  middle-holds : (q : ℕ) → holds middle q ≡ holds low q
+  unfolding middle low holds
+  middle-holds q = raised-other low 132 q (4 + b) (a % 32) (omega (arith, low-size)) (λ m n. omega arith)
+
+  high-holds : (q : ℕ) → holds high q ≡ holds middle q
   unfolding high middle low holds
-  inserted = record {
+  high-holds q = raised-other middle 132 q (b / 32) (b % 32) (omega (arith, middle-size)) (λ m n. omega arith)
+
+  -- the lowest word was not 0
+  pub inserted-low : 0 < getD ws (132 + a) 0 → Inserted ws p (withBit ws (132 + a) (p % 32))
+  unfolding low
+  inserted-low some = record {
+    size = low-size;
+    levels = λ L. raise-alive ws 0 (132 + a) (p % 32) (omega arith) (but-none ws L) (λ m n. omega arith) (low-but L) some;
+    self = low-self;
+    others = low-others;
+  }
+
+  -- the one above it was not 0
+  pub inserted-middle : 0 < getD (withBit ws (132 + a) (p % 32)) (4 + b) 0 → Inserted ws p (withBit (withBit ws (132 + a) (p % 32)) (4 + b) (a % 32))
+  unfolding middle low
+  inserted-middle some = record {
+    size = middle-size;
+    levels = λ L. raise-alive low (132 + a) (4 + b) (a % 32) (omega arith) (low-but L) (λ m n. omega arith) (middle-but L) some;
+    self = middle-holds p ∙ low-self;
+    others = λ q n. middle-holds q ∙ low-others q n;
+  }
+
+  pub inserted-high : Inserted ws p (withBit (withBit (withBit ws (132 + a) (p % 32)) (4 + b) (a % 32)) (b / 32) (b % 32))
+  unfolding high middle low
+  inserted-high = record {
     size = raised middle (b / 32) (b % 32) .size ∙ middle-size;
     levels = high-levels;
-    self = high-holds p ∙ raised-self ws 132 p (132 + a) (p % 32) (omega arith) (omega arith) refl;
-    others = λ q n. high-holds q ∙ raised-other ws 132 q (132 + a) (p % 32) (omega arith) (λ s t. n (omega arith));
+    self = high-holds p ∙ middle-holds p ∙ low-self;
+    others = λ q n. high-holds q ∙ middle-holds q ∙ low-others q n;
   }
 
 -- ---- a number goes
--- with no word to be put right
-but-none : (ws : List ℕ) → Levels ws → But ws 0
-but-none ws L = record { size = L .size; agrees = λ q b n. L .agrees q b }
-
 module _ (ws : List ℕ) (p a b : ℕ) (x : a ≡ p / 32) (y : b ≡ a / 32) (size : length ws ≡ 4228) (l : p < 131072) where
   less : List ℕ
   less = withoutBit ws (132 + a) (p % 32)
@@ -329,8 +376,15 @@ started-none ws L S = record { most = omega arith; here = λ h. absurd (omega ar
 
 -- ---- the functions' words one after another
 module _ (ws : List ℕ) (p a b : ℕ) (x : a ≡ p / 32) (y : b ≡ a / 32) (size : length ws ≡ 4228) (l : p < 131072) where
-  pub inserted-by : (u v w : List ℕ) → u ≡ withBit ws (132 + a) (p % 32) → v ≡ withBit u (4 + b) (a % 32) → w ≡ withBit v (b / 32) (b % 32) → Inserted ws p w
-  inserted-by u v w e f g = rw (g, f, e) (inserted ws p a b x y size l)
+  pub inserted-by-low : (u : List ℕ) (r : ℕ) → u ≡ withBit ws (132 + a) (p % 32) → r ≡ getD ws (132 + a) 0 → (r ≡ 0 → ⊥) → Inserted ws p u
+  inserted-by-low u r e q n = rw e (inserted-low ws p a b x y size l (omega arith))
+
+  pub inserted-by-middle : (u v : List ℕ) (s : ℕ) → u ≡ withBit ws (132 + a) (p % 32) → v ≡ withBit u (4 + b) (a % 32) → s ≡ getD u (4 + b) 0 → (s ≡ 0 → ⊥) → Inserted ws p v
+  inserted-by-middle u v s e f t n =
+      rw (f, e) (inserted-middle ws p a b x y size l (let z : s ≡ getD (withBit ws (132 + a) (p % 32)) (4 + b) 0 = t ∙ ap (λ w. getD w (4 + b) 0) e in omega arith))
+
+  pub inserted-by-high : (u v w : List ℕ) → u ≡ withBit ws (132 + a) (p % 32) → v ≡ withBit u (4 + b) (a % 32) → w ≡ withBit v (b / 32) (b % 32) → Inserted ws p w
+  inserted-by-high u v w e f g = rw (g, f, e) (inserted-high ws p a b x y size l)
 
   pub removed-by-low : (u : List ℕ) (r : ℕ) → u ≡ withoutBit ws (132 + a) (p % 32) → r ≡ getD u (132 + a) 0 → (r ≡ 0 → ⊥) → Removed ws p u
   removed-by-low u r e q n = rw e (removed-low ws p a b x y size l (let z : r ≡ getD (withoutBit ws (132 + a) (p % 32)) (132 + a) 0 = q ∙ ap (λ v. getD v (132 + a) 0) e in omega arith))

@@ -5,12 +5,14 @@ ghost use Prim.Native.Nat.{_+_, _≤_, _<_};
 ghost use lib.ListN.{length, getD};
 ghost use Rattle.queues.specs.Queues.{Levels, withBit, withoutBit, Inserted, Removed, Least, Started, Reached, Stepped, Cleared};
 
-// Bit k of word i is set.
-fn raise(ws: &mut [u32], i: u64, k: u64)
+// Bit k of word i is set: the word that was there.
+fn raise(ws: &mut [u32], i: u64, k: u64) -> u32
     requires { ⌜ (length (now ws) ≡ 4228) × (i < 4228) × (k < 32) ⌝ }
-    ensures { λ r. ⌜ now (ws .exit) ≡ withBit (now (ws .entry)) i k ⌝ }
+    ensures { λ r. ⌜ (now (ws .exit) ≡ withBit (now (ws .entry)) i k) × (r ≡ getD (now (ws .entry)) i 0) ⌝ }
 {
-    ws[i as usize] = ws[i as usize] | (1u32 << k);
+    let old = ws[i as usize];
+    ws[i as usize] = old | (1u32 << k);
+    old
 }
 
 // Bit k of word i is cleared: the word that is left.
@@ -23,15 +25,19 @@ fn lower(ws: &mut [u32], i: u64, k: u64) -> u32
     left
 }
 
-// The number p comes into the set, and the words above it tell so.
+// The number p comes into the set. A word that was not 0 before is told by the words above it already.
 pub fn insert(ws: &mut [u32], p: u64)
     requires { ⌜ (length (now ws) ≡ 4228) × (p < 131072) ⌝ }
     ensures { λ r. ⌜ Inserted (now (ws .entry)) p (now (ws .exit)) ⌝ }
 {
     let a = p / 32;
+    if raise(ws, 132 + a, p % 32) != 0 {
+        return;
+    }
     let b = a / 32;
-    raise(ws, 132 + a, p % 32);
-    raise(ws, 4 + b, a % 32);
+    if raise(ws, 4 + b, a % 32) != 0 {
+        return;
+    }
     raise(ws, b / 32, b % 32);
 }
 

@@ -17,17 +17,17 @@ use Rattle.agenda.specs.Steps.{lesser, leastWaiting}
 use Rattle.records.specs.Words.{itemCount, recordsAt, chartOf}
 use Rattle.records.proofs.WordLaws.{length-records}
 use Rattle.queues.specs.Queues.{holds, Least}
-use Rattle.ranking.specs.Ranking.{leafOf, setOf, Ranked}
-use Rattle.ranking.proofs.Leaves.{leaf-handled, leaf-waits, leaf-some}
+use Rattle.ranking.specs.Ranking.{orderAt, setOf, Ranked}
+use Rattle.ranking.proofs.Orders.{order-handled, order-waits, order-some}
 
 module _ (rs : List Record) where
   abbrev Waits : ℕ → Type 0
-  Waits j = leafOf rs j ≡ 0 → ⊥
+  Waits j = orderAt rs j ≡ 0 → ⊥
 
-  -- ---- the choice of a step: of the first n, the one of least leaf
+  -- ---- the choice of a step: of the first n, the one of least order
   data Chosen (n : ℕ) : Found → Type 0 where
-    chosen-none : ((k : ℕ) → k < n → leafOf rs k ≡ 0) → Chosen n Nowhere
-    chosen-at : (j : ℕ) → j < n → Waits j → ((k : ℕ) → k < n → Waits k → leafOf rs j ≤ leafOf rs k) → Chosen n (At j)
+    chosen-none : ((k : ℕ) → k < n → orderAt rs k ≡ 0) → Chosen n Nowhere
+    chosen-at : (j : ℕ) → j < n → Waits j → ((k : ℕ) → k < n → Waits k → orderAt rs j ≤ orderAt rs k) → Chosen n (At j)
 
   -- what holds of the first n and of the next
   one-more : (P : ℕ → Type 0) (n : ℕ) → ((k : ℕ) → k < n → P k) → P n → (k : ℕ) → k < suc n → P k
@@ -39,29 +39,29 @@ module _ (rs : List Record) where
 
   chosen-handled : (n : ℕ) (f : Found) → isHandled (recordIn rs n) ≡ true → Chosen n f → Chosen (suc n) (lesser rs n f)
   unfolding lesser
-  chosen-handled n Nowhere h (chosen-none a) = rw h (chosen-none (one-more (λ k. leafOf rs k ≡ 0) n a (leaf-handled rs n h)))
+  chosen-handled n Nowhere h (chosen-none a) = rw h (chosen-none (one-more (λ k. orderAt rs k ≡ 0) n a (order-handled rs n h)))
   chosen-handled n (At j) h (chosen-at i a b c) =
-      rw h (chosen-at i (omega arith) b (one-more (λ k. Waits k → leafOf rs j ≤ leafOf rs k) n c (λ d. absurd (d (leaf-handled rs n h)))))
+      rw h (chosen-at i (omega arith) b (one-more (λ k. Waits k → orderAt rs j ≤ orderAt rs k) n c (λ d. absurd (d (order-handled rs n h)))))
 
   chosen-waits : (n : ℕ) (f : Found) → n < length rs → n < 4096 → isHandled (recordIn rs n) ≡ false → Chosen n f → Chosen (suc n) (lesser rs n f)
   unfolding lesser
   chosen-waits n Nowhere l m h (chosen-none a) =
-      rw h (chosen-at n (omega arith) (λ q. omega (arith, leaf-waits rs n l h)) (one-more (λ k. Waits k → leafOf rs n ≤ leafOf rs k) n (λ k b d. absurd (d (a k b))) (λ d. omega arith)))
+      rw h (chosen-at n (omega arith) (λ q. omega (arith, order-waits rs n l h)) (one-more (λ k. Waits k → orderAt rs n ≤ orderAt rs k) n (λ k b d. absurd (d (a k b))) (λ d. omega arith)))
   chosen-waits n (At j) l m h (chosen-at i a b c) = rw h (go (decLt (recordIn rs n .count) (recordIn rs j .count)))
     where
-      own : leafOf rs n ≡ 4096 * recordIn rs n .count + n + 1
-      own = leaf-waits rs n l h
+      own : orderAt rs n ≡ 4096 * recordIn rs n .count + n + 1
+      own = order-waits rs n l h
 
-      best : leafOf rs j ≡ 4096 * recordIn rs j .count + j + 1
-      best = leaf-some rs j b .1
+      best : orderAt rs j ≡ 4096 * recordIn rs j .count + j + 1
+      best = order-some rs j b .1
 
       go : Dec (recordIn rs n .count < recordIn rs j .count) → Chosen (suc n) (cond (leb (recordIn rs j .count) (recordIn rs n .count)) (At j) (At n))
       go (yes d) =
           rw (lt-leb (recordIn rs j .count) (recordIn rs n .count) d)
-          (chosen-at n (omega arith) (λ q. omega (arith, own)) (one-more (λ k. Waits k → leafOf rs n ≤ leafOf rs k) n (λ k t w. omega (arith, c k t w, own, best)) (λ w. omega arith)))
+          (chosen-at n (omega arith) (λ q. omega (arith, own)) (one-more (λ k. Waits k → orderAt rs n ≤ orderAt rs k) n (λ k t w. omega (arith, c k t w, own, best)) (λ w. omega arith)))
       go (no d) =
           rw (le-leb (recordIn rs j .count) (recordIn rs n .count) (omega arith))
-          (chosen-at j (omega arith) b (one-more (λ k. Waits k → leafOf rs j ≤ leafOf rs k) n c (λ w. omega (arith, own, best))))
+          (chosen-at j (omega arith) b (one-more (λ k. Waits k → orderAt rs j ≤ orderAt rs k) n c (λ w. omega (arith, own, best))))
 
   chosen-next : (n : ℕ) (f : Found) → n < length rs → n < 4096 → Chosen n f → Chosen (suc n) (lesser rs n f)
   chosen-next n f l m C = go (isHandled (recordIn rs n)) refl
@@ -80,31 +80,31 @@ module _ (rs : List Record) where
     base : ℕ
     base = getD w 1 0
 
-    leaf-least : leafOf rs (r % 4096) ≡ 4096 * getD w 1 0 + r + 1
-    leaf-least = eqb-true _ _ (sym (R .held z r h) ∙ L .here h)
+    order-least : orderAt rs (r % 4096) ≡ 4096 * getD w 1 0 + r + 1
+    order-least = eqb-true _ _ (sym (R .held z r h) ∙ L .here h)
 
     -- a waiting record has no lesser number
-    none-below : (j : ℕ) → j < 4096 → Waits j → leafOf rs j < leafOf rs (r % 4096) → ⊥
+    none-below : (j : ℕ) → j < 4096 → Waits j → orderAt rs j < orderAt rs (r % 4096) → ⊥
     none-below j l d b =
-        let s = leaf-some rs j d .1 in
+        let s = order-some rs j d .1 in
         let a = R .based z j d in
-        let p = leafOf rs j - 1 - 4096 * getD w 1 0 in
+        let p = orderAt rs j - 1 - 4096 * getD w 1 0 in
         let at : p % 4096 ≡ j = omega arith in
-        let less : p < r = omega (arith, leaf-least) in
-        eqb-false (leafOf rs (p % 4096)) (4096 * getD w 1 0 + p + 1) (sym (R .held z p (omega arith)) ∙ L .none p less) (ap (leafOf rs) at ∙ omega arith)
+        let less : p < r = omega (arith, order-least) in
+        eqb-false (orderAt rs (p % 4096)) (4096 * getD w 1 0 + p + 1) (sym (R .held z p (omega arith)) ∙ L .none p less) (ap (orderAt rs) at ∙ omega arith)
 
     told : (f : Found) → Chosen (length rs) f → At (r % 4096) ≡ f
     told Nowhere (chosen-none a) =
-        let s = leaf-some rs (r % 4096) (λ q. omega (arith, leaf-least)) in
-        absurd (omega (arith, a (r % 4096) (s .0), leaf-least))
+        let s = order-some rs (r % 4096) (λ q. omega (arith, order-least)) in
+        absurd (omega (arith, a (r % 4096) (s .0), order-least))
     told (At j) (chosen-at i a b c) =
-        let s = leaf-some rs (r % 4096) (λ q. omega (arith, leaf-least)) in
-        let t = leaf-some rs j b .1 in
-        let u = c (r % 4096) (s .0) (λ q. omega (arith, leaf-least)) in
-        ap At (go (decLt (leafOf rs j) (leafOf rs (r % 4096))) t u (s .1))
+        let s = order-some rs (r % 4096) (λ q. omega (arith, order-least)) in
+        let t = order-some rs j b .1 in
+        let u = c (r % 4096) (s .0) (λ q. omega (arith, order-least)) in
+        ap At (go (decLt (orderAt rs j) (orderAt rs (r % 4096))) t u (s .1))
       where
-        go : Dec (leafOf rs j < leafOf rs (r % 4096)) → leafOf rs j ≡ 4096 * recordIn rs j .count + j + 1 → leafOf rs j ≤ leafOf rs (r % 4096)
-            → leafOf rs (r % 4096) ≡ 4096 * recordIn rs (r % 4096) .count + r % 4096 + 1 → r % 4096 ≡ j
+        go : Dec (orderAt rs j < orderAt rs (r % 4096)) → orderAt rs j ≡ 4096 * recordIn rs j .count + j + 1 → orderAt rs j ≤ orderAt rs (r % 4096)
+            → orderAt rs (r % 4096) ≡ 4096 * recordIn rs (r % 4096) .count + r % 4096 + 1 → r % 4096 ≡ j
         go (yes d) t u s = absurd (none-below j (omega arith) b d)
         go (no d) t u s = omega arith
 

@@ -1,4 +1,4 @@
--- A part of words that is lent and comes back: what it leaves of the other parts.
+-- A part of words that is lent and comes back: what it orders of the other parts.
 use Prim.Native.Nat.{ℕ, _+_, _-_, _≤_, _<_}
 use mathlib.Core.Path.{_≡_, sym, ap, _∙_}
 use mathlib.Core.List.{List, _++_}

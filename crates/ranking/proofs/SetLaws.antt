@@ -13,12 +13,12 @@ use Rattle.agenda.specs.declared.Record.{Record}
 use Rattle.queues.specs.Queues.{holds, Levels, Inserted, Removed, Cleared}
 use Rattle.agenda.specs.Consequences.{recordIn}
 use Rattle.agenda.specs.Steps.{handledNow}
-use Rattle.ranking.specs.Ranking.{playerOf, leafOf, setOf, Based, Held, Ranked, Replaces}
-use Rattle.ranking.proofs.Leaves.{player-waits, leaf-past, leaf-some, handled-leaf}
+use Rattle.ranking.specs.Ranking.{orderOf, orderAt, setOf, Based, Held, Ranked, Replaces}
+use Rattle.ranking.proofs.Orders.{order-positive, order-past, order-some, handled-order}
 use Rattle.ranking.proofs.Parts.{put, length-put, put-same, word-before}
 
 -- ---- the same records, as far as they are ranked
-pub ranked-same : (w : List ℕ) (rs rs′ : List Record) → ((k : ℕ) → leafOf rs′ k ≡ leafOf rs k) → Ranked w rs → Ranked w rs′
+pub ranked-same : (w : List ℕ) (rs rs′ : List Record) → ((k : ℕ) → orderAt rs′ k ≡ orderAt rs k) → Ranked w rs → Ranked w rs′
 ranked-same w rs rs′ e R = record {
   size = R .size;
   levels = R .levels;
@@ -26,11 +26,11 @@ ranked-same w rs rs′ e R = record {
   held = λ z p h. R .held z p h ∙ sym (ap (λ k. eqb k (4096 * getD w 1 0 + p + 1)) (e (p % 4096)));
 }
 
--- a leaf that was 0 and is 0
-pub ranked-still : (w : List ℕ) (j : ℕ) (rs rs′ : List Record) → Ranked w rs → leafOf rs j ≡ 0 → Replaces j 0 rs rs′ → Ranked w rs′
+-- a order that was 0 and is 0
+pub ranked-still : (w : List ℕ) (j : ℕ) (rs rs′ : List Record) → Ranked w rs → orderAt rs j ≡ 0 → Replaces j 0 rs rs′ → Ranked w rs′
 ranked-still w j rs rs′ R z E = ranked-same w rs rs′ (λ k. go k (ℕ-discrete k j)) R
   where
-    go : (k : ℕ) → Dec (k ≡ j) → leafOf rs′ k ≡ leafOf rs k
+    go : (k : ℕ) → Dec (k ≡ j) → orderAt rs′ k ≡ orderAt rs k
     go k (yes e) = rw e (E .given ∙ sym z)
     go k (no n) = E .others k n
 
@@ -64,36 +64,36 @@ module _ (w new : List ℕ) (s : length w ≡ 8192) (e : length new ≡ 4228) wh
       }
 
 -- ---- one record waits with a count, in rs′ and not in rs
-module _ (j n base : ℕ) (rs rs′ : List Record) (none : leafOf rs j ≡ 0) (some : leafOf rs′ j ≡ 4096 * n + j + 1) (others : (k : ℕ) → (k ≡ j → ⊥) → leafOf rs′ k ≡ leafOf rs k) (h : j < 4096) where
+module _ (j n base : ℕ) (rs rs′ : List Record) (none : orderAt rs j ≡ 0) (some : orderAt rs′ j ≡ 4096 * n + j + 1) (others : (k : ℕ) → (k ≡ j → ⊥) → orderAt rs′ k ≡ orderAt rs k) (h : j < 4096) where
   -- every other number tells the same
-  other-number : (p : ℕ) → (4096 * base + p ≡ 4096 * n + j → ⊥) → eqb (leafOf rs (p % 4096)) (4096 * base + p + 1) ≡ eqb (leafOf rs′ (p % 4096)) (4096 * base + p + 1)
+  other-number : (p : ℕ) → (4096 * base + p ≡ 4096 * n + j → ⊥) → eqb (orderAt rs (p % 4096)) (4096 * base + p + 1) ≡ eqb (orderAt rs′ (p % 4096)) (4096 * base + p + 1)
   other-number p d = go (ℕ-discrete (p % 4096) j)
     where
-      go : Dec (p % 4096 ≡ j) → eqb (leafOf rs (p % 4096)) (4096 * base + p + 1) ≡ eqb (leafOf rs′ (p % 4096)) (4096 * base + p + 1)
+      go : Dec (p % 4096 ≡ j) → eqb (orderAt rs (p % 4096)) (4096 * base + p + 1) ≡ eqb (orderAt rs′ (p % 4096)) (4096 * base + p + 1)
       go (yes e) =
-          ne-eqb (leafOf rs (p % 4096)) (4096 * base + p + 1) (λ q. let z : leafOf rs (p % 4096) ≡ 0 = ap (leafOf rs) e ∙ none in omega arith)
-          ∙ sym (ne-eqb (leafOf rs′ (p % 4096)) (4096 * base + p + 1) (λ q. d (let z : leafOf rs′ (p % 4096) ≡ 4096 * n + j + 1 = ap (leafOf rs′) e ∙ some in omega arith)))
+          ne-eqb (orderAt rs (p % 4096)) (4096 * base + p + 1) (λ q. let z : orderAt rs (p % 4096) ≡ 0 = ap (orderAt rs) e ∙ none in omega arith)
+          ∙ sym (ne-eqb (orderAt rs′ (p % 4096)) (4096 * base + p + 1) (λ q. d (let z : orderAt rs′ (p % 4096) ≡ 4096 * n + j + 1 = ap (orderAt rs′) e ∙ some in omega arith)))
       go (no e) = ap (λ k. eqb k (4096 * base + p + 1)) (sym (others (p % 4096) e))
 
   -- its own number tells that it waits
-  own-number : (p : ℕ) → 4096 * base + p ≡ 4096 * n + j → eqb (leafOf rs′ (p % 4096)) (4096 * base + p + 1) ≡ true
-  own-number p q = eq-eqb (leafOf rs′ (p % 4096)) (4096 * base + p + 1) (ap (leafOf rs′) (let e : p % 4096 ≡ j = omega arith in e) ∙ some ∙ omega arith)
+  own-number : (p : ℕ) → 4096 * base + p ≡ 4096 * n + j → eqb (orderAt rs′ (p % 4096)) (4096 * base + p + 1) ≡ true
+  own-number p q = eq-eqb (orderAt rs′ (p % 4096)) (4096 * base + p + 1) (ap (orderAt rs′) (let e : p % 4096 ≡ j = omega arith in e) ∙ some ∙ omega arith)
 
-  own-none : (p : ℕ) → 4096 * base + p ≡ 4096 * n + j → eqb (leafOf rs (p % 4096)) (4096 * base + p + 1) ≡ false
-  own-none p q = ne-eqb (leafOf rs (p % 4096)) (4096 * base + p + 1) (λ t. let z : leafOf rs (p % 4096) ≡ 0 = ap (leafOf rs) (let e : p % 4096 ≡ j = omega arith in e) ∙ none in omega arith)
+  own-none : (p : ℕ) → 4096 * base + p ≡ 4096 * n + j → eqb (orderAt rs (p % 4096)) (4096 * base + p + 1) ≡ false
+  own-none p q = ne-eqb (orderAt rs (p % 4096)) (4096 * base + p + 1) (λ t. let z : orderAt rs (p % 4096) ≡ 0 = ap (orderAt rs) (let e : p % 4096 ≡ j = omega arith in e) ∙ none in omega arith)
 
   based-more : base ≤ n → Based base rs → Based base rs′
   based-more l B k d = go (ℕ-discrete k j)
     where
-      go : Dec (k ≡ j) → 4096 * base + k < leafOf rs′ k
+      go : Dec (k ≡ j) → 4096 * base + k < orderAt rs′ k
       go (yes e) = rw e (omega arith)
       go (no e) = rw (others k e) (B k (λ q. d (others k e ∙ q)))
 
   based-less : Based base rs′ → Based base rs
   based-less B k d = go (ℕ-discrete k j)
     where
-      go : Dec (k ≡ j) → 4096 * base + k < leafOf rs k
-      go (yes e) = absurd (d (ap (leafOf rs) e ∙ none))
+      go : Dec (k ≡ j) → 4096 * base + k < orderAt rs k
+      go (yes e) = absurd (d (ap (orderAt rs) e ∙ none))
       go (no e) = rw (← others k e) (B k (λ q. d (sym (others k e) ∙ q)))
 
   -- a count that is not in the set
@@ -106,21 +106,21 @@ module _ (j n base : ℕ) (rs rs′ : List Record) (none : leafOf rs j ≡ 0) (s
   held-more : (ws new : List ℕ) (m : ℕ) → 4096 * base + m ≡ 4096 * n + j → Inserted ws m new → Held base ws rs → Held base new rs′
   held-more ws new m e I H p b = go (ℕ-discrete p m)
     where
-      go : Dec (p ≡ m) → holds new p ≡ eqb (leafOf rs′ (p % 4096)) (4096 * base + p + 1)
+      go : Dec (p ≡ m) → holds new p ≡ eqb (orderAt rs′ (p % 4096)) (4096 * base + p + 1)
       go (yes q) = ap (holds new) q ∙ I .self ∙ sym (own-number p (omega arith))
       go (no q) = I .others p q ∙ H p b ∙ other-number p (λ t. q (omega arith))
 
   held-less : (ws new : List ℕ) (m : ℕ) → 4096 * base + m ≡ 4096 * n + j → Removed ws m new → Held base ws rs′ → Held base new rs
   held-less ws new m e I H p b = go (ℕ-discrete p m)
     where
-      go : Dec (p ≡ m) → holds new p ≡ eqb (leafOf rs (p % 4096)) (4096 * base + p + 1)
+      go : Dec (p ≡ m) → holds new p ≡ eqb (orderAt rs (p % 4096)) (4096 * base + p + 1)
       go (yes q) = ap (holds new) q ∙ I .self ∙ sym (own-none p (omega arith))
       go (no q) = I .others p q ∙ H p b ∙ sym (other-number p (λ t. q (omega arith)))
 
 -- ---- a record comes
-module _ (w : List ℕ) (j n : ℕ) (h : j < 4096) (rs rs′ : List Record) (R : Ranked w rs) (z : leafOf rs j ≡ 0) (E : Replaces j (playerOf true j n) rs rs′) where
-  come : leafOf rs′ j ≡ 4096 * n + j + 1
-  come = E .given ∙ player-waits j n
+module _ (w : List ℕ) (j n : ℕ) (h : j < 4096) (rs rs′ : List Record) (R : Ranked w rs) (z : orderAt rs j ≡ 0) (E : Replaces j (orderOf true j n) rs rs′) where
+  come : orderAt rs′ j ≡ 4096 * n + j + 1
+  come = E .given ∙ order-positive j n
 
   pub inserted-far : getD w 1 0 + 32 ≤ n → Ranked w rs′
   inserted-far l = record {
@@ -136,11 +136,11 @@ module _ (w : List ℕ) (j n : ℕ) (h : j < 4096) (rs rs′ : List Record) (R :
       (λ q. held-more j n (getD w 1 0) rs rs′ z come (E .others) h (setOf w) new (4096 * (n - getD w 1 0) + j) (omega arith) I (R .held q))
 
 -- ---- a record goes
-module _ (w : List ℕ) (j n : ℕ) (h : j < 4096) (rs rs′ : List Record) (R : Ranked w rs) (z : leafOf rs j ≡ playerOf true j n) (E : Replaces j 0 rs rs′) where
-  went : leafOf rs j ≡ 4096 * n + j + 1
-  went = z ∙ player-waits j n
+module _ (w : List ℕ) (j n : ℕ) (h : j < 4096) (rs rs′ : List Record) (R : Ranked w rs) (z : orderAt rs j ≡ orderOf true j n) (E : Replaces j 0 rs rs′) where
+  went : orderAt rs j ≡ 4096 * n + j + 1
+  went = z ∙ order-positive j n
 
-  back : (k : ℕ) → (k ≡ j → ⊥) → leafOf rs k ≡ leafOf rs′ k
+  back : (k : ℕ) → (k ≡ j → ⊥) → orderAt rs k ≡ orderAt rs′ k
   back k d = sym (E .others k d)
 
   -- no waiting record is below the base
@@ -166,26 +166,26 @@ module _ (w : List ℕ) (j n : ℕ) (h : j < 4096) (rs rs′ : List Record) (R :
       (λ q. held-less j n (getD w 1 0) rs′ rs (E .given) went back h (setOf w) new (4096 * (n - getD w 1 0) + j) (omega arith) I (R .held q))
 
 -- ---- a record has another count: it goes, and comes
-pub recounted : (j old n : ℕ) (rs rs′ : List Record) (u v w : List ℕ) → ((xs ys : List Record) → Ranked u xs → leafOf xs j ≡ playerOf true j old → Replaces j 0 xs ys → Ranked v ys)
-    → ((xs ys : List Record) → Ranked v xs → leafOf xs j ≡ 0 → Replaces j (playerOf true j n) xs ys → Ranked w ys)
-    → Ranked u rs → leafOf rs j ≡ playerOf true j old → Replaces j (playerOf true j n) rs rs′ → Ranked w rs′
+pub recounted : (j old n : ℕ) (rs rs′ : List Record) (u v w : List ℕ) → ((xs ys : List Record) → Ranked u xs → orderAt xs j ≡ orderOf true j old → Replaces j 0 xs ys → Ranked v ys)
+    → ((xs ys : List Record) → Ranked v xs → orderAt xs j ≡ 0 → Replaces j (orderOf true j n) xs ys → Ranked w ys)
+    → Ranked u rs → orderAt rs j ≡ orderOf true j old → Replaces j (orderOf true j n) rs rs′ → Ranked w rs′
 recounted j old n rs rs′ u v w f g R z E =
     let gone = set rs j (handledNow (recordIn rs j)) in
-    let H = handled-leaf rs j (leaf-some rs j (λ q. omega (arith, z, player-waits j old)) .0) in
+    let H = handled-order rs j (order-some rs j (λ q. omega (arith, z, order-positive j old)) .0) in
     g gone rs′ (f rs gone R z H) (H .given) (record { given = E .given; others = λ k d. E .others k d ∙ sym (H .others k d) })
 
 -- ---- no records
 pub ranked-none : (w new : List ℕ) → length w ≡ 8192 → Cleared new → Ranked (put 2 4228 w new) []
 ranked-none w new s C =
-    ranked-put w new s (C .levels .size) [] (λ q. C .levels) (λ q j d. absurd (d (leaf-past [] j (omega arith))))
-    (λ q p b. C .none p ∙ sym (ne-eqb (leafOf [] (p % 4096)) (4096 * getD w 1 0 + p + 1) (λ t. let z = leaf-past [] (p % 4096) (omega arith) in omega arith)))
+    ranked-put w new s (C .levels .size) [] (λ q. C .levels) (λ q j d. absurd (d (order-past [] j (omega arith))))
+    (λ q p b. C .none p ∙ sym (ne-eqb (orderAt [] (p % 4096)) (4096 * getD w 1 0 + p + 1) (λ t. let z = order-past [] (p % 4096) (omega arith) in omega arith)))
 
 -- ---- a record that is placed waits or does not
-pub placed-some : (t : Bool) (j n : ℕ) (rs rs′ : List Record) → t ≡ true → Replaces j (playerOf t j n) rs rs′ → Replaces j (playerOf true j n) rs rs′
+pub placed-some : (t : Bool) (j n : ℕ) (rs rs′ : List Record) → t ≡ true → Replaces j (orderOf t j n) rs rs′ → Replaces j (orderOf true j n) rs rs′
 placed-some t j n rs rs′ h E = rw h at E
 
-pub placed-none : (t : Bool) (j n : ℕ) (rs rs′ : List Record) → t ≡ false → Replaces j (playerOf t j n) rs rs′ → Replaces j 0 rs rs′
-unfolding playerOf
+pub placed-none : (t : Bool) (j n : ℕ) (rs rs′ : List Record) → t ≡ false → Replaces j (orderOf t j n) rs rs′ → Replaces j 0 rs rs′
+unfolding orderOf
 placed-none t j n rs rs′ h E = rw h at E
 
 -- ---- the words are made anew

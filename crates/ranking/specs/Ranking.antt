@@ -11,17 +11,17 @@ use Rattle.agenda.specs.Consequences.{recordIn}
 use Rattle.queues.specs.Queues.{holds, Levels}
 
 -- what a record is in the ranking: 0 if it does not wait, else a number that is less for a lesser count and, of equal counts, for an earlier place
-unfoldable pub playerOf : Bool → ℕ → ℕ → ℕ
-playerOf waits j n = cond waits (4096 * n + j + 1) 0
+unfoldable pub orderOf : Bool → ℕ → ℕ → ℕ
+orderOf waits j n = cond waits (4096 * n + j + 1) 0
 
 -- whether there is a record at place j that waits
 unfoldable pub waitsAt : List Record → ℕ → Bool
 waitsAt rs j = ltb j (length rs) && not (isHandled (recordIn rs j))
 
--- the player of the record at place j: 0 where there is no such record or it is handled
-unfoldable pub leafOf : List Record → ℕ → ℕ
-unfolding playerOf waitsAt
-leafOf rs j = playerOf (waitsAt rs j) j (recordIn rs j .count)
+-- the order of the record at place j: 0 where there is no such record or it is handled
+unfoldable pub orderAt : List Record → ℕ → ℕ
+unfolding orderOf waitsAt
+orderAt rs j = orderOf (waitsAt rs j) j (recordIn rs j .count)
 
 -- ---- in words
 -- the words of the set
@@ -30,11 +30,11 @@ setOf w = take 4228 (drop 2 w)
 
 -- no waiting record has a count below the base
 abbrev pub Based : ℕ → List Record → Type 0
-Based base rs = (j : ℕ) → (leafOf rs j ≡ 0 → ⊥) → 4096 * base + j < leafOf rs j
+Based base rs = (j : ℕ) → (orderAt rs j ≡ 0 → ⊥) → 4096 * base + j < orderAt rs j
 
 -- the set holds 4096 * n + j for each waiting record at place j whose count is base + n, with n below 32
 abbrev pub Held : ℕ → List ℕ → List Record → Type 0
-Held base ws rs = (p : ℕ) → p < 131072 → holds ws p ≡ eqb (leafOf rs (p % 4096)) (4096 * base + p + 1)
+Held base ws rs = (p : ℕ) → p < 131072 → holds ws p ≡ eqb (orderAt rs (p % 4096)) (4096 * base + p + 1)
 
 -- the words are the ranking of the records: word 1 is the base, and the set follows. Where word 0 is not 0 the other words say nothing
 pub record Ranked (w : List ℕ) (rs : List Record) : Type 0 where
@@ -43,7 +43,7 @@ pub record Ranked (w : List ℕ) (rs : List Record) : Type 0 where
   pub based : getD w 0 0 ≡ 0 → Based (getD w 1 0) rs
   pub held : getD w 0 0 ≡ 0 → Held (getD w 1 0) (setOf w) rs
 
--- the records rs′ have the players of rs, but p at place j
+-- the records rs′ have the orders of rs, but p at place j
 pub record Replaces (j p : ℕ) (rs rs′ : List Record) : Type 0 where
-  pub given : leafOf rs′ j ≡ p
-  pub others : (k : ℕ) → (k ≡ j → ⊥) → leafOf rs′ k ≡ leafOf rs k
+  pub given : orderAt rs′ j ≡ p
+  pub others : (k : ℕ) → (k ≡ j → ⊥) → orderAt rs′ k ≡ orderAt rs k

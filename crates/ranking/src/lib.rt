@@ -9,7 +9,7 @@ ghost use lib.ListN.{length};
 ghost use Rattle.agenda.specs.declared.Record.{Record};
 ghost use Rattle.agenda.specs.Steps.{leastWaiting};
 ghost use Rattle.records.specs.Words.{itemCount, chartOf};
-ghost use Rattle.ranking.specs.Ranking.{playerOf, leafOf, Ranked, Replaces};
+ghost use Rattle.ranking.specs.Ranking.{orderOf, orderAt, Ranked, Replaces};
 use agenda::Found;
 
 // where the set begins and ends
@@ -20,7 +20,7 @@ const END: usize = 4230;
 // The record at place j, which did not wait, waits with the count given. One below the base has no number.
 fn insert(ranks: &mut [u32], j: u64, count: u64)
     requires { ⌜ (length (now ranks) ≡ 8192) × (j < 4096) ⌝ }
-    ensures { λ r. ⌜ ((rs rs′ : List Record) → Ranked (now (ranks .entry)) rs → leafOf rs j ≡ 0 → Replaces j (playerOf true j count) rs rs′ → Ranked (now (ranks .exit)) rs′) ⌝ }
+    ensures { λ r. ⌜ ((rs rs′ : List Record) → Ranked (now (ranks .entry)) rs → orderAt rs j ≡ 0 → Replaces j (orderOf true j count) rs rs′ → Ranked (now (ranks .exit)) rs′) ⌝ }
 {
     let base = ranks[1] as u64;
     if count < base {
@@ -37,7 +37,7 @@ fn insert(ranks: &mut [u32], j: u64, count: u64)
 // The record at place j, of which nothing waited, comes with the count given; one that does not wait changes nothing.
 pub fn place(ranks: &mut [u32], j: u64, waits: bool, count: u64)
     requires { ⌜ (length (now ranks) ≡ 8192) × (j < 4096) ⌝ }
-    ensures { λ r. ⌜ ((rs rs′ : List Record) → Ranked (now (ranks .entry)) rs → leafOf rs j ≡ 0 → Replaces j (playerOf waits j count) rs rs′ → Ranked (now (ranks .exit)) rs′) ⌝ }
+    ensures { λ r. ⌜ ((rs rs′ : List Record) → Ranked (now (ranks .entry)) rs → orderAt rs j ≡ 0 → Replaces j (orderOf waits j count) rs rs′ → Ranked (now (ranks .exit)) rs′) ⌝ }
 {
     if waits {
         insert(ranks, j, count);
@@ -47,7 +47,7 @@ pub fn place(ranks: &mut [u32], j: u64, waits: bool, count: u64)
 // The record at place j, which waited with the count given, waits no more.
 pub fn remove(ranks: &mut [u32], j: u64, count: u64)
     requires { ⌜ (length (now ranks) ≡ 8192) × (j < 4096) ⌝ }
-    ensures { λ r. ⌜ ((rs rs′ : List Record) → Ranked (now (ranks .entry)) rs → leafOf rs j ≡ playerOf true j count → Replaces j 0 rs rs′ → Ranked (now (ranks .exit)) rs′) ⌝ }
+    ensures { λ r. ⌜ ((rs rs′ : List Record) → Ranked (now (ranks .entry)) rs → orderAt rs j ≡ orderOf true j count → Replaces j 0 rs rs′ → Ranked (now (ranks .exit)) rs′) ⌝ }
 {
     let base = ranks[1] as u64;
     if count < base {
@@ -63,13 +63,13 @@ pub fn remove(ranks: &mut [u32], j: u64, count: u64)
 // The record at place j, which waits, has another count.
 pub fn recount(ranks: &mut [u32], j: u64, old: u64, count: u64)
     requires { ⌜ (length (now ranks) ≡ 8192) × (j < 4096) ⌝ }
-    ensures { λ r. ⌜ ((rs rs′ : List Record) → Ranked (now (ranks .entry)) rs → leafOf rs j ≡ playerOf true j old → Replaces j (playerOf true j count) rs rs′ → Ranked (now (ranks .exit)) rs′) ⌝ }
+    ensures { λ r. ⌜ ((rs rs′ : List Record) → Ranked (now (ranks .entry)) rs → orderAt rs j ≡ orderOf true j old → Replaces j (orderOf true j count) rs rs′ → Ranked (now (ranks .exit)) rs′) ⌝ }
 {
     remove(ranks, j, old);
     insert(ranks, j, count);
 }
 
-// The records of a chart, placed one after another: there is none before.
+// The records of a chart that wait, one after another: there is none before. Their words lie inside the chart and are read straight.
 fn fill(chart: &[u64], ranks: &mut [u32])
     requires { ⌜ Ranked (now ranks) [] × (itemCount (now chart) ≤ 4096) ⌝ }
     ensures { λ r. ⌜ Ranked (now (ranks .exit)) (chartOf (now (chart .entry)) .records) ⌝ }
@@ -77,12 +77,9 @@ fn fill(chart: &[u64], ranks: &mut [u32])
     let n = records::item_count(chart);
     let mut j = 0;
     while j < n {
-        place(
-            ranks,
-            j,
-            records::field(chart, j, 5) == 0,
-            records::field(chart, j, 4),
-        );
+        if chart[(2 + 16 * j + 5) as usize] == 0 {
+            insert(ranks, j, chart[(2 + 16 * j + 4) as usize]);
+        }
         j += 1;
     }
 }

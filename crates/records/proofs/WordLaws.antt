@@ -194,6 +194,10 @@ pub fits-place : (w : List ℕ) (j : ℕ) → 2 + 16 * j + 16 ≤ length w → j
 unfolding capacity
 fits-place w j h = omega arith
 
+-- each of the first n records lies inside, where the words hold n
+pub first-fit : (w : List ℕ) (n j : ℕ) → n ≤ capacity w → j < n → 2 + 16 * j + 16 ≤ length w
+first-fit w n j h l = place-fits w j (omega arith)
+
 -- the items of the words lie inside them
 pub item-fits : (w : List ℕ) (j : ℕ) → j < itemCount w → 2 + 16 * j + 16 ≤ length w
 unfolding itemCount
@@ -375,6 +379,12 @@ unfolding leastWaiting
 least-below rs zero = none
 least-below rs (suc n) = lesser-below rs n (leastWaiting rs n) (least-below rs n)
 
+below-place : (n j : ℕ) → Below n (At j) → j < n
+below-place n j (one h) = h
+
+pub least-place : (rs : List Record) (n j : ℕ) → At j ≡ leastWaiting rs n → j < n
+least-place rs n j e = below-place n j (rw e (least-below rs n))
+
 lesser-at : (w : List ℕ) (n i : ℕ) (f : Found) → i < n → Below i f → lesserAt w i f ≡ lesser (recordsAt w n) i f
 unfolding lesser lesserAt
 lesser-at w n i Nowhere h b = rw (record-in w n i h)
@@ -415,6 +425,14 @@ module _ (w : List ℕ) (i r : ℕ) (e : r ≡ fieldAt w i 5) where
   lesser-moves f j a b h p x y l =
       let q : recordAt w i .count < recordAt w j .count = omega (arith, count-of w j, count-of w i) in
       rw p (rw (handled-no h, lt-leb (recordAt w j .count) (recordAt w i .count) q))
+
+-- no record waits before place i: the one there is handled, or it is the first that waits
+module _ (w : List ℕ) (n i : ℕ) (h : i < n) (e : Nowhere ≡ leastWaiting (recordsAt w n) i) where
+  pub least-none : (getD w (2 + 16 * i + 5) 0 ≡ 0 → ⊥) → Nowhere ≡ leastWaiting (recordsAt w n) (i + 1)
+  least-none p = least-next w n i Nowhere Nowhere h e (lesser-handled w i _ (field-at w i 5 _ refl) Nowhere p)
+
+  pub least-one : getD w (2 + 16 * i + 5) 0 ≡ 0 → At i ≡ leastWaiting (recordsAt w n) (i + 1)
+  least-one p = least-next w n i Nowhere (At i) h e (lesser-first w i _ (field-at w i 5 _ refl) Nowhere p refl)
 
 -- ---- handled records
 handled-append : (rs ss : List Record) → handledCount (rs ++ ss) ≡ handledCount rs + handledCount ss

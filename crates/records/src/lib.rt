@@ -4,6 +4,7 @@ ghost use Prim.Native.Nat.{_≤_, _<_, _+_, _*_};
 ghost use lib.ListN.{length, getD};
 ghost use Rattle.records.specs.Words.{capacity, itemCount, fieldAt, blockAt, ofWords, recordAt, recordsAt, wordsOf, pasted, fourSame, lesserAt, improvedAt, appendedTo, addedTo, markedAt};
 ghost use Rattle.agenda.specs.Records.{sameRecord};
+ghost use Rattle.agenda.specs.declared.Found.the-variants.{At};
 ghost use Rattle.agenda.specs.Steps.{lastSame, leastWaiting, handledCount};
 use agenda::Found;
 use agenda::Record;
@@ -246,8 +247,51 @@ fn lesser_of(chart: &[u64], i: u64, best: Found) -> Found
     }
 }
 
-// The first of least count among the first n records, of those that wait.
-pub fn least(chart: &[u64], n: u64) -> Found
+// The same where both places lie inside the chart: a handled record takes one test.
+fn lesser_inside(chart: &[u64], i: u64, best: u64) -> u64
+    requires { ⌜ (2 + 16 * i + 16 ≤ length (now chart)) × (2 + 16 * best + 16 ≤ length (now chart)) ⌝ }
+    ensures { λ r. ⌜ At r ≡ lesserAt (now (chart .entry)) i (At best) ⌝ }
+{
+    if chart[(2 + 16 * i + 5) as usize] != 0 {
+        return best;
+    }
+    if chart[(2 + 16 * best + 4) as usize] <= chart[(2 + 16 * i + 4) as usize] {
+        return best;
+    }
+    i
+}
+
+// The first of least count among the first n records, where the one at place first is the first that waits.
+fn least_from(chart: &[u64], n: u64, first: u64) -> Found
+    requires { ⌜ (n ≤ capacity (now chart)) × (first < n) × (At first ≡ leastWaiting (recordsAt (now chart) n) (first + 1)) ⌝ }
+    ensures { λ r. ⌜ r ≡ leastWaiting (recordsAt (now (chart .entry)) n) n ⌝ }
+{
+    let mut best = first;
+    let mut i = first + 1;
+    while i < n {
+        best = lesser_inside(chart, i, best);
+        i += 1;
+    }
+    Found::At(best)
+}
+
+// The first of least count among the first n records, which lie inside the chart: no word is tested for the chart's end.
+fn least_inside(chart: &[u64], n: u64) -> Found
+    requires { ⌜ n ≤ capacity (now chart) ⌝ }
+    ensures { λ r. ⌜ r ≡ leastWaiting (recordsAt (now (chart .entry)) n) n ⌝ }
+{
+    let mut i = 0;
+    while i < n {
+        if chart[(2 + 16 * i + 5) as usize] == 0 {
+            return least_from(chart, n, i);
+        }
+        i += 1;
+    }
+    Found::Nowhere
+}
+
+// The same where the chart may end before them.
+fn least_cut(chart: &[u64], n: u64) -> Found
     ensures { λ r. ⌜ r ≡ leastWaiting (recordsAt (now (chart .entry)) n) n ⌝ }
 {
     let mut best = Found::Nowhere;
@@ -259,8 +303,34 @@ pub fn least(chart: &[u64], n: u64) -> Found
     best
 }
 
-// How many of the first n records are handled.
-pub fn handled_steps(chart: &[u64], n: u64) -> u64
+// The first of least count among the first n records, of those that wait.
+pub fn least(chart: &[u64], n: u64) -> Found
+    ensures { λ r. ⌜ r ≡ leastWaiting (recordsAt (now (chart .entry)) n) n ⌝ }
+{
+    if n <= capacity_of(chart) {
+        return least_inside(chart, n);
+    }
+    least_cut(chart, n)
+}
+
+// How many of the first n records, which lie inside the chart, are handled.
+fn handled_inside(chart: &[u64], n: u64) -> u64
+    requires { ⌜ n ≤ capacity (now chart) ⌝ }
+    ensures { λ r. ⌜ r ≡ handledCount (recordsAt (now (chart .entry)) n) ⌝ }
+{
+    let mut done = 0;
+    let mut i = 0;
+    while i < n {
+        if chart[(2 + 16 * i + 5) as usize] != 0 {
+            done += 1;
+        }
+        i += 1;
+    }
+    done
+}
+
+// The same where the chart may end before them.
+fn handled_cut(chart: &[u64], n: u64) -> u64
     ensures { λ r. ⌜ r ≡ handledCount (recordsAt (now (chart .entry)) n) ⌝ }
 {
     let mut done = 0;
@@ -272,6 +342,16 @@ pub fn handled_steps(chart: &[u64], n: u64) -> u64
         i += 1;
     }
     done
+}
+
+// How many of the first n records are handled.
+pub fn handled_steps(chart: &[u64], n: u64) -> u64
+    ensures { λ r. ⌜ r ≡ handledCount (recordsAt (now (chart .entry)) n) ⌝ }
+{
+    if n <= capacity_of(chart) {
+        return handled_inside(chart, n);
+    }
+    handled_cut(chart, n)
 }
 
 // The record at place j, which lies inside the chart, takes the count and the partners of the record of sixteen words, unless it is handled or its count is no greater: only three words change.

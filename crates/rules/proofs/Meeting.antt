@@ -1,13 +1,13 @@
--- Two records that do not meet at a plan node make nothing, in either order.
+-- An item that does not want another makes nothing with it, in either order.
 use mathlib.Core.Path.{_≡_, refl, sym, ap, ap₂, _∙_}
-use mathlib.Core.Bool.{Bool, true, false, _&&_, cond, true≢false}
+use mathlib.Core.Bool.{Bool, true, false, _&&_}
 use mathlib.Core.List.{List, [], _∷_, _++_}
-use Prim.Native.Nat.{ℕ, _+_, _≤_, _<_}
+use Prim.Native.Nat.{ℕ, _+_, _<_}
 use native.Mathlib.Omega.{arith}
 use native.Mathlib.Decide.{decLt}
 use lib.ListN.{length, getD, take, List·getD-eq-default}
-use lib.Dec.{eqb, ltb}
-use borrow.Author.Tests.{eq-eqb, ne-eqb, eqb-true, eqb-false, lt-ltb, le-ltb}
+use lib.Dec.{eqb}
+use borrow.Author.Tests.{eq-eqb, eqb-true, lt-ltb}
 use Rattle.hrg.specs.Counts.{hit, occurs}
 use Rattle.hrg.specs.Grammars.{Rule, Graph, Grammar, noRule, PlanNode, leaf, introduce, join, ruleOf, rankOf, rightOf, planOf, planNode, edgeAt}
 use Rattle.hrg.specs.Items.{Item, active, passive, attach}
@@ -25,39 +25,10 @@ use Rattle.questions.proofs.WellFormedAccepted.{rules-length}
 use Rattle.joins.specs.Joins.{KnownEdge}
 use Rattle.joins.proofs.Known.{plan-ok, plan-size, plan-few}
 use Rattle.joins.proofs.EdgeMaps.{edge-ok}
-use Rattle.rules.specs.Wants.{wantsAt, wantOf, wantIn, WantTable, meets}
+use Rattle.rules.specs.Wants.{wantsAt, wantOf, wantIn, WantTable}
 use Rattle.rules.proofs.Parents.{parent-found}
-use Rattle.rules.proofs.RuleItems.{guard-none, each-none, item-active, item-passive, pair-rules, pair-passive}
+use Rattle.rules.proofs.RuleItems.{guard-none, each-none, item-active, item-passive, pair-passive}
 use Rattle.rules.proofs.WantLaws.{want-at}
-
--- ---- by the tests that the function makes
-module _ (t : List ℕ) (kind of want other owner plan : ℕ) where
-  abbrev answer : Bool
-  answer = meets t kind of want other owner plan
-
-  pub two-passive : (kind ≡ 0 → ⊥) → (other ≡ 0 → ⊥) → false ≡ answer
-  unfolding meets
-  two-passive a b = rw (ne-eqb kind 0 a, ne-eqb other 0 b)
-
-  pub passive-active : (kind ≡ 0 → ⊥) → other ≡ 0 → (w : ℕ) → w ≡ wantIn t owner plan → eqb w of ≡ answer
-  unfolding meets
-  passive-active a b w e = rw (ne-eqb kind 0 a, eq-eqb other 0 b) (ap (λ w. eqb w of) e)
-
-  pub active-passive : kind ≡ 0 → (other ≡ 0 → ⊥) → eqb want owner ≡ answer
-  unfolding meets
-  active-passive a b = rw (eq-eqb kind 0 a, ne-eqb other 0 b)
-
-  pub other-rules : kind ≡ 0 → other ≡ 0 → (of ≡ owner → ⊥) → false ≡ answer
-  unfolding meets
-  other-rules a b e = rw (eq-eqb kind 0 a, eq-eqb other 0 b, ne-eqb of owner e)
-
-  pub no-node : kind ≡ 0 → other ≡ 0 → of ≡ owner → 16 ≤ plan → false ≡ answer
-  unfolding meets
-  no-node a b e l = rw (eq-eqb kind 0 a, eq-eqb other 0 b, eq-eqb of owner e, le-ltb plan 16 l)
-
-  pub two-active : kind ≡ 0 → other ≡ 0 → of ≡ owner → plan < 16 → eqb want (64 + plan) ≡ answer
-  unfolding meets
-  two-active a b e l = rw (eq-eqb kind 0 a, eq-eqb other 0 b, eq-eqb of owner e, lt-ltb plan 16 l)
 
 -- ---- what an item at a plan node makes
 -- both tests pass, or nothing is left
@@ -195,32 +166,6 @@ module _ (g : List ℕ) (checked : checkGrammar g ≡ true) (H : Graph) (t : Lis
     forth = ap₂ (binaryOf 𝐆 H) (item-active 𝐆 x a) (item-active 𝐆 y b) ∙ second-none g checked H _ _ _ _ (y .of) (y .plan) _ _ (λ l e. unwanted l (want-x ∙ e));
     back = ap₂ (binaryOf 𝐆 H) (item-active 𝐆 y b) (item-active 𝐆 x a) ∙ first-none g checked H _ _ _ _ (y .of) (y .plan) _ _ (λ l e. unwanted l (want-x ∙ e));
   }
-
-  passive-with : eqb (x .kind) 0 ≡ false → eqb (y .kind) 0 ≡ true → (wantIn t (y .of) (y .plan) ≡ x .of → ⊥) → Nothing
-  passive-with a b unwanted = record {
-    forth = pair-passive 𝐆 H x y a;
-    back =
-        ap₂ (binaryOf 𝐆 H) (item-active 𝐆 y b) (item-passive 𝐆 x a)
-        ∙ passive-none g checked H _ _ _ _ (x .of) _ _ (λ l e. unwanted (table .each (y .of) (y .plan) ∙ e));
-  }
-
-  eqb-flip : (a b : ℕ) → eqb a b ≡ false → eqb b a ≡ false
-  eqb-flip a b h = ne-eqb b a (λ q. eqb-false a b h (sym q))
-
-  joinable : (s : Bool) → eqb (x .of) (y .of) ≡ s → eqb (x .kind) 0 ≡ true → eqb (y .kind) 0 ≡ true → s && (ltb (y .plan) 16 && eqb want (64 + y .plan)) ≡ false → Nothing
-  joinable true e a b h = with-active a b (λ l q. true≢false (sym (ap₂ (λ u v. u && v) (lt-ltb (y .plan) 16 l) (eq-eqb want (64 + y .plan) q)) ∙ h))
-  joinable false e a b h = record { forth = pair-rules 𝐆 H x y a b e; back = pair-rules 𝐆 H y x b a (eqb-flip (x .of) (y .of) e) }
-
-  by-kinds : (a b : Bool) → eqb (x .kind) 0 ≡ a → eqb (y .kind) 0 ≡ b
-      → cond a (cond b (eqb (x .of) (y .of) && (ltb (y .plan) 16 && eqb want (64 + y .plan))) (eqb want (y .of))) (b && eqb (wantIn t (y .of) (y .plan)) (x .of)) ≡ false → Nothing
-  by-kinds true true a b h = joinable (eqb (x .of) (y .of)) refl a b h
-  by-kinds true false a b h = with-passive a b (λ l q. eqb-false want (y .of) h q)
-  by-kinds false true a b h = passive-with a b (λ q. eqb-false (wantIn t (y .of) (y .plan)) (x .of) h q)
-  by-kinds false false a b h = record { forth = pair-passive 𝐆 H x y a; back = pair-passive 𝐆 H y x b }
-
-  pub apart : meets t (x .kind) (x .of) want (y .kind) (y .of) (y .plan) ≡ false → Nothing
-  unfolding meets
-  apart h = by-kinds (eqb (x .kind) 0) (eqb (y .kind) 0) refl refl h
 
   -- an active item that wants nothing meets nothing
   pub unwanting : x .kind ≡ 0 → want ≡ 80 → Nothing

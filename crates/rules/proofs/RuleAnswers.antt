@@ -5,6 +5,7 @@ use mathlib.Core.List.{List, [], _∷_, map}
 use Prim.Native.Nat.{ℕ, _≤_, _<_}
 use native.Mathlib.Omega.{arith}
 use lib.ListN.{length, take}
+use lib.Seq.{length-take-le}
 use lib.Bits.{bitOr}
 use lib.Dec.{eqb}
 use borrow.Author.Tests.{eq-eqb, ne-eqb}
@@ -28,11 +29,11 @@ use Rattle.questions.proofs.WellFormedLent.{checked-grammar-ok}
 use Rattle.joins.specs.declared.Joined.{Joined}
 use Rattle.rules.specs.declared.Filled.{Filled}
 use Rattle.rules.specs.declared.Place.{Place}
-use Rattle.joins.specs.Joins.{Accepted, KnownNode, KnownEdge, Spans, Makes, edgeNodes}
+use Rattle.joins.specs.Joins.{Accepted, KnownNode, KnownEdge, Spans, BareFrom, Makes, edgeNodes}
 use Rattle.rules.specs.Rules.{Rest, Into, Second, terminalItems, binaryAt, Above}
 use Rattle.joins.proofs.Known.{right-nodes, nodes-few, plan-ok, plan-size, graph-size, graph-ok, graph-edges-few}
 use Rattle.joins.proofs.PlanMasks.{node-is, introduced-is, joined-is}
-use Rattle.joins.proofs.EdgeMaps.{edge-ok, edge-label as rule-label, edge-rank, take-padded, length-attach}
+use Rattle.joins.proofs.EdgeMaps.{edge-ok, edge-label as rule-label, edge-rank, take-padded, padded-bare, length-attach}
 use Rattle.joins.proofs.Openness.{spans-left, spans-right}
 use Rattle.rules.proofs.NodeLists.{label-is}
 use Rattle.rules.proofs.RuleItems.{guard-none, binary-nowhere, binary-place, firstIs, first-none, item-active, item-passive, item-edges, with-terminal, binary-apart, pair-passive, edge-pair}
@@ -97,10 +98,10 @@ module _ (g : List ℕ) (r q : ℕ) (known : KnownNode g r q) where
 
   module _ (y : Record) (t : List ℕ) where
     second-none : ((H : Graph) (p m : ℕ) (f : List ℕ) → binaryAt G H (active r p m f) (itemOf G y) q ≡ []) → Second g r q y t false
-    second-none h = record { none = λ _. h; some = λ e. absurd (false≢true e) }
+    second-none h = record { none = λ _. h; some = λ e. absurd (false≢true e); bare = λ e. absurd (false≢true e) }
 
-    second-some : ((H : Graph) (p m : ℕ) (f : List ℕ) → planFirst g r q ≡ p → binaryAt G H (active r p m f) (itemOf G y) q ≡ combine H R r q m (y .edges) f (take n t)) → Second g r q y t true
-    second-some h = record { none = λ e. absurd (true≢false e); some = λ _. h }
+    second-some : ((H : Graph) (p m : ℕ) (f : List ℕ) → planFirst g r q ≡ p → binaryAt G H (active r p m f) (itemOf G y) q ≡ combine H R r q m (y .edges) f (take n t)) → BareFrom n t → Second g r q y t true
+    second-some h past = record { none = λ e. absurd (true≢false e); some = λ _. h; bare = λ _. past }
 
     with-active : y .kind ≡ 0 → (H : Graph) (p m : ℕ) (f : List ℕ)
         → binaryAt G H (active r p m f) (itemOf G y) q ≡ guard (eqb r (y .of)) (joinAt H R r p m f (y .plan) (y .edges) (take (rightOf G (y .of) .nodes) (y .nodes)) q node)
@@ -169,6 +170,7 @@ module _ (g : List ℕ) (r q : ℕ) (known : KnownNode g r q) where
             filled-items isPassive H p m f
             ∙ ap₂ (λ a b. guard (a && b) (joint H m f)) (eq-eqb (planFirst g r q) p d) (eq-eqb (y .of) (edge .label) same)
             ∙ ap (combine H R r q m (y .edges) f) map-is)
+            (subst (BareFrom n) (sym t-is) (padded-bare n (attach n (edge .attachment) (take (rankAt g (edgeLabel g r i)) places)) (omega (arith, length-attach n (edge .attachment) (take (rankAt g (edgeLabel g r i)) places)))))
           where
             same : y .of ≡ edge .label
             same = sym s ∙ label ∙ sym edge-label
@@ -221,14 +223,24 @@ module _ (g : List ℕ) (r q : ℕ) (known : KnownNode g r q) where
             ∙ ap (λ b. guard (eqb r (y .of)) (guard b (both H m f (take (rightOf G (y .of) .nodes) (y .nodes))))) (and-no (eqb (planFirst g r q) p) (eqb d (y .plan)) (ne-eqb d (y .plan) e))
             ∙ guard-none (eqb r (y .of)))
 
-        pub joined-made : y .of ≡ r → d ≡ y .plan → (places : List ℕ) → y .nodes ≡ places → t ≡ places → Second g r q y t true
-        joined-made s e places nodes t-is =
+        pub joined-made : y .of ≡ r → d ≡ y .plan → (places copy : List ℕ) → y .nodes ≡ places → length places ≡ 8 → copy ≡ places → (size′ : ℕ) → size′ ≡ n → t ≡ padded (take size′ copy) → Second g r q y t true
+        joined-made s e places copy nodes eight same size′ is t-is′ =
             second-some
             (λ H p m f c.
             joined-items H p m f
             ∙ ap (λ b. guard b (guard (eqb (planFirst g r q) p && eqb d (y .plan)) (both H m f (take (rightOf G (y .of) .nodes) (y .nodes))))) (eq-eqb r (y .of) (sym s))
             ∙ ap₂ (λ a b. guard (a && b) (both H m f (take (rightOf G (y .of) .nodes) (y .nodes)))) (eq-eqb (planFirst g r q) p c) (eq-eqb d (y .plan) e)
-            ∙ ap (both H m f) (ap (λ i. take (rightOf G i .nodes) (y .nodes)) s ∙ ap₂ (λ (i : ℕ) (l : List ℕ). take i l) size (nodes ∙ sym t-is)))
+            ∙ ap (both H m f) (ap (λ i. take (rightOf G i .nodes) (y .nodes)) s ∙ ap₂ (λ (i : ℕ) (l : List ℕ). take i l) size nodes ∙ sym (ap (take n) t-is ∙ take-padded n (take n places) long few)))
+            (subst (BareFrom n) (sym t-is) (padded-bare n (take n places) (omega (arith, long))))
+          where
+            few : n ≤ 8
+            few = nodes-few g r (known .grammar) (known .rule)
+
+            long : length (take n places) ≡ n
+            long = length-take-le n places (omega (arith, few))
+
+            t-is : t ≡ padded (take n places)
+            t-is = t-is′ ∙ ap₂ (λ (i : ℕ) (l : List ℕ). padded (take i l)) is same
 
 pub rest-same : (x : Record) → Rest x x
 rest-same x = record { kind = refl; count = refl; handled = refl; first = refl; second = refl }

@@ -16,7 +16,7 @@ use Rattle.agenda.specs.declared.Record.{Record}
 use Rattle.records.specs.Words.{ofWords}
 use Rattle.questions.specs.Layout.{ruleNodes, rulePlan, planFirst}
 use Rattle.questions.specs.Abstract.{grammarOf}
-use Rattle.joins.specs.Joins.{Accepted, KnownNode, Spans}
+use Rattle.joins.specs.Joins.{Accepted, KnownNode, Spans, BareFrom}
 use Rattle.rules.specs.declared.Filled.{Filled}
 use Rattle.rules.specs.declared.Place.{Place}
 
@@ -39,6 +39,7 @@ pub record Second (g : List ℕ) (r q : ℕ) (y : Record) (t : List ℕ) (b : Bo
   pub none : b ≡ false → (H : Graph) (p m : ℕ) (f : List ℕ) → binaryAt (grammarOf g) H (active r p m f) (itemOf (grammarOf g) y) q ≡ []
   pub some : b ≡ true → (H : Graph) (p m : ℕ) (f : List ℕ) → planFirst g r q ≡ p
       → binaryAt (grammarOf g) H (active r p m f) (itemOf (grammarOf g) y) q ≡ combine H (ruleOf (grammarOf g) r) r q m (y .edges) f (take (ruleNodes g r) t)
+  pub bare : b ≡ true → BareFrom (ruleNodes g r) t
 
 -- ---- the item that a rule makes, put into the sixteen words of a record
 -- the words that stay

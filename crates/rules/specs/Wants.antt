@@ -1,6 +1,6 @@
--- What an active item at a plan node can be joined with above it, as one number, and which records meet at a plan node.
+-- What an active item at a plan node can be joined with above it, as one number.
 use mathlib.Core.Path.{_≡_}
-use mathlib.Core.Bool.{Bool, true, false, _&&_, cond}
+use mathlib.Core.Bool.{_&&_, cond}
 use mathlib.Core.List.{List, [], _∷_, _++_}
 use Prim.Native.Nat.{ℕ, _+_, _*_}
 use lib.ListN.{length, getD}
@@ -31,9 +31,3 @@ wantIn t r p = cond (ltb r 64 && ltb p 16) (getD t (16 * r + p) 0) nothing
 -- t is the table of g
 pub record WantTable (g t : List ℕ) : Type 0 where
   pub each : (r p : ℕ) → wantIn t r p ≡ wantOf (grammarOf g) r p
-
--- Whether an item of a kind and a rule or symbol, which wants `want` if it is active, can meet another at a plan node: an active item what it wants, and a passive one what wants its symbol.
-unfoldable pub meets : List ℕ → ℕ → ℕ → ℕ → ℕ → ℕ → ℕ → Bool
-unfolding wantIn
-meets t kind of want kind′ of′ plan′ =
-    cond (eqb kind 0) (cond (eqb kind′ 0) (eqb of of′ && (ltb plan′ 16 && eqb want (64 + plan′))) (eqb want of′)) (eqb kind′ 0 && eqb (wantIn t of′ plan′) of)

@@ -142,7 +142,7 @@ fn copy_map(l: &[u64], t: &mut [u64])
     t[7] = l[7];
 }
 
-// Whether y can be the second at plan node q of rule `of`, and its map into t. By the nonterminal rule q introduces an edge and y is passive and has the edge's symbol; by the join rule y is active and at the second child.
+// Whether y can be the second at plan node q of rule `of`, and its map into t. By the nonterminal rule q introduces an edge and y is passive and has the edge's symbol; by the join rule y is active and at the second child. Its words past the rule's nodes may be any, and count for nothing.
 fn second_map(g: &[u64], of: u64, q: u64, y: &[u64], t: &mut [u64]) -> bool
     requires { ⌜ KnownNode (now g) of q × (length (now y) ≡ 16) × (length (now t) ≡ 8) ⌝ }
     ensures { λ b. ⌜ Second (now (g .entry)) of q (ofWords (now (y .entry))) (now (t .exit)) b ⌝ }
@@ -172,6 +172,7 @@ fn second_map(g: &[u64], of: u64, q: u64, y: &[u64], t: &mut [u64]) -> bool
         return false;
     }
     copy_map(&y[6..14], t);
+    joins::clear_from(layout::word_in(g, 65 + 25 * of, 2), t);
     true
 }
 

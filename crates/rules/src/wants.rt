@@ -6,7 +6,7 @@ ghost use Rattle.hrg.specs.Grammars.{planOf, planNode};
 ghost use Rattle.questions.specs.Checking.{checkGrammar};
 ghost use Rattle.questions.specs.Abstract.{grammarOf};
 ghost use Rattle.joins.specs.Joins.{KnownNode};
-ghost use Rattle.rules.specs.Wants.{wantsAt, wantOf, wantIn, WantTable, meets};
+ghost use Rattle.rules.specs.Wants.{wantsAt, wantOf, wantIn, WantTable};
 
 // What plan node q wants of an item at p.
 fn wanted_at(g: &[u64], r: u64, p: u64, q: u64) -> u64
@@ -73,34 +73,4 @@ pub fn want_of(t: &[u64; 1024], r: u64, p: u64) -> u64
         return 80;
     }
     t[(16 * r + p) as usize]
-}
-
-// Whether an item can meet another at a plan node; `want` is what it wants if it is active.
-pub fn meet(
-    t: &[u64; 1024],
-    kind: u64,
-    of: u64,
-    want: u64,
-    other: u64,
-    owner: u64,
-    plan: u64,
-) -> bool
-    ensures { λ x. ⌜ x ≡ meets (now (t .entry)) kind of want other owner plan ⌝ }
-{
-    if kind != 0 {
-        if other != 0 {
-            return false;
-        }
-        return want_of(t, owner, plan) == of;
-    }
-    if other != 0 {
-        return want == owner;
-    }
-    if of != owner {
-        return false;
-    }
-    if plan >= 16 {
-        return false;
-    }
-    want == 64 + plan
 }

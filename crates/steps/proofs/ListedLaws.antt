@@ -19,7 +19,7 @@ use Rattle.questions.specs.Abstract.{grammarOf}
 use Rattle.questions.specs.Checking.{checkGrammar}
 use Rattle.rules.specs.Wants.{WantTable}
 use Rattle.records.specs.Words.{Fits, capacity, itemCount, recordAt, chartOf, grownBy}
-use Rattle.records.proofs.WordLaws.{length-records, record-in}
+use Rattle.records.proofs.WordLaws.{field-at, length-records, edges-of, record-in}
 use Rattle.records.proofs.Grown.{Whole, whole-gather, whole-guard, grown-none, grown-flag, grown-record}
 use Rattle.lists.specs.Lists.{Within}
 use Rattle.lists.specs.Cursors.{alone, startsOf, leastOf, passedOf, leftAll, Ahead, SkimsAll}
@@ -35,7 +35,7 @@ use Rattle.index.proofs.KeyLists.{keys-length, keys-at, keys-grown}
 use Rattle.steps.specs.Partners.{withRecord}
 use Rattle.steps.specs.Ready.{Ready, Regular}
 use Rattle.steps.proofs.PartnerLaws.{unjoined-none, waiting-none, overlap-none}
-use Rattle.steps.proofs.StepLaws.{Gathered, record-whole, gathered-none, gathered-skip, gathered-all, partners-next}
+use Rattle.steps.proofs.StepLaws.{Gathered, nothing-added, record-whole, gathered-none, gathered-skip, gathered-all, partners-next}
 
 -- ---- a record that may be done already
 pub next-done : (w : List ℕ) → Fits w → (done k : ℕ) (xs : List Record) → k < done → w ≡ grownBy w (guard (leb done k) xs)
@@ -84,6 +84,22 @@ quiet-none G H x j w k = go (disjoint (x .edges) (recordAt w k .edges)) refl (is
     go false p b q h = overlap-none G H x (recordAt w k) j k p
     go true p false q h = waiting-none G H x (recordAt w k) j k q
     go true p true q h = absurd (false≢true h)
+
+-- .. by the words of the record that is tried with them
+pub quiet-added : (G : Grammar) (H : Graph) (j : ℕ) (w : List ℕ) (k e : ℕ) (b : Bool) → Fits w → e ≡ getD w (2 + 16 * j + 3) 0 → b ≡ quietIn w e k → b ≡ true → w ≡ grownBy w (withRecord G H (recordAt w j) j (recordAt w k) k)
+quiet-added G H j w k e b o p q t =
+    let own : e ≡ recordAt w j .edges = field-at w j 3 e p ∙ sym (edges-of w j) in
+    nothing-added w _ o (quiet-none G H (recordAt w j) j w k (ap (λ m. quietIn w m k) (sym own) ∙ sym q ∙ t))
+
+-- all others are handled
+pub loud-handled : (w : List ℕ) (k e : ℕ) (b : Bool) → b ≡ quietIn w e k → b ≡ false → isHandled (recordAt w k) ≡ true
+unfolding quietIn
+loud-handled w k e b q t = go (disjoint e (recordAt w k .edges)) (isHandled (recordAt w k)) (sym q ∙ t)
+  where
+    go : (d s : Bool) → cond d (cond s false true) true ≡ false → s ≡ true
+    go d true h = refl
+    go true false h = absurd (false≢true (sym h))
+    go false false h = absurd (false≢true (sym h))
 
 -- they are so in words that grew, and no others
 pub quiet-grown : (w v : List ℕ) (xs : List Record) (edges k : ℕ) → Fits w → Whole xs → v ≡ grownBy w xs → k < itemCount w → quietIn v edges k ≡ quietIn w edges k

@@ -12,7 +12,6 @@ use Rattle.hrg.specs.ClosureRun.{guard}
 use Rattle.agenda.specs.declared.Record.{Record}
 use Rattle.agenda.specs.Consequences.{gather}
 use Rattle.questions.specs.Abstract.{grammarOf}
-use Rattle.rules.specs.Wants.{wantIn}
 use Rattle.rules.specs.Plans.{Leads}
 use Rattle.records.specs.Words.{itemCount, recordAt, chartOf, grownBy}
 use Rattle.records.proofs.WordLaws.{length-records, record-in}
@@ -97,9 +96,6 @@ module _ (g h wants pivots : List ℕ) (H : Graph) (w : List ℕ) (j n : ℕ) wh
 
       pub turning-handled : Handled g h v j near
       turning-handled = stays-handled g h w v j near (gather past partner) (R₀ .fits) (whole-gather past partner partner-whole) (S .gathered .is) D
-
-      pub turning-want : (want : ℕ) → want ≡ wantIn wants (x .of) (x .plan) → want ≡ wantIn wants (recordAt v j .of) (recordAt v j .plan)
-      turning-want want e = e ∙ ap (λ (y : Record). wantIn wants (y .of) (y .plan)) (sym turning-record)
 
       pub turning-lead : (lead : Bool) → Leads g x lead → Leads g (recordAt v j) lead
       turning-lead lead L = subst (λ (y : Record). Leads g y lead) (sym turning-record) L

@@ -11,7 +11,6 @@ ghost use Rattle.questions.specs.Layout.{graphEdges};
 ghost use Rattle.questions.specs.Checking.{checkGrammar};
 ghost use Rattle.questions.specs.Abstract.{grammarOf, graphOf};
 ghost use Rattle.joins.specs.Joins.{Spans};
-ghost use Rattle.rules.specs.Wants.{wantIn};
 ghost use Rattle.rules.specs.Plans.{Leads};
 ghost use Rattle.rules.specs.Candidates.{Candidates};
 ghost use Rattle.lists.specs.Lists.{Within};
@@ -19,7 +18,7 @@ ghost use Rattle.lists.specs.Cursors.{alone, SkimsAll};
 ghost use Rattle.index.specs.Index.{indexWords, listsOf, markOf};
 ghost use Rattle.index.specs.Quiet.{quietIn};
 ghost use Rattle.records.specs.Words.{itemCount, recordAt, grownBy};
-ghost use Rattle.steps.specs.Partners.{withRecord, mayMeet};
+ghost use Rattle.steps.specs.Partners.{withRecord};
 ghost use Rattle.steps.specs.Ready.{Tables, Ready, Handled};
 ghost use Rattle.steps.specs.Ways.{Poised, Opens, Goes};
 use rules::wants;
@@ -229,31 +228,6 @@ fn add_pair(
     index::add(wants, pivots, chart, index, &out, made.images);
 }
 
-// Whether the record at place k may make something with the one at place j, which wants `want` if it is active. Only the words that tell are read, first those that tell the most.
-fn may_meet(wants: &[u64; 1024], chart: &[u64], j: u64, k: u64, want: u64) -> bool
-    requires { ⌜ (j < itemCount (now chart)) × (k < itemCount (now chart)) × (itemCount (now chart) ≤ 4096) ⌝ }
-    ensures { λ r. ⌜ r ≡ mayMeet (now (wants .entry)) want (recordAt (now (chart .entry)) j) (recordAt (now (chart .entry)) k) ⌝ }
-{
-    let at = (2 + 16 * k) as usize;
-    let own = (2 + 16 * j) as usize;
-    let edges = chart[at + 3];
-    if !masks::disjoint(chart[own + 3], edges) {
-        return false;
-    }
-    if chart[at + 5] == 0 {
-        return false;
-    }
-    wants::meet(
-        wants,
-        chart[own],
-        chart[own + 1],
-        want,
-        chart[at],
-        chart[at + 1],
-        chart[at + 2],
-    )
-}
-
 // The one of two that comes first.
 fn pick(lead: bool, j: u64, k: u64) -> u64
     ensures { λ r. ⌜ r ≡ cond lead j k ⌝ }
@@ -274,16 +248,16 @@ fn add_partner(
     graph: &[u64; 577],
     chart: &mut [u64],
     index: &mut [u32],
-    want: u64,
     lead: bool,
     j: u64,
     k: u64,
     near: u64,
 )
-    requires { ⌜ Tables (now g) (now h) (now wants) (now plans) (now pivots) (now graph) × Ready (now g) (now h) (now wants) (now pivots) (now chart) (now index) × Handled (now g) (now h) (now chart) j near × (want ≡ wantIn (now wants) (recordAt (now chart) j .of) (recordAt (now chart) j .plan)) × Leads (now g) (recordAt (now chart) j) lead × (k < itemCount (now chart)) ⌝ }
+    requires { ⌜ Tables (now g) (now h) (now wants) (now plans) (now pivots) (now graph) × Ready (now g) (now h) (now wants) (now pivots) (now chart) (now index) × Handled (now g) (now h) (now chart) j near × Leads (now g) (recordAt (now chart) j) lead × (k < itemCount (now chart)) ⌝ }
     ensures { λ r. ⌜ (now (chart .exit) ≡ grownBy (now (chart .entry)) (withRecord (grammarOf (now (g .entry))) (graphOf (now (g .entry)) (now (h .entry))) (recordAt (now (chart .entry)) j) j (recordAt (now (chart .entry)) k) k)) × Ready (now (g .entry)) (now (h .entry)) (now (wants .entry)) (now (pivots .entry)) (now (chart .exit)) (now (index .exit)) ⌝ }
 {
-    if !may_meet(wants, chart, j, k, want) {
+    let own = (2 + 16 * j) as usize;
+    if index::quiet(chart, chart[own + 3], k) {
         return;
     }
     let both = masks::union(near, index::near(index, k));
@@ -314,14 +288,13 @@ fn add_next(
     graph: &[u64; 577],
     chart: &mut [u64],
     index: &mut [u32],
-    want: u64,
     lead: bool,
     j: u64,
     k: u64,
     past: u64,
     near: u64,
 ) -> u64
-    requires { ⌜ Tables (now g) (now h) (now wants) (now plans) (now pivots) (now graph) × Ready (now g) (now h) (now wants) (now pivots) (now chart) (now index) × Handled (now g) (now h) (now chart) j near × (want ≡ wantIn (now wants) (recordAt (now chart) j .of) (recordAt (now chart) j .plan)) × Leads (now g) (recordAt (now chart) j) lead × (k < itemCount (now chart)) ⌝ }
+    requires { ⌜ Tables (now g) (now h) (now wants) (now plans) (now pivots) (now graph) × Ready (now g) (now h) (now wants) (now pivots) (now chart) (now index) × Handled (now g) (now h) (now chart) j near × Leads (now g) (recordAt (now chart) j) lead × (k < itemCount (now chart)) ⌝ }
     ensures { λ r. ⌜ (now (chart .exit) ≡ grownBy (now (chart .entry)) (guard (leb past k) (withRecord (grammarOf (now (g .entry))) (graphOf (now (g .entry)) (now (h .entry))) (recordAt (now (chart .entry)) j) j (recordAt (now (chart .entry)) k) k))) × Ready (now (g .entry)) (now (h .entry)) (now (wants .entry)) (now (pivots .entry)) (now (chart .exit)) (now (index .exit)) × (r ≡ max past (k + 1)) ⌝ }
 {
     if k < past {
@@ -336,7 +309,6 @@ fn add_next(
         graph,
         chart,
         index,
-        want,
         lead,
         j,
         k,
@@ -427,13 +399,12 @@ fn add_each(
     graph: &[u64; 577],
     chart: &mut [u64],
     index: &mut [u32],
-    want: u64,
     lead: bool,
     j: u64,
     n: u64,
     near: u64,
 )
-    requires { ⌜ Tables (now g) (now h) (now wants) (now plans) (now pivots) (now graph) × Ready (now g) (now h) (now wants) (now pivots) (now chart) (now index) × Handled (now g) (now h) (now chart) j near × (want ≡ wantIn (now wants) (recordAt (now chart) j .of) (recordAt (now chart) j .plan)) × Leads (now g) (recordAt (now chart) j) lead × (n ≤ itemCount (now chart)) ⌝ }
+    requires { ⌜ Tables (now g) (now h) (now wants) (now plans) (now pivots) (now graph) × Ready (now g) (now h) (now wants) (now pivots) (now chart) (now index) × Handled (now g) (now h) (now chart) j near × Leads (now g) (recordAt (now chart) j) lead × (n ≤ itemCount (now chart)) ⌝ }
     ensures { λ r. ⌜ (now (chart .exit) ≡ grownBy (now (chart .entry)) (gather n (λ k. withRecord (grammarOf (now (g .entry))) (graphOf (now (g .entry)) (now (h .entry))) (recordAt (now (chart .entry)) j) j (recordAt (now (chart .entry)) k) k))) × Ready (now (g .entry)) (now (h .entry)) (now (wants .entry)) (now (pivots .entry)) (now (chart .exit)) (now (index .exit)) ⌝ }
 {
     let own = (2 + 16 * j) as usize;
@@ -452,7 +423,6 @@ fn add_each(
             graph,
             chart,
             index,
-            want,
             lead,
             j,
             at.k,
@@ -495,7 +465,6 @@ pub(crate) fn add_partners(
         graph,
         chart,
         index,
-        want,
         lead,
         j,
         n,

@@ -1,4 +1,4 @@
--- The lists, the links, then the leaf.
+-- The lists, the links, then the ranking.
 use mathlib.Core.List.{[], _∷_, _++_}
 use Rattle.index.proofs.IndexLaws.{length-both, entered, entered-near}
 use native.Mathlib.Omega.{arith}

@@ -1,4 +1,4 @@
--- One leaf is another.
+-- One order is another.
 use Rattle.index.proofs.IndexLaws.{recounted}
 use Rattle.index.proofs.NearLaws.{near-put}
 use native.Mathlib.Omega.{arith}

@@ -1,4 +1,4 @@
--- A record that is handled already has no leaf; else its leaf goes.
+-- A record that is handled already has no order; else its order goes.
 use Rattle.records.specs.Words.{chartOf}
 use Rattle.index.proofs.IndexLaws.{settled, settled-still}
 use Rattle.index.proofs.AddLaws.{inside, is-handled, is-waiting, has-count}

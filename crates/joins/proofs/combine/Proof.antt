@@ -2,8 +2,10 @@
 use native.Mathlib.Omega.{arith}
 use borrow.Author.Tests.{not-true, not-false}
 use borrow.Author.Needs.{needs}
+use mathlib.Core.Path.{refl}
 use Rattle.joins.proofs.Known.{grammar-long, rule-few, nodes-few, graph-nodes-few}
 use Rattle.joins.proofs.Openness.{spans-united}
+use Rattle.joins.proofs.EdgeMaps.{same-bare}
 use Rattle.joins.proofs.Combining.{combine-apart, combine-clash, combine-keeps, combine-bare, combine-found}
 use Rattle.joins.proofs.combine.Statement.{statement}
 use Rattle.joins.proofs.combine.Tie as tie
@@ -33,7 +35,7 @@ union-requires : tie.Need-union-requires
 union-requires c κs = search needs
 
 merge-maps-requires : tie.Need-merge-maps-requires
-merge-maps-requires c κs = (omega (arith, c .before .before .before .word-in .ensures, nodes-few _ _ (c .before .before .before .before .before .before .before .before .before .before .pre .1 .grammar) (c .before .before .before .before .before .before .before .before .before .before .pre .1 .rule)), omega (arith, c .before .before .graph-nodes .ensures, graph-nodes-few _ _ (c .before .before .before .before .before .before .before .before .before .before .pre .0)), c .before .before .before .before .before .before .before .before .before .before .pre .6, c .before .before .before .before .before .before .before .before .before .before .pre .7)
+merge-maps-requires c κs = (omega (arith, c .before .before .before .word-in .ensures, nodes-few _ _ (c .before .before .before .before .before .before .before .before .before .before .pre .1 .grammar) (c .before .before .before .before .before .before .before .before .before .before .pre .1 .rule)), omega (arith, c .before .before .graph-nodes .ensures, graph-nodes-few _ _ (c .before .before .before .before .before .before .before .before .before .before .pre .0)), c .before .before .before .before .before .before .before .before .before .before .pre .6, c .before .before .before .before .before .before .before .before .before .before .pre .7, same-bare _ _ _ _ (c .before .before .before .word-in .ensures) refl (c .before .before .before .before .before .before .before .before .before .before .pre .8))
 
 not-joined-requires-2 : tie.Need-not-joined-requires-2
 not-joined-requires-2 c κs = search needs

@@ -57,20 +57,26 @@ place-key-requires-5 c κs = search needs
 returns-2 : tie.Need-returns-2
 returns-2 c = query-passive _ _ _ _ (c .before .before .before .before .before .before .before .before .before .before .before .before .before .if1 .taken) (listed-keys _ _ _ _ (c .before .before .before .before .before .before .before .before .before .before .before .uses-of .ensures) _ (c .before .before .before .before .before .before .before .before .before .before .place-of .ensures) (c .before .before .before .before .before .before .before .before .before .if2 .left) _ _ _ _ _ (c .before .before .before .before .before .before .before .place-key .ensures) (c .before .before .before .before .before .place-key2 .ensures) (c .before .before .before .place-key3 .ensures) (c .before .place-key4 .ensures) (c .place-key5 .ensures))
 
-shared-slice-read-p : tie.Need-shared-slice-read-p
-shared-slice-read-p c = omega (arith, c .before .before .before .before .pre)
+shared-slice-read-r : tie.Need-shared-slice-read-r
+shared-slice-read-r c = omega (arith, c .before .before .before .before .pre)
 
-shared-slice-read-want-of : tie.Need-shared-slice-read-want-of
-shared-slice-read-want-of c = omega (arith, c .before .before .before .before .before .pre)
+shared-slice-read-p : tie.Need-shared-slice-read-p
+shared-slice-read-p c = omega (arith, c .before .before .before .before .before .pre)
 
 want-of-requires : tie.Need-want-of-requires
 want-of-requires c κs = search needs
 
+pivot-of-requires : tie.Need-pivot-of-requires
+pivot-of-requires c κs = search needs
+
+image-requires : tie.Need-image-requires
+image-requires c κs = c .before .before .before .before .before .before .before .pre
+
 active-key-requires : tie.Need-active-key-requires
-active-key-requires c κs = c .before .before .before .before .before .before .pre
+active-key-requires c κs = search needs
 
 returns-3 : tie.Need-returns-3
-returns-3 c = query-active _ _ _ (c .before .before .before .before .if1 .left) _ _ (c .before .want-of .ensures) (c .active-key .ensures)
+returns-3 c = query-active _ _ _ (c .before .before .before .before .before .before .if1 .left) _ _ _ _ (c .before .before .before .want-of .ensures) (c .before .before .pivot-of .ensures) (c .before .image .ensures) (c .active-key .ensures)
 
 pub query-spec : {M : Type 1} → statement M
 query-spec =
@@ -93,8 +99,10 @@ query-spec =
     place-key-requires-4
     place-key-requires-5
     returns-2
+    shared-slice-read-r
     shared-slice-read-p
-    shared-slice-read-want-of
     want-of-requires
+    pivot-of-requires
+    image-requires
     active-key-requires
     returns-3)

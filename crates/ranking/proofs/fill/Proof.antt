@@ -1,11 +1,15 @@
 -- The first j records are ranked.
 use native.Mathlib.Omega.{arith}
-use Prim.Native.Nat.{_+_, _-_, _≤_}
-use mathlib.Core.Path.{sym, _∙_}
+use Prim.Native.Nat.{ℕ, _+_, _-_, _≤_}
+use mathlib.Core.Path.{sym, _∙_, subst}
+use mathlib.Core.List.{List}
+use mathlib.Core.Logic.{⊎-elim}
 use borrow.Author.Needs.{needs}
 use Rattle.records.specs.Words.{recordsAt}
+use Rattle.records.proofs.WordLaws.{item-fits}
 use Rattle.ranking.specs.Ranking.{Ranked}
-use Rattle.ranking.proofs.Leaves.{ranked-first, next-leaf, ranked-all, fresh-leaf}
+use Rattle.ranking.proofs.Orders.{ranked-first, next-waits, next-handled, ranked-all, fresh-order}
+use Rattle.ranking.proofs.SetLaws.{ranked-still}
 use Rattle.ranking.proofs.fill.Statement.{statement}
 use Rattle.ranking.proofs.fill.Tie as tie
 
@@ -21,14 +25,38 @@ item-count-requires c κs = search needs
 loop-holds : tie.Need-loop-holds Inv-loop μ-loop
 loop-holds c = (omega arith, ranked-first (c .before .before .before .args .chart .now) _ (c .before .before .before .pre .0))
 
-field-requires : tie.Need-field-requires Inv-loop μ-loop
-field-requires c κs = search needs
+mul-if1 : tie.Need-mul-if1 Inv-loop μ-loop
+mul-if1 c = omega (arith, c .loop-test .taken, c .before .before .before .before .before .pre .1, c .before .before .item-count .ensures)
 
-field-requires-2 : tie.Need-field-requires-2 Inv-loop μ-loop
-field-requires-2 c κs = search needs
+add-if1 : tie.Need-add-if1 Inv-loop μ-loop
+add-if1 c = omega (arith, c .loop-test .taken, c .before .before .before .before .before .pre .1, c .before .before .item-count .ensures)
 
-place-requires : tie.Need-place-requires Inv-loop μ-loop
-place-requires c κs = (c .before .before .before .before .loop .inv .1 .size, omega (arith, c .before .before .before .loop-test .taken, c .before .before .before .before .before .before .before .before .pre .1, c .before .before .before .before .before .item-count .ensures))
+add-if1-2 : tie.Need-add-if1-2 Inv-loop μ-loop
+add-if1-2 c = omega (arith, c .loop-test .taken, c .before .before .before .before .before .pre .1, c .before .before .item-count .ensures)
+
+mul-if1-2 : tie.Need-mul-if1-2 Inv-loop μ-loop
+mul-if1-2 c = omega (arith, c .loop-test .taken, c .before .before .before .before .before .pre .1, c .before .before .item-count .ensures)
+
+shared-slice-read-if1 : tie.Need-shared-slice-read-if1 Inv-loop μ-loop
+shared-slice-read-if1 c = omega (arith, item-fits (c .before .before .before .before .before .before .args .chart .now) (c .before .before .loop .j) (omega (arith, c .before .loop-test .taken, c .before .before .before .item-count .ensures)))
+
+mul-insert : tie.Need-mul-insert Inv-loop μ-loop
+mul-insert c = omega (arith, c .before .before .before .loop-test .taken, c .before .before .before .before .before .before .before .before .pre .1, c .before .before .before .before .before .item-count .ensures)
+
+add-insert : tie.Need-add-insert Inv-loop μ-loop
+add-insert c = omega (arith, c .before .before .before .loop-test .taken, c .before .before .before .before .before .before .before .before .pre .1, c .before .before .before .before .before .item-count .ensures)
+
+add-insert-2 : tie.Need-add-insert-2 Inv-loop μ-loop
+add-insert-2 c = omega (arith, c .before .before .before .loop-test .taken, c .before .before .before .before .before .before .before .before .pre .1, c .before .before .before .before .before .item-count .ensures)
+
+mul-insert-2 : tie.Need-mul-insert-2 Inv-loop μ-loop
+mul-insert-2 c = omega (arith, c .before .before .before .loop-test .taken, c .before .before .before .before .before .before .before .before .pre .1, c .before .before .before .before .before .item-count .ensures)
+
+shared-slice-read-insert : tie.Need-shared-slice-read-insert Inv-loop μ-loop
+shared-slice-read-insert c = omega (arith, item-fits (c .before .before .before .before .before .before .before .before .before .args .chart .now) (c .before .before .before .before .before .loop .j) (omega (arith, c .before .before .before .before .loop-test .taken, c .before .before .before .before .before .before .item-count .ensures)))
+
+insert-requires : tie.Need-insert-requires Inv-loop μ-loop
+insert-requires c κs = (c .before .before .before .before .before .loop .inv .1 .size, omega (arith, c .before .before .before .before .loop-test .taken, c .before .before .before .before .before .before .before .before .before .pre .1, c .before .before .before .before .before .before .item-count .ensures))
 
 add-j : tie.Need-add-j Inv-loop μ-loop
 add-j c = omega arith
@@ -38,9 +66,14 @@ loop-less c = omega arith
 
 loop-again : tie.Need-loop-again Inv-loop μ-loop
 loop-again c =
-    let w = c .before .before .before .before .before .before .before .before .before .before .before .args .chart .now in
-    let l = c .before .before .before .before .before .before .before .loop in
-    (omega arith, c .before .before .place .ensures (recordsAt w (l .j)) (recordsAt w (l .j + 1)) (l .inv .1) (fresh-leaf w (l .j)) (next-leaf w (l .j) (c .before .before .before .before .field .result) (c .before .before .before .field2 .result) (c .before .before .before .before .field .ensures) (c .before .before .before .field2 .ensures)))
+    let w = c .before .before .before .before .before .before .before .args .chart .now in
+    let l = c .before .before .before .loop in
+    let now = recordsAt w (l .j) in
+    let next = recordsAt w (l .j + 1) in
+    ⊎-elim
+    (λ p. (omega arith, subst (λ (r : List ℕ). Ranked r next) (sym (p .6)) (p .3 .ensures now next (l .inv .1) (fresh-order w (l .j)) (next-waits w (l .j) (p .0 .taken)))))
+    (λ p. (omega arith, subst (λ (r : List ℕ). Ranked r next) (sym (p .1)) (ranked-still (l .ranks) (l .j) now next (l .inv .1) (fresh-order w (l .j)) (next-handled w (l .j) (p .0 .left)))))
+    (c .if1 .came)
 
 same-length : tie.Need-same-length Inv-loop μ-loop
 same-length c = c .before .loop .inv .1 .size ∙ sym (c .before .before .before .before .before .pre .0 .size)
@@ -59,9 +92,17 @@ fill-spec =
     μ-loop
     item-count-requires
     loop-holds
-    field-requires
-    field-requires-2
-    place-requires
+    mul-if1
+    add-if1
+    add-if1-2
+    mul-if1-2
+    shared-slice-read-if1
+    mul-insert
+    add-insert
+    add-insert-2
+    mul-insert-2
+    shared-slice-read-insert
+    insert-requires
     add-j
     loop-less
     loop-again

@@ -1,4 +1,4 @@
--- One that does not wait leaves the leaf 0.
+-- One that does not wait orders the order 0.
 use Rattle.ranking.proofs.SetLaws.{ranked-still, placed-some, placed-none}
 use borrow.Author.Needs.{needs}
 use Rattle.ranking.proofs.place.Statement.{statement}

@@ -1,4 +1,4 @@
--- A base without a place in a word leaves words that say nothing; else the set is cleared and filled.
+-- A base without a place in a word orders words that say nothing; else the set is cleared and filled.
 use Rattle.ranking.proofs.SetLaws.{ranked-marked, ranked-none, renewed-size}
 use native.Mathlib.Omega.{arith}
 use lib.ListN.{set}

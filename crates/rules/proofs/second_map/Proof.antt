@@ -2,6 +2,7 @@
 use native.Mathlib.Omega.{arith}
 use borrow.Author.Needs.{needs}
 use Rattle.records.specs.Words.{ofWords}
+use Rattle.joins.proofs.Known.{grammar-long, rule-few, nodes-few}
 use Rattle.rules.proofs.RuleAnswers.{second-leaf, filled-known, filled-active, filled-label, filled-made, joined-passive, joined-rule, joined-second, joined-made}
 use Rattle.rules.proofs.RecordWords.{map-words, map-size}
 use Rattle.rules.proofs.second_map.Statement.{statement}
@@ -86,12 +87,24 @@ part-copy-map-end c = omega (arith, c .before .before .before .before .before .b
 copy-map-requires : tie.Need-copy-map-requires
 copy-map-requires c κs = (map-size (c .before .before .before .before .before .before .before .before .before .before .before .before .before .before .before .args .y .now) (c .before .before .before .before .before .before .before .before .before .before .before .before .before .before .before .pre .1), c .before .before .before .before .before .before .before .before .before .before .before .before .before .before .before .pre .2)
 
+mul-word-in : tie.Need-mul-word-in
+mul-word-in c = omega (arith, rule-few _ _ (c .before .before .before .before .before .before .before .before .before .before .before .before .before .before .before .before .before .before .pre .0 .grammar) (c .before .before .before .before .before .before .before .before .before .before .before .before .before .before .before .before .before .before .pre .0 .rule))
+
+add-word-in : tie.Need-add-word-in
+add-word-in c = omega (arith, rule-few _ _ (c .before .before .before .before .before .before .before .before .before .before .before .before .before .before .before .before .before .before .pre .0 .grammar) (c .before .before .before .before .before .before .before .before .before .before .before .before .before .before .before .before .before .before .pre .0 .rule))
+
+word-in-requires : tie.Need-word-in-requires
+word-in-requires c κs = omega (arith, rule-few _ _ (c .before .before .before .before .before .before .before .before .before .before .before .before .before .before .before .before .before .before .pre .0 .grammar) (c .before .before .before .before .before .before .before .before .before .before .before .before .before .before .before .before .before .before .pre .0 .rule), grammar-long _ (c .before .before .before .before .before .before .before .before .before .before .before .before .before .before .before .before .before .before .pre .0 .grammar))
+
+clear-from-requires : tie.Need-clear-from-requires
+clear-from-requires c κs = (omega (arith, c .before .word-in .ensures, nodes-few _ _ (c .before .before .before .before .before .before .before .before .before .before .before .before .before .before .before .before .before .before .before .before .pre .0 .grammar) (c .before .before .before .before .before .before .before .before .before .before .before .before .before .before .before .before .before .before .before .before .pre .0 .rule)), omega (arith, c .before .before .before .before .copy-map .kept, c .before .before .before .before .before .before .before .before .before .before .before .before .before .before .before .before .before .before .before .before .pre .2))
+
 same-length-2 : tie.Need-same-length-2
 same-length-2 c = search needs
 
 returns-8 : tie.Need-returns-8
 unfolding ofWords
-returns-8 c = joined-made _ _ _ (c .before .before .before .before .before .before .before .before .before .before .before .before .before .before .before .before .before .before .pre .0) _ _ _ _ (c .before .before .before .before .before .before .before .before .before .before .before .before .before .before .kind-at .ensures) (c .before .before .before .before .before .before .before .before .before .before .before .before .before .second-at .ensures) (c .before .before .before .before .before .before .before .before .before .before .before .if4 .left) (c .before .before .before .before .before .before .before .before .before .before .before .before .if1 .left) (c .before .before .before .before .before .before .before .before .before .if5 .left) (c .before .before .before .before .before .before .before .if6 .left) (c .before .before .before .before .before .if7 .left) _ (map-words (c .before .before .before .before .before .before .before .before .before .before .before .before .before .before .before .before .before .before .args .y .now) (c .before .before .before .before .before .before .before .before .before .before .before .before .before .before .before .before .before .before .pre .1)) (c .before .before .copy-map .ensures)
+returns-8 c = joined-made _ _ _ (c .before .before .before .before .before .before .before .before .before .before .before .before .before .before .before .before .before .before .before .before .before .before .before .pre .0) _ _ _ _ (c .before .before .before .before .before .before .before .before .before .before .before .before .before .before .before .before .before .before .before .kind-at .ensures) (c .before .before .before .before .before .before .before .before .before .before .before .before .before .before .before .before .before .before .second-at .ensures) (c .before .before .before .before .before .before .before .before .before .before .before .before .before .before .before .before .if4 .left) (c .before .before .before .before .before .before .before .before .before .before .before .before .before .before .before .before .before .if1 .left) (c .before .before .before .before .before .before .before .before .before .before .before .before .before .before .if5 .left) (c .before .before .before .before .before .before .before .before .before .before .before .before .if6 .left) (c .before .before .before .before .before .before .before .before .before .before .if7 .left) _ _ (map-words (c .before .before .before .before .before .before .before .before .before .before .before .before .before .before .before .before .before .before .before .before .before .before .before .args .y .now) (c .before .before .before .before .before .before .before .before .before .before .before .before .before .before .before .before .before .before .before .before .before .before .before .pre .1)) (map-size (c .before .before .before .before .before .before .before .before .before .before .before .before .before .before .before .before .before .before .before .before .before .before .before .args .y .now) (c .before .before .before .before .before .before .before .before .before .before .before .before .before .before .before .before .before .before .before .before .before .before .before .pre .1)) (c .before .before .before .before .before .before .before .copy-map .ensures) _ (c .before .before .before .before .word-in .ensures) (c .before .before .clear-from .ensures)
 
 pub second-map-spec : {M : Type 1} → statement M
 second-map-spec =
@@ -121,5 +134,9 @@ second-map-spec =
     part-copy-map-start
     part-copy-map-end
     copy-map-requires
+    mul-word-in
+    add-word-in
+    word-in-requires
+    clear-from-requires
     same-length-2
     returns-8)

@@ -15,7 +15,7 @@ add-partner-requires : tie.Need-add-partner-requires
 add-partner-requires c κs = c .before .before .before .before .before .before .before .pre
 
 add-result : tie.Need-add-result
-add-result c = omega (arith, c .before .before .before .before .before .before .before .before .before .before .before .before .pre .5, count-small _ (c .before .before .before .before .before .before .before .before .before .before .before .before .pre .1 .small))
+add-result c = omega (arith, c .before .before .before .before .before .before .before .before .before .before .before .before .pre .4, count-small _ (c .before .before .before .before .before .before .before .before .before .before .before .before .pre .1 .small))
 
 same-length : tie.Need-same-length
 same-length c = search needs

@@ -1,18 +1,35 @@
--- Where the pair may make something, the one order that can is tried.
+-- A quiet record makes nothing; with any other, the one order that can make something is tried.
+use native.Mathlib.Omega.{arith}
 use mathlib.Core.Path.{refl}
 use Prim.Native.Nat.{ℕ, _<_}
 use borrow.Author.Needs.{needs}
-use borrow.Author.Tests.{not-true, not-false}
-use Rattle.questions.specs.Abstract.{graphOf}
+use Rattle.questions.specs.Abstract.{grammarOf, graphOf}
 use Rattle.joins.specs.Joins.{Spans}
 use Rattle.records.specs.Words.{itemCount, recordAt}
-use Rattle.steps.proofs.ReadyLaws.{count-small, handled-small, span-of, span-own, span-other}
-use Rattle.steps.proofs.PartnerLaws.{partner-none, pick-by, partner-led}
+use Rattle.records.proofs.WordLaws.{item-fits}
+use Rattle.steps.proofs.ReadyLaws.{handled-small, span-of, span-own, span-other}
+use Rattle.steps.proofs.PartnerLaws.{pick-by, partner-led}
+use Rattle.steps.proofs.ListedLaws.{quiet-added, loud-handled}
 use Rattle.steps.proofs.consequences.add_partner.Statement.{statement}
 use Rattle.steps.proofs.consequences.add_partner.Tie as tie
 
-may-meet-requires : tie.Need-may-meet-requires
-may-meet-requires c κs = (c .before .before .before .before .before .pre .2 .there, c .before .before .before .before .before .pre .5, count-small _ (c .before .before .before .before .before .pre .1 .small))
+mul-own : tie.Need-mul-own
+mul-own c = omega (arith, handled-small _ _ (c .before .before .before .before .pre .1 .small) (c .before .before .before .before .pre .2 .there))
+
+add-own : tie.Need-add-own
+add-own c = omega (arith, handled-small _ _ (c .before .before .before .before .pre .1 .small) (c .before .before .before .before .pre .2 .there))
+
+add-quiet : tie.Need-add-quiet
+add-quiet c = omega (arith, handled-small _ _ (c .before .before .before .before .before .pre .1 .small) (c .before .before .before .before .before .pre .2 .there))
+
+mul-quiet : tie.Need-mul-quiet
+mul-quiet c = omega (arith, handled-small _ _ (c .before .before .before .before .before .pre .1 .small) (c .before .before .before .before .before .pre .2 .there))
+
+slice-reshared-read-quiet : tie.Need-slice-reshared-read-quiet
+slice-reshared-read-quiet c = omega (arith, item-fits (c .before .before .before .before .before .args .chart .now) (c .before .before .before .before .before .args .j) (c .before .before .before .before .before .pre .2 .there))
+
+quiet-requires : tie.Need-quiet-requires
+quiet-requires c κs = (c .before .before .before .before .before .pre .4, handled-small _ _ (c .before .before .before .before .before .pre .1 .small) (c .before .before .before .before .before .pre .4))
 
 same-length : tie.Need-same-length
 same-length c = search needs
@@ -20,10 +37,10 @@ same-length c = search needs
 returns : tie.Need-returns
 returns c =
     let s = c .before .before .before .before .before .before .before .args in
-    (partner-none (s .g .now) (c .before .before .before .before .before .before .before .pre .0 .accepted .grammar) (graphOf (s .g .now) (s .h .now)) (s .wants .now) (c .before .before .before .before .before .before .before .pre .0 .wanted) (recordAt (s .chart .now) (s .j)) (recordAt (s .chart .now) (s .k)) (s .want) (c .before .before .before .before .before .before .before .pre .3) (s .j) (s .k) (s .chart .now) _ (c .before .before .before .before .before .before .before .pre .1 .fits) (c .before .may-meet .ensures) (not-true _ (c .if1 .taken)), c .before .before .before .before .before .before .before .pre .1)
+    (quiet-added (grammarOf (s .g .now)) (graphOf (s .g .now) (s .h .now)) (s .j) (s .chart .now) (s .k) _ _ (c .before .before .before .before .before .before .before .pre .1 .fits) refl (c .before .quiet .ensures) (c .if1 .taken), c .before .before .before .before .before .before .before .pre .1)
 
 near-requires : tie.Need-near-requires
-near-requires c κs = (c .before .before .before .before .before .before .before .before .pre .1 .indexed .size, handled-small _ _ (c .before .before .before .before .before .before .before .before .pre .1 .small) (c .before .before .before .before .before .before .before .before .pre .5))
+near-requires c κs = (c .before .before .before .before .before .before .before .before .pre .1 .indexed .size, handled-small _ _ (c .before .before .before .before .before .before .before .before .pre .1 .small) (c .before .before .before .before .before .before .before .before .pre .4))
 
 union-requires : tie.Need-union-requires
 union-requires c κs = search needs
@@ -41,10 +58,10 @@ add-pair-requires c κs =
     let spans : ℕ → Type 0 = λ i. Spans (s .g .now) (s .h .now) (recordAt (c .before .before .before .before .before .before .before .before .before .before .before .before .before .before .args .chart .now) i .edges) (c .before .before .before .before .union .result) in (
       c .before .before .before .before .before .before .before .before .before .before .before .before .before .before .pre .0,
       c .before .before .before .before .before .before .before .before .before .before .before .before .before .before .pre .1,
-      pick-by inside (s .lead) (s .j) (s .k) (c .before .before .before .pick .result) (c .before .before .before .pick .ensures) (c .before .before .before .before .before .before .before .before .before .before .before .before .before .before .pre .2 .there) (c .before .before .before .before .before .before .before .before .before .before .before .before .before .before .pre .5),
-      pick-by inside (s .lead) (s .k) (s .j) (c .before .before .pick2 .result) (c .before .before .pick2 .ensures) (c .before .before .before .before .before .before .before .before .before .before .before .before .before .before .pre .5) (c .before .before .before .before .before .before .before .before .before .before .before .before .before .before .pre .2 .there),
-      pick-by spans (s .lead) (s .j) (s .k) (c .before .before .before .pick .result) (c .before .before .before .pick .ensures) (span-own _ _ _ _ _ _ (c .before .before .before .before .union .ensures .value) (c .before .before .before .before .before .before .before .before .before .before .before .before .before .before .pre .2 .spans)) (span-other _ _ _ _ _ _ (c .before .before .before .before .union .ensures .value) (span-of _ _ _ _ _ (c .before .before .before .before .before .before .before .before .before .before .before .before .before .before .pre .1 .spanned) (c .before .before .before .before .before .before .before .before .before .before .before .before .before .before .pre .5) (recordAt (c .before .before .before .before .before .before .before .before .before .before .before .before .before .before .args .chart .now) (c .before .before .before .before .before .before .before .before .before .before .before .before .before .before .args .k)) refl _ (c .before .before .before .before .before .near .ensures))),
-      pick-by spans (s .lead) (s .k) (s .j) (c .before .before .pick2 .result) (c .before .before .pick2 .ensures) (span-other _ _ _ _ _ _ (c .before .before .before .before .union .ensures .value) (span-of _ _ _ _ _ (c .before .before .before .before .before .before .before .before .before .before .before .before .before .before .pre .1 .spanned) (c .before .before .before .before .before .before .before .before .before .before .before .before .before .before .pre .5) (recordAt (c .before .before .before .before .before .before .before .before .before .before .before .before .before .before .args .chart .now) (c .before .before .before .before .before .before .before .before .before .before .before .before .before .before .args .k)) refl _ (c .before .before .before .before .before .near .ensures))) (span-own _ _ _ _ _ _ (c .before .before .before .before .union .ensures .value) (c .before .before .before .before .before .before .before .before .before .before .before .before .before .before .pre .2 .spans)),
+      pick-by inside (s .lead) (s .j) (s .k) (c .before .before .before .pick .result) (c .before .before .before .pick .ensures) (c .before .before .before .before .before .before .before .before .before .before .before .before .before .before .pre .2 .there) (c .before .before .before .before .before .before .before .before .before .before .before .before .before .before .pre .4),
+      pick-by inside (s .lead) (s .k) (s .j) (c .before .before .pick2 .result) (c .before .before .pick2 .ensures) (c .before .before .before .before .before .before .before .before .before .before .before .before .before .before .pre .4) (c .before .before .before .before .before .before .before .before .before .before .before .before .before .before .pre .2 .there),
+      pick-by spans (s .lead) (s .j) (s .k) (c .before .before .before .pick .result) (c .before .before .before .pick .ensures) (span-own _ _ _ _ _ _ (c .before .before .before .before .union .ensures .value) (c .before .before .before .before .before .before .before .before .before .before .before .before .before .before .pre .2 .spans)) (span-other _ _ _ _ _ _ (c .before .before .before .before .union .ensures .value) (span-of _ _ _ _ _ (c .before .before .before .before .before .before .before .before .before .before .before .before .before .before .pre .1 .spanned) (c .before .before .before .before .before .before .before .before .before .before .before .before .before .before .pre .4) (recordAt (c .before .before .before .before .before .before .before .before .before .before .before .before .before .before .args .chart .now) (c .before .before .before .before .before .before .before .before .before .before .before .before .before .before .args .k)) refl _ (c .before .before .before .before .before .near .ensures))),
+      pick-by spans (s .lead) (s .k) (s .j) (c .before .before .pick2 .result) (c .before .before .pick2 .ensures) (span-other _ _ _ _ _ _ (c .before .before .before .before .union .ensures .value) (span-of _ _ _ _ _ (c .before .before .before .before .before .before .before .before .before .before .before .before .before .before .pre .1 .spanned) (c .before .before .before .before .before .before .before .before .before .before .before .before .before .before .pre .4) (recordAt (c .before .before .before .before .before .before .before .before .before .before .before .before .before .before .args .chart .now) (c .before .before .before .before .before .before .before .before .before .before .before .before .before .before .args .k)) refl _ (c .before .before .before .before .before .near .ensures))) (span-own _ _ _ _ _ _ (c .before .before .before .before .union .ensures .value) (c .before .before .before .before .before .before .before .before .before .before .before .before .before .before .pre .2 .spans)),
     )
 
 same-length-2 : tie.Need-same-length-2
@@ -56,13 +73,18 @@ same-length-3 c = search needs
 returns-2 : tie.Need-returns-2
 returns-2 c =
     let s = c .before .before .before .before .before .before .before .before .before .before .before .before .before .before .before .before .before .before .before .args in
-    (partner-led (s .g .now) (graphOf (s .g .now) (s .h .now)) (c .before .before .before .before .before .before .before .before .before .before .before .before .before .before .before .before .before .before .before .args .chart .now) (s .j) (s .k) (s .lead) (c .before .before .before .before .before .before .before .before .before .before .before .before .before .before .before .before .before .before .before .pre .4) _ (s .wants .now) (s .want) _ (c .before .before .before .before .before .before .before .before .pick .result) (c .before .before .before .before .before .before .before .pick2 .result) (c .before .before .before .before .before .before .before .before .before .before .before .before .before .may-meet .ensures) (not-false _ (c .before .before .before .before .before .before .before .before .before .before .before .before .if1 .left)) (c .before .before .before .before .before .before .before .before .pick .ensures) (c .before .before .before .before .before .before .before .pick2 .ensures) (c .before .before .before .before .add-pair .ensures .0), c .before .before .before .before .add-pair .ensures .1)
+    (partner-led (s .g .now) (graphOf (s .g .now) (s .h .now)) (c .before .before .before .before .before .before .before .before .before .before .before .before .before .before .before .before .before .before .before .args .chart .now) (s .j) (s .k) (s .lead) (c .before .before .before .before .before .before .before .before .before .before .before .before .before .before .before .before .before .before .before .pre .3) _ (c .before .before .before .before .before .before .before .before .pick .result) (c .before .before .before .before .before .before .before .pick2 .result) (loud-handled (c .before .before .before .before .before .before .before .before .before .before .before .before .before .before .before .before .before .before .before .args .chart .now) (s .k) _ _ (c .before .before .before .before .before .before .before .before .before .before .before .before .before .quiet .ensures) (c .before .before .before .before .before .before .before .before .before .before .before .before .if1 .left)) (c .before .before .before .before .before .before .before .before .pick .ensures) (c .before .before .before .before .before .before .before .pick2 .ensures) (c .before .before .before .before .add-pair .ensures .0), c .before .before .before .before .add-pair .ensures .1)
 
 pub add-partner-spec : {M : Type 1} → statement M
 add-partner-spec =
     tie.close
     (tie.spec
-    may-meet-requires
+    mul-own
+    add-own
+    add-quiet
+    mul-quiet
+    slice-reshared-read-quiet
+    quiet-requires
     same-length
     returns
     near-requires

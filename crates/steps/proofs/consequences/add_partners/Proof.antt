@@ -87,7 +87,7 @@ leads-requires c κs = (c .before .before .before .before .before .before .befor
 
 add-each-requires : tie.Need-add-each-requires
 unfolding recordAt ofWords blockAt fieldAt tabulate
-add-each-requires c κs = (c .before .before .before .before .before .before .before .before .before .before .before .before .before .before .pre .0, c .before .before .before .before .before .before .before .before .before .before .before .before .before .before .pre .1, c .before .before .before .before .before .before .before .before .before .before .before .before .before .before .pre .2, c .before .before .before .before .before .before .before .want-of .ensures, subst (λ (z : Record). Leads (c .before .before .before .before .before .before .before .before .before .before .before .before .before .before .args .g .now) z (c .before .before .leads .result)) (part-record-at (c .before .before .before .before .before .before .before .before .before .before .before .before .before .before .args .chart .now) (c .before .before .before .before .before .before .before .before .before .before .before .before .before .before .args .j) (2 + 16 * c .before .before .before .before .before .before .before .before .before .before .before .before .before .before .args .j) (2 + 16 * c .before .before .before .before .before .before .before .before .before .before .before .before .before .before .args .j + 16 - (2 + 16 * c .before .before .before .before .before .before .before .before .before .before .before .before .before .before .args .j)) refl (omega arith) (item-fits (c .before .before .before .before .before .before .before .before .before .before .before .before .before .before .args .chart .now) (c .before .before .before .before .before .before .before .before .before .before .before .before .before .before .args .j) (c .before .before .before .before .before .before .before .before .before .before .before .before .before .before .pre .2 .there))) (c .before .before .leads .ensures), c .before .before .before .before .before .before .before .before .before .before .before .before .before .before .pre .3)
+add-each-requires c κs = (c .before .before .before .before .before .before .before .before .before .before .before .before .before .before .pre .0, c .before .before .before .before .before .before .before .before .before .before .before .before .before .before .pre .1, c .before .before .before .before .before .before .before .before .before .before .before .before .before .before .pre .2, subst (λ (z : Record). Leads (c .before .before .before .before .before .before .before .before .before .before .before .before .before .before .args .g .now) z (c .before .before .leads .result)) (part-record-at (c .before .before .before .before .before .before .before .before .before .before .before .before .before .before .args .chart .now) (c .before .before .before .before .before .before .before .before .before .before .before .before .before .before .args .j) (2 + 16 * c .before .before .before .before .before .before .before .before .before .before .before .before .before .before .args .j) (2 + 16 * c .before .before .before .before .before .before .before .before .before .before .before .before .before .before .args .j + 16 - (2 + 16 * c .before .before .before .before .before .before .before .before .before .before .before .before .before .before .args .j)) refl (omega arith) (item-fits (c .before .before .before .before .before .before .before .before .before .before .before .before .before .before .args .chart .now) (c .before .before .before .before .before .before .before .before .before .before .before .before .before .before .args .j) (c .before .before .before .before .before .before .before .before .before .before .before .before .before .before .pre .2 .there))) (c .before .before .leads .ensures), c .before .before .before .before .before .before .before .before .before .before .before .before .before .before .pre .3)
 
 same-length : tie.Need-same-length
 same-length c = search needs

@@ -6,8 +6,8 @@ use borrow.Author.Needs.{needs}
 use Rattle.records.specs.Words.{recordsAt}
 use Rattle.agenda.specs.Steps.{leastWaiting}
 use Rattle.records.proofs.WordLaws.{least-start, least-next}
-use Rattle.records.proofs.least.Statement.{statement}
-use Rattle.records.proofs.least.Tie as tie
+use Rattle.records.proofs.least_cut.Statement.{statement}
+use Rattle.records.proofs.least_cut.Tie as tie
 
 abbrev Inv-loop : tie.InvT-loop
 Inv-loop chart n best₀ i₀ best i = (i ≤ n) × (best ≡ leastWaiting (recordsAt chart n) i)
@@ -38,7 +38,7 @@ returns c =
     let s = c .before .before .before .args in
     c .before .loop .inv .1 ∙ ap (leastWaiting (recordsAt (s .chart .now) (s .n))) (omega arith)
 
-pub least-spec : {M : Type 1} → statement M
-least-spec =
+pub least-cut-spec : {M : Type 1} → statement M
+least-cut-spec =
     tie.close
     (tie.spec Inv-loop μ-loop loop-holds lesser-of-requires add-i loop-less loop-again returns)

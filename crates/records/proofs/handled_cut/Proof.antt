@@ -7,8 +7,8 @@ use mathlib.Core.Logic.{⊎-elim}
 use Rattle.records.specs.Words.{recordsAt}
 use Rattle.agenda.specs.Steps.{handledCount}
 use Rattle.records.proofs.WordLaws.{handled-start, handled-more, handled-same}
-use Rattle.records.proofs.handled_steps.Statement.{statement}
-use Rattle.records.proofs.handled_steps.Tie as tie
+use Rattle.records.proofs.handled_cut.Statement.{statement}
+use Rattle.records.proofs.handled_cut.Tie as tie
 
 abbrev Inv-loop : tie.InvT-loop
 Inv-loop chart n done₀ i₀ done i = (i ≤ n) × (done ≤ i) × (done ≡ handledCount (recordsAt chart i))
@@ -44,8 +44,8 @@ loop-again c =
 returns : tie.Need-returns Inv-loop μ-loop
 returns c = c .before .loop .inv .2 ∙ ap (λ (k : ℕ). handledCount (recordsAt (c .before .before .before .args .chart .now) k)) (omega arith)
 
-pub handled-steps-spec : {M : Type 1} → statement M
-handled-steps-spec =
+pub handled-cut-spec : {M : Type 1} → statement M
+handled-cut-spec =
     tie.close
     (tie.spec
     Inv-loop
