@@ -320,10 +320,6 @@ module _ (quiet : ℕ → Bool) (ws keys query : List ℕ) (n done : ℕ) (cs ds
   left-skims = omega (arith, at 0 (omega arith) .same, at 1 (omega arith) .same, at 2 (omega arith) .same, at 3 (omega arith) .same, at 4 (omega arith) .same)
 
 -- ---- one cursor
-pub alone-starts : (ws keys : List ℕ) (b : ℕ) (query : List ℕ) → Listed ws keys → query ≡ alone b → (r : ℕ) → r ≡ getD ws b 0 → alone r ≡ startsOf ws query
-unfolding startsOf
-alone-starts ws keys b query L e r p = rw (e, p, L .none)
-
 pub alone-passed : (ws : List ℕ) (c k r : ℕ) → 0 < c → c ≤ 5 * k + 5 → r ≡ getD ws (4097 + c) 0 → alone r ≡ passedOf ws (alone c) k
 unfolding passedOf movedOn
 alone-passed ws c k r h l p = rw (p, ne-eqb c 0 (λ e. omega arith), le-ltb (5 * k + 5) c l)

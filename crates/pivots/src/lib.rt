@@ -204,7 +204,7 @@ fn node_at(x: &[u64], i: u64) -> u64
     x[(6 + i) as usize]
 }
 
-// The keys that its partners have, 0 for none.
+// The keys that the partners of a record have, 0 for none. The five places are written out here and in `listing`: a function for both would hand an array over by value.
 pub fn query(wants: &[u64; 1024], pivots: &[u64; 1088], x: &[u64]) -> [u64; 5]
     requires { ⌜ length (now x) ≡ 16 ⌝ }
     ensures { λ ks. ⌜ ks ≡ queryOf (now (wants .entry)) (now (pivots .entry)) (ofWords (now (x .entry))) ⌝ }

@@ -122,10 +122,6 @@ module _ (w : List ℕ) where
   words-of-words e =
       ext-getD 0 (tabulate 16 (λ k. getD w k 0)) w (sym e) (λ i l. getD-tabulate 16 (λ k. getD w k 0) i (omega arith))
 
-  pub nodes-words : length w ≡ 16 → ofWords w .nodes ≡ take 8 (drop 6 w)
-  unfolding wordsOf ofWords
-  nodes-words e = ap (λ (l : List ℕ). take 8 (drop 6 l)) (words-of-words e)
-
 pub words-record : (w : List ℕ) (j : ℕ) → ofWords (blockAt w j) ≡ recordAt w j
 unfolding recordAt
 words-record w j = refl

@@ -157,10 +157,6 @@ binary-passive : (G : Grammar) (H : Graph) (s m : ℕ) (L : List ℕ) (b : Item)
 unfolding binaryOf
 binary-passive G H s m L b = refl
 
-binary-rules : (G : Grammar) (H : Graph) (r p m : ℕ) (f : List ℕ) (r′ p′ m′ : ℕ) (k : List ℕ) → eqb r r′ ≡ false → binaryOf G H (active r p m f) (active r′ p′ m′ k) ≡ []
-unfolding binaryOf
-binary-rules G H r p m f r′ p′ m′ k h = rw h
-
 -- the edge set of an item
 abbrev pub edgesOf : Item → ℕ
 edgesOf (active r p m f) = m
@@ -185,9 +181,6 @@ item-edges G x = go (eqb (x .kind) 0)
 module _ (G : Grammar) (H : Graph) (x y : Record) where
   pub pair-apart : disjoint (x .edges) (y .edges) ≡ false → binaryOf G H (itemOf G x) (itemOf G y) ≡ []
   pair-apart h = binary-apart G H (itemOf G x) (itemOf G y) (ap₂ disjoint (item-edges G x) (item-edges G y) ∙ h)
-
-  pub pair-rules : eqb (x .kind) 0 ≡ true → eqb (y .kind) 0 ≡ true → eqb (x .of) (y .of) ≡ false → binaryOf G H (itemOf G x) (itemOf G y) ≡ []
-  pair-rules a b h = ap₂ (binaryOf G H) (item-active G x a) (item-active G y b) ∙ binary-rules G H _ _ _ _ _ _ _ _ h
 
   pub pair-passive : eqb (x .kind) 0 ≡ false → binaryOf G H (itemOf G x) (itemOf G y) ≡ []
   pair-passive a = ap (λ (i : Item). binaryOf G H i (itemOf G y)) (item-passive G x a) ∙ binary-passive G H _ _ _ (itemOf G y)
