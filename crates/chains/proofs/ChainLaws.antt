@@ -23,7 +23,7 @@ use Rattle.records.proofs.WordLaws.{length-records, record-in, item-fits, part-
 use Rattle.chains.specs.Chains.{mixed, bucketOf, lastIn, Chained, linked, Cleared}
 
 -- ---- buckets
-pub bucket-below : (x : Record) → bucketOf x < 4096
+pub bucket-below : (x : Record) → bucketOf x < 8192
 unfolding bucketOf
 bucket-below x = omega arith
 
@@ -130,13 +130,13 @@ module _ (x : Record) (rs : List Record) (links : List ℕ) (c : Chained links r
     pub chain-hit : (t : Bool) → t ≡ sameRecord x (recordIn rs (i - 1)) → t ≡ true → At (i - 1) ≡ lastSame x rs (length rs)
     chain-hit t e y = sym (turn t e ∙ rw y) ∙ o .found
 
-    module _ (t : Bool) (e : t ≡ sameRecord x (recordIn rs (i - 1))) (y : t ≡ false) (m : ℕ) (p : m ≡ getD links (4095 + i) 0) where
+    module _ (t : Bool) (e : t ≡ sameRecord x (recordIn rs (i - 1))) (y : t ≡ false) (m : ℕ) (p : m ≡ getD links (8191 + i) 0) where
       missed : lastSame x rs (i - 1) ≡ lastSame x rs (length rs)
       missed = sym (turn t e ∙ rw y) ∙ o .found
 
       back : m ≡ lastIn (bucketOf x) rs (i - 1)
       back =
-          let q : 4095 + i ≡ 4096 + (i - 1) = omega arith in
+          let q : 8191 + i ≡ 8192 + (i - 1) = omega arith in
           let l = o .low in
           p ∙ ap (λ k. getD links k 0) q ∙ c .previous (i - 1) (omega arith)
           ∙ ap (λ b. lastIn b rs (i - 1)) (own-bucket (bucketOf x) rs i (i - 1) place (o .own))
@@ -229,25 +229,25 @@ module _ (l : List ℕ) (i a j d : ℕ) where
   twice-other k m n = getD-set-other (set l i a) j k d 0 n ∙ getD-set-other l i k a 0 m
 
 module _ (links : List ℕ) (rs : List Record) (x : Record) (b : ℕ) (c : Chained links rs) (e : bucketOf x ≡ b) (h : length rs < 4096) where
-  small : b < 4096
+  small : b < 8192
   small = omega (arith, bucket-below x)
 
-  wide : length links ≡ 8192
+  wide : length links ≡ 12288
   wide = c .words
 
   own-word : getD (linked links (length rs) b) b 0 ≡ length rs + 1
   unfolding linked
-  own-word = twice-second links (4096 + length rs) _ b (length rs + 1) (omega (arith, wide, small))
+  own-word = twice-second links (8192 + length rs) _ b (length rs + 1) (omega (arith, wide, small))
 
-  new-word : getD (linked links (length rs) b) (4096 + length rs) 0 ≡ getD links b 0
+  new-word : getD (linked links (length rs) b) (8192 + length rs) 0 ≡ getD links b 0
   unfolding linked
-  new-word = twice-first links (4096 + length rs) _ b (length rs + 1) (λ z. omega (arith, small)) (omega (arith, wide))
+  new-word = twice-first links (8192 + length rs) _ b (length rs + 1) (λ z. omega (arith, small)) (omega (arith, wide))
 
-  other-word : (k : ℕ) → k ≢ 4096 + length rs → k ≢ b → getD (linked links (length rs) b) k 0 ≡ getD links k 0
+  other-word : (k : ℕ) → k ≢ 8192 + length rs → k ≢ b → getD (linked links (length rs) b) k 0 ≡ getD links k 0
   unfolding linked
-  other-word k p q = twice-other links (4096 + length rs) _ b (length rs + 1) k p q
+  other-word k p q = twice-other links (8192 + length rs) _ b (length rs + 1) k p q
 
-  last-more : (d : ℕ) → d < 4096 → getD (linked links (length rs) b) d 0 ≡ lastIn d (rs ++ (x ∷ [])) (suc (length rs))
+  last-more : (d : ℕ) → d < 8192 → getD (linked links (length rs) b) d 0 ≡ lastIn d (rs ++ (x ∷ [])) (suc (length rs))
   last-more d l = go (eqb b d) refl
     where
       go : (t : Bool) → eqb b d ≡ t → getD (linked links (length rs) b) d 0 ≡ lastIn d (rs ++ (x ∷ [])) (suc (length rs))
@@ -260,23 +260,23 @@ module _ (links : List ℕ) (rs : List Record) (x : Record) (b : ℕ) (c : Chain
           other-word d (λ z. omega arith) (λ z. q (sym z)) ∙ c .last d l ∙ same-last rs x d (length rs) (omega arith)
           ∙ sym (last-other d (rs ++ (x ∷ [])) (length rs) (λ z. q (sym e ∙ sym (ap bucketOf (at-end rs x)) ∙ z)))
 
-  previous-more : (j : ℕ) → j ≤ length rs → getD (linked links (length rs) b) (4096 + j) 0 ≡ lastIn (bucketOf (recordIn (rs ++ (x ∷ [])) j)) (rs ++ (x ∷ [])) j
+  previous-more : (j : ℕ) → j ≤ length rs → getD (linked links (length rs) b) (8192 + j) 0 ≡ lastIn (bucketOf (recordIn (rs ++ (x ∷ [])) j)) (rs ++ (x ∷ [])) j
   previous-more j l = go (decLt j (length rs))
     where
-      go : Dec (j < length rs) → getD (linked links (length rs) b) (4096 + j) 0 ≡ lastIn (bucketOf (recordIn (rs ++ (x ∷ [])) j)) (rs ++ (x ∷ [])) j
+      go : Dec (j < length rs) → getD (linked links (length rs) b) (8192 + j) 0 ≡ lastIn (bucketOf (recordIn (rs ++ (x ∷ [])) j)) (rs ++ (x ∷ [])) j
       go (yes d) =
-          other-word (4096 + j) (λ z. omega arith) (λ z. omega (arith, small)) ∙ c .previous j d
+          other-word (8192 + j) (λ z. omega arith) (λ z. omega (arith, small)) ∙ c .previous j d
           ∙ ap (λ y. lastIn (bucketOf y) rs j) (in-front rs x j d) ∙ same-last rs x _ j l
       go (no d) =
           let z : j ≡ length rs = omega arith in
-          ap (λ k. getD (linked links (length rs) b) (4096 + k) 0) z ∙ new-word ∙ c .last b small
+          ap (λ k. getD (linked links (length rs) b) (8192 + k) 0) z ∙ new-word ∙ c .last b small
           ∙ same-last rs x b (length rs) (omega arith)
           ∙ ap (λ d. lastIn d (rs ++ (x ∷ [])) (length rs)) (sym e ∙ sym (ap bucketOf (at-end rs x)))
           ∙ ap (λ k. lastIn (bucketOf (recordIn (rs ++ (x ∷ [])) k)) (rs ++ (x ∷ [])) k) (sym z)
 
-  pub length-linked : length (linked links (length rs) b) ≡ 8192
+  pub length-linked : length (linked links (length rs) b) ≡ 12288
   unfolding linked
-  length-linked = length-twice links (4096 + length rs) _ b (length rs + 1) ∙ wide
+  length-linked = length-twice links (8192 + length rs) _ b (length rs + 1) ∙ wide
 
   -- record x, the last one, joins its bucket
   pub chained-more : Chained (linked links (length rs) b) (rs ++ (x ∷ []))

@@ -10,7 +10,7 @@ use agenda::Found;
 // The bucket of a record, by those of its sixteen words that make two records the same item.
 pub fn bucket(x: &[u64]) -> u64
     requires { ⌜ length (now x) ≡ 16 ⌝ }
-    ensures { λ r. ⌜ (r ≡ bucketOf (ofWords (now (x .entry)))) × (r < 4096) ⌝ }
+    ensures { λ r. ⌜ (r ≡ bucketOf (ofWords (now (x .entry)))) × (r < 8192) ⌝ }
 {
     let edges = x[3];
     let small = x[1] % 64
@@ -19,12 +19,12 @@ pub fn bucket(x: &[u64]) -> u64
         + x[7] % 64 * 262144
         + x[8] % 64 * 16777216;
     let mix = edges % 4294967296 * 191825777 + edges / 4294967296 * 139261425 + small * 2507321997;
-    mix % 4294967296 / 1048576
+    mix % 4294967296 / 524288
 }
 
 // The last record that is of the same item as that of the sixteen words: only those of its bucket are looked at, from the last one back.
 pub fn find(chart: &[u64], links: &[u32], x: &[u64], b: u64) -> Found
-    requires { ⌜ Chained (now links) (chartOf (now chart) .records) × (length (now x) ≡ 16) × (b ≡ bucketOf (ofWords (now x))) × (b < 4096) ⌝ }
+    requires { ⌜ Chained (now links) (chartOf (now chart) .records) × (length (now x) ≡ 16) × (b ≡ bucketOf (ofWords (now x))) × (b < 8192) ⌝ }
     ensures { λ r. ⌜ r ≡ lastSame (ofWords (now (x .entry))) (chartOf (now (chart .entry)) .records) (length (chartOf (now (chart .entry)) .records)) ⌝ }
 {
     let mut i = links[b as usize] as u64;
@@ -32,17 +32,17 @@ pub fn find(chart: &[u64], links: &[u32], x: &[u64], b: u64) -> Found
         if records::same_words(chart, i - 1, x) {
             return Found::At(i - 1);
         }
-        i = links[(4095 + i) as usize] as u64;
+        i = links[(8191 + i) as usize] as u64;
     }
     Found::Nowhere
 }
 
 // Record j, the last one, joins bucket b.
 pub fn link(links: &mut [u32], j: u64, b: u64)
-    requires { ⌜ (length (now links) ≡ 8192) × (j < 4096) × (b < 4096) ⌝ }
+    requires { ⌜ (length (now links) ≡ 12288) × (j < 4096) × (b < 8192) ⌝ }
     ensures { λ r. ⌜ now (links .exit) ≡ linked (now (links .entry)) j b ⌝ }
 {
-    links[(4096 + j) as usize] = links[b as usize];
+    links[(8192 + j) as usize] = links[b as usize];
     links[b as usize] = (j + 1) as u32;
 }
 

@@ -15,7 +15,7 @@ use Rattle.records.specs.Words.{recordAt}
 use Rattle.extraction.specs.Extraction.{ruleAt, partnersAt}
 use Rattle.extraction.specs.Listing.{Listing, endless, listed, listedWith, consIf, childrenFrom, childrenAt, listing}
 use Rattle.extractor.specs.Reading.{isNonterminal}
-use Rattle.extractor.specs.Lists.{Pushed, ListedIn}
+use Rattle.extractor.specs.Lists.{Pushed, firstOf, ListedIn}
 
 -- ---- one record pushed
 pub pushed-none : (list : List ℕ) (top : ℕ) → Pushed [] list top list top
@@ -121,6 +121,13 @@ prefixed-none : (l : Listing) → prefixed [] l ≡ l
 prefixed-none endless = refl
 prefixed-none (listed ys) = refl
 
+endless-not : (xs : List ℕ) → endless ≡ listed xs → ⊥
+endless-not xs e = let z : _≡_ {A = ℕ} 0 1 = ap mark e in omega arith
+  where
+    mark : Listing → ℕ
+    mark endless = 0
+    mark (listed ys) = 1
+
 module _ (w : List ℕ) where
   abbrev look : ℕ → Record
   look = λ k. recordAt w k
@@ -149,31 +156,56 @@ module _ (w : List ℕ) where
     unfolding listing
     listing-next k m j js e = rw e
 
-    module _ (j : ℕ) where
+    -- what is listed within some number of records is so within a greater one
+    more-listed : (k m : ℕ) (js xs : List ℕ) → k ≤ m → listing look G k js ≡ listed xs → listing look G m js ≡ listed xs
+    unfolding listing
+    more-listed zero m [] xs h e = listing-end m ∙ e
+    more-listed zero m (j ∷ js) xs h e = absurd (endless-not xs e)
+    more-listed (suc k) zero js xs h e = absurd (omega arith)
+    more-listed (suc k) (suc m) [] xs h e = e
+    more-listed (suc k) (suc m) (j ∷ js) xs h e = go (listing look G k (childrenAt look G j ++ js)) refl e (λ ys. more-listed k m (childrenAt look G j ++ js) ys (omega arith))
+      where
+        go : (l : Listing) → listing look G k (childrenAt look G j ++ js) ≡ l → listedWith j l ≡ listed xs
+            → ((ys : List ℕ) → listing look G k (childrenAt look G j ++ js) ≡ listed ys → listing look G m (childrenAt look G j ++ js) ≡ listed ys)
+            → listedWith j (listing look G m (childrenAt look G j ++ js)) ≡ listed xs
+        go endless d q ih = absurd (endless-not xs q)
+        go (listed ys) d q ih = ap (listedWith j) (ih ys d) ∙ q
+
+    pub listed-more : (k m n : ℕ) (js list : List ℕ) → k ≤ m → (n ≡ 0 → ⊥) → ListedIn k (listing look G k js) list n → ListedIn m (listing look G m js) list n
+    listed-more k m n js list h some p = record {
+      few = omega (arith, p .few);
+      whole = more-listed k m js (take n list) h (p .whole ∙ all) ∙ sym all;
+    }
+      where
+        all : firstOf list n ≡ listed (take n list)
+        all = rw (ne-eqb n 0 some)
+
+    module _ (j limit : ℕ) where
       -- what is listed and what is due, and that something is
       pub record Going (list : List ℕ) (count top : ℕ) : Type 0 where
-        pub size : length list ≡ 4104
+        pub size : length list ≡ limit + 8
         pub free : count + 8 ≤ top
-        pub low : top ≤ 4104
-        pub some : top < 4104 + count
-        pub whole : listing look G 4096 (j ∷ []) ≡ prefixed (take count list) (listing look G (4096 - count) (drop top list))
+        pub low : top ≤ limit + 8
+        pub some : top < limit + 8 + count
+        pub whole : listing look G limit (j ∷ []) ≡ prefixed (take count list) (listing look G (limit - count) (drop top list))
 
-      pub going-start : (list : List ℕ) → length list ≡ 4104 → Going (set list 4103 j) 0 4103
-      going-start list size = record {
-        size = length-set list 4103 j ∙ size;
+      pub going-start : (list : List ℕ) (top : ℕ) → length list ≡ limit + 8 → 1 ≤ limit → top ≡ limit + 7 → Going (set list top j) 0 top
+      going-start list top size some last = record {
+        size = length-set list top j ∙ size;
         free = omega arith;
         low = omega arith;
         some = omega arith;
-        whole = ap (λ (js : List ℕ). listing look G 4096 js) (sym due) ∙ sym (prefixed-none (listing look G 4096 (drop 4103 (set list 4103 j))));
+        whole = ap (λ (js : List ℕ). listing look G limit js) (sym due) ∙ sym (prefixed-none (listing look G limit (drop top (set list top j))))
+            ∙ ap (λ (k : ℕ). prefixed [] (listing look G k (drop top (set list top j)))) (let e : limit ≡ limit - 0 = omega arith in e);
       }
         where
-          due : drop 4103 (set list 4103 j) ≡ j ∷ []
+          due : drop top (set list top j) ≡ j ∷ []
           due =
-              drop-cons (set list 4103 j) 4103 0 (omega (arith, length-set list 4103 j))
-              ∙ ap₂ (λ (x : ℕ) (xs : List ℕ). x ∷ xs) (getD-set-same list 4103 j 0 (omega arith))
-              (drop-of-length-le (set list 4103 j) {i = 4104} (omega (arith, length-set list 4103 j)))
+              drop-cons (set list top j) top 0 (omega (arith, length-set list top j))
+              ∙ ap₂ (λ (x : ℕ) (xs : List ℕ). x ∷ xs) (getD-set-same list top j 0 (omega arith))
+              (drop-of-length-le (set list top j) {i = suc top} (omega (arith, length-set list top j)))
 
-      module _ (list now : List ℕ) (count top x t : ℕ) (before : Going list count top) (h : top < 4104) (e : x ≡ getD list top 0)
+      module _ (list now : List ℕ) (count top x t : ℕ) (before : Going list count top) (h : top < limit + 8) (e : x ≡ getD list top 0)
           (pushed : Pushed (childrenAt look G x) (set list count x) (top + 1) now t) (near : top + 1 ≤ t + 8) where
         due-now : childrenAt look G x ++ drop (suc top) list ≡ drop t now
         due-now =
@@ -188,32 +220,32 @@ module _ (w : List ℕ) where
             ∙ ap (λ (l : List ℕ). take (count + 1) l) (sym (pushed .front))
             ∙ take-take (count + 1) t now (omega (arith, before .free))
 
-        turn : listing look G 4096 (j ∷ []) ≡ prefixed (take (count + 1) now) (listing look G (4096 - (count + 1)) (drop t now))
+        turn : listing look G limit (j ∷ []) ≡ prefixed (take (count + 1) now) (listing look G (limit - (count + 1)) (drop t now))
         turn =
             before .whole
-            ∙ ap (λ (js : List ℕ). prefixed (take count list) (listing look G (4096 - count) js)) (drop-cons list top 0 (omega (arith, before .size)) ∙ ap (λ (y : ℕ). y ∷ drop (suc top) list) (sym e))
-            ∙ ap (prefixed (take count list)) (listing-next (4096 - count) (4096 - (count + 1)) x (drop (suc top) list) (omega (arith, before .free)))
-            ∙ prefixed-more (take count list) x (listing look G (4096 - (count + 1)) (childrenAt look G x ++ drop (suc top) list))
-            ∙ ap₂ (λ (xs js : List ℕ). prefixed xs (listing look G (4096 - (count + 1)) js)) listed-now due-now
+            ∙ ap (λ (js : List ℕ). prefixed (take count list) (listing look G (limit - count) js)) (drop-cons list top 0 (omega (arith, before .size)) ∙ ap (λ (y : ℕ). y ∷ drop (suc top) list) (sym e))
+            ∙ ap (prefixed (take count list)) (listing-next (limit - count) (limit - (count + 1)) x (drop (suc top) list) (omega (arith, before .free)))
+            ∙ prefixed-more (take count list) x (listing look G (limit - (count + 1)) (childrenAt look G x ++ drop (suc top) list))
+            ∙ ap₂ (λ (xs js : List ℕ). prefixed xs (listing look G (limit - (count + 1)) js)) listed-now due-now
 
-        sized : length now ≡ 4104
+        sized : length now ≡ limit + 8
         sized = pushed .same ∙ length-set list count x ∙ before .size
 
         pub going-on : count + 1 + 8 ≤ t → Going now (count + 1) t
         going-on l = record { size = sized; free = l; low = omega (arith, pushed .place); some = omega (arith, pushed .place); whole = turn }
 
-        pub going-over : t < count + 1 + 8 → ListedIn (listing look G 4096 (j ∷ [])) now 0
+        pub going-over : t < count + 1 + 8 → ListedIn limit (listing look G limit (j ∷ [])) now 0
         going-over l = record {
           few = omega arith;
-          whole = turn ∙ ap (prefixed (take (count + 1) now)) (too-many (4096 - (count + 1)) (drop t now) (omega (arith, length-drop t now, sized, before .free, before .low)));
+          whole = turn ∙ ap (prefixed (take (count + 1) now)) (too-many (limit - (count + 1)) (drop t now) (omega (arith, length-drop t now, sized, before .free, before .low)));
         }
 
-      pub going-done : (list : List ℕ) (count top : ℕ) → 4104 ≤ top → Going list count top → ListedIn (listing look G 4096 (j ∷ [])) list count
+      pub going-done : (list : List ℕ) (count top : ℕ) → limit + 8 ≤ top → Going list count top → ListedIn limit (listing look G limit (j ∷ [])) list count
       going-done list count top h p = record {
         few = omega (arith, p .free, p .low);
         whole = p .whole
-            ∙ ap (λ (js : List ℕ). prefixed (take count list) (listing look G (4096 - count) js)) (drop-of-length-le list {i = top} (omega (arith, p .size)))
-            ∙ ap (prefixed (take count list)) (listing-end (4096 - count))
+            ∙ ap (λ (js : List ℕ). prefixed (take count list) (listing look G (limit - count) js)) (drop-of-length-le list {i = top} (omega (arith, p .size)))
+            ∙ ap (prefixed (take count list)) (listing-end (limit - count))
             ∙ ap listed (append-nil (take count list))
             ∙ sym (rw (ne-eqb count 0 (λ z. omega (arith, p .some))) refl);
       }

@@ -33,7 +33,7 @@ module _ (w : List ℕ) where
         go zero n = absurd (n refl)
         go (suc k) n = rw less
 
-    module _ (some : left ≡ 0 → ⊥) (kind first second : ℕ) (node : planNode pl p ≡ planFrom kind first second) (x : Record) (at : x ≡ recordAt w j) where
+    module _ (some : left ≡ 0 → ⊥) (kind first second : ℕ) (node : planNode pl p ≡ planFrom kind first second) where
       abbrev below : PlanNode → List ℕ
       below = λ y. partnersVia (λ c i cs. partnersWithin look pl (left - 1) c i cs) (recordAt w j) bs y
 
@@ -42,22 +42,28 @@ module _ (w : List ℕ) where
           let here : planNode pl p ≡ leaf = node ∙ rw e in
           sym (within-step some ∙ ap below here)
 
-      pub within-introduce : (cs v : List ℕ) → kind ≡ 1 → cs ≡ set bs second (x .second) → v ≡ partnersWithin look pl (left - 1) first (x .first) cs → v ≡ partnersWithin look pl left p j bs
-      within-introduce cs v e a b =
-          let here : planNode pl p ≡ introduce first second = node ∙ rw e in
-          b ∙ rw (a, at) (sym (within-step some ∙ ap below here))
+      module _ (a b : ℕ) (at-a : a ≡ recordAt w j .first) (at-b : b ≡ recordAt w j .second) where
+        pub within-introduce : (v : List ℕ) → kind ≡ 1 → v ≡ partnersWithin look pl (left - 1) first a (set bs second b) → v ≡ partnersWithin look pl left p j bs
+        within-introduce v e x =
+            let here : planNode pl p ≡ introduce first second = node ∙ rw e in
+            x ∙ rw (at-a, at-b) (sym (within-step some ∙ ap below here))
 
-      pub within-join : (cs v : List ℕ) → (kind ≡ 0 → ⊥) → (kind ≡ 1 → ⊥) → cs ≡ partnersWithin look pl (left - 1) first (x .first) bs
-          → v ≡ partnersWithin look pl (left - 1) second (x .second) cs → v ≡ partnersWithin look pl left p j bs
-      within-join cs v y z a b =
-          let here : planNode pl p ≡ join first second = node ∙ rw (ne-eqb kind 0 y, ne-eqb kind 1 z) in
-          b ∙ rw (a, at) (sym (within-step some ∙ ap below here))
+        pub within-join : (cs v : List ℕ) → (kind ≡ 0 → ⊥) → (kind ≡ 1 → ⊥) → cs ≡ partnersWithin look pl (left - 1) first a bs
+            → v ≡ partnersWithin look pl (left - 1) second b cs → v ≡ partnersWithin look pl left p j bs
+        within-join cs v y z x x′ =
+            let here : planNode pl p ≡ join first second = node ∙ rw (ne-eqb kind 0 y, ne-eqb kind 1 z) in
+            x′ ∙ rw (x, at-a, at-b) (sym (within-step some ∙ ap below here))
+
+  -- ---- the partners of a record
+  pub first-by : (j x : ℕ) → x ≡ fieldAt w j 14 → x ≡ recordAt w j .first
+  unfolding recordAt ofWords blockAt tabulate
+  first-by j x e = e
+
+  pub second-by : (j x : ℕ) → x ≡ fieldAt w j 15 → x ≡ recordAt w j .second
+  unfolding recordAt ofWords blockAt tabulate
+  second-by j x e = e
 
   -- ---- a passive record
-  pub root-by : (j x : ℕ) → x ≡ fieldAt w j 14 → x ≡ recordAt w j .first
-  unfolding recordAt ofWords blockAt tabulate
-  root-by j x e = e
-
   pub rule-by : (j x y : ℕ) → x ≡ recordAt w j .first → y ≡ fieldAt w x 1 → y ≡ ruleAt look j
   rule-by j x y a b = b ∙ sym (rule-of w x) ∙ ap (λ k. recordAt w k .of) a
 
@@ -65,10 +71,11 @@ module _ (w : List ℕ) where
     sized : n ≡ length (planOf G (ruleAt look j))
     sized = size ∙ ap (λ r. length (planOf G r)) rule
 
-    pub partners-none : n ≡ 0 → replicate 8 0 ≡ partnersAt look G j
+    pub partners-none : (bs : List ℕ) → bs ≡ replicate 8 0 → n ≡ 0 → bs ≡ partnersAt look G j
     unfolding partnersAt
-    partners-none e = within-end (planOf G (ruleAt look j)) (length (planOf G (ruleAt look j))) (length (planOf G (ruleAt look j)) - 1) (recordAt w j .first) (replicate 8 0) (sym sized ∙ e)
+    partners-none bs z e =
+        z ∙ within-end (planOf G (ruleAt look j)) (length (planOf G (ruleAt look j))) (length (planOf G (ruleAt look j)) - 1) (recordAt w j .first) (replicate 8 0) (sym sized ∙ e)
 
-    pub partners-some : (x : ℕ) (v : List ℕ) → x ≡ recordAt w j .first → v ≡ partnersWithin look (planOf G r) n (n - 1) x (replicate 8 0) → v ≡ partnersAt look G j
+    pub partners-some : (x : ℕ) (bs v : List ℕ) → bs ≡ replicate 8 0 → x ≡ recordAt w j .first → v ≡ partnersWithin look (planOf G r) n (n - 1) x bs → v ≡ partnersAt look G j
     unfolding partnersAt
-    partners-some x v a b = b ∙ rw (size, rule, a)
+    partners-some x bs v z a b = b ∙ rw (z, size, rule, a)

@@ -1,54 +1,61 @@
 -- The row of an application: its fields put together, and its line.
-use mathlib.Core.Path.{_≡_, sym, ap, ap₂, _∙_}
-use mathlib.Core.List.{List, _∷_, _++_, append-assoc}
-use Prim.Native.Nat.{ℕ, zero, suc, _+_, _-_, _*_, _≤_, _<_}
-use native.Mathlib.Numerals.{add-one}
+use mathlib.Core.Path.{_≡_, refl, sym, ap, ap₂, _∙_}
+use mathlib.Core.List.{List, [], _∷_, _++_, append-assoc}
+use Prim.Native.Nat.{ℕ, _+_, _-_, _*_, _≤_}
 use native.Mathlib.Omega.{arith}
-use lib.ListN.{length, getD, set, take, drop, replicate}
-use lib.Seq.{paste, paste-zero, paste-suc, length-paste, take-paste, sets, sets-eq, length-sets, length-take-le, drop-at}
+use lib.ListN.{length, getD, set, take, drop, length-set}
+use lib.Seq.{take-append-add, take-append-le, sets, sets-eq, length-sets, length-take-le, drop-at}
+use borrow.Rule.Slice.PartMut.{postOf, putMid, same-len-mid, mid-len}
 use Rattle.format.specs.Writing.{lineText}
 use Rattle.format.specs.WritingLaws.{lineText-length}
 use Rattle.hrg.specs.Grammars.{Graph, Grammar, rightOf}
 use Rattle.hrg.specs.Trees.{padded}
-use Rattle.hrg.specs.Items.{joined}
-use Rattle.hrg.proofs.Sums.{length-tabulate}
-use Rattle.joins.proofs.EdgeMaps.{take-padded}
+use Rattle.joins.proofs.EdgeMaps.{length-padded, take-padded}
 use Rattle.agenda.specs.declared.Record.{Record}
 use Rattle.records.specs.Words.{recordAt}
 use Rattle.extraction.specs.Extraction.{ruleAt, partnersAt, placedBy, placeAt}
 use Rattle.extraction.specs.Listing.{numbersFrom, endFrom, rowAt, spanAt}
-use Rattle.extractor.specs.declared.numbers.Numbered.{Numbered}
 use Rattle.extractor.specs.RowFacts.{NumberedBy, RowOf, LineAt}
+use Rattle.extractor.proofs.PlaceLaws.{length-placed}
 
--- ---- fields put together
-pub fields-start : (d s : List ℕ) (at : ℕ) → d ≡ paste d at s 0
-fields-start d s at = paste-zero d at s
+-- ---- the fields in front of the numbers
+-- an application's number, its rule, and eight places behind them
+abbrev pub fieldsWith : ℕ → ℕ → List ℕ → List ℕ → List ℕ
+fieldsWith n r fields places = putMid 2 8 (set (set fields 0 n) 1 r) places
 
-pub fields-next : (d s e : List ℕ) (at i : ℕ) → at + i < length d → i < length s → e ≡ paste d at s i → set e (at + i) (getD s i 0) ≡ paste d at s (i + 1)
-fields-next d s e at i h l p = ap (λ (e : List ℕ). set e (at + i) (getD s i 0)) p ∙ paste-suc d at s i 0 h l ∙ ap (λ (n : ℕ). paste d at s n) (sym (add-one i))
+two-fields : (n r : ℕ) (fields : List ℕ) → 2 ≤ length fields → take 2 (set (set fields 0 n) 1 r) ≡ n ∷ r ∷ []
+two-fields n r [] h = absurd (omega arith)
+two-fields n r (x ∷ []) h = absurd (omega arith)
+two-fields n r (x ∷ y ∷ zs) h = refl
 
-pub fields-done : (d s e : List ℕ) (at n k : ℕ) → k ≤ n → n ≤ k → e ≡ paste d at s k → e ≡ paste d at s n
-fields-done d s e at n k a b p = let q : k ≡ n = omega arith in p ∙ ap (λ (n : ℕ). paste d at s n) q
+module _ (n r : ℕ) (fields places F : List ℕ) (size : length fields ≡ 18) (p : places ≡ padded F) where
+  eight : length places ≡ 8
+  eight = ap length p ∙ length-padded F
 
-pub fields-whole : (n r nodes edges : ℕ) (places numbers d e : List ℕ) → nodes ≤ 8 → edges ≤ 8 → length places ≡ 8 → length numbers ≡ 8
-    → d ≡ paste (set (set (replicate 18 0) 0 n) 1 r) 2 places nodes → e ≡ paste d (2 + nodes) numbers edges → take (2 + nodes + edges) e ≡ n ∷ r ∷ (take nodes places ++ take edges numbers)
-fields-whole n r nodes edges places numbers d e few few′ wide wide′ a b =
-    let size : length d ≡ 18 = ap length a ∙ length-paste (set (set (replicate 18 0) 0 n) 1 r) 2 places nodes (omega arith) (omega arith) in
-    ap (λ (l : List ℕ). take (2 + nodes + edges) l) b
-    ∙ take-paste d (2 + nodes) numbers edges (omega arith) (omega arith)
-    ∙ ap (λ (l : List ℕ). l ++ take edges numbers) (ap (λ (l : List ℕ). take (2 + nodes) l) a ∙ take-paste (set (set (replicate 18 0) 0 n) 1 r) 2 places nodes (omega arith) (omega arith))
+  abbrev head : List ℕ
+  head = set (set fields 0 n) 1 r
+
+  head-long : length head ≡ 18
+  head-long = length-set (set fields 0 n) 1 r ∙ length-set fields 0 n ∙ size
+
+  pub fields-long : length (fieldsWith n r fields places) ≡ 18
+  fields-long = same-len-mid 2 8 head places (eight ∙ sym (mid-len 2 10 head (omega (arith, head-long)))) ∙ head-long
+
+  fields-front : (nodes : ℕ) → nodes ≤ 8 → take (2 + nodes) (fieldsWith n r fields places) ≡ n ∷ r ∷ take nodes places
+  fields-front nodes few =
+      ap (λ (l : List ℕ). take (2 + nodes) (l ++ (places ++ postOf 2 8 head))) (two-fields n r fields (omega arith))
+      ∙ take-append-add (n ∷ r ∷ []) (places ++ postOf 2 8 head) nodes
+      ∙ ap (λ (l : List ℕ). n ∷ r ∷ l) (take-append-le nodes places (postOf 2 8 head) (omega (arith, eight)))
 
 -- ---- the row
 module _ (w : List ℕ) where
   abbrev look : ℕ → Record
   look = λ k. recordAt w k
 
-  length-placed : (G : Grammar) (H P : Graph) (bs : List ℕ) (k : ℕ) → length (placedBy look G H P bs k) ≡ P .nodes
-  unfolding placedBy joined
-  length-placed G H P bs zero = length-tabulate (P .nodes) _
-  length-placed G H P bs (suc k) = length-tabulate (P .nodes) _
+  module _ (G : Grammar) (H : Graph) (sizes : List ℕ) (n j r : ℕ) (bs : List ℕ) (rule : r ≡ ruleAt look j) (partners : bs ≡ partnersAt look G j) where
+    abbrev size : ℕ → ℕ
+    size = λ m. getD sizes m 0
 
-  module _ (G : Grammar) (H : Graph) (size : ℕ → ℕ) (n j r : ℕ) (bs : List ℕ) (rule : r ≡ ruleAt look j) (partners : bs ≡ partnersAt look G j) where
     place-by : placedBy look G H (rightOf G r) bs (length (rightOf G r .edges)) ≡ placeAt look G H j
     unfolding placeAt
     place-by = rw (rule, partners)
@@ -60,19 +67,21 @@ module _ (w : List ℕ) where
     unfolding spanAt
     span-by end e = ap (λ (m : ℕ). m - n) (e ∙ ap (λ (r : ℕ). endFrom G size (rightOf G r .edges) (n + 1)) rule)
 
-    pub row-by : (places fields : List ℕ) (nodes : ℕ) (x : Numbered) → places ≡ padded (placedBy look G H (rightOf G r) bs (length (rightOf G r .edges)))
-        → nodes ≡ rightOf G r .nodes → nodes ≤ 8 → NumberedBy G bs size (rightOf G r .edges) (n + 1) x
-        → take (2 + nodes + x .count) fields ≡ n ∷ r ∷ (take nodes places ++ take (x .count) (x .numbers))
-        → RowOf look G H size n j (record { fields = fields; count = 2 + nodes + x .count; size = x .end - n })
+    pub row-by : (places fields now : List ℕ) (nodes edges end : ℕ) → nodes ≡ rightOf G r .nodes → nodes ≤ 8 → edges ≡ length (rightOf G r .edges) → edges ≤ 8
+        → length fields ≡ 18 → places ≡ padded (placedBy look G H (rightOf G r) bs edges)
+        → NumberedBy G bs sizes (rightOf G r .edges) (n + 1) (fieldsWith n r fields places) (2 + nodes) now end
+        → RowOf look G H sizes n j now (record { count = 2 + nodes + edges; size = end - n })
     unfolding rowAt
-    row-by places fields nodes x p q few by f = record {
-      few = omega (arith, by .few);
-      fields = f
-          ∙ ap₂ (λ (l m : List ℕ). n ∷ r ∷ (l ++ m))
-          (ap (λ (l : List ℕ). take nodes l) p ∙ take-padded nodes (placedBy look G H (rightOf G r) bs (length (rightOf G r .edges))) (length-placed G H (rightOf G r) bs (length (rightOf G r .edges)) ∙ sym q) few ∙ place-by)
-          (by .numbers ∙ numbers-by)
+    row-by places fields now nodes edges end q few e few′ size′ p by = record {
+      few = omega arith;
+      fields = ap (λ (k : ℕ). take (2 + nodes + k) now) e
+          ∙ by .numbers
+          ∙ ap₂ (λ (l m : List ℕ). l ++ m) (fields-front n r fields places (placedBy look G H (rightOf G r) bs edges) size′ p nodes few) numbers-by
+          ∙ ap (λ (l : List ℕ). n ∷ r ∷ (l ++ numbersFrom G (partnersAt look G j) size (rightOf G (ruleAt look j) .edges) 0 (n + 1)))
+          (ap (λ (l : List ℕ). take nodes l) p ∙ take-padded nodes (placedBy look G H (rightOf G r) bs edges) (length-placed w G H (rightOf G r) bs edges ∙ sym q) few
+          ∙ ap (λ (k : ℕ). placedBy look G H (rightOf G r) bs k) e ∙ place-by)
           ∙ ap (λ (s : ℕ). n ∷ s ∷ (placeAt look G H j ++ numbersFrom G (partnersAt look G j) size (rightOf G (ruleAt look j) .edges) 0 (n + 1))) rule;
-      span = span-by (x .end) (by .end);
+      span = span-by end (by .end);
       inside = omega (arith, by .up, by .inside);
     }
 

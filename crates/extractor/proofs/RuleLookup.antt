@@ -2,19 +2,21 @@
 use mathlib.Core.Path.{_≡_, refl, sym, ap, _∙_}
 use mathlib.Core.Bool.{Bool, true, false, cond, not}
 use mathlib.Core.List.{List}
-use Prim.Native.Nat.{ℕ, _≤_, _<_}
+use Prim.Native.Nat.{ℕ, _+_, _*_, _≤_, _<_}
 use native.Mathlib.Omega.{arith}
 use native.Mathlib.Decide.{decLt}
 use lib.ListN.{length, List·getD-eq-default}
 use lib.Dec.{eqb}
-use Rattle.hrg.specs.Grammars.{terminal, nonterminal, Edge, leaf, introduce, Rule, noRule, kindOf, rankOf, ruleOf, rightOf, planOf, planNode, edgeAt}
-use Rattle.hrg.proofs.Plans.{introduce-known}
+use borrow.Author.Tests.{eqb-true, eqb-false, ne-eqb}
+use Rattle.hrg.specs.Grammars.{terminal, nonterminal, Edge, introduce, join, Rule, noRule, kindOf, rankOf, ruleOf, rightOf, planOf, planNode, edgeAt}
+use Rattle.hrg.specs.WellFormed.{PlanOk}
+use Rattle.hrg.proofs.Plans.{introduce-known, introduce-lower, join-lower}
 use Rattle.questions.specs.Layout.{ruleCount, ruleNodes, ruleEdges, rulePlan, rankAt, kindWord, edgeLabel, planKind, planFirst, planSecond}
 use Rattle.questions.specs.Checking.{checkGrammar}
 use Rattle.questions.specs.Abstract.{kindFrom, planFrom, grammarOf}
 use Rattle.questions.proofs.WellFormedAccepted.{symbols-length, rules-length, kind-is, rank-is, rule-is, edge-is, plan-length}
-use Rattle.joins.specs.Joins.{KnownEdge}
-use Rattle.joins.proofs.Known.{right-nodes, right-edges, plan-size, plan-ok, plan-node, nodes-few, edges-few}
+use Rattle.joins.specs.Joins.{KnownNode, KnownEdge}
+use Rattle.joins.proofs.Known.{rule-few, right-nodes, right-edges, plan-size, plan-ok, plan-node, nodes-few, edges-few, plan-few}
 use Rattle.joins.proofs.EdgeMaps.{edge-ok}
 use Rattle.extractor.specs.Reading.{PlanLineOf, isNonterminal}
 
@@ -61,23 +63,46 @@ known-edge g r i checked h =
     let known = known-by-edge g r i h in
     record { grammar = checked; rule = known; edge = omega (arith, right-edges g r checked known) }
 
--- ---- a plan node
-pub line-past : (g : List ℕ) (r p n : ℕ) → n ≡ length (planOf (grammarOf g) r) → n ≤ p → PlanLineOf g r p (record { kind = 0; first = 0; second = 0 })
-line-past g r p n e h = record { node = List·getD-eq-default (planOf (grammarOf g) r) leaf (omega arith); edge = λ z. absurd (omega arith) }
+pub known-node : (g : List ℕ) (r p : ℕ) → checkGrammar g ≡ true → p < length (planOf (grammarOf g) r) → KnownNode g r p
+known-node g r p checked h =
+    let known = known-by-node g r p h in
+    record { grammar = checked; rule = known; node = omega (arith, plan-size g r checked known) }
 
-pub line-at : (g : List ℕ) (r p n kind first second : ℕ) → checkGrammar g ≡ true → n ≡ length (planOf (grammarOf g) r) → p < n
-    → kind ≡ planKind g r p → first ≡ planFirst g r p → second ≡ planSecond g r p → PlanLineOf g r p (record { kind = kind; first = first; second = second })
-line-at g r p n kind first second checked e h a b c =
-    let known = known-by-node g r p (omega arith) in
-    let node : planNode (planOf (grammarOf g) r) p ≡ planFrom kind first second =
-    plan-node g r checked known p (omega (arith, plan-size g r checked known)) ∙ rw (a, b, c)
-    in
-    record {
-      node = node;
-      edge = λ z.
-          let introduced : planNode (planOf (grammarOf g) r) p ≡ introduce first second = node ∙ rw z in
-          omega (arith, introduce-known (ruleEdges g r) (planOf (grammarOf g) r) (plan-ok g r checked known) p first second introduced, edges-few g r checked known);
-    }
+-- ---- the places of its lines
+pub node-place : (g : List ℕ) (r p : ℕ) → KnownNode g r p → 74 + 25 * r + p ≤ 1664
+node-place g r p known = omega (arith, known .node, rule-few g r (known .grammar) (known .rule), plan-few g r (known .grammar) (known .rule))
+
+pub edge-place : (g : List ℕ) (r i : ℕ) → KnownEdge g r i → 66 + 25 * r + i ≤ 1648
+edge-place g r i known = omega (arith, known .edge, rule-few g r (known .grammar) (known .rule), edges-few g r (known .grammar) (known .rule))
+
+-- ---- a plan node
+pub line-at : (g : List ℕ) (r p kind first second : ℕ) → KnownNode g r p → kind ≡ planKind g r p → first ≡ planFirst g r p → second ≡ planSecond g r p
+    → PlanLineOf g r p (record { kind = kind; first = first; second = second })
+line-at g r p kind first second known a b c = record {
+  node = node;
+  edge = λ z. omega (arith, introduce-known (ruleEdges g r) (planOf (grammarOf g) r) ok p first second (introduced z), edges-few g r (known .grammar) (known .rule));
+  lower = λ y. below first (lower y (eqb kind 1) refl);
+  both = λ y z. below second (join-lower (ruleEdges g r) (planOf (grammarOf g) r) ok p first second (joins y z) .1);
+}
+  where
+    ok : PlanOk (ruleEdges g r) (planOf (grammarOf g) r)
+    ok = plan-ok g r (known .grammar) (known .rule)
+
+    node : planNode (planOf (grammarOf g) r) p ≡ planFrom kind first second
+    node = plan-node g r (known .grammar) (known .rule) p (known .node) ∙ rw (a, b, c)
+
+    introduced : kind ≡ 1 → planNode (planOf (grammarOf g) r) p ≡ introduce first second
+    introduced z = node ∙ rw z
+
+    joins : (kind ≡ 0 → ⊥) → (kind ≡ 1 → ⊥) → planNode (planOf (grammarOf g) r) p ≡ join first second
+    joins y z = node ∙ rw (ne-eqb kind 0 y, ne-eqb kind 1 z)
+
+    lower : (kind ≡ 0 → ⊥) → (t : Bool) → eqb kind 1 ≡ t → first < p
+    lower y true e = introduce-lower (ruleEdges g r) (planOf (grammarOf g) r) ok p first second (introduced (eqb-true kind 1 e))
+    lower y false e = join-lower (ruleEdges g r) (planOf (grammarOf g) r) ok p first second (joins y (eqb-false kind 1 e)) .0
+
+    below : (q : ℕ) → q < p → KnownNode g r q
+    below q h = record { grammar = known .grammar; rule = known .rule; node = omega (arith, known .node) }
 
 -- ---- the label of an edge
 module _ (g : List ℕ) (r i : ℕ) (known : KnownEdge g r i) where

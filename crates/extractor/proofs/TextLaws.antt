@@ -4,7 +4,7 @@ use mathlib.Core.Bool.{Bool, true, false}
 use mathlib.Core.List.{List, [], _∷_, _++_}
 use Prim.Native.Nat.{ℕ, zero, suc, _+_, _-_, _*_, _≤_, _<_}
 use native.Mathlib.Omega.{arith}
-use lib.ListN.{length, getD, set, take, drop, replicate, length-set, length-replicate, drop-of-length-le}
+use lib.ListN.{length, getD, set, take, drop, replicate, length-set, drop-of-length-le}
 use lib.Seq.{drop-cons, drop-length, getD-set-same, getD-set-other, length-take-le, sets, length-sets}
 use lib.Dec.{eqb}
 use borrow.Author.Tests.{eqb-true, eqb-false, eq-eqb, ne-eqb}
@@ -29,8 +29,13 @@ zeros zero m = refl
 zeros (suc n) zero = refl
 zeros (suc n) (suc m) = zeros n m
 
-none-fit : SizesFit (nothing 4104)
-none-fit = record { room = length-replicate {A = ℕ} 4104 0; each = λ m h. omega (arith, zeros 4104 m) }
+-- sizes that are all 0
+module _ (sizes : List ℕ) (bare : sizes ≡ nothing (length sizes)) where
+  none-there : (m : ℕ) → getD sizes m 0 ≡ 0
+  none-there m = ap (λ (l : List ℕ). getD l m 0) bare ∙ zeros (length sizes) m
+
+  none-fit : SizesFit sizes
+  none-fit = record { each = λ m h. omega (arith, none-there m) }
 
 module _ (w : List ℕ) (G : Grammar) (H : Graph) where
   abbrev look : ℕ → Record
@@ -57,6 +62,7 @@ module _ (w : List ℕ) (G : Grammar) (H : Graph) where
   pub record Written (js start now sizes : List ℕ) (k at : ℕ) : Type 0 where
     pub inside : k ≤ length js
     pub few : length js ≤ 4096
+    pub room : length js < length sizes
     pub same : length now ≡ length start
     pub high : at ≤ length now
     pub low : 74 * k + 6 ≤ at
@@ -64,24 +70,26 @@ module _ (w : List ℕ) (G : Grammar) (H : Graph) where
     pub fit : SizesFit sizes
     pub each : (m : ℕ) → getD sizes m 0 ≡ sizesFrom look G k (drop k js) m
 
-  pub written-start : (list text : List ℕ) (n : ℕ) → n ≤ 4096 → n ≤ length list → 74 * n + 6 ≤ length text → Written (take n list) text text (nothing 4104) n (length text)
+  pub written-start : (list sizes text : List ℕ) (n : ℕ) → n ≤ 4096 → n ≤ length list → n < length sizes → sizes ≡ nothing (length sizes) → 74 * n + 6 ≤ length text
+      → Written (take n list) text text sizes n (length text)
   unfolding rowLines rowsFrom sizesFrom
-  written-start list text n few inside room =
+  written-start list sizes text n few inside wide bare room =
       let size : length (take n list) ≡ n = length-take-le n list inside in
       let none : drop n (take n list) ≡ [] = drop-of-length-le (take n list) {i = n} (omega arith) in
       record {
         inside = omega arith;
         few = omega arith;
+        room = omega arith;
         same = refl;
         high = omega arith;
         low = omega arith;
         contents = drop-length text ∙ ap (λ (js : List ℕ). rowLines (rowsFrom look G H n js)) (sym none);
-        fit = none-fit;
-        each = λ m. zeros 4104 m ∙ ap (λ (js : List ℕ). sizesFrom look G n js m) (sym none);
+        fit = none-fit sizes bare;
+        each = λ m. none-there sizes bare m ∙ ap (λ (js : List ℕ). sizesFrom look G n js m) (sym none);
       }
 
-  module _ (js start text now sizes : List ℕ) (k at j r : ℕ) (row : Row) (some : 0 < k) (before : Written js start text sizes k at) (e : j ≡ getD js (k - 1) 0)
-      (made : RowOf look G H (λ m. getD sizes m 0) (k - 1) j row) (line : LineAt (take (row .count) (row .fields)) text at now r) where
+  module _ (js start text now sizes fields : List ℕ) (k at j r : ℕ) (row : Row) (some : 0 < k) (before : Written js start text sizes k at) (e : j ≡ getD js (k - 1) 0)
+      (made : RowOf look G H sizes (k - 1) j fields row) (line : LineAt (take (row .count) fields) text at now r) where
     abbrev size : ℕ → ℕ
     size = λ m. sizesFrom look G (k - 1 + 1) (drop k js) m
 
@@ -104,7 +112,7 @@ module _ (w : List ℕ) (G : Grammar) (H : Graph) where
         go true t =
             let s : m ≡ k - 1 = eqb-true m (k - 1) t in
             ap (λ (m : ℕ). getD (set sizes (k - 1) (row .size)) m 0) s
-            ∙ getD-set-same sizes (k - 1) (row .size) 0 (omega (arith, before .fit .room, before .inside, before .few))
+            ∙ getD-set-same sizes (k - 1) (row .size) 0 (omega (arith, before .room, before .inside))
             ∙ made .span
             ∙ ap (λ (f : ℕ → ℕ). spanAt look G f (k - 1) j) known
             ∙ sym (sizes-here (k - 1) j m (drop k js) s)
@@ -113,18 +121,19 @@ module _ (w : List ℕ) (G : Grammar) (H : Graph) where
             getD-set-other sizes (k - 1) m (row .size) 0 s ∙ ap (λ (f : ℕ → ℕ). f m) known ∙ sym (sizes-later (k - 1) j m (drop k js) s)
 
     fit-now : SizesFit (set sizes (k - 1) (row .size))
-    fit-now = record { room = length-set sizes (k - 1) (row .size) ∙ before .fit .room; each = λ m h. go m h (eqb m (k - 1)) refl }
+    fit-now = record { each = λ m h. rw (length-set sizes (k - 1) (row .size)) (go m (omega (arith, length-set sizes (k - 1) (row .size))) (eqb m (k - 1)) refl) }
       where
-        go : (m : ℕ) → m < 4104 → (t : Bool) → eqb m (k - 1) ≡ t → m + getD (set sizes (k - 1) (row .size)) m 0 < 4104
+        go : (m : ℕ) → m < length sizes → (t : Bool) → eqb m (k - 1) ≡ t → m + getD (set sizes (k - 1) (row .size)) m 0 < length sizes
         go m h true t =
             let s : m ≡ k - 1 = eqb-true m (k - 1) t in
-            rw s (omega (arith, getD-set-same sizes (k - 1) (row .size) 0 (omega (arith, before .fit .room, before .inside, before .few)), made .inside))
+            rw s (omega (arith, getD-set-same sizes (k - 1) (row .size) 0 (omega (arith, before .room, before .inside)), made .inside))
         go m h false t = omega (arith, getD-set-other sizes (k - 1) m (row .size) 0 (eqb-false m (k - 1) t), before .fit .each m h)
 
     pub written-next : Written js start now (set sizes (k - 1) (row .size)) (k - 1) r
     written-next = record {
       inside = omega (arith, before .inside);
       few = before .few;
+      room = omega (arith, length-set sizes (k - 1) (row .size), before .room);
       same = line .same ∙ before .same;
       high = omega (arith, line .low, line .same, before .high);
       low = omega (arith, line .near, before .low);
@@ -143,7 +152,7 @@ module _ (w : List ℕ) (G : Grammar) (H : Graph) where
       (record { same = p .same; inside = p .high; contents = rw e at (p .contents) }, omega (arith, p .low))
 
   -- ---- the whole text
-  module _ (j n : ℕ) (list : List ℕ) (whole : ListedIn (listing look G 4096 (j ∷ [])) list n) where
+  module _ (j n : ℕ) (list : List ℕ) (whole : ListedIn 4096 (listing look G 4096 (j ∷ [])) list n) where
     pub text-none : (text : List ℕ) → n ≡ 0 → EndsWith (textAt look G H j) text text (length text)
     unfolding textAt
     text-none text e =

@@ -18,6 +18,7 @@ pub record Pushed (children list : List ℕ) (top : ℕ) (now : List ℕ) (r : �
 abbrev pub firstOf : List ℕ → ℕ → Listing
 firstOf list n = cond (eqb n 0) endless (listed (take n list))
 
-pub record ListedIn (l : Listing) (list : List ℕ) (n : ℕ) : Type 0 where
-  pub few : n ≤ 4096
+-- a listing of at most `limit` records is the first n of a list
+pub record ListedIn (limit : ℕ) (l : Listing) (list : List ℕ) (n : ℕ) : Type 0 where
+  pub few : n ≤ limit
   pub whole : l ≡ firstOf list n

@@ -2,7 +2,7 @@
 ghost use mathlib.Core.Path.{_≡_};
 ghost use mathlib.Core.Bool.{true};
 ghost use mathlib.Core.List.{[], _∷_};
-ghost use Prim.Native.Nat.{_+_, _≤_, _<_};
+ghost use Prim.Native.Nat.{_+_, _-_, _≤_};
 ghost use lib.ListN.{length};
 ghost use Rattle.hrg.specs.Grammars.{kindOf, rightOf, edgeAt};
 ghost use Rattle.questions.specs.Checking.{checkGrammar};
@@ -26,9 +26,9 @@ fn push_part(grammar: &[u64], r: u64, i: u64, b: u64, list: &mut [u64], top: usi
 }
 
 // The partners of all nonterminal edges of rule r: from the last edge on, so that the first one's comes on top.
-fn push_parts(grammar: &[u64], r: u64, bs: [u64; 8], list: &mut [u64], top: usize) -> usize
-    requires { ⌜ (checkGrammar (now grammar) ≡ true) × (8 ≤ top) × (top ≤ length (now list)) ⌝ }
-    ensures { λ x. ⌜ Pushed (childrenFrom (grammarOf (now (grammar .entry))) bs (rightOf (grammarOf (now (grammar .entry))) r .edges) 0) (now (list .entry)) top (now (list .exit)) x × (top ≤ x + 8) ⌝ }
+fn push_parts(grammar: &[u64], r: u64, bs: &[u64], list: &mut [u64], top: usize) -> usize
+    requires { ⌜ (checkGrammar (now grammar) ≡ true) × (length (now bs) ≡ 8) × (8 ≤ top) × (top ≤ length (now list)) ⌝ }
+    ensures { λ x. ⌜ Pushed (childrenFrom (grammarOf (now (grammar .entry))) (now (bs .entry)) (rightOf (grammarOf (now (grammar .entry))) r .edges) 0) (now (list .entry)) top (now (list .exit)) x × (top ≤ x + 8) ⌝ }
 {
     let mut t = top;
     let mut i = crate::lookup::edge_count(grammar, r);
@@ -45,19 +45,21 @@ fn push_children(grammar: &[u64], chart: &[u64], j: u64, list: &mut [u64], top: 
     ensures { λ x. ⌜ Pushed (childrenAt (λ k. recordAt (now (chart .entry)) k) (grammarOf (now (grammar .entry))) j) (now (list .entry)) top (now (list .exit)) x × (top ≤ x + 8) ⌝ }
 {
     let r = crate::partners::rule_at(chart, j);
-    let bs = crate::partners::partners_at(grammar, chart, j);
-    push_parts(grammar, r, bs, list, top)
+    let mut bs = [0u64; 8];
+    crate::partners::partners_at(grammar, chart, r, j, &mut bs);
+    push_parts(grammar, r, &bs, list, top)
 }
 
-// Lists the applications under the passive record at j and answers how many; 0 where they are more than 4,096. Eight places are always free.
+// Lists the applications under the passive record at j and answers how many; 0 where they are more than the list has places but eight, which are always free.
 pub fn list_applications(grammar: &[u64], chart: &[u64], j: u64, list: &mut [u64]) -> usize
-    requires { ⌜ (checkGrammar (now grammar) ≡ true) × (length (now list) ≡ 4104) ⌝ }
-    ensures { λ n. ⌜ ListedIn (listing (λ k. recordAt (now (chart .entry)) k) (grammarOf (now (grammar .entry))) 4096 (j ∷ [])) (now (list .exit)) n ⌝ }
+    requires { ⌜ (checkGrammar (now grammar) ≡ true) × (9 ≤ length (now list)) ⌝ }
+    ensures { λ n. ⌜ ListedIn (length (now (list .entry)) - 8) (listing (λ k. recordAt (now (chart .entry)) k) (grammarOf (now (grammar .entry))) (length (now (list .entry)) - 8) (j ∷ [])) (now (list .exit)) n ⌝ }
 {
-    list[4103] = j;
+    let size = list.len();
+    list[size - 1] = j;
     let mut count: usize = 0;
-    let mut top: usize = 4103;
-    while top < 4104 {
+    let mut top = size - 1;
+    while top < size {
         let x = list[top];
         list[count] = x;
         count += 1;

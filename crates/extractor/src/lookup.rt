@@ -6,7 +6,7 @@ ghost use lib.ListN.{length};
 ghost use Rattle.hrg.specs.Grammars.{kindOf, rightOf, planOf, edgeAt};
 ghost use Rattle.questions.specs.Checking.{checkGrammar};
 ghost use Rattle.questions.specs.Abstract.{grammarOf};
-ghost use Rattle.joins.specs.Joins.{KnownEdge};
+ghost use Rattle.joins.specs.Joins.{KnownNode, KnownEdge};
 ghost use Rattle.extractor.specs.Reading.{PlanLineOf, isNonterminal};
 
 // A line of a plan: kind 0 for a leaf.
@@ -21,10 +21,10 @@ pub(crate) fn node_count(g: &[u64], r: u64) -> u64
     requires { ⌜ checkGrammar (now g) ≡ true ⌝ }
     ensures { λ x. ⌜ (x ≡ rightOf (grammarOf (now (g .entry))) r .nodes) × (x ≤ 8) ⌝ }
 {
-    if layout::rule_count(g) <= r {
+    if layout::word_in(g, 0, 1) <= r {
         return 0;
     }
-    layout::rule_nodes(g, r)
+    layout::word_in(g, 65 + 25 * r, 2)
 }
 
 // How many edges it has.
@@ -32,38 +32,33 @@ pub(crate) fn edge_count(g: &[u64], r: u64) -> u64
     requires { ⌜ checkGrammar (now g) ≡ true ⌝ }
     ensures { λ x. ⌜ (x ≡ length (rightOf (grammarOf (now (g .entry))) r .edges)) × (x ≤ 8) ⌝ }
 {
-    if layout::rule_count(g) <= r {
+    if layout::word_in(g, 0, 1) <= r {
         return 0;
     }
-    layout::rule_edges(g, r)
+    layout::word_in(g, 65 + 25 * r, 3)
 }
 
 // How many nodes its plan has.
 pub(crate) fn plan_size(g: &[u64], r: u64) -> u64
+    requires { ⌜ checkGrammar (now g) ≡ true ⌝ }
     ensures { λ x. ⌜ x ≡ length (planOf (grammarOf (now (g .entry))) r) ⌝ }
 {
-    if layout::rule_count(g) <= r {
+    if layout::word_in(g, 0, 1) <= r {
         return 0;
     }
-    layout::rule_plan(g, r)
+    layout::word_in(g, 65 + 25 * r, 4)
 }
 
-// Plan node p of rule r; one past the end is a leaf.
+// Plan node p of rule r.
 pub(crate) fn plan_line(g: &[u64], r: u64, p: u64) -> PlanLine
-    requires { ⌜ checkGrammar (now g) ≡ true ⌝ }
+    requires { ⌜ KnownNode (now g) r p ⌝ }
     ensures { λ x. ⌜ PlanLineOf (now (g .entry)) r p x ⌝ }
 {
-    if plan_size(g, r) <= p {
-        return PlanLine {
-            kind: 0,
-            first: 0,
-            second: 0,
-        };
-    }
+    let at = 74 + 25 * r + p;
     PlanLine {
-        kind: layout::plan_kind(g, r, p),
-        first: layout::plan_first(g, r, p),
-        second: layout::plan_second(g, r, p),
+        kind: layout::word_in(g, at, 0),
+        first: layout::word_in(g, at, 1),
+        second: layout::word_in(g, at, 2),
     }
 }
 
@@ -72,5 +67,6 @@ pub(crate) fn is_nonterminal(g: &[u64], r: u64, i: u64) -> bool
     requires { ⌜ KnownEdge (now g) r i ⌝ }
     ensures { λ x. ⌜ x ≡ isNonterminal (kindOf (grammarOf (now (g .entry))) (edgeAt (rightOf (grammarOf (now (g .entry))) r .edges) i .label)) ⌝ }
 {
-    layout::kind_of(g, layout::edge_label(g, r, i)) != 0
+    let label = layout::word_in(g, 66 + 25 * r + i, 0);
+    layout::word_in(g, 1 + label, 1) != 0
 }

@@ -1,55 +1,93 @@
-// Where an application places the nodes of its rule: by the nodes that its edges stand on, the first edge counting.
+// Where an application places the nodes of its rule: by the nodes that its edges stand on, the first edge counting. Maps have eight places, 64 where a node has none
+// yet, and are filled where they stand.
 ghost use mathlib.Core.Path.{_≡_};
-ghost use lib.ListN.{length};
-ghost use Rattle.hrg.specs.Grammars.{kindOf, rightOf, edgeAt};
+ghost use Prim.Native.Nat.{_≤_, _<_};
+ghost use lib.ListN.{length, take};
+ghost use Rattle.hrg.specs.Grammars.{rightOf, edgeAt};
 ghost use Rattle.hrg.specs.Trees.{padded};
-ghost use Rattle.hrg.specs.Items.{attach};
+ghost use Rattle.hrg.specs.Items.{joined, attach};
+ghost use Rattle.questions.specs.Layout.{rankAt, ruleNodes, edgeLabel, graphEdges};
 ghost use Rattle.questions.specs.Abstract.{grammarOf, graphOf};
-ghost use Rattle.joins.specs.Joins.{Accepted, KnownEdge};
+ghost use Rattle.joins.specs.Joins.{Accepted, KnownEdge, edgeNodes, BareFrom};
 ghost use Rattle.records.specs.Words.{recordAt};
-ghost use Rattle.extraction.specs.Extraction.{nodesBy, partNodes, placedBy};
+ghost use Rattle.extraction.specs.Extraction.{partNodes, placedBy};
 
-// The nodes by which edge i of rule r stands, where b is its partner: those of a graph edge, or those that a record lists.
-fn nodes_by(grammar: &[u64], graph: &[u64], chart: &[u64], r: u64, i: u64, b: u64) -> [u64; 8]
-    requires { ⌜ Accepted (now grammar) (now graph) × KnownEdge (now grammar) r i ⌝ }
-    ensures { λ l. ⌜ l ≡ nodesBy (λ k. recordAt (now (chart .entry)) k) (graphOf (now (grammar .entry)) (now (graph .entry))) (kindOf (grammarOf (now (grammar .entry))) (edgeAt (rightOf (grammarOf (now (grammar .entry))) r .edges) i .label)) b ⌝ }
+// Places the nodes of edge i of rule r that have no place yet: at the first nodes of l, in order. Its nodes are different, so that each is written once.
+fn place_nodes(grammar: &[u64], r: u64, i: u64, l: &[u64], f: &mut [u64])
+    requires { ⌜ KnownEdge (now grammar) r i × (length (now f) ≡ 8) × BareFrom (ruleNodes (now grammar) r) (now f) ⌝ }
+    ensures { λ x. ⌜ now (f .exit) ≡ padded (joined (ruleNodes (now (grammar .entry)) r) (now (f .entry)) (attach (ruleNodes (now (grammar .entry)) r) (edgeNodes (now (grammar .entry)) r i) (take (rankAt (now (grammar .entry)) (edgeLabel (now (grammar .entry)) r i)) (now (l .entry))))) ⌝ }
 {
-    if crate::lookup::is_nonterminal(grammar, r, i) {
-        let y = records::load(chart, b);
-        let nodes = y.nodes;
-        return nodes;
+    let p = 66 + 25 * r + i;
+    let rank = joins::rank_of(grammar, layout::word_in(grammar, p, 0));
+    let mut k = layout::at_most(l.len() as u64, rank);
+    while 0 < k {
+        k -= 1;
+        let x = layout::word_in(grammar, p, 1 + k) as usize;
+        if f[x] == 64 {
+            f[x] = l[k as usize];
+        }
     }
-    if layout::graph_edges(graph) <= b {
-        return [64u64; 8];
-    }
-    rules::edge_nodes(grammar, graph, b)
 }
 
-// The map of the nodes of edge i to those of its partner.
-fn part_map(grammar: &[u64], graph: &[u64], chart: &[u64], r: u64, i: u64, b: u64) -> [u64; 8]
-    requires { ⌜ Accepted (now grammar) (now graph) × KnownEdge (now grammar) r i ⌝ }
-    ensures { λ f. ⌜ f ≡ padded (attach (rightOf (grammarOf (now (grammar .entry))) r .nodes) (edgeAt (rightOf (grammarOf (now (grammar .entry))) r .edges) i .attachment) (partNodes (λ k. recordAt (now (chart .entry)) k) (grammarOf (now (grammar .entry))) (graphOf (now (grammar .entry)) (now (graph .entry))) (edgeAt (rightOf (grammarOf (now (grammar .entry))) r .edges) i) b)) ⌝ }
+// The same by graph edge b, which has its nodes behind its label.
+fn place_edge(grammar: &[u64], graph: &[u64], r: u64, i: u64, b: u64, f: &mut [u64])
+    requires { ⌜ Accepted (now grammar) (now graph) × KnownEdge (now grammar) r i × (b < graphEdges (now graph)) × (length (now f) ≡ 8) × BareFrom (ruleNodes (now grammar) r) (now f) ⌝ }
+    ensures { λ x. ⌜ now (f .exit) ≡ padded (joined (ruleNodes (now (grammar .entry)) r) (now (f .entry)) (attach (ruleNodes (now (grammar .entry)) r) (edgeNodes (now (grammar .entry)) r i) (take (rankAt (now (grammar .entry)) (edgeLabel (now (grammar .entry)) r i)) (edgeAt (graphOf (now (grammar .entry)) (now (graph .entry)) .edges) b .attachment)))) ⌝ }
 {
-    let l = nodes_by(grammar, graph, chart, r, i, b);
-    let mut t = [64u64; 8];
-    joins::attach(grammar, r, i, &l, &mut t);
-    t
+    let rank = joins::rank_of(grammar, layout::word_in(graph, 1 + b, 0));
+    let from = (10 + 9 * b) as usize;
+    let end = from + rank as usize;
+    place_nodes(grammar, r, i, &graph[from..end], f);
+}
+
+// The same by the nodes that the record at b lists; one that the chart does not hold whole is copied first.
+fn place_record(grammar: &[u64], chart: &[u64], r: u64, i: u64, b: u64, f: &mut [u64])
+    requires { ⌜ KnownEdge (now grammar) r i × (length (now f) ≡ 8) × BareFrom (ruleNodes (now grammar) r) (now f) ⌝ }
+    ensures { λ x. ⌜ now (f .exit) ≡ padded (joined (ruleNodes (now (grammar .entry)) r) (now (f .entry)) (attach (ruleNodes (now (grammar .entry)) r) (edgeNodes (now (grammar .entry)) r i) (take (rankAt (now (grammar .entry)) (edgeLabel (now (grammar .entry)) r i)) (recordAt (now (chart .entry)) b .nodes)))) ⌝ }
+{
+    if b < records::capacity_of(chart) {
+        let from = (8 + 16 * b) as usize;
+        let end = from + 8;
+        place_nodes(grammar, r, i, &chart[from..end], f);
+        return;
+    }
+    let y = records::load(chart, b);
+    let nodes = y.nodes;
+    place_nodes(grammar, r, i, &nodes, f);
+}
+
+// The same by the partner b of the edge: a graph edge, or a record. Past the graph's edges there is no node.
+fn place_part(grammar: &[u64], graph: &[u64], chart: &[u64], r: u64, i: u64, b: u64, f: &mut [u64])
+    requires { ⌜ Accepted (now grammar) (now graph) × KnownEdge (now grammar) r i × (length (now f) ≡ 8) × BareFrom (ruleNodes (now grammar) r) (now f) ⌝ }
+    ensures { λ x. ⌜ now (f .exit) ≡ padded (joined (ruleNodes (now (grammar .entry)) r) (now (f .entry)) (attach (ruleNodes (now (grammar .entry)) r) (edgeNodes (now (grammar .entry)) r i) (partNodes (λ k. recordAt (now (chart .entry)) k) (grammarOf (now (grammar .entry))) (graphOf (now (grammar .entry)) (now (graph .entry))) (edgeAt (rightOf (grammarOf (now (grammar .entry))) r .edges) i) b))) ⌝ }
+{
+    if crate::lookup::is_nonterminal(grammar, r, i) {
+        place_record(grammar, chart, r, i, b, f);
+        return;
+    }
+    if layout::graph_edges(graph) <= b {
+        return;
+    }
+    place_edge(grammar, graph, r, i, b, f);
 }
 
 // The places of the nodes of rule r, by the partners of all its edges.
-pub(crate) fn place(grammar: &[u64], graph: &[u64], chart: &[u64], r: u64, bs: [u64; 8]) -> [u64; 8]
-    requires { ⌜ Accepted (now grammar) (now graph) ⌝ }
-    ensures { λ f. ⌜ f ≡ padded (placedBy (λ k. recordAt (now (chart .entry)) k) (grammarOf (now (grammar .entry))) (graphOf (now (grammar .entry)) (now (graph .entry))) (rightOf (grammarOf (now (grammar .entry))) r) bs (length (rightOf (grammarOf (now (grammar .entry))) r .edges))) ⌝ }
+pub(crate) fn place(
+    grammar: &[u64],
+    graph: &[u64],
+    chart: &[u64],
+    r: u64,
+    edges: u64,
+    bs: &[u64],
+    f: &mut [u64],
+)
+    requires { ⌜ Accepted (now grammar) (now graph) × (edges ≡ length (rightOf (grammarOf (now grammar)) r .edges)) × (edges ≤ 8) × (length (now bs) ≡ 8) × (length (now f) ≡ 8) ⌝ }
+    ensures { λ x. ⌜ now (f .exit) ≡ padded (placedBy (λ k. recordAt (now (chart .entry)) k) (grammarOf (now (grammar .entry))) (graphOf (now (grammar .entry)) (now (graph .entry))) (rightOf (grammarOf (now (grammar .entry))) r) (now (bs .entry)) edges) ⌝ }
 {
-    let nodes = crate::lookup::node_count(grammar, r);
-    let edges = crate::lookup::edge_count(grammar, r);
-    let mut f = [64u64; 8];
+    joins::clear(f);
     let mut i: u64 = 0;
     while i < edges {
-        let k = part_map(grammar, graph, chart, r, i, bs[i as usize]);
-        let more = joins::maps::merge(nodes, f, k);
-        f = more;
+        place_part(grammar, graph, chart, r, i, bs[i as usize], f);
         i += 1;
     }
-    f
 }

@@ -25,11 +25,11 @@ ghost use Rattle.index.specs.Index.{indexWords, ranksOf, listsOf, nearOf
 use agenda::Found;
 
 // where the links end and the ranking starts
-const RANKS: usize = 8192;
+const RANKS: usize = 12288;
 // where the ranking ends and the lists start
-const LISTS: usize = 16384;
+const LISTS: usize = 16518;
 // where the lists end: the word that is not 0 once a record was irregular, and behind it the sets, two words each
-const MARK: usize = 40962;
+const MARK: usize = 41096;
 
 // Record n, one more than there are, is that of the words x: it comes on the lists of its keys.
 fn list(wants: &[u64; 1024], pivots: &[u64; 1088], index: &mut [u32], n: u64, x: &[u64])
@@ -64,8 +64,8 @@ pub fn near(index: &[u32], j: u64) -> u64
     requires { ⌜ (length (now index) ≡ indexWords) × (j < 4096) ⌝ }
     ensures { λ r. ⌜ r ≡ nearOf (now (index .entry)) j ⌝ }
 {
-    let low = index[(40963 + 2 * j) as usize] as u64;
-    let high = index[(40964 + 2 * j) as usize] as u64;
+    let low = index[(41097 + 2 * j) as usize] as u64;
+    let high = index[(41098 + 2 * j) as usize] as u64;
     low + 4294967296 * high
 }
 
@@ -74,8 +74,8 @@ fn put_near(index: &mut [u32], j: u64, o: u64)
     requires { ⌜ (length (now index) ≡ indexWords) × (j < 4096) ⌝ }
     ensures { λ r. ⌜ now (index .exit) ≡ nearPut (now (index .entry)) j o ⌝ }
 {
-    index[(40963 + 2 * j) as usize] = (o % 4294967296) as u32;
-    index[(40964 + 2 * j) as usize] = (o / 4294967296) as u32;
+    index[(41097 + 2 * j) as usize] = (o % 4294967296) as u32;
+    index[(41098 + 2 * j) as usize] = (o / 4294967296) as u32;
 }
 
 // A set that holds the open nodes of the edges m. A fresh chart has records without edges only, and those have none.
@@ -232,14 +232,14 @@ pub fn sought(chart: &[u64], index: &[u32], edges: u64, n: u64, c: u64) -> u64
 // Whether no record is irregular.
 pub fn regular(index: &[u32]) -> bool
     requires { ⌜ length (now index) ≡ indexWords ⌝ }
-    ensures { λ r. ⌜ r ≡ eqb (getD (now (index .entry)) 40962 0) 0 ⌝ }
+    ensures { λ r. ⌜ r ≡ eqb (getD (now (index .entry)) 41096 0) 0 ⌝ }
 {
     index[MARK] == 0
 }
 
 // Record n, one more than there are, is that of the words x.
 fn enter(wants: &[u64; 1024], pivots: &[u64; 1088], index: &mut [u32], n: u64, x: &[u64], b: u64)
-    requires { ⌜ (length (now index) ≡ indexWords) × Ready (listsOf (now index)) × (n < 4096) × (length (now x) ≡ 16) × (b ≡ bucketOf (ofWords (now x))) × (b < 4096) ⌝ }
+    requires { ⌜ (length (now index) ≡ indexWords) × Ready (listsOf (now index)) × (n < 4096) × (length (now x) ≡ 16) × (b ≡ bucketOf (ofWords (now x))) × (b < 8192) ⌝ }
     ensures { λ r. ⌜ ((rs : List Record) → Indexed (now (wants .entry)) (now (pivots .entry)) (now (index .entry)) rs → n ≡ length rs → Indexed (now (wants .entry)) (now (pivots .entry)) (now (index .exit)) (rs ++ (ofWords (now (x .entry)) ∷ [])) × NearKept (now (index .entry)) (now (index .exit))) ⌝ }
 {
     list(wants, pivots, index, n, x);
@@ -292,7 +292,7 @@ fn behind(
     b: u64,
     o: u64,
 )
-    requires { ⌜ Indexed (now wants) (now pivots) (now index) (chartOf (now chart) .records) × (capacity (now chart) ≤ 4096) × (length (now x) ≡ 16) × (b ≡ bucketOf (ofWords (now x))) × (b < 4096) ⌝ }
+    requires { ⌜ Indexed (now wants) (now pivots) (now index) (chartOf (now chart) .records) × (capacity (now chart) ≤ 4096) × (length (now x) ≡ 16) × (b ≡ bucketOf (ofWords (now x))) × (b < 8192) ⌝ }
     ensures { λ r. ⌜ (now (chart .exit) ≡ appendedTo (now (chart .entry)) (itemCount (now (chart .entry))) (ofWords (now (x .entry)))) × Indexed (now (wants .entry)) (now (pivots .entry)) (now (index .exit)) (placed (capacity (now (chart .entry))) (ofWords (now (x .entry))) (chartOf (now (chart .entry))) Nowhere .records) × ((g h : List ℕ) → Spanned g h (now (index .entry)) (chartOf (now (chart .entry)) .records) → Spans g h (ofWords (now (x .entry)) .edges) o → Spanned g h (now (index .exit)) (placed (capacity (now (chart .entry))) (ofWords (now (x .entry))) (chartOf (now (chart .entry))) Nowhere .records)) ⌝ }
 {
     let n = records::item_count(chart);

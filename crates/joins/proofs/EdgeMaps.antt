@@ -2,7 +2,7 @@
 use mathlib.Core.Path.{_≡_, refl, sym, ap, _∙_, subst}
 use mathlib.Core.Bool.{Bool, true, false}
 use mathlib.Core.List.{List, [], _∷_}
-use Prim.Native.Nat.{ℕ, zero, suc, _+_, _-_, _≤_, _<_}
+use Prim.Native.Nat.{ℕ, zero, suc, _+_, _*_, _-_, _/_, _%_, _≤_, _<_}
 use native.Mathlib.Omega.{arith}
 use native.Mathlib.Decide.{decLt}
 use lib.ListN.{length, getD, set, take, drop, replicate, length-set, List·getD-eq-default}
@@ -21,7 +21,7 @@ use Rattle.questions.proofs.StoredLaws.{getD-tabulate}
 use Rattle.questions.proofs.WellFormedLists.{tabulate-list}
 use Rattle.questions.proofs.WellFormedLent.{checked-grammar-ok}
 use Rattle.questions.proofs.WellFormedAccepted.{rule-is, edge-is}
-use Rattle.joins.specs.Joins.{KnownEdge, edgeNodes, BareFrom}
+use Rattle.joins.specs.Joins.{KnownEdge, edgeNodes, octal, nodesWord, BareFrom}
 use Rattle.joins.proofs.Known.{rule-ok, right-nodes, right-edges, nodes-few}
 
 -- ---- maps in eight places
@@ -153,6 +153,23 @@ map-done n A L f few inside whole = is-padded f (attach n A L) (whole .size) (λ
         at-past (attach n A L) x (omega (arith, length-tabulate n (λ x. nodeFor x A L)))
         ∙ sym (node-none x A L (none-left (occurs x A) (λ o. d (inside x o))))
 
+-- ---- digits
+octal-few : (f : ℕ → ℕ) (n : ℕ) → n ≤ 4 → ((k : ℕ) → k < n → f k < 8) → octal f n < 4096
+unfolding octal
+octal-few f zero h few = omega arith
+octal-few f (suc zero) h few = omega (arith, few 0 (omega arith))
+octal-few f (suc (suc zero)) h few = omega (arith, few 0 (omega arith), few 1 (omega arith))
+octal-few f (suc (suc (suc zero))) h few = omega (arith, few 0 (omega arith), few 1 (omega arith), few 2 (omega arith))
+octal-few f (suc (suc (suc (suc zero)))) h few = omega (arith, few 0 (omega arith), few 1 (omega arith), few 2 (omega arith), few 3 (omega arith))
+octal-few f (suc (suc (suc (suc (suc n))))) h few = absurd (omega arith)
+
+octal-next : (f : ℕ → ℕ) (k : ℕ) → octal f (k + 1) ≡ 8 * octal f k + f k
+unfolding octal
+octal-next f k = ap (octal f) (let e : k + 1 ≡ suc k = omega arith in e)
+
+rank-cap : (g : List ℕ) (s : ℕ) → rankAt g s ≤ 4
+rank-cap g s = omega arith
+
 -- ---- an edge of an accepted grammar table
 module _ (g : List ℕ) (r i : ℕ) (known : KnownEdge g r i) where
   abbrev rank : ℕ
@@ -190,6 +207,44 @@ module _ (g : List ℕ) (r i : ℕ) (known : KnownEdge g r i) where
 
   pub edge-node-few : (k x : ℕ) → k < rank → x ≡ edgeNode g r i k → x < 8
   edge-node-few k x h e = omega (arith, nodes-few g r (known .grammar) (known .rule), edge-node-known k x h e)
+
+  -- its nodes as one number
+  abbrev pub digits : ℕ → ℕ
+  digits k = octal (λ k. edgeNode g r i k) k
+
+  pub digits-few : (k : ℕ) → k ≤ rank → digits k < 4096
+  digits-few k h = octal-few (λ k. edgeNode g r i k) k (omega (arith, rank-cap g (edgeLabel g r i))) (λ j l. edge-node-few j _ (omega arith) refl)
+
+  pub digits-none : 0 ≡ digits 0
+  unfolding octal
+  digits-none = refl
+
+  pub digits-next : (k w x : ℕ) → w ≡ digits k → x ≡ edgeNode g r i k → 8 * w + x ≡ digits (k + 1)
+  digits-next k w x a b = omega (arith, octal-next (λ k. edgeNode g r i k) k)
+
+  pub digits-all : (n k w : ℕ) → k ≤ n → n ≡ rank → n ≤ k → w ≡ digits k → n + 8 * w ≡ nodesWord g r i
+  unfolding nodesWord
+  digits-all n k w a b l d =
+      let e : k ≡ rank = omega arith in
+      omega (arith, ap digits e)
+
+  pub nodes-word-few : nodesWord g r i < 32768
+  unfolding nodesWord
+  nodes-word-few = omega (arith, rank-cap g (edgeLabel g r i), digits-few rank (omega arith))
+
+  pub word-rank : (w : ℕ) → w ≡ nodesWord g r i → (w % 8 ≡ rank) × (w / 8 ≡ digits rank)
+  unfolding nodesWord
+  word-rank w e = (omega (arith, rank-cap g (edgeLabel g r i)), omega (arith, rank-cap g (edgeLabel g r i)))
+
+  pub digits-from : (w : ℕ) → w ≡ nodesWord g r i → w / 8 ≡ digits (w % 8)
+  digits-from w e = word-rank w e .1 ∙ ap digits (sym (word-rank w e .0))
+
+  pub digits-last : (k w : ℕ) → 0 < k → k ≤ rank → w ≡ digits k → (w % 8 ≡ edgeNode g r i (k - 1)) × (w / 8 ≡ digits (k - 1))
+  digits-last k w p h e =
+      let n : k ≡ (k - 1) + 1 = omega arith in
+      let s : w ≡ 8 * digits (k - 1) + edgeNode g r i (k - 1) = e ∙ ap digits n ∙ octal-next (λ k. edgeNode g r i k) (k - 1) in
+      let few : edgeNode g r i (k - 1) < 8 = edge-node-few (k - 1) _ (omega arith) refl in
+      (omega arith, omega arith)
 
   -- the loop
   module _ (l : List ℕ) (eight : length l ≡ 8) where

@@ -143,3 +143,20 @@ open-rule g r p n m ext o s known size edges sides externals made =
 
 pub listed-rank : (g : List ℕ) (f : ℕ → ℕ) (s v rank m : ℕ) → v ≡ s → rank ≡ rankAt g v → NodesIn m (tabulate rank f) → NodesIn m (tabulate (rankAt g s) f)
 listed-rank g f s v rank m a b nodes = rw (b, a) at nodes
+
+-- ---- nothing is open where nothing lies below
+touches-none : (t : ℕ → Bool) (es : List Edge) (x : ℕ) → ((i : ℕ) → t i ≡ false) → touches t es x ≡ false
+unfolding touches
+touches-none t [] x n = refl
+touches-none t (e ∷ es) x n = ap₂ _||_ (ap (λ b. b && ltb 0 (occurs x (e .attachment))) (n 0)) (touches-none (λ i. t (suc i)) es x (λ i. n (suc i)))
+
+pub open-none : (g : List ℕ) (r p : ℕ) → EdgesBelow g r p 0 → OpenAt g r p 0
+unfolding isOpenAt isBoundary
+open-none g r p edges = record {
+  members = λ x h.
+      let R = ruleOf (grammarOf g) r in
+      let none : touches (λ i. ltb 0 (occurs i (below (R .plan) p))) (R .production .right .edges) x ≡ false =
+      touches-none (λ i. ltb 0 (occurs i (below (R .plan) p))) (R .production .right .edges) x (λ i. sym (edges .members i) ∙ member-none i)
+      in
+      member-none x ∙ sym (ap (λ b. b && (ltb 0 (occurs x (R .production .right .externals)) || touches (λ i. not (ltb 0 (occurs i (below (R .plan) p)))) (R .production .right .edges) x)) none);
+}

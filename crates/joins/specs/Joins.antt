@@ -2,7 +2,7 @@
 use mathlib.Core.Path.{_≡_}
 use mathlib.Core.Bool.{Bool, true, false, _&&_, _||_, not}
 use mathlib.Core.List.{List, [], _∷_}
-use Prim.Native.Nat.{ℕ, zero, suc, _+_, _-_, _^_, _≤_, _<_}
+use Prim.Native.Nat.{ℕ, zero, suc, _+_, _*_, _-_, _^_, _≤_, _<_}
 use lib.ListN.{getD}
 use lib.Bits.{bitOr, bitAnd}
 use lib.Dec.{eqb, ltb}
@@ -13,7 +13,7 @@ use Rattle.hrg.specs.Trees.{unplaced, at, padded}
 use Rattle.hrg.specs.Items.{Item, active, below, isOpen, isOpenAt, orElse, joined, keepIf}
 use Rattle.hrg.specs.WellFormedTest.{every}
 use Rattle.hrg.specs.ClosureRun.{agree, oneToOne}
-use Rattle.questions.specs.Layout.{word, rankAt, ruleCount, ruleEdges, rulePlan}
+use Rattle.questions.specs.Layout.{word, rankAt, ruleCount, ruleEdges, rulePlan, edgeLabel, edgeNode}
 use Rattle.questions.specs.Checking.{checkGrammar, checkGraph}
 use Rattle.questions.specs.Abstract.{grammarOf, graphOf}
 use Rattle.joins.specs.declared.Sides.{Sides}
@@ -105,6 +105,16 @@ openBy t m v =
 -- the nodes of edge i of rule r
 abbrev pub edgeNodes : List ℕ → ℕ → ℕ → List ℕ
 edgeNodes g r i = edgeAt (rightOf (grammarOf g) r .edges) i .attachment
+
+-- numbers below 8 as the digits of one number, the last one lowest
+unfoldable pub octal : (ℕ → ℕ) → ℕ → ℕ
+octal f zero = 0
+octal f (suc n) = 8 * octal f n + f n
+
+-- how many nodes edge i of rule r has, and which, as one number
+unfoldable pub nodesWord : List ℕ → ℕ → ℕ → ℕ
+unfolding octal
+nodesWord g r i = rankAt g (edgeLabel g r i) + 8 * octal (λ k. edgeNode g r i k) (rankAt g (edgeLabel g r i))
 
 -- no place of t from n on has an image
 pub record BareFrom (n : ℕ) (t : List ℕ) : Type 0 where

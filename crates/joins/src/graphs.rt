@@ -2,7 +2,7 @@
 ghost use mathlib.Core.Path.{_≡_};
 ghost use mathlib.Core.Bool.{_&&_};
 ghost use Prim.Native.Nat.{ℕ, _+_, _≤_, _<_};
-ghost use lib.ListN.{length};
+ghost use lib.ListN.{length, replicate};
 ghost use Rattle.masks.specs.Masks.{member};
 ghost use Rattle.questions.specs.Layout.{graphEdges};
 ghost use Rattle.joins.specs.Joins.{Accepted};
@@ -95,16 +95,14 @@ fn mark_edges(g: &[u64], h: &[u64], t: &mut [u64])
     }
 }
 
-// The table of the graph.
-pub fn table(g: &[u64], h: &[u64]) -> [u64; 577]
-    requires { ⌜ Accepted (now g) (now h) ⌝ }
-    ensures { λ t. ⌜ GraphTable (now (g .entry)) (now (h .entry)) t ⌝ }
+// The table of the graph, into words that are 0.
+pub fn fill(g: &[u64], h: &[u64], t: &mut [u64])
+    requires { ⌜ Accepted (now g) (now h) × (now t ≡ replicate 577 0) ⌝ }
+    ensures { λ r. ⌜ GraphTable (now (g .entry)) (now (h .entry)) (now (t .exit)) ⌝ }
 {
-    let mut t = [0u64; 577];
-    mark_edges(g, h, &mut t);
+    mark_edges(g, h, t);
     let sets = edge_sets(g, h);
-    put_groups(h, &sets, &mut t);
+    put_groups(h, &sets, t);
     let externals = crate::graph_externals(g, h);
     t[256] = externals;
-    t
 }

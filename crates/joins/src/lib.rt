@@ -13,7 +13,7 @@ ghost use Rattle.hrg.specs.ClosureRun.{covering, combine};
 ghost use Rattle.questions.specs.Layout.{word, rankAt, startSymbol, ruleSymbol, ruleNodes, ruleExternal, edgeLabel, graphEdges, graphExternal};
 ghost use Rattle.questions.specs.Checking.{checkGrammar};
 ghost use Rattle.questions.specs.Abstract.{grammarOf, graphOf};
-ghost use Rattle.joins.specs.Joins.{KnownNode, KnownEdge, Accepted, EdgesBelow, MasksBelow, NodesIn, sideWith, SidesOf, Boundary, OpenAt, OpenIn, Spans, Keeps, edgeNodes, openBy, BareFrom, Merges, Makes};
+ghost use Rattle.joins.specs.Joins.{KnownNode, KnownEdge, Accepted, EdgesBelow, MasksBelow, NodesIn, sideWith, SidesOf, Boundary, OpenAt, OpenIn, Spans, Keeps, edgeNodes, nodesWord, openBy, BareFrom, Merges, Makes};
 ghost use Rattle.joins.specs.Graphs.{GraphTable, Touched};
 
 pub mod graphs;
@@ -27,7 +27,7 @@ struct Sides {
 
 // ---- what lies below a plan node
 // The edges below plan node q, where ms has those below each node before it.
-fn node_below(g: &[u64], r: u64, q: u64, ms: &[u64; 16]) -> u64
+pub fn node_below(g: &[u64], r: u64, q: u64, ms: &[u64; 16]) -> u64
     requires { ⌜ KnownNode (now g) r q × MasksBelow (now g) r q (now ms) ⌝ }
     ensures { λ m. ⌜ EdgesBelow (now (g .entry)) r q m ⌝ }
 {
@@ -39,21 +39,6 @@ fn node_below(g: &[u64], r: u64, q: u64, ms: &[u64; 16]) -> u64
         1 => masks::with(ms[first as usize], second),
         _ => masks::union(ms[first as usize], ms[second as usize]),
     }
-}
-
-// The rule edges below plan node p. Children have lower numbers, so that one pass finds them.
-pub fn below(g: &[u64], r: u64, p: u64) -> u64
-    requires { ⌜ KnownNode (now g) r p ⌝ }
-    ensures { λ m. ⌜ EdgesBelow (now (g .entry)) r p m ⌝ }
-{
-    let mut ms = [0u64; 16];
-    let mut q: u64 = 0;
-    while q < p {
-        let m = node_below(g, r, q, &ms);
-        ms[q as usize] = m;
-        q += 1;
-    }
-    node_below(g, r, p, &ms)
 }
 
 // ---- open nodes
@@ -122,12 +107,12 @@ fn rule_externals(g: &[u64], r: u64) -> u64
     listed(g, 65 + 25 * r, 5, rank)
 }
 
-// The open rule nodes at plan node p.
-pub fn open_at(g: &[u64], r: u64, p: u64) -> u64
-    requires { ⌜ KnownNode (now g) r p ⌝ }
-    ensures { λ m. ⌜ OpenAt (now (g .entry)) r p m ⌝ }
+// The open rule nodes at plan node p, where m has the edges below it.
+pub fn open_at(g: &[u64], r: u64, p: u64, m: u64) -> u64
+    requires { ⌜ KnownNode (now g) r p × EdgesBelow (now g) r p m ⌝ }
+    ensures { λ o. ⌜ OpenAt (now (g .entry)) r p o ⌝ }
 {
-    let s = nodes_by(g, g, 66 + 25 * r, layout::rule_edges(g, r), below(g, r, p));
+    let s = nodes_by(g, g, 66 + 25 * r, layout::rule_edges(g, r), m);
     boundary(s, rule_externals(g, r))
 }
 
@@ -212,19 +197,45 @@ pub fn clear_from(n: u64, t: &mut [u64])
     }
 }
 
-// The map of edge i's nodes to the first nodes of l, in order, into the eight places of t: from the last on, since the first of equal nodes counts.
+// How many nodes edge i of rule r has, and which, as one number.
+pub fn nodes_word(g: &[u64], r: u64, i: u64) -> u64
+    requires { ⌜ KnownEdge (now g) r i ⌝ }
+    ensures { λ w. ⌜ w ≡ nodesWord (now (g .entry)) r i ⌝ }
+{
+    let p = 66 + 25 * r + i;
+    let rank = rank_of(g, layout::word_in(g, p, 0));
+    let mut w: u64 = 0;
+    let mut k: u64 = 0;
+    while k < rank {
+        w = 8 * w + layout::word_in(g, p, 1 + k);
+        k += 1;
+    }
+    rank + 8 * w
+}
+
+// The map of edge i's nodes, which w tells, to the first nodes of l, in order, into the eight places of t: from the last on, since the first of equal nodes counts.
+pub fn attach_by(g: &[u64], r: u64, i: u64, w: u64, l: &[u64], t: &mut [u64])
+    requires { ⌜ KnownEdge (now g) r i × (w ≡ nodesWord (now g) r i) × (length (now l) ≡ 8) × (length (now t) ≡ 8) ⌝ }
+    ensures { λ x. ⌜ now (t .exit) ≡ padded (attach (ruleNodes (now (g .entry)) r) (edgeNodes (now (g .entry)) r i) (take (rankAt (now (g .entry)) (edgeLabel (now (g .entry)) r i)) (now (l .entry)))) ⌝ }
+{
+    clear(t);
+    let mut k = w % 8;
+    let mut rest = w / 8;
+    while 0 < k {
+        k -= 1;
+        let x = rest % 8;
+        t[x as usize] = l[k as usize];
+        rest /= 8;
+    }
+}
+
+// The same, where the nodes are read off the table.
 pub fn attach(g: &[u64], r: u64, i: u64, l: &[u64], t: &mut [u64])
     requires { ⌜ KnownEdge (now g) r i × (length (now l) ≡ 8) × (length (now t) ≡ 8) ⌝ }
     ensures { λ x. ⌜ now (t .exit) ≡ padded (attach (ruleNodes (now (g .entry)) r) (edgeNodes (now (g .entry)) r i) (take (rankAt (now (g .entry)) (edgeLabel (now (g .entry)) r i)) (now (l .entry)))) ⌝ }
 {
-    clear(t);
-    let p = 66 + 25 * r + i;
-    let mut k = rank_of(g, layout::word_in(g, p, 0));
-    while 0 < k {
-        k -= 1;
-        let x = layout::word_in(g, p, 1 + k);
-        t[x as usize] = l[k as usize];
-    }
+    let w = nodes_word(g, r, i);
+    attach_by(g, r, i, w, l, t);
 }
 
 // Whether graph node v is open in the edge set m, where a rule node with this image is dropped. The words of v at the four places have its edges.

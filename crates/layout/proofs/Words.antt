@@ -1,12 +1,12 @@
 -- Laws of words and places.
-use Prim.Native.Nat.{ℕ, zero, suc, _+_, _*_, _≤_, _<_, min}
+use Prim.Native.Nat.{ℕ, zero, suc, _+_, _*_, _≤_, _<_}
 use native.Mathlib.Omega.{arith}
 use native.Mathlib.Numerals.{add-one}
 use mathlib.Core.Path.{_≡_, refl, sym, ap, _∙_}
 use mathlib.Core.Bool.{Bool, true, false, _&&_, cond}
 use mathlib.Core.List.{List, _++_, append-assoc}
-use lib.ListN.{length, getD, take, drop, set, length-take, List·getD-eq-default}
-use lib.Seq.{getD-take, take-all, paste-zero, paste-suc}
+use lib.ListN.{length, getD, take, drop, set, List·getD-eq-default}
+use lib.Seq.{take-all, paste-zero, paste-suc}
 use lib.Dec.{ltb}
 use borrow.Author.Tests.{ltb-true, lt-leb, le-leb}
 use Rattle.hrg.specs.Counts.{tabulate}
@@ -66,19 +66,6 @@ chosen due d b f x e h p = rw (← e, h, p)
 
 pub passed : {A : Type 0} (due : Due) (b : Bool) (f : Due → A) (x : A) → b ≡ inTable due → b ≡ false → x ≡ cond (inTable due) (f due) x
 passed due b f x e h = rw (← e, h)
-
--- ---- fields
-pub field-past : (vs : List ℕ) (n k : ℕ) → n ≤ k → 0 ≡ getD (take n vs) k 0
-field-past vs n k h = sym (List·getD-eq-default (take n vs) 0 {n = k} (omega (arith, length-take n vs)))
-
-pub field-out : (vs : List ℕ) (n k : ℕ) → length vs ≤ k → 0 ≡ getD (take n vs) k 0
-field-out vs n k h = sym (List·getD-eq-default (take n vs) 0 {n = k} (omega (arith, length-take n vs)))
-
-pub field-in : (vs : List ℕ) (n k : ℕ) → k < n → getD vs k 0 ≡ getD (take n vs) k 0
-field-in vs n k h = sym (getD-take n vs k 0 h)
-
-pub fields-count : (vs : List ℕ) (n : ℕ) → length vs ≡ 18 → min 18 n ≡ length (take n vs)
-fields-count vs n h = omega (arith, length-take n vs)
 
 -- ---- a line stored
 pub paste-start : (d s : List ℕ) (at : ℕ) → d ≡ pasted d at s 0

@@ -4,11 +4,10 @@ ghost use mathlib.Core.Bool.{cond};
 ghost use Prim.Native.Nat.{_+_, _*_, _≤_, _<_, min};
 ghost use lib.ListN.{getD, length};
 ghost use Rattle.questions.specs.declared.Due.the-variants.{Symbol, RuleEdge, PlanLine, GraphEdge, Nothing};
-ghost use Rattle.questions.specs.Layout.{placeOf, inTable, fieldsIn, word, block, symbolCount, ruleCount, startSymbol, kindWord, rankAt, ruleSymbol, ruleNodes, ruleEdges, rulePlan, ruleExternal, edgeLabel, edgeNode, planKind, planFirst, planSecond, graphNodes, graphEdges, graphExternal, graphLabel, graphNode};
+ghost use Rattle.questions.specs.Layout.{placeOf, inTable, word, block, symbolCount, ruleCount, startSymbol, kindWord, rankAt, ruleSymbol, ruleNodes, ruleEdges, rulePlan, ruleExternal, edgeLabel, edgeNode, planKind, planFirst, planSecond, graphNodes, graphEdges, graphExternal, graphLabel, graphNode};
 ghost use Rattle.questions.specs.Reading.{next};
 ghost use Rattle.layout.specs.Storing.{pasted, storeAt};
 use questions::Due;
-use questions::Fields;
 
 // Word j of the line at place p. No slice is so long that the sum could wrap inside it.
 pub fn word(t: &[u64], p: u64, j: u64) -> u64
@@ -295,29 +294,19 @@ pub fn next_due(t: &[u64], due: Due) -> Due
 
 // ---- fields, and a line stored
 // Field k, 0 where the line has none.
-pub fn field(f: Fields, k: u64) -> u64
-    ensures { λ r. ⌜ r ≡ getD (fieldsIn f) k 0 ⌝ }
+pub fn field(f: &[u64], k: u64) -> u64
+    ensures { λ r. ⌜ r ≡ getD (now (f .entry)) k 0 ⌝ }
 {
-    if f.count <= k {
+    if f.len() as u64 <= k {
         return 0;
     }
-    if 18 <= k {
-        return 0;
-    }
-    f.values[k as usize]
-}
-
-// How many fields there are: at most 18, whatever the count says.
-pub fn field_count(f: Fields) -> u64
-    ensures { λ r. ⌜ (r ≡ length (fieldsIn f)) × (r ≤ 18) ⌝ }
-{
-    at_most(18, f.count)
+    f[k as usize]
 }
 
 // The nine words of a line with these fields, from word `at` on.
-fn put_line(t: &mut [u64], at: u64, f: Fields)
+fn put_line(t: &mut [u64], at: u64, f: &[u64])
     requires { ⌜ at + 9 ≤ length (now t) ⌝ }
-    ensures { λ r. ⌜ now (t .exit) ≡ pasted (now (t .entry)) at (block (fieldsIn f)) 9 ⌝ }
+    ensures { λ r. ⌜ now (t .exit) ≡ pasted (now (t .entry)) at (block (now (f .entry))) 9 ⌝ }
 {
     let mut j: u64 = 0;
     while j < 9 {
@@ -327,8 +316,8 @@ fn put_line(t: &mut [u64], at: u64, f: Fields)
 }
 
 // The line's fields at its place; a table without that place stays as it is.
-pub fn store(t: &mut [u64], due: Due, f: Fields)
-    ensures { λ r. ⌜ now (t .exit) ≡ storeAt (now (t .entry)) due (fieldsIn f) ⌝ }
+pub fn store(t: &mut [u64], due: Due, f: &[u64])
+    ensures { λ r. ⌜ now (t .exit) ≡ storeAt (now (t .entry)) due (now (f .entry)) ⌝ }
 {
     if !in_table(due) {
         return;

@@ -7,7 +7,7 @@ ghost use lib.Seq.{sets};
 ghost use lib.Dec.{leb};
 ghost use Rattle.format.specs.Tests.{allBelow, sameBytes};
 ghost use Rattle.format.specs.Lines.{lineOf, lineStart, lineEnd, isEnded, afterLine, countingStart, countingOf, PartOf};
-ghost use Rattle.format.specs.Fields.{column as columnOf, digitOf, fieldText, valueOf, cellOf, fieldCount, fieldOf, numberIn, numberOf};
+ghost use Rattle.format.specs.Fields.{column as columnOf, digitOf, fieldText, valueOf, cellOf, fieldCount, fieldOf, numberIn, numberOf, fieldsOf};
 ghost use Rattle.format.specs.Shape.{letterOf, letterKind, isCapital, shapeOf};
 ghost use Rattle.format.specs.Writing.{fieldsText, lineText, writable as writableOf, fieldFits, lineFits, Put};
 ghost use Rattle.format.specs.declared.Cell.the-variants.{Number};
@@ -58,6 +58,23 @@ pub fn after_line(text: &[u8], from: usize) -> usize
     ensures { λ r. ⌜ r ≡ afterLine (now (text .entry)) from ⌝ }
 {
     let e = line_end(text, from);
+    if e < text.len() { e + 1 } else { text.len() }
+}
+
+// Whether a line feed ends the line that was found at `from`: its end is not searched for again.
+pub fn ends(text: &[u8], from: usize, line: &[u8]) -> bool
+    requires { ⌜ (from ≤ length (now text)) × (now line ≡ lineOf (drop from (now text))) ⌝ }
+    ensures { λ r. ⌜ r ≡ isEnded (now (text .entry)) from ⌝ }
+{
+    from + line.len() < text.len()
+}
+
+// The place behind the line feed of the line that was found at `from`, or the end of the text.
+pub fn behind(text: &[u8], from: usize, line: &[u8]) -> usize
+    requires { ⌜ (from ≤ length (now text)) × (now line ≡ lineOf (drop from (now text))) ⌝ }
+    ensures { λ r. ⌜ r ≡ afterLine (now (text .entry)) from ⌝ }
+{
+    let e = from + line.len();
     if e < text.len() { e + 1 } else { text.len() }
 }
 
@@ -202,6 +219,20 @@ pub fn number(line: &[u8], k: usize) -> u64
     ensures { λ r. ⌜ r ≡ numberOf (now (line .entry)) k ⌝ }
 {
     number_in(field(line, k))
+}
+
+// The numbers of a line's fields in the first places of `row`, and how many they are.
+pub fn read_row(line: &[u8], row: &mut [u64]) -> usize
+    requires { ⌜ fieldCount (now line) ≤ length (now row) ⌝ }
+    ensures { λ r. ⌜ (r ≡ fieldCount (now (line .entry))) × (take r (now (row .exit)) ≡ fieldsOf (now (line .entry))) ⌝ }
+{
+    let count = field_count(line);
+    let mut k = 0;
+    while k < count {
+        row[k] = number(line, k);
+        k += 1;
+    }
+    count
 }
 
 // ---- the shape of a line

@@ -4,22 +4,23 @@ ghost use mathlib.Core.Path.{_≡_};
 ghost use mathlib.Core.Bool.{true};
 ghost use mathlib.Core.List.{List};
 ghost use Prim.Native.Nat.{ℕ, _≤_};
-ghost use lib.ListN.{length};
+ghost use lib.ListN.{length, replicate};
 ghost use Rattle.questions.specs.Checking.{checkGrammar};
 ghost use Rattle.questions.specs.Abstract.{grammarOf};
 ghost use Rattle.records.specs.Words.{ofWords};
 ghost use Rattle.joins.specs.Joins.{KnownNode, KnownEdge, edgeNodes};
 ghost use Rattle.rules.specs.Wants.{WantTable};
+ghost use Rattle.rules.specs.Plans.{PlanTable};
 ghost use Rattle.pivots.specs.Pivots.{pivotIn, usesIn, sharedNode, EdgePivot, PivotBelow, PivotOf, PivotTable};
 ghost use Rattle.pivots.specs.Keys.{bucketOf, imageOf, activeKey, placeKey, placeOf, nodeAt, keysOf, queryOf, allPlaced, regularOf};
 
 // ---- pivots
 // Below a plan node that introduces edge i: the first position of the edge whose node is open at p, with that node.
-fn edge_pivot(g: &[u64], r: u64, p: u64, i: u64) -> u64
-    requires { ⌜ KnownNode (now g) r p × KnownEdge (now g) r i ⌝ }
+fn edge_pivot(g: &[u64], plans: &[u64; 2048], r: u64, p: u64, i: u64) -> u64
+    requires { ⌜ KnownNode (now g) r p × KnownEdge (now g) r i × PlanTable (now g) (now plans) ⌝ }
     ensures { λ w. ⌜ EdgePivot (edgeNodes (now (g .entry)) r i) w × (w ≤ 72) ⌝ }
 {
-    let nodes = joins::open_at(g, r, p);
+    let nodes = rules::plans::open_at(g, plans, r, p);
     let rank = layout::rank_at(g, layout::edge_label(g, r, i));
     let mut k: u64 = 0;
     while k < rank {
@@ -33,12 +34,12 @@ fn edge_pivot(g: &[u64], r: u64, p: u64, i: u64) -> u64
 }
 
 // At the two children of a join: the last rule node that is open at both.
-fn shared_node(g: &[u64], r: u64, p: u64, q: u64) -> u64
-    requires { ⌜ KnownNode (now g) r p × KnownNode (now g) r q ⌝ }
+fn shared_node(g: &[u64], plans: &[u64; 2048], r: u64, p: u64, q: u64) -> u64
+    requires { ⌜ KnownNode (now g) r p × KnownNode (now g) r q × PlanTable (now g) (now plans) ⌝ }
     ensures { λ v. ⌜ (v ≡ sharedNode (grammarOf (now (g .entry))) r p q) × (v ≤ 8) ⌝ }
 {
-    let here = joins::open_at(g, r, p);
-    let there = joins::open_at(g, r, q);
+    let here = rules::plans::open_at(g, plans, r, p);
+    let there = rules::plans::open_at(g, plans, r, q);
     let mut v = layout::rule_nodes(g, r);
     while 0 < v {
         v -= 1;
@@ -50,8 +51,8 @@ fn shared_node(g: &[u64], r: u64, p: u64, q: u64) -> u64
 }
 
 // What plan node q asks of the pivot of p.
-fn pivot_below(g: &[u64], r: u64, p: u64, q: u64) -> u64
-    requires { ⌜ KnownNode (now g) r q ⌝ }
+fn pivot_below(g: &[u64], plans: &[u64; 2048], r: u64, p: u64, q: u64) -> u64
+    requires { ⌜ KnownNode (now g) r q × PlanTable (now g) (now plans) ⌝ }
     ensures { λ w. ⌜ PivotBelow (now (g .entry)) r p q w × (w ≤ 72) ⌝ }
 {
     let kind = layout::plan_kind(g, r, q);
@@ -62,41 +63,40 @@ fn pivot_below(g: &[u64], r: u64, p: u64, q: u64) -> u64
     }
     if kind == 1 {
         if first == p {
-            return edge_pivot(g, r, p, second);
+            return edge_pivot(g, plans, r, p, second);
         }
         return 72;
     }
     if first == p {
-        return 64 + shared_node(g, r, p, second);
+        return 64 + shared_node(g, plans, r, p, second);
     }
     if second == p {
-        return 64 + shared_node(g, r, p, first);
+        return 64 + shared_node(g, plans, r, p, first);
     }
     72
 }
 
 // The pivot of rule r and plan node p.
-fn pivot(g: &[u64], r: u64, p: u64) -> u64
-    requires { ⌜ checkGrammar (now g) ≡ true ⌝ }
+fn pivot(g: &[u64], plans: &[u64; 2048], r: u64, p: u64) -> u64
+    requires { ⌜ (checkGrammar (now g) ≡ true) × PlanTable (now g) (now plans) ⌝ }
     ensures { λ w. ⌜ PivotOf (now (g .entry)) r p w ⌝ }
 {
-    let above = rules::place_above(g, r, p);
+    let above = rules::plans::place_above(g, plans, r, p);
     if !above.found {
         return 72;
     }
-    pivot_below(g, r, p, above.node)
+    pivot_below(g, plans, r, p, above.node)
 }
 
-// The table: the pivots of all rules and plan nodes, then for each symbol the set of the positions at which it is wanted. What no rule and no want fills stays as it is made.
-pub fn table(g: &[u64], wants: &[u64; 1024]) -> [u64; 1088]
-    requires { ⌜ (checkGrammar (now g) ≡ true) × WantTable (now g) (now wants) ⌝ }
-    ensures { λ t. ⌜ PivotTable (now (g .entry)) t ⌝ }
+// The table, into words that are 0: the pivots of all rules and plan nodes, then for each symbol the set of the positions at which it is wanted. What no rule and no want fills stays as it is.
+pub fn fill(g: &[u64], plans: &[u64; 2048], wants: &[u64; 1024], t: &mut [u64])
+    requires { ⌜ (checkGrammar (now g) ≡ true) × WantTable (now g) (now wants) × PlanTable (now g) (now plans) × (now t ≡ replicate 1088 0) ⌝ }
+    ensures { λ r. ⌜ PivotTable (now (g .entry)) (now (t .exit)) ⌝ }
 {
-    let mut t = [0u64; 1088];
     let n = 16 * layout::rule_count(g);
     let mut i: u64 = 0;
     while i < n {
-        let w = pivot(g, i / 16, i % 16);
+        let w = pivot(g, plans, i / 16, i % 16);
         let s = wants[i as usize];
         t[i as usize] = w;
         if s < 64 {
@@ -106,7 +106,6 @@ pub fn table(g: &[u64], wants: &[u64; 1024]) -> [u64; 1088]
         }
         i += 1;
     }
-    t
 }
 
 // A pivot read off a table: none where it has no word for the rule and the plan node.

@@ -35,7 +35,7 @@ ranked-still w j rs rs′ R z E = ranked-same w rs rs′ (λ k. go k (ℕ-discre
     go k (no n) = E .others k n
 
 -- words that say nothing
-pub ranked-marked : (w : List ℕ) → length w ≡ 8192 → (rs : List Record) → Ranked (set w 0 1) rs
+pub ranked-marked : (w : List ℕ) → length w ≡ 4230 → (rs : List Record) → Ranked (set w 0 1) rs
 ranked-marked w e rs = record {
   size = length-set w 0 1 ∙ e;
   levels = λ z. absurd (no-zero z);
@@ -47,8 +47,8 @@ ranked-marked w e rs = record {
     no-zero z = let q : getD (set w 0 1) 0 0 ≡ 1 = getD-set-same w 0 1 0 (omega arith) in omega arith
 
 -- ---- the set is lent
-module _ (w new : List ℕ) (s : length w ≡ 8192) (e : length new ≡ 4228) where
-  pub put-size : length (put 2 4228 w new) ≡ 8192
+module _ (w new : List ℕ) (s : length w ≡ 4230) (e : length new ≡ 4228) where
+  pub put-size : length (put 2 4228 w new) ≡ 4230
   put-size = length-put 2 4228 w new (omega arith) e ∙ s
 
   ranked-put : (rs : List Record) → (getD w 0 0 ≡ 0 → Levels new) → (getD w 0 0 ≡ 0 → Based (getD w 1 0) rs) → (getD w 0 0 ≡ 0 → Held (getD w 1 0) new rs) → Ranked (put 2 4228 w new) rs
@@ -175,7 +175,7 @@ recounted j old n rs rs′ u v w f g R z E =
     g gone rs′ (f rs gone R z H) (H .given) (record { given = E .given; others = λ k d. E .others k d ∙ sym (H .others k d) })
 
 -- ---- no records
-pub ranked-none : (w new : List ℕ) → length w ≡ 8192 → Cleared new → Ranked (put 2 4228 w new) []
+pub ranked-none : (w new : List ℕ) → length w ≡ 4230 → Cleared new → Ranked (put 2 4228 w new) []
 ranked-none w new s C =
     ranked-put w new s (C .levels .size) [] (λ q. C .levels) (λ q j d. absurd (d (order-past [] j (omega arith))))
     (λ q p b. C .none p ∙ sym (ne-eqb (orderAt [] (p % 4096)) (4096 * getD w 1 0 + p + 1) (λ t. let z = order-past [] (p % 4096) (omega arith) in omega arith)))
@@ -189,5 +189,5 @@ unfolding orderOf
 placed-none t j n rs rs′ h E = rw h at E
 
 -- ---- the words are made anew
-pub renewed-size : (w : List ℕ) (base : ℕ) → length w ≡ 8192 → length (set (set w 0 0) 1 base) ≡ 8192
+pub renewed-size : (w : List ℕ) (base : ℕ) → length w ≡ 4230 → length (set (set w 0 0) 1 base) ≡ 4230
 renewed-size w base s = length-set (set w 0 0) 1 base ∙ length-set w 0 0 ∙ s

@@ -38,7 +38,7 @@ Held base ws rs = (p : ℕ) → p < 131072 → holds ws p ≡ eqb (orderAt rs (p
 
 -- the words are the ranking of the records: word 1 is the base, and the set follows. Where word 0 is not 0 the other words say nothing
 pub record Ranked (w : List ℕ) (rs : List Record) : Type 0 where
-  pub size : length w ≡ 8192
+  pub size : length w ≡ 4230
   pub levels : getD w 0 0 ≡ 0 → Levels (setOf w)
   pub based : getD w 0 0 ≡ 0 → Based (getD w 1 0) rs
   pub held : getD w 0 0 ≡ 0 → Held (getD w 1 0) (setOf w) rs

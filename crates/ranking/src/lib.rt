@@ -19,7 +19,7 @@ const END: usize = 4230;
 
 // The record at place j, which did not wait, waits with the count given. One below the base has no number.
 fn insert(ranks: &mut [u32], j: u64, count: u64)
-    requires { ⌜ (length (now ranks) ≡ 8192) × (j < 4096) ⌝ }
+    requires { ⌜ (length (now ranks) ≡ 4230) × (j < 4096) ⌝ }
     ensures { λ r. ⌜ ((rs rs′ : List Record) → Ranked (now (ranks .entry)) rs → orderAt rs j ≡ 0 → Replaces j (orderOf true j count) rs rs′ → Ranked (now (ranks .exit)) rs′) ⌝ }
 {
     let base = ranks[1] as u64;
@@ -36,7 +36,7 @@ fn insert(ranks: &mut [u32], j: u64, count: u64)
 
 // The record at place j, of which nothing waited, comes with the count given; one that does not wait changes nothing.
 pub fn place(ranks: &mut [u32], j: u64, waits: bool, count: u64)
-    requires { ⌜ (length (now ranks) ≡ 8192) × (j < 4096) ⌝ }
+    requires { ⌜ (length (now ranks) ≡ 4230) × (j < 4096) ⌝ }
     ensures { λ r. ⌜ ((rs rs′ : List Record) → Ranked (now (ranks .entry)) rs → orderAt rs j ≡ 0 → Replaces j (orderOf waits j count) rs rs′ → Ranked (now (ranks .exit)) rs′) ⌝ }
 {
     if waits {
@@ -46,7 +46,7 @@ pub fn place(ranks: &mut [u32], j: u64, waits: bool, count: u64)
 
 // The record at place j, which waited with the count given, waits no more.
 pub fn remove(ranks: &mut [u32], j: u64, count: u64)
-    requires { ⌜ (length (now ranks) ≡ 8192) × (j < 4096) ⌝ }
+    requires { ⌜ (length (now ranks) ≡ 4230) × (j < 4096) ⌝ }
     ensures { λ r. ⌜ ((rs rs′ : List Record) → Ranked (now (ranks .entry)) rs → orderAt rs j ≡ orderOf true j count → Replaces j 0 rs rs′ → Ranked (now (ranks .exit)) rs′) ⌝ }
 {
     let base = ranks[1] as u64;
@@ -62,7 +62,7 @@ pub fn remove(ranks: &mut [u32], j: u64, count: u64)
 
 // The record at place j, which waits, has another count.
 pub fn recount(ranks: &mut [u32], j: u64, old: u64, count: u64)
-    requires { ⌜ (length (now ranks) ≡ 8192) × (j < 4096) ⌝ }
+    requires { ⌜ (length (now ranks) ≡ 4230) × (j < 4096) ⌝ }
     ensures { λ r. ⌜ ((rs rs′ : List Record) → Ranked (now (ranks .entry)) rs → orderAt rs j ≡ orderOf true j old → Replaces j (orderOf true j count) rs rs′ → Ranked (now (ranks .exit)) rs′) ⌝ }
 {
     remove(ranks, j, old);
@@ -86,7 +86,7 @@ fn fill(chart: &[u64], ranks: &mut [u32])
 
 // The words are made anew from a base, unless that has no place in a word.
 fn renew(chart: &[u64], ranks: &mut [u32], base: u64)
-    requires { ⌜ (length (now ranks) ≡ 8192) × (itemCount (now chart) ≤ 4096) ⌝ }
+    requires { ⌜ (length (now ranks) ≡ 4230) × (itemCount (now chart) ≤ 4096) ⌝ }
     ensures { λ r. ⌜ Ranked (now (ranks .exit)) (chartOf (now (chart .entry)) .records) ⌝ }
 {
     if base >= 4294967295 {
@@ -131,7 +131,7 @@ pub fn least(chart: &[u64], ranks: &mut [u32]) -> Found
 
 // Words that say nothing are the ranking of any records.
 pub fn build(ranks: &mut [u32])
-    requires { ⌜ length (now ranks) ≡ 8192 ⌝ }
+    requires { ⌜ length (now ranks) ≡ 4230 ⌝ }
     ensures { λ r. ⌜ ((rs : List Record) → Ranked (now (ranks .exit)) rs) ⌝ }
 {
     ranks[0] = 1;

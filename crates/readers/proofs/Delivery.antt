@@ -1,5 +1,5 @@
 -- Laws of the answer: what is told and left for each verdict.
-use mathlib.Core.Path.{_≡_, refl, sym, ap, _∙_}
+use mathlib.Core.Path.{_≡_, refl, sym, _∙_}
 use mathlib.Core.Bool.{Bool, true, false, cond}
 use mathlib.Core.List.{List, [], _++_}
 use Prim.Native.Nat.{ℕ, zero, suc, _≤_, _<_}
@@ -39,9 +39,6 @@ length-cleared n = length-replicate n _
 
 pub grammar-room : Room (length (cleared grammarWords)) Grammar
 grammar-room = omega (arith, length-cleared grammarWords)
-
-pub graph-room : Room (length (cleared graphWords)) Graph
-graph-room = omega (arith, length-cleared graphWords)
 
 -- a table of the largest size was filled from the cleared one
 filled : (size k : ℕ) (v : Verdict) (t former table : List ℕ) (a : Answer) → length t ≡ size → verdictOf k t ≡ v → Gives (delivered (length t) (verdictOf k t) former) a table

@@ -1,29 +1,28 @@
 -- Laws of the reading loop: what each way through a turn does to the reading of the lines that are left.
 use mathlib.Core.Path.{_≡_, refl, sym, ap, _∙_}
-use mathlib.Core.Bool.{Bool, true, false, _&&_, cond}
-use mathlib.Core.List.{List, [], _∷_}
+use mathlib.Core.Bool.{Bool, true, false, cond}
+use mathlib.Core.List.{List}
 use Prim.Native.Nat.{ℕ, zero, suc, _+_, _*_, _≤_, _<_}
 use native.Mathlib.Omega.{arith}
 use lib.ListN.{length, drop}
 use lib.Dec.{eqb}
 use borrow.Author.Tests.{le-leb}
-use Rattle.format.specs.Lines.{Line, countingLines, countingOf, countingStart, isEnded, afterLine}
+use Rattle.format.specs.Lines.{countingLines, countingOf, countingStart, isEnded, afterLine}
 use Rattle.format.specs.LineLaws.{counting-lines-at, counting-in, lines-end, after-le, after-forward}
-use Rattle.format.specs.TestLaws.{both}
 use Rattle.format.specs.Shape.{shapeOf, letterOf, kindLetter}
 use Rattle.format.specs.Fields.{fieldsOf}
 use Rattle.questions.specs.Layout.{placeOf, letterDue, inTable, stored}
-use Rattle.questions.specs.Questions.{ask, judge}
+use Rattle.questions.specs.Questions.{judge}
 use Rattle.questions.specs.Reading.{Verdict, refused, accepted, whenDone, goOn, next, judgeLine, readLines}
 use Rattle.questions.specs.Walk.{Room}
 use Rattle.layout.specs.Storing.{storeAt}
 use Rattle.questions.specs.declared.Due.{Due}
 use Rattle.questions.specs.declared.Due.the-variants.{Grammar, Symbol, Rule, RuleEdge, PlanLine, Graph, GraphEdge, Nothing}
 use Rattle.questions.proofs.WellFormedWalk.{room-in, room-place, room-next}
-use Rattle.readers.specs.Readers.{lineWith, missing, verdictOf}
+use Rattle.readers.specs.Readers.{lineWith, Stores, missing, verdictOf}
 
 -- ---- places
-pub stored-there : (t fs : List ℕ) (due : Due) → Room (length t) due → storeAt t due fs ≡ stored t (placeOf due) fs
+stored-there : (t fs : List ℕ) (due : Due) → Room (length t) due → storeAt t due fs ≡ stored t (placeOf due) fs
 unfolding storeAt
 stored-there t fs due r = rw (room-in (length t) due r, le-leb (9 * placeOf due + 9) (length t) (room-place (length t) due r))
 
@@ -46,19 +45,17 @@ module _ (g t : List ℕ) (due : Due) (line : List ℕ) (ended : Bool) where
       unfolding judgeLine
       judged-letter n = rw (h, ← e, y, ← fits, n)
 
-      pub judged-rest : due-here ≡ true → (k : ℕ) (fs : List ℕ) → fs ≡ fieldsOf line → inTable due ≡ true → k ≡ cond (inTable due) (judge g t due fs) 2
-          → k ≡ judgeLine g t due (lineWith line ended)
+      pub judged-rest : due-here ≡ true → (k : ℕ) → k ≡ judge g t due (fieldsOf line) → k ≡ judgeLine g t due (lineWith line ended)
       unfolding judgeLine
-      judged-rest s k fs f i j = rw (h, ← e, y, ← fits, s, ← f) (j ∙ rw i)
+      judged-rest s k j = rw (h, ← e, y, ← fits, s) j
 
--- a line that passes is of the shape
-pub passed-shape : (g t : List ℕ) (due : Due) (l : Line) → judgeLine g t due l ≡ 0 → shapeOf (l .bytes) ≡ true
-unfolding judgeLine
-passed-shape g t due l h = go (l .ended && shapeOf (l .bytes)) refl _ h
-  where
-    go : (x : Bool) → (l .ended && shapeOf (l .bytes)) ≡ x → (rest : ℕ) → ask 1 x rest ≡ 0 → shapeOf (l .bytes) ≡ true
-    go true e rest h = both (l .ended) (shapeOf (l .bytes)) e .1
-    go false e rest h = absurd (omega arith)
+-- the fields of a line of the shape
+module _ (t : List ℕ) (due : Due) (line fs : List ℕ) (room : Room (length t) due) (f : fs ≡ fieldsOf line) where
+  pub judged-fields : (g : List ℕ) (k : ℕ) → k ≡ cond (inTable due) (judge g t due fs) 2 → k ≡ judge g t due (fieldsOf line)
+  judged-fields g k e = e ∙ rw (room-in (length t) due room, f)
+
+  pub stored-fields : (t′ : List ℕ) → t′ ≡ storeAt t due fs → t′ ≡ stored t (placeOf due) (fieldsOf line)
+  stored-fields t′ e = e ∙ rw f (stored-there t (fieldsOf line) due room)
 
 -- ---- the lines that are left
 none-left : (t : List ℕ) (due : Due) → verdictOf (missing due) t ≡ whenDone due (accepted t) (refused 2)
@@ -106,12 +103,14 @@ module _ (g t₀ : List ℕ) (first : Due) (text t : List ℕ) (due : Due) (at :
   known : k ≡ judgeLine g t due (lineWith (countingOf text at) (isEnded text (countingStart text at)))
   known = judged ∙ rw (part, feed, from)
 
-  pub turn-no : (k ≡ 0 → ⊥) → verdictOf k t ≡ readLines g t₀ first (countingLines text)
-  turn-no n = sym (reads-no g t due text at h k known n (accepted t)) ∙ inv .rest
+  pub turn-no : (k ≡ 0 → ⊥) → (t′ : List ℕ) → verdictOf k t′ ≡ readLines g t₀ first (countingLines text)
+  turn-no n t′ = sym (reads-no g t due text at h k known n (accepted t′)) ∙ inv .rest
 
-  pub turn-on : k ≡ 0 → (t′ : List ℕ) (due′ : Due) (at′ : ℕ) → length t′ ≡ length t → t′ ≡ stored t (placeOf due) (fieldsOf line) → due′ ≡ next t′ due → at′ ≡ afterLine text start
+  pub turn-on : k ≡ 0 → (t′ : List ℕ) (due′ : Due) (at′ : ℕ) → length t′ ≡ length t → Stores t due line k t′ → due′ ≡ cond (inTable due) (next t′ due) Nothing → at′ ≡ afterLine text start
       → Reading g t₀ first text t′ due′ at′
-  turn-on z t′ due′ at′ l p q a =
+  turn-on z t′ due′ at′ l stores follows a =
+      let p = stores z in
+      let q : due′ ≡ next t′ due = follows ∙ ap (λ b. cond b (next t′ due) Nothing) (room-in (length t) due (inv .room)) in
       record {
         within = omega (arith, a, after-le text start);
         size = l ∙ inv .size;

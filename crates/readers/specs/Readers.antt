@@ -3,7 +3,9 @@ use mathlib.Core.Path.{_≡_}
 use mathlib.Core.Bool.{Bool}
 use mathlib.Core.List.{List}
 use Prim.Native.Nat.{ℕ}
+use Rattle.format.specs.Fields.{fieldsOf}
 use Rattle.format.specs.Lines.{Line}
+use Rattle.questions.specs.Layout.{placeOf, stored}
 use Rattle.questions.specs.Reading.{Verdict, accepted, goOn, Outcome}
 use Rattle.questions.specs.declared.Answer.{Answer}
 use Rattle.questions.specs.declared.Due.{Due}
@@ -21,6 +23,10 @@ verdictOf k t = goOn k (accepted t)
 -- the line with these bytes
 abbrev pub lineWith : List ℕ → Bool → Line
 lineWith bytes ended = record { bytes = bytes; ended = ended }
+
+-- a line that passes is stored at its place
+abbrev pub Stores : List ℕ → Due → List ℕ → ℕ → List ℕ → Type 0
+Stores t due line k t′ = k ≡ 0 → t′ ≡ stored t (placeOf due) (fieldsOf line)
 
 -- at the end of a text: refusal 2 where a line is due
 abbrev pub missing : Due → ℕ

@@ -3,20 +3,20 @@ ghost use mathlib.Core.Path.{_≡_};
 ghost use mathlib.Core.Bool.{true};
 ghost use mathlib.Core.List.{_++_};
 ghost use Prim.Native.Nat.{_≤_, _<_};
-ghost use lib.ListN.{length, drop};
+ghost use lib.ListN.{length, take, drop};
 ghost use lib.Dec.{eqb};
 ghost use Rattle.format.specs.Fields.{fieldsOf};
 ghost use Rattle.format.specs.Shape.{letterOf, shapeOf, kindLetter};
 ghost use Rattle.format.specs.Lines.{countingLines};
-ghost use Rattle.questions.specs.Layout.{placeOf, letterDue, fieldsIn, stored};
-ghost use Rattle.questions.specs.Reading.{next, judgeLine, readLines, delivered, readGrammar};
+ghost use Rattle.questions.specs.Layout.{letterDue};
+ghost use Rattle.questions.specs.Questions.{judge};
+ghost use Rattle.questions.specs.Reading.{judgeLine, readLines, delivered, readGrammar};
 ghost use Rattle.questions.specs.Checking.{readGraph};
 ghost use Rattle.questions.specs.Walk.{Room};
-ghost use Rattle.readers.specs.Readers.{Gives, verdictOf, lineWith, missing};
+ghost use Rattle.readers.specs.Readers.{Gives, verdictOf, lineWith, Stores, missing};
 use format::Letter;
 use questions::Answer;
 use questions::Due;
-use questions::Fields;
 
 // ---- question 2: a kind of line for each letter, and whether one of that kind is due
 fn grammar_due(due: Due) -> bool
@@ -85,27 +85,40 @@ fn letter_due(line: &[u8], due: Due) -> bool
 }
 
 // ---- one line
-fn fields_of(line: &[u8]) -> Fields
-    requires { ⌜ shapeOf (now line) ≡ true ⌝ }
-    ensures { λ r. ⌜ fieldsIn r ≡ fieldsOf (now (line .entry)) ⌝ }
+// The fields of a line, as the first of `values`: how many there are.
+fn fields_of(line: &[u8], values: &mut [u64]) -> usize
+    requires { ⌜ (shapeOf (now line) ≡ true) × (length (now values) ≡ 18) ⌝ }
+    ensures { λ r. ⌜ (take r (now (values .exit)) ≡ fieldsOf (now (line .entry))) × (r ≤ 18) ⌝ }
 {
     let count = lines::field_count(line);
-    let mut values = [0u64; 18];
     let mut k = 0;
     while k < count {
         values[k] = lines::number(line, k);
         k += 1;
     }
-    Fields {
-        values,
-        count: count as u64,
-    }
+    count
 }
 
-// Questions 1 to 7 for one line.
-fn judge_line(g: &[u64], t: &[u64], due: Due, line: &[u8], ended: bool) -> u64
+// Questions 3 to 7 for a line of the shape: one that passes is stored.
+fn store_line(g: &[u64], t: &mut [u64], due: Due, line: &[u8]) -> u64
+    requires { ⌜ Room (length (now t)) due × (shapeOf (now line) ≡ true) ⌝ }
+    ensures { λ r. ⌜ (r ≡ judge (now (g .entry)) (now (t .entry)) due (fieldsOf (now (line .entry)))) × Stores (now (t .entry)) due (now (line .entry)) r (now (t .exit)) ⌝ }
+{
+    let mut values = [0u64; 18];
+    let n = fields_of(line, &mut values);
+    let f = &values[..n];
+    let k = tables::judging::judge(g, t, due, f);
+    if k != 0 {
+        return k;
+    }
+    layout::store(t, due, f);
+    0
+}
+
+// Questions 1 to 7 for one line: one that passes is stored.
+fn read_line(g: &[u64], t: &mut [u64], due: Due, line: &[u8], ended: bool) -> u64
     requires { ⌜ Room (length (now t)) due ⌝ }
-    ensures { λ r. ⌜ r ≡ judgeLine (now (g .entry)) (now (t .entry)) due (lineWith (now (line .entry)) ended) ⌝ }
+    ensures { λ r. ⌜ (r ≡ judgeLine (now (g .entry)) (now (t .entry)) due (lineWith (now (line .entry)) ended)) × Stores (now (t .entry)) due (now (line .entry)) r (now (t .exit)) ⌝ }
 {
     if !ended {
         return 1;
@@ -116,16 +129,7 @@ fn judge_line(g: &[u64], t: &[u64], due: Due, line: &[u8], ended: bool) -> u64
     if !letter_due(line, due) {
         return 2;
     }
-    tables::judging::judge(g, t, due, fields_of(line))
-}
-
-// Stores the fields of a line that has passed, and answers what is due after it.
-fn store_line(t: &mut [u64], due: Due, line: &[u8]) -> Due
-    requires { ⌜ Room (length (now t)) due × (shapeOf (now line) ≡ true) ⌝ }
-    ensures { λ r. ⌜ (now (t .exit) ≡ stored (now (t .entry)) (placeOf due) (fieldsOf (now (line .entry)))) × (r ≡ next (now (t .exit)) due) ⌝ }
-{
-    layout::store(t, due, fields_of(line));
-    layout::next_due(t, due)
+    store_line(g, t, due, line)
 }
 
 // 0 where no line is missing.
@@ -145,11 +149,11 @@ fn read_lines(g: &[u64], t: &mut [u64], first: Due, text: &[u8]) -> u64
     while at < text.len() {
         let line = lines::next_counting(text, at);
         let start = lines::counting_start(text, at);
-        let k = judge_line(g, t, due, line, lines::is_ended(text, start));
+        let k = read_line(g, t, due, line, lines::is_ended(text, start));
         if k != 0 {
             return k;
         }
-        due = store_line(t, due, line);
+        due = layout::next_due(t, due);
         at = lines::after_line(text, start);
     }
     missing_line(due)

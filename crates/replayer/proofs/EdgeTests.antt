@@ -7,7 +7,6 @@ use native.Mathlib.Omega.{arith}
 use lib.ListN.{length}
 use lib.Dec.{eqb, ltb}
 use borrow.Author.Tests.{eq-eqb, ne-eqb, lt-ltb, le-ltb}
-use Rattle.format.specs.Fields.{numberOf, fieldsOf}
 use Rattle.masks.specs.Masks.{Found}
 use Rattle.hrg.specs.Counts.{tabulate}
 use Rattle.hrg.specs.Grammars.{Edge, Graph, rightOf, edgeAt}
@@ -18,27 +17,20 @@ use Rattle.hrg.proofs.WellFormedTest.{every-false}
 use Rattle.questions.specs.Layout.{rankAt, edgeLabel, edgeNode, graphEdges, graphLabel, graphNode}
 use Rattle.questions.specs.Abstract.{grammarOf, graphOf}
 use Rattle.joins.specs.Joins.{Accepted, KnownEdge}
-use Rattle.joins.proofs.Known.{nodes-few, graph-size}
+use Rattle.joins.proofs.Known.{graph-size}
 use Rattle.preorder.specs.Replay.{ruleIn, placeIn}
-use Rattle.replayer.specs.Fitting.{fourOf, edgePasses, SizedRow}
+use Rattle.replayer.specs.Fitting.{nodeIn, fourOf, edgePasses, SizedRow}
 use Rattle.replayer.proofs.NodeTests.{PassedTo, passed-all, same-tabulated, Placed, placed-all}
-use Rattle.replayer.proofs.RowPlaces.{label-is, nodes-are, node-known, graph-label-is, graph-nodes-are, rule-known, rule-number, images-are, edge-known}
+use Rattle.replayer.proofs.RowPlaces.{label-is, nodes-are, node-known, graph-label-is, graph-nodes-are, node-there, images-are, edge-known}
 
 -- ---- one node
-pub node-read : (line : List ℕ) (x y v : ℕ) → x ≡ y → v ≡ numberOf line (2 + x) → v ≡ numberOf line (2 + y)
-node-read line x y v s e = e ∙ ap (λ x. numberOf line (2 + x)) s
+pub same-node : (h row : List ℕ) (e k x y u : ℕ) → x ≡ y → u ≡ graphNode h e k → u ≡ nodeIn row x → eqb (graphNode h e k) (nodeIn row y) ≡ true
+same-node h row e k x y u s a d = eq-eqb (graphNode h e k) (nodeIn row y) (sym a ∙ d ∙ ap (nodeIn row) s)
 
-pub same-node : (h line : List ℕ) (e k x y u v : ℕ) → x ≡ y → u ≡ graphNode h e k → v ≡ numberOf line (2 + x) → u ≡ v → eqb (graphNode h e k) (numberOf line (2 + y)) ≡ true
-same-node h line e k x y u v s a b d = eq-eqb (graphNode h e k) (numberOf line (2 + y)) (sym a ∙ d ∙ b ∙ ap (λ x. numberOf line (2 + x)) s)
+other-node : (h row : List ℕ) (e k x y u : ℕ) → x ≡ y → u ≡ graphNode h e k → (u ≡ nodeIn row x → ⊥) → eqb (graphNode h e k) (nodeIn row y) ≡ false
+other-node h row e k x y u s a d = ne-eqb (graphNode h e k) (nodeIn row y) (λ q. d (a ∙ q ∙ sym (ap (nodeIn row) s)))
 
-other-node : (h line : List ℕ) (e k x y u v : ℕ) → x ≡ y → u ≡ graphNode h e k → v ≡ numberOf line (2 + x) → (u ≡ v → ⊥) → eqb (graphNode h e k) (numberOf line (2 + y)) ≡ false
-other-node h line e k x y u v s a b d =
-    ne-eqb (graphNode h e k) (numberOf line (2 + y)) (λ q. d (a ∙ q ∙ sym (b ∙ ap (λ x. numberOf line (2 + x)) s)))
-
-module _ (g h line : List ℕ) (accepted : Accepted g h) (sized : SizedRow (grammarOf g) (graphOf g h) (fieldsOf line)) (i : ℕ) (inside : i < length (rightOf (grammarOf g) (ruleIn (fieldsOf line)) .edges)) where
-  abbrev row : List ℕ
-  row = fieldsOf line
-
+module _ (g h row : List ℕ) (accepted : Accepted g h) (sized : SizedRow (grammarOf g) (graphOf g h) row) (i : ℕ) (inside : i < length (rightOf (grammarOf g) (ruleIn row) .edges)) where
   abbrev q : ℕ
   q = ruleIn row
 
@@ -52,52 +44,44 @@ module _ (g h line : List ℕ) (accepted : Accepted g h) (sized : SizedRow (gram
   nodes = images (placeIn P row) (edge .attachment)
 
   known : KnownEdge g q i
-  known = edge-known g h line accepted sized i inside
+  known = edge-known g h row accepted sized i inside
 
-  nodes-read : nodes ≡ tabulate (rankAt g (edgeLabel g q i)) (λ k. numberOf line (2 + edgeNode g q i k))
+  nodes-read : nodes ≡ tabulate (rankAt g (edgeLabel g q i)) (λ k. nodeIn row (edgeNode g q i k))
   nodes-read =
       ap (images (placeIn P row)) (nodes-are g q i known)
-      ∙ images-are g h line accepted sized (rankAt g (edgeLabel g q i)) (λ k. edgeNode g q i k) (node-known g q i known)
+      ∙ images-are g h row accepted sized (rankAt g (edgeLabel g q i)) (λ k. edgeNode g q i k) (node-known g q i known)
 
-  module _ (r : ℕ) (number : r ≡ numberOf line 1) (label : ℕ) (l : label ≡ edgeLabel g r i) where
-    rule-same : r ≡ q
-    rule-same = number ∙ rule-number g h line accepted sized
+  module _ (label : ℕ) (l : label ≡ edgeLabel g q i) (rank : ℕ) (t : rank ≡ rankAt g label) where
+    rank-same : rank ≡ rankAt g (edgeLabel g q i)
+    rank-same = t ∙ ap (rankAt g) l
 
-    label-same : label ≡ edgeLabel g q i
-    label-same = l ∙ ap (λ r. edgeLabel g r i) rule-same
+    pub edge-node-there : (k x : ℕ) → k < rank → x ≡ edgeNode g q i k → (x < 8) × (2 + x < length row)
+    edge-node-there k x b e = node-there g h row accepted sized x (omega (arith, e, node-known g q i known k (omega (arith, rank-same))))
 
-    module _ (rank : ℕ) (t : rank ≡ rankAt g label) where
-      rank-same : rank ≡ rankAt g (edgeLabel g q i)
-      rank-same = t ∙ ap (rankAt g) label-same
+    read-here : nodes ≡ tabulate rank (λ k. nodeIn row (edgeNode g q i k))
+    read-here = nodes-read ∙ ap (λ n. tabulate n (λ k. nodeIn row (edgeNode g q i k))) (sym rank-same)
 
-      pub edge-node-few : (k x : ℕ) → k < rank → x ≡ edgeNode g r i k → x < 8
-      edge-node-few k x b e =
-          omega (arith, e, ap (λ r. edgeNode g r i k) rule-same, node-known g q i known k (omega (arith, rank-same)), nodes-few g q (accepted .grammar) (rule-known g h line accepted sized))
+    -- the nodes in four places
+    pub nodes-all : (k : ℕ) (l : List ℕ) → k ≤ rank → rank ≤ k → Placed (λ k. nodeIn row (edgeNode g q i k)) k l → l ≡ fourOf nodes
+    nodes-all k l a b p = placed-all (λ k. nodeIn row (edgeNode g q i k)) rank k l a b p ∙ ap fourOf (sym read-here)
 
-      read-here : nodes ≡ tabulate rank (λ k. numberOf line (2 + edgeNode g r i k))
-      read-here = nodes-read ∙ ap₂ (λ n r. tabulate n (λ k. numberOf line (2 + edgeNode g r i k))) (sym rank-same) (sym rule-same)
+    -- a graph edge of the same label
+    module _ (e : ℕ) (there : e < graphEdges h) (same : graphLabel h e ≡ edgeLabel g q i) where
+      abbrev on : Bool
+      on = sameList (edgeAt (graphOf g h .edges) e .attachment) nodes
 
-      -- the nodes in four places
-      pub nodes-all : (k : ℕ) (l : List ℕ) → k ≤ rank → rank ≤ k → Placed (λ k. numberOf line (2 + edgeNode g r i k)) k l → l ≡ fourOf nodes
-      nodes-all k l a b p = placed-all (λ k. numberOf line (2 + edgeNode g r i k)) rank k l a b p ∙ ap fourOf (sym read-here)
+      as-tests : on ≡ every rank (λ k. eqb (graphNode h e k) (nodeIn row (edgeNode g q i k)))
+      as-tests =
+          let rank-is : rankAt g (graphLabel h e) ≡ rank = ap (rankAt g) same ∙ sym rank-same in
+          ap₂ sameList (graph-nodes-are g h e there ∙ ap (λ n. tabulate n (λ k. graphNode h e k)) rank-is) read-here
+          ∙ same-tabulated rank (λ k. graphNode h e k) (λ k. nodeIn row (edgeNode g q i k))
 
-      -- a graph edge of the same label
-      module _ (e : ℕ) (there : e < graphEdges h) (same : graphLabel h e ≡ edgeLabel g q i) where
-        abbrev on : Bool
-        on = sameList (edgeAt (graphOf g h .edges) e .attachment) nodes
+      pub nodes-no : (k x u : ℕ) → k < rank → x ≡ edgeNode g q i k → u ≡ graphNode h e k → (u ≡ nodeIn row x → ⊥) → false ≡ on
+      nodes-no k x u b s a d =
+          every-false rank (λ k. eqb (graphNode h e k) (nodeIn row (edgeNode g q i k))) k b (other-node h row e k x (edgeNode g q i k) u s a d) ∙ sym as-tests
 
-        as-tests : on ≡ every rank (λ k. eqb (graphNode h e k) (numberOf line (2 + edgeNode g r i k)))
-        as-tests =
-            let rank-is : rankAt g (graphLabel h e) ≡ rank = ap (rankAt g) same ∙ sym rank-same in
-            ap₂ sameList (graph-nodes-are g h e there ∙ ap (λ n. tabulate n (λ k. graphNode h e k)) rank-is) read-here
-            ∙ same-tabulated rank (λ k. graphNode h e k) (λ k. numberOf line (2 + edgeNode g r i k))
-
-        pub nodes-no : (k x u v : ℕ) → k < rank → x ≡ edgeNode g r i k → u ≡ graphNode h e k → v ≡ numberOf line (2 + x) → (u ≡ v → ⊥) → false ≡ on
-        nodes-no k x u v b s a c d =
-            every-false rank (λ k. eqb (graphNode h e k) (numberOf line (2 + edgeNode g r i k))) k b (other-node h line e k x (edgeNode g r i k) u v s a c d) ∙ sym as-tests
-
-        pub nodes-same : (k : ℕ) → rank ≤ k → PassedTo (λ k. eqb (graphNode h e k) (numberOf line (2 + edgeNode g r i k))) k → true ≡ on
-        nodes-same k b all = passed-all (λ k. eqb (graphNode h e k) (numberOf line (2 + edgeNode g r i k))) rank k b all ∙ sym as-tests
+      pub nodes-same : (k : ℕ) → rank ≤ k → PassedTo (λ k. eqb (graphNode h e k) (nodeIn row (edgeNode g q i k))) k → true ≡ on
+      nodes-same k b all = passed-all (λ k. eqb (graphNode h e k) (nodeIn row (edgeNode g q i k))) rank k b all ∙ sym as-tests
 
   -- ---- the tests of a graph edge
   module _ (e used count : ℕ) (counted : count ≡ graphEdges h) where
@@ -108,7 +92,7 @@ module _ (g h line : List ℕ) (accepted : Accepted g h) (sized : SizedRow (gram
     unfolding edgePasses
     edge-unknown b = rw (le-ltb e (length (graphOf g h .edges)) (omega (arith, graph-size g h)))
 
-    module _ (b : e < count) (r : ℕ) (number : r ≡ numberOf line 1) (label : ℕ) (l : label ≡ edgeLabel g r i) (own : ℕ) (o : own ≡ graphLabel h e) where
+    module _ (b : e < count) (label : ℕ) (l : label ≡ edgeLabel g q i) (own : ℕ) (o : own ≡ graphLabel h e) where
       there : e < graphEdges h
       there = omega arith
 
@@ -119,7 +103,7 @@ module _ (g h line : List ℕ) (accepted : Accepted g h) (sized : SizedRow (gram
       own-is = o ∙ sym (graph-label-is g h e there)
 
       label-here : label ≡ edge .label
-      label-here = label-same r number label l ∙ sym (label-is g q i known)
+      label-here = l ∙ sym (label-is g q i known)
 
       pub edge-label-no : (own ≡ label → ⊥) → false ≡ passes
       unfolding edgePasses
@@ -131,7 +115,7 @@ module _ (g h line : List ℕ) (accepted : Accepted g h) (sized : SizedRow (gram
         edge-there = there
 
         pub edge-labelled : graphLabel h e ≡ edgeLabel g q i
-        edge-labelled = sym o ∙ s ∙ label-same r number label l
+        edge-labelled = sym o ∙ s ∙ l
 
         label-test : eqb (edgeAt (graphOf g h .edges) e .label) (edge .label) ≡ true
         label-test = eq-eqb (edgeAt (graphOf g h .edges) e .label) (edge .label) (sym own-is ∙ s ∙ label-here)

@@ -5,21 +5,23 @@ use mathlib.Core.List.{List, [], _∷_, _++_}
 use Prim.Native.Nat.{ℕ, zero, suc, _+_, _-_, _≤_, _<_}
 use native.Mathlib.Omega.{arith}
 use native.Mathlib.Numerals.{add-one}
-use lib.ListN.{length, getD, drop, length-drop, drop-of-length-le}
+use lib.ListN.{length, getD, set, drop, length-drop, drop-of-length-le}
 use lib.Seq.{drop-cons}
 use borrow.Author.Tests.{lt-ltb, le-ltb, eq-eqb, ne-eqb}
-use Rattle.masks.specs.Masks.{_∪_, single, Added}
+use Rattle.masks.specs.Masks.{_∪_, single}
 use Rattle.format.specs.Lines.{lineOf, afterLine}
-use Rattle.format.specs.Fields.{fieldsOf}
+use Rattle.format.specs.Fields.{fieldCount, fieldsOf}
 use Rattle.format.specs.Shape.{shapeOf}
+use Rattle.format.specs.ShapeLaws.{shape-shaped}
 use Rattle.hrg.specs.Grammars.{Kind, Edge, Graph, Grammar, noEdge, kindOf, rightOf, edgeAt}
 use Rattle.hrg.specs.Trees.{images}
 use Rattle.preorder.specs.Replay.{State, reached, failed, check, byKind, ruleIn, placeIn, fieldsIn, newNodes, rowTest, edgeTest, partTest, replayAt, replayEdges}
 use Rattle.preorder.proofs.Sound.{stays-failed}
-use Rattle.replayer.specs.declared.Progress.{Progress}
 use Rattle.replayer.specs.declared.Part.the-variants.{End, GraphEdge, Application}
-use Rattle.replayer.specs.Fitting.{withAll, rowPasses, edgePasses, SizedRow}
-use Rattle.replayer.specs.Following.{textRows, RowsAt, Reaches, Stands, Applied, Followed, partOf}
+use Rattle.replayer.specs.declared.Taken.{Taken}
+use Rattle.replayer.specs.declared.Taken.the-variants.{Not, With}
+use Rattle.replayer.specs.Fitting.{withAll, takenIf, rowPasses, edgePasses, SizedRow}
+use Rattle.replayer.specs.Following.{textRows, RowsAt, Progress, progressIn, Marks, Reaches, Stands, Applied, Followed, partOf}
 use Rattle.replayer.proofs.MaskTests.{held, marks-snoc, marks-append, row-test, edge-test, edge-known, row-sized, ruled, new-inside}
 use Rattle.replayer.proofs.PlacedRows.{text-few, place-none, place-row}
 use Rattle.replayer.proofs.RowParts.{of-end, of-edge, of-row}
@@ -31,14 +33,37 @@ passing-failed q f e = true≢false (sym e ∙ f)
 stands-as : (H : Graph) (q : Progress) (x y : State) → x ≡ y → Stands H q y → Stands H q x
 stands-as H q x y e s = subst (Stands H q) (sym e) s
 
--- ---- what the steps make
-pub edge-used : (p : Progress) (g m : ℕ) → Added (p .edges) g m → g < 64
-    → _≡_ {A = Progress} (record { ok = p .ok; next = p .next; at = p .at; edges = m; nodes = p .nodes }) (record { ok = p .ok; next = p .next; at = p .at; edges = p .edges ∪ single g; nodes = p .nodes })
-edge-used p g m a h = rw (a .value h)
+-- what was answered of a row
+of-not : (b : Bool) (m : ℕ) → takenIf b m ≡ Not → b ≡ false
+of-not true m e = absurd (let z : _≡_ {A = ℕ} 0 1 = cc in omega arith)
+of-not false m e = refl
 
-pub row-opened : (p : Progress) (a b x y : ℕ) → a ≡ b → x ≡ y
-    → _≡_ {A = Progress} (record { ok = p .ok; next = p .next + 1; at = a; edges = p .edges; nodes = x }) (record { ok = p .ok; next = p .next + 1; at = b; edges = p .edges; nodes = y })
-row-opened p a b x y e q = rw (e, q)
+of-with : (b : Bool) (m k : ℕ) → takenIf b m ≡ With k → (b ≡ true) × (k ≡ m)
+of-with true m k e = (refl, cc)
+of-with false m k e = absurd (let z : _≡_ {A = ℕ} 0 1 = cc in omega arith)
+
+-- ---- what the steps make of the four words
+four-words : (T : List ℕ → Type 0) → ((a b c d : ℕ) → T (a ∷ b ∷ c ∷ d ∷ [])) → (l : List ℕ) → length l ≡ 4 → T l
+four-words T t [] e = absurd (omega arith)
+four-words T t (a ∷ []) e = absurd (omega arith)
+four-words T t (a ∷ b ∷ []) e = absurd (omega arith)
+four-words T t (a ∷ b ∷ c ∷ []) e = absurd (omega arith)
+four-words T t (a ∷ b ∷ c ∷ d ∷ []) e = t a b c d
+four-words T t (a ∷ b ∷ c ∷ d ∷ f ∷ l) e = absurd (omega arith)
+
+module _ (st : List ℕ) (four : length st ≡ 4) (st′ : List ℕ) where
+  abbrev p : Progress
+  p = progressIn true st
+
+  pub edge-used : (m : ℕ) → st′ ≡ set st 2 m → progressIn true st′ ≡ record { ok = true; next = p .next; at = p .at; edges = m; nodes = p .nodes }
+  edge-used m e =
+      ap (progressIn true) e
+      ∙ four-words (λ (l : List ℕ). progressIn true (set l 2 m) ≡ record { ok = true; next = getD l 0 0; at = getD l 1 0; edges = m; nodes = getD l 3 0 }) (λ a b c d. refl) st four
+
+  pub row-opened : (n a m : ℕ) → st′ ≡ set (set (set st 0 n) 1 a) 3 m → progressIn true st′ ≡ record { ok = true; next = n; at = a; edges = p .edges; nodes = m }
+  row-opened n a m e =
+      ap (progressIn true) e
+      ∙ four-words (λ (l : List ℕ). progressIn true (set (set (set l 0 n) 1 a) 3 m) ≡ record { ok = true; next = n; at = a; edges = getD l 2 0; nodes = m }) (λ a b c d. refl) st four
 
 -- where the next row then stands
 pub opened-rows : (text : List ℕ) (p : Progress) → RowsAt text (p .next) (p .at) → p .at < length text → (m : ℕ) (o : Progress)
@@ -90,16 +115,17 @@ module _ (G : Grammar) (H : Graph) (R : List (List ℕ)) where
   edges-step k place rs fs i n es vs h e =
       ap₂ (λ (a : List Edge) (b : List ℕ). replayEdges (suc k) G H R place a b (reached n es vs)) (drop-cons rs i noEdge h) (drop-cons fs i 0 (omega arith)) ∙ rw add-one
 
--- ---- the line of the next row
-module _ (text : List ℕ) (n place : ℕ) (r : RowsAt text n place) (h : place < length text) (line : List ℕ) (e : line ≡ lineOf (drop place text)) where
-  pub line-shaped : shapeOf line ≡ true
-  line-shaped = ap shapeOf e ∙ place-row text n place r h .shaped
-
+-- ---- the line of the next row, and its numbers
+module _ (text : List ℕ) (n place : ℕ) (r : RowsAt text n place) (h : place < length text) where
   pub row-few : n < 4096
   row-few = omega (arith, place-row text n place r h .known, text-few text)
 
-  row-is : getD (textRows text) n [] ≡ fieldsOf line
-  row-is = place-row text n place r h .fields ∙ ap fieldsOf (sym e)
+  module _ (line : List ℕ) (e : line ≡ lineOf (drop place text)) where
+    pub fields-few : fieldCount line ≤ 18
+    fields-few = shape-shaped line (ap shapeOf e ∙ place-row text n place r h .shaped) .few
+
+    row-is : (row : List ℕ) → row ≡ fieldsOf line → getD (textRows text) n [] ≡ row
+    row-is row f = place-row text n place r h .fields ∙ ap fieldsOf (sym e) ∙ sym f
 
 -- ---- an application
 module _ (G : Grammar) (H : Graph) (text : List ℕ) (s : ℕ) (L : List ℕ) (p : Progress) where
@@ -115,46 +141,66 @@ module _ (G : Grammar) (H : Graph) (text : List ℕ) (s : ℕ) (L : List ℕ) (p
   applied-past zero q o r h f = absurd (o refl)
   applied-past (suc k) q o r h f = applied-failed (suc k) q f (λ es vs w. at-past G H (textRows text) k s L (p .next) es vs (place-none text (p .next) (p .at) r h))
 
-  module _ (r : RowsAt text (p .next) (p .at)) (h : p .at < length text) (line : List ℕ) (e : line ≡ lineOf (drop (p .at) text)) where
-    module _ (b : Bool) (t : b ≡ rowPasses G H (p .next) s L (p .nodes) (fieldsOf line)) where
-      tested : {es : List ℕ} (vs : List ℕ) → Reaches H p (p .next) es vs → rowTest G H (p .next) s L vs (fieldsOf line) ≡ b
-      tested vs w = sym (row-test G H (p .next) s L (p .nodes) vs (fieldsOf line) (held (w .used-nodes))) ∙ sym t
+  module _ (r : RowsAt text (p .next) (p .at)) (h : p .at < length text) (line : List ℕ) (e : line ≡ lineOf (drop (p .at) text)) (row : List ℕ) (f : row ≡ fieldsOf line) where
+    abbrev passes : Bool
+    passes = rowPasses G H (p .next) s L (p .nodes) row
 
-      pub applied-refused : (left : ℕ) (q : Progress) → (left ≡ 0 → ⊥) → b ≡ false → q .ok ≡ false → Applied G H text s L left p q
-      applied-refused zero q o c f = absurd (o refl)
-      applied-refused (suc k) q o c f =
-          applied-failed (suc k) q f
-          (λ es vs w. at-refused G H (textRows text) k s L (p .next) es vs (fieldsOf line) (place-row text (p .next) (p .at) r h .known) (row-is text (p .next) (p .at) r h line e) (tested vs w ∙ c))
+    abbrev new : List ℕ
+    new = newNodes (rightOf G (ruleIn row)) row
 
-      passing-sized : b ≡ true → SizedRow G H (fieldsOf line)
-      passing-sized c = row-sized G H (p .next) s L (p .nodes) (fieldsOf line) (sym t ∙ c)
+    row-here : getD (textRows text) (p .next) [] ≡ row
+    row-here = row-is text (p .next) (p .at) r h line e row f
 
-      module _ (c : b ≡ true) (o : Progress)
-          (q : o ≡ record { ok = p .ok; next = p .next + 1; at = afterLine text (p .at); edges = p .edges; nodes = withAll (p .nodes) (newNodes (rightOf G (ruleIn (fieldsOf line))) (fieldsOf line)) }) where
-        opened-reaches : (es vs : List ℕ) → Reaches H p (p .next) es vs → Reaches H o (o .next) es (vs ++ newNodes (rightOf G (ruleIn (fieldsOf line))) (fieldsOf line))
-        opened-reaches es vs w =
-            subst (λ (x : Progress). Reaches H x (x .next) es (vs ++ newNodes (rightOf G (ruleIn (fieldsOf line))) (fieldsOf line))) (sym q)
-            (record {
-              passing = w .passing;
-              row = refl;
-              used-edges = w .used-edges;
-              used-nodes = marks-append (H .nodes) (p .nodes) vs _ (new-inside G H (fieldsOf line) (passing-sized c)) (w .used-nodes);
-            })
+    row-known : p .next < length (textRows text)
+    row-known = place-row text (p .next) (p .at) r h .known
 
-        pub applied-opened : (left : ℕ) → (left ≡ 0 → ⊥) → (u : Progress) → Followed G H text (fieldsOf line) 0 (left - 1) o u → Applied G H text s L left p u
-        applied-opened zero n u f = absurd (n refl)
-        applied-opened (suc k) n u f =
-            let less : suc k - 1 ≡ k = omega arith in
-            record {
-              onward = f .onward;
-              stands = λ es vs w.
-                  stands-as H u _ _
-                  (at-passed G H (textRows text) k s L (p .next) es vs (fieldsOf line) (place-row text (p .next) (p .at) r h .known) (row-is text (p .next) (p .at) r h line e) (tested vs w ∙ c)
-                  ∙ ap₂
-                  (λ (j m : ℕ). replayEdges j G H (textRows text) (placeIn (rightOf G (ruleIn (fieldsOf line))) (fieldsOf line)) (rightOf G (ruleIn (fieldsOf line)) .edges) (fieldsIn (rightOf G (ruleIn (fieldsOf line))) (fieldsOf line)) (reached m es (vs ++ newNodes (rightOf G (ruleIn (fieldsOf line))) (fieldsOf line))))
-                  (sym less) (sym (ap (λ (x : Progress). x .next) q)))
-                  (f .stands es (vs ++ newNodes (rightOf G (ruleIn (fieldsOf line))) (fieldsOf line)) (opened-reaches es vs w));
-            }
+    tested : {es : List ℕ} (vs : List ℕ) → Reaches H p (p .next) es vs → rowTest G H (p .next) s L vs row ≡ passes
+    tested vs w = sym (row-test G H (p .next) s L (p .nodes) vs row (held (w .used-nodes)))
+
+    module _ (t : Taken) (a : t ≡ takenIf passes (withAll (p .nodes) new)) where
+      pub applied-refused : (left : ℕ) (q : Progress) → (left ≡ 0 → ⊥) → t ≡ Not → q .ok ≡ false → Applied G H text s L left p q
+      applied-refused zero q o c d = absurd (o refl)
+      applied-refused (suc k) q o c d =
+          applied-failed (suc k) q d
+          (λ es vs w. at-refused G H (textRows text) k s L (p .next) es vs row row-known row-here (tested vs w ∙ of-not passes _ (sym a ∙ c)))
+
+      module _ (m : ℕ) (c : t ≡ With m) where
+        passed : passes ≡ true
+        passed = of-with passes _ m (sym a ∙ c) .0
+
+        pub taken-sized : SizedRow G H row
+        taken-sized = row-sized G H (p .next) s L (p .nodes) row passed
+
+        module _ (o : Progress) (q : o ≡ record { ok = p .ok; next = p .next + 1; at = afterLine text (p .at); edges = p .edges; nodes = m }) where
+          opened-reaches : (es vs : List ℕ) → Reaches H p (p .next) es vs → Reaches H o (o .next) es (vs ++ new)
+          opened-reaches es vs w =
+              subst (λ (x : Progress). Reaches H x (x .next) es (vs ++ new)) (sym q)
+              (record {
+                passing = w .passing;
+                row = refl;
+                used-edges = w .used-edges;
+                used-nodes =
+                    subst (λ (k : ℕ). Marks (H .nodes) k (vs ++ new)) (sym (of-with passes _ m (sym a ∙ c) .1))
+                    (marks-append (H .nodes) (p .nodes) vs _ (new-inside G H row taken-sized) (w .used-nodes));
+              })
+
+          pub applied-opened : (left : ℕ) → (left ≡ 0 → ⊥) → (u : Progress) → Followed G H text row 0 (left - 1) o u → Applied G H text s L left p u
+          applied-opened zero n u d = absurd (n refl)
+          applied-opened (suc k) n u d =
+              let less : suc k - 1 ≡ k = omega arith in
+              record {
+                onward = d .onward;
+                stands = λ es vs w.
+                    stands-as H u _ _
+                    (at-passed G H (textRows text) k s L (p .next) es vs row row-known row-here (tested vs w ∙ passed)
+                    ∙ ap₂
+                    (λ (j i : ℕ). replayEdges j G H (textRows text) (placeIn (rightOf G (ruleIn row)) row) (rightOf G (ruleIn row) .edges) (fieldsIn (rightOf G (ruleIn row)) row) (reached i es (vs ++ new)))
+                    (sym less) (sym (ap (λ (x : Progress). x .next) q)))
+                    (d .stands es (vs ++ new) (opened-reaches es vs w));
+              }
+
+  pub applied-passing : (left : ℕ) (b : Bool) (st : List ℕ) → b ≡ true → Applied G H text s L left p (progressIn b st) → Applied G H text s L left p (progressIn true st)
+  applied-passing left b st e a = subst (λ (x : Bool). Applied G H text s L left p (progressIn x st)) e a
 
 -- ---- an edge list
 module _ (G : Grammar) (H : Graph) (text row : List ℕ) (z : SizedRow G H row) (i : ℕ) (p : Progress) where
@@ -261,10 +307,10 @@ module _ (G : Grammar) (H : Graph) (text row : List ℕ) (z : SizedRow G H row) 
           under-step k es vs ∙ ap (λ (x : Bool). check x (onFrom (i + 1) k (replayAt k G H (textRows text) s nodes (reached (p .next) es vs)))) (eq-eqb f (p .next) c)
           ∙ ap (λ (m : List ℕ). onFrom (i + 1) k (replayAt k G H (textRows text) s m (reached (p .next) es vs))) (sym l)
 
-      pub followed-under-failed : (left : ℕ) → (left ≡ 0 → ⊥) → Applied G H text s L (left - 1) p u → u .ok ≡ false → Followed G H text row i left p u
-      followed-under-failed zero n a d = absurd (n refl)
-      followed-under-failed (suc k) n a d =
-          followed-failed (suc k) u d
+      pub followed-under-failed : (left : ℕ) → (left ≡ 0 → ⊥) → Applied G H text s L (left - 1) p u → u .ok ≡ false → (q : Progress) → q .ok ≡ false → Followed G H text row i left p q
+      followed-under-failed zero n a d q f = absurd (n refl)
+      followed-under-failed (suc k) n a d q f =
+          followed-failed (suc k) q f
           (λ es vs w. numbered k es vs ∙ go k (replayAt k G H (textRows text) s L (reached (p .next) es vs))
           (subst (λ (j : ℕ). Stands H u (replayAt j G H (textRows text) s L (reached (p .next) es vs))) (less k) (a .stands es vs w)))
         where

@@ -1,17 +1,15 @@
 -- The nodes inside an application, one rule node after another: new ones, and the mask with them.
-use mathlib.Core.Path.{_≡_, refl, sym, ap, _∙_}
+use mathlib.Core.Path.{_≡_, refl, sym, ap, subst, _∙_}
 use mathlib.Core.Bool.{Bool, true, false, not, true≢false}
 use mathlib.Core.List.{List, [], _∷_}
 use Prim.Native.Nat.{ℕ, _+_, _^_, _≤_, _<_}
 use native.Mathlib.Omega.{arith}
 use native.Mathlib.Numerals.{add-one}
 use native.Mathlib.Decide.{decLt}
-use lib.ListN.{drop, drop-of-length-le}
-use lib.Seq.{drop-cons}
+use lib.ListN.{length, getD, take, drop, drop-of-length-le}
+use lib.Seq.{drop-cons, take-all}
 use lib.Dec.{eqb}
 use lib.Pow.{pow-lt}
-use borrow.Author.Tests.{eq-eqb, ne-eqb}
-use Rattle.format.specs.Fields.{numberOf, fieldsOf}
 use Rattle.masks.specs.Masks.{member, single, Found, Added}
 use Rattle.masks.specs.Laws.{false-member, lt-bits, union-lt}
 use Rattle.hrg.specs.Counts.{occurs, tabulate, upTo, consIf, select}
@@ -20,35 +18,65 @@ use Rattle.hrg.specs.Trees.{at, images, internals}
 use Rattle.hrg.specs.Items.{keepIf}
 use Rattle.hrg.proofs.Sums.{length-tabulate}
 use Rattle.questions.specs.Layout.{rankAt, ruleCount, ruleNodes, ruleSymbol, ruleExternal}
+use Rattle.questions.specs.Checking.{checkGrammar}
 use Rattle.questions.specs.Abstract.{grammarOf, graphOf}
 use Rattle.questions.proofs.StoredLaws.{getD-tabulate}
 use Rattle.joins.specs.Joins.{Accepted}
-use Rattle.joins.proofs.Known.{right-nodes, nodes-few}
+use Rattle.joins.proofs.Known.{rule-ok, right-nodes, nodes-few}
 use Rattle.preorder.specs.Replay.{ruleIn, placeIn, newNodes}
-use Rattle.replayer.specs.Fitting.{newIn, withAll, SizedRow}
-use Rattle.replayer.proofs.NodeTests.{PassedTo, stands-there, stands-nowhere}
-use Rattle.replayer.proofs.RowPlaces.{externals-are, rule-known, rule-number, place-at, place-small}
+use Rattle.preorder.proofs.Used.{Holds, holds-new}
+use Rattle.replayer.specs.declared.Taken.the-variants.{Not, With}
+use Rattle.replayer.specs.Fitting.{nodeIn, newIn, withAll, takenIf, SizedRow}
+use Rattle.replayer.proofs.MaskTests.{held, marks-none, marks-append, mask-next}
+use Rattle.replayer.proofs.RowPlaces.{externals-are, external-known, rule-known, node-there, place-at, place-small}
+
+-- ---- what is answered of a row
+pub taken-not : (b : Bool) (m : ℕ) → false ≡ b → Not ≡ takenIf b m
+taken-not b m e = ap (λ b. takenIf b m) e
+
+pub taken-with : (b : Bool) (k m : ℕ) → true ≡ b → k ≡ m → With k ≡ takenIf b m
+taken-with b k m e q = ap With q ∙ ap (λ b. takenIf b m) e
+
+-- ---- the external nodes of a rule as a mask
+module _ (g : List ℕ) (r : ℕ) (checked : checkGrammar g ≡ true) (known : r < ruleCount g) where
+  abbrev outside : List ℕ
+  outside = rightOf (grammarOf g) r .externals
+
+  pub outer-holds : (m : ℕ) → m ≡ withAll 0 outside → Holds m outside
+  outer-holds m e =
+      subst (λ (k : ℕ). Holds k outside) (sym e)
+      (held (marks-append (rightOf (grammarOf g) r .nodes) 0 [] outside (rule-ok g r checked known .right .externals .inside) (marks-none _)))
+
+  module _ (symbol rank : ℕ) (s : symbol ≡ ruleSymbol g r) (t : rank ≡ rankAt g symbol) where
+    rank-same : rank ≡ rankAt g (ruleSymbol g r)
+    rank-same = t ∙ ap (rankAt g) s
+
+    outside-are : outside ≡ tabulate rank (λ k. ruleExternal g r k)
+    outside-are = externals-are g r checked known ∙ ap (λ n. tabulate n (λ k. ruleExternal g r k)) (sym rank-same)
+
+    outside-length : length outside ≡ rank
+    outside-length = ap length outside-are ∙ length-tabulate rank (λ k. ruleExternal g r k)
+
+    pub outer-next : (k x m n : ℕ) → k < rank → x ≡ ruleExternal g r k → Added m x n → m ≡ withAll 0 (take k outside) → n ≡ withAll 0 (take (k + 1) outside)
+    outer-next k x m n h e added before =
+        let here : x ≡ getD outside k 0 = e ∙ sym (ap (λ (l : List ℕ). getD l k 0) outside-are ∙ getD-tabulate rank (λ k. ruleExternal g r k) k 0 h) in
+        let small : getD outside k 0 < 64 = omega (arith, here, e, external-known g r checked known k (omega (arith, rank-same)), nodes-few g r checked known) in
+        mask-next outside k m n (omega (arith, outside-length)) small before (subst (λ (y : ℕ). Added m y n) here added)
+
+    pub outer-all : (k m : ℕ) → rank ≤ k → m ≡ withAll 0 (take k outside) → m ≡ withAll 0 outside
+    outer-all k m h e = e ∙ ap (withAll 0) (take-all k outside (omega (arith, outside-length)))
 
 -- ---- the graph node of an inner rule node
--- the graph node of rule node x, 64 where x is external
-abbrev pub innerAt : List ℕ → List ℕ → ℕ → ℕ → ℕ
-innerAt g line r x = keepIf (eqb (occurs x (tabulate (rankAt g (ruleSymbol g r)) (λ k. ruleExternal g r k))) 0) (numberOf line (2 + x))
+-- the graph node of rule node x, 64 where x is one of the outer ones
+abbrev pub innerAt : List ℕ → ℕ → ℕ → ℕ
+innerAt row outer x = keepIf (not (member outer x)) (nodeIn row x)
 
-pub other-node : (g : List ℕ) (r x k y : ℕ) → y ≡ ruleExternal g r k → (y ≡ x → ⊥) → not (eqb (ruleExternal g r k) x) ≡ true
-other-node g r x k y e d = ap not (ne-eqb (ruleExternal g r k) x (λ s. d (e ∙ s)))
+module _ (row : List ℕ) (outer x : ℕ) (b : Bool) (found : Found outer x b) where
+  pub node-outer : b ≡ true → 64 ≡ innerAt row outer x
+  node-outer e = rw (sym (found .value) ∙ e)
 
-module _ (g line : List ℕ) (r x symbol rank : ℕ) (s : symbol ≡ ruleSymbol g r) (t : rank ≡ rankAt g symbol) where
-  rank-same : rank ≡ rankAt g (ruleSymbol g r)
-  rank-same = t ∙ ap (rankAt g) s
-
-  pub node-external : (k y : ℕ) → k < rank → y ≡ ruleExternal g r k → y ≡ x → 64 ≡ innerAt g line r x
-  node-external k y h e d = rw (stands-there x (rankAt g (ruleSymbol g r)) (λ k. ruleExternal g r k) k (omega (arith, rank-same)) (sym e ∙ d))
-
-  pub node-inner : (k v : ℕ) → rank ≤ k → PassedTo (λ k. not (eqb (ruleExternal g r k) x)) k → v ≡ numberOf line (2 + x) → v ≡ innerAt g line r x
-  node-inner k v h none e = rw (stands-nowhere x (rankAt g (ruleSymbol g r)) (λ k. ruleExternal g r k) other) e
-    where
-      other : (i : ℕ) → i < rankAt g (ruleSymbol g r) → ruleExternal g r i ≡ x → ⊥
-      other i l d = true≢false (sym (none .each i (omega (arith, rank-same))) ∙ ap not (eq-eqb (ruleExternal g r i) x d))
+  pub node-inner : b ≡ false → nodeIn row x ≡ innerAt row outer x
+  node-inner e = rw (sym (found .value) ∙ e)
 
 -- ---- masks of numbers below 64
 pub added-lt : (m v k : ℕ) → Added m v k → m < 2 ^ 64 → k < 2 ^ 64
@@ -76,10 +104,7 @@ unfolding upTo
 drop-upTo n x h =
     drop-cons (tabulate n (λ i. i)) x 0 (omega (arith, length-tabulate n (λ i. i))) ∙ rw (getD-tabulate n (λ i. i) x 0 h, add-one x)
 
-module _ (g h line : List ℕ) (accepted : Accepted g h) (sized : SizedRow (grammarOf g) (graphOf g h) (fieldsOf line)) where
-  abbrev row : List ℕ
-  row = fieldsOf line
-
+module _ (g h row : List ℕ) (accepted : Accepted g h) (sized : SizedRow (grammarOf g) (graphOf g h) row) where
   abbrev P : Graph
   P = rightOf (grammarOf g) (ruleIn row)
 
@@ -89,21 +114,15 @@ module _ (g h line : List ℕ) (accepted : Accepted g h) (sized : SizedRow (gram
   pub with-start : (used : ℕ) → withAll used (innerFrom P row 0) ≡ withAll used (newNodes P row)
   with-start used = ap (withAll used) (from-first P row)
 
-  module _ (r n : ℕ) (number : r ≡ numberOf line 1) (nodes : n ≡ ruleNodes g r) where
-    rule-same : r ≡ ruleIn row
-    rule-same = number ∙ rule-number g h line accepted sized
-
+  module _ (n : ℕ) (count : n ≡ ruleNodes g (ruleIn row)) where
     known : ruleIn row < ruleCount g
-    known = rule-known g h line accepted sized
-
-    count : n ≡ ruleNodes g (ruleIn row)
-    count = nodes ∙ ap (ruleNodes g) rule-same
+    known = rule-known g h row accepted sized
 
     sized-nodes : P .nodes ≡ ruleNodes g (ruleIn row)
     sized-nodes = right-nodes g (ruleIn row) (accepted .grammar) known
 
-    pub count-few : n ≤ 8
-    count-few = omega (arith, count, nodes-few g (ruleIn row) (accepted .grammar) known)
+    pub inner-there : (x : ℕ) → x < n → (x ≤ 8) × (2 + x < length row)
+    inner-there x l = let there = node-there g h row accepted sized x (omega (arith, count)) in (omega (arith, there), there .1)
 
     pub new-all : (used seen x : ℕ) → n ≤ x → newIn seen (innerFrom P row x) ≡ newIn used (newNodes P row) → true ≡ newIn used (newNodes P row)
     unfolding newIn
@@ -114,15 +133,12 @@ module _ (g h line : List ℕ) (accepted : Accepted g h) (sized : SizedRow (gram
     with-all used m x h inv = ap (withAll m) (sym (from-end P row x (omega (arith, count, sized-nodes)))) ∙ inv
 
     -- one rule node
-    module _ (x v : ℕ) (more : x < n) (node : v ≡ innerAt g line r x) where
+    module _ (outer : ℕ) (o : outer ≡ withAll 0 (P .externals)) (x v : ℕ) (more : x < n) (node : v ≡ innerAt row outer x) where
       abbrev inner : Bool
       inner = eqb (occurs x (P .externals)) 0
 
-      value : v ≡ keepIf inner (numberOf line (2 + x))
-      value =
-          node
-          ∙ ap (λ r. innerAt g line r x) rule-same
-          ∙ ap (λ (l : List ℕ). keepIf (eqb (occurs x l) 0) (numberOf line (2 + x))) (sym (externals-are g (ruleIn row) (accepted .grammar) known))
+      value : v ≡ keepIf inner (nodeIn row x)
+      value = node ∙ ap (λ b. keepIf b (nodeIn row x)) (sym (holds-new outer (P .externals) x (outer-holds g (ruleIn row) (accepted .grammar) known outer o)))
 
       from-next : innerFrom P row x ≡ images (placeIn P row) (consIf inner x (select (λ y. eqb (occurs y (P .externals)) 0) (drop (x + 1) (upTo (P .nodes)))))
       unfolding innerFrom select
@@ -135,11 +151,11 @@ module _ (g h line : List ℕ) (accepted : Accepted g h) (sized : SizedRow (gram
       from-inner : inner ≡ true → innerFrom P row x ≡ v ∷ innerFrom P row (x + 1)
       unfolding innerFrom
       from-inner e =
-          let same : at (placeIn P row) x ≡ v = place-at g h line accepted sized x (omega (arith, count)) ∙ sym (value ∙ rw e) in
+          let same : at (placeIn P row) x ≡ v = place-at g h row accepted sized x (omega (arith, count)) ∙ sym (value ∙ rw e) in
           from-next ∙ rw (e, same)
 
       small : inner ≡ true → v < 64
-      small e = omega (arith, value ∙ ap (λ b. keepIf b (numberOf line (2 + x))) e, place-small g h line accepted sized x (omega (arith, count)))
+      small e = omega (arith, value ∙ ap (λ b. keepIf b (nodeIn row x)) e, place-small g h row accepted sized x (omega (arith, count)))
 
       none : inner ≡ false → v ≡ 64
       none e = value ∙ rw e

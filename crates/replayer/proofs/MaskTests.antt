@@ -58,8 +58,8 @@ pub with-none : (l : List ℕ) → 0 ≡ withAll 0 (take 0 l)
 unfolding withAll
 with-none l = refl
 
-pub with-next : (l : List ℕ) (k m r : ℕ) → k < length l → getD l k 0 < 64 → m ≡ withAll 0 (take k l) → Added m (getD l k 0) r → r ≡ withAll 0 (take (k + 1) l)
-with-next l k m r h small e a =
+pub mask-next : (l : List ℕ) (k m r : ℕ) → k < length l → getD l k 0 < 64 → m ≡ withAll 0 (take k l) → Added m (getD l k 0) r → r ≡ withAll 0 (take (k + 1) l)
+mask-next l k m r h small e a =
     a .value small ∙ ap (λ (x : ℕ). x ∪ single (getD l k 0)) e ∙ sym (with-snoc 0 (take k l) (getD l k 0))
     ∙ ap (withAll 0) (sym (take-suc l k 0 h) ∙ ap (λ (j : ℕ). take j l) (sym (add-one k)))
 
@@ -161,6 +161,14 @@ four-take (a ∷ b ∷ []) h = refl
 four-take (a ∷ b ∷ c ∷ []) h = refl
 four-take (a ∷ b ∷ c ∷ d ∷ []) h = refl
 four-take (a ∷ b ∷ c ∷ d ∷ e ∷ L) h = absurd (omega arith)
+
+pub four-tabulated : (l : List ℕ) (f : ℕ → ℕ) → l ≡ tabulate 4 f → length l ≡ 4
+unfolding tabulate
+four-tabulated l f e = ap length e
+
+pub four-length : (l L : List ℕ) → l ≡ fourOf L → length l ≡ 4
+unfolding fourOf
+four-length l L e = four-tabulated l (λ k. at L k) e
 
 pub take-four : (n : ℕ) (f : ℕ → ℕ) → n ≤ 4 → take n (tabulate 4 f) ≡ tabulate n f
 unfolding tabulate

@@ -8,12 +8,11 @@ use native.Mathlib.Decide.{decLt}
 use lib.ListN.{length, getD, set, take, replicate, length-set}
 use lib.Seq.{getD-set-same, getD-set-other, getD-take, ext-getD, length-take-le}
 use lib.Dec.{eqb}
-use borrow.Author.Tests.{eq-eqb, ne-eqb}
-use Rattle.hrg.specs.Counts.{hit, occurs, tabulate}
+use Rattle.hrg.specs.Counts.{tabulate}
 use Rattle.hrg.specs.Trees.{unplaced, at}
 use Rattle.hrg.specs.WellFormedTest.{every, each}
 use Rattle.hrg.specs.ClosureRun.{sameList}
-use Rattle.hrg.proofs.Sums.{sum-member, sum-zero, hit-self, hit-ne, occurs-tabulate, length-tabulate, at-tabulate}
+use Rattle.hrg.proofs.Sums.{length-tabulate, at-tabulate}
 use Rattle.hrg.proofs.WellFormedTest.{every-false}
 use Rattle.questions.proofs.WellFormedLists.{tabulate-list}
 use Rattle.joins.proofs.MapLaws.{every-true}
@@ -64,24 +63,14 @@ unfolding tabulate
 map-tabulated zero t f = refl
 map-tabulated (suc n) t f = ap (λ (l : List ℕ). t (f 0) ∷ l) (map-tabulated n t (λ k. f (suc k)))
 
--- ---- whether a number stands in a tabulated list
-pub stands-there : (x n : ℕ) (f : ℕ → ℕ) (k : ℕ) → k < n → f k ≡ x → eqb (occurs x (tabulate n f)) 0 ≡ false
-stands-there x n f k h e =
-    ne-eqb (occurs x (tabulate n f)) 0
-    (λ z. omega (arith, occurs-tabulate x n f, sum-member n (λ i. hit x (f i)) k h, ap (hit x) e, hit-self x))
-
-pub stands-nowhere : (x n : ℕ) (f : ℕ → ℕ) → ((k : ℕ) → k < n → f k ≡ x → ⊥) → eqb (occurs x (tabulate n f)) 0 ≡ true
-stands-nowhere x n f h =
-    eq-eqb (occurs x (tabulate n f)) 0 (occurs-tabulate x n f ∙ sum-zero n (λ i. hit x (f i)) (λ k l. hit-ne x (f k) (λ e. h k l (sym e))))
-
 -- ---- four places, filled in order
 pub record Placed (t : ℕ → ℕ) (k : ℕ) (l : List ℕ) : Type 0 where
   pub size : length l ≡ 4
   pub before : (x : ℕ) → x < k → at l x ≡ t x
   pub after : (x : ℕ) → k ≤ x → at l x ≡ unplaced
 
-pub placed-none : (t : ℕ → ℕ) → Placed t 0 (replicate 4 unplaced)
-placed-none t = record { size = refl; before = λ x h. absurd (omega arith); after = λ x h. at-none 4 x }
+pub placed-none : (t : ℕ → ℕ) (l : List ℕ) → l ≡ replicate 4 unplaced → Placed t 0 l
+placed-none t l e = record { size = ap length e; before = λ x h. absurd (omega arith); after = λ x h. ap (λ (l : List ℕ). at l x) e ∙ at-none 4 x }
 
 pub placed-next : (t : ℕ → ℕ) (k v : ℕ) (l : List ℕ) → k < 4 → v ≡ t k → Placed t k l → Placed t (k + 1) (set l k v)
 placed-next t k v l h e p = record {

@@ -18,10 +18,6 @@ use Rattle.replayer.specs.Fitting.{countIn}
 use Rattle.replayer.specs.Following.{rowsOfScript, textRows, RowsAt}
 
 -- ---- the rows of a text
-pub text-rows : (text : List ℕ) (rs : List (List ℕ)) → rowsIn text ≡ rows rs → textRows text ≡ rs
-unfolding textRows
-text-rows text rs e = ap rowsOfScript e
-
 pub text-count : (text : List ℕ) → countIn (rowsIn text) ≡ length (textRows text)
 unfolding textRows
 text-count text = go (rowsIn text)

@@ -1,4 +1,4 @@
--- What a line says of the edges of its rule, read from the words of accepted tables.
+-- What a row says of the edges of its rule, read from the words of accepted tables.
 use mathlib.Core.Path.{_≡_, refl, sym, ap, ap₂, _∙_}
 use mathlib.Core.Bool.{Bool, true, false}
 use mathlib.Core.List.{List}
@@ -8,8 +8,6 @@ use lib.ListN.{length, getD, take, drop, length-map}
 use lib.Seq.{getD-drop}
 use lib.Dec.{ltb}
 use borrow.Author.Tests.{lt-ltb, le-ltb, ltb-true, ltb-false, ne-eqb}
-use Rattle.format.specs.Fields.{numberOf, fieldsOf}
-use Rattle.format.specs.FieldLaws.{fields-length, fields-in}
 use Rattle.hrg.specs.Grammars.{Kind, terminal, nonterminal, Edge, Graph, Grammar, Rule, kindOf, rankOf, rightOf, edgeAt}
 use Rattle.hrg.specs.Trees.{at, images}
 use Rattle.hrg.specs.WellFormed.{EdgeOk}
@@ -93,18 +91,15 @@ module _ (G : Grammar) (row : List ℕ) (i : ℕ) where
       go false q = absurd (let p = sym (part-out (ltb-false _ _ q)) ∙ e in let z : _≡_ {A = ℕ} 0 1 = cc in omega arith)
 
 -- ---- the part by the words of the tables
-module _ (g line : List ℕ) (checked : checkGrammar g ≡ true) (z : RuledRow (grammarOf g) (fieldsOf line)) where
-  abbrev row : List ℕ
-  row = fieldsOf line
-
+module _ (g row : List ℕ) (checked : checkGrammar g ≡ true) (z : RuledRow (grammarOf g) row) where
   abbrev rule : ℕ
   rule = ruleIn row
 
   abbrev right : Graph
   right = rightOf (grammarOf g) rule
 
-  rule-read : rule ≡ numberOf line 1
-  rule-read = fields-in line 1 0 (omega (arith, fields-length line, z .sized))
+  pub rule-there : 1 < length row
+  rule-there = omega (arith, z .sized)
 
   rule-listed : rule < ruleCount g
   rule-listed = omega (arith, z .known, rules-length g)
@@ -122,12 +117,10 @@ module _ (g line : List ℕ) (checked : checkGrammar g ≡ true) (z : RuledRow (
         ap (λ (R : Rule). edgeAt (R .production .right .edges) i .label) (rule-is g rule rule-listed)
         ∙ ap (λ (e : Edge). e .label) (edge-is g rule i (omega (arith, right-edges g rule checked rule-listed)))
 
-    field-is : getD (fieldsIn right row) i 0 ≡ numberOf line (2 + ruleNodes g rule + i)
+    field-is : getD (fieldsIn right row) i 0 ≡ getD row (2 + ruleNodes g rule + i) 0
     field-is =
         let at : 2 + (right .nodes + i) ≡ 2 + ruleNodes g rule + i = omega (arith, right-nodes g rule checked rule-listed) in
-        getD-drop (right .nodes) (drop 2 row) i 0 ∙ getD-drop 2 row (right .nodes + i) 0
-        ∙ fields-in line (2 + (right .nodes + i)) 0 (omega (arith, fields-length line, z .sized))
-        ∙ ap (numberOf line) at
+        getD-drop (right .nodes) (drop 2 row) i 0 ∙ getD-drop 2 row (right .nodes + i) 0 ∙ ap (λ (j : ℕ). getD row j 0) at
 
     kind-read : kindOf (grammarOf g) (edgeAt (right .edges) i .label) ≡ kindFrom (kindWord g (edgeLabel g rule i))
     kind-read =
@@ -146,43 +139,41 @@ module _ (g line : List ℕ) (checked : checkGrammar g ≡ true) (z : RuledRow (
         checked-grammar-ok g checked .symbol (edgeAt (right .edges) i .label) (edge-ok .known) .upper in
         ap₂ (λ (n : ℕ) (l : List ℕ). take n l) ranked q ∙ four-take L (omega (arith, ap (rankOf (grammarOf g)) e))
 
-  module _ (r : ℕ) (e : r ≡ numberOf line 1) (x i : ℕ) (q : x ≡ ruleEdges g r) where
-    same-rule : r ≡ rule
-    same-rule = e ∙ sym rule-read
-
+  module _ (x i : ℕ) (q : x ≡ ruleEdges g rule) where
     edge-count : x ≡ length (right .edges)
-    edge-count = q ∙ ap (ruleEdges g) same-rule ∙ sym (right-edges g rule checked rule-listed)
+    edge-count = q ∙ sym (right-edges g rule checked rule-listed)
 
     pub part-end : x ≤ i → End ≡ partOf (grammarOf g) row i
     part-end l = sym (part-out (grammarOf g) row i (omega (arith, edge-count)))
 
-    module _ (l : i < x) where
+    module _ (l : i < x) (n : ℕ) (nodes : n ≡ ruleNodes g rule) where
       inside : i < length (right .edges)
       inside = omega (arith, edge-count)
 
-      pub part-small : (n : ℕ) → n ≡ ruleNodes g r → (n ≤ 8) × (i < 8)
-      part-small n p = (
-        omega (arith, p ∙ ap (ruleNodes g) same-rule, nodes-few g rule checked rule-listed),
-        omega (arith, edge-count, right-edges g rule checked rule-listed, edges-few g rule checked rule-listed),
+      pub part-there : (n ≤ 8) × (i < 8) × (2 + n + i < length row)
+      part-there = (
+        omega (arith, nodes-few g rule checked rule-listed),
+        omega (arith, edges-few g rule checked rule-listed),
+        omega (arith, z .sized, edge-count, right-nodes g rule checked rule-listed),
       )
 
-      module _ (n : ℕ) (nodes : n ≡ ruleNodes g r) (f : ℕ) (read : f ≡ numberOf line (2 + n + i)) (s : ℕ) (named : s ≡ edgeLabel g r i) (k : ℕ) (word : k ≡ kindWord g s) where
-        field-read : f ≡ getD (fieldsIn right row) i 0
-        field-read = read ∙ ap (λ (m : ℕ). numberOf line (2 + m + i)) (nodes ∙ ap (ruleNodes g) same-rule) ∙ sym (field-is i inside)
+      module _ (s : ℕ) (named : s ≡ edgeLabel g rule i) (k : ℕ) (word : k ≡ kindWord g s) where
+        abbrev here : ℕ
+        here = getD row (2 + n + i) 0
 
-        label-read : s ≡ edgeLabel g rule i
-        label-read = named ∙ ap (λ (y : ℕ). edgeLabel g y i) same-rule
+        field-read : here ≡ getD (fieldsIn right row) i 0
+        field-read = ap (λ (m : ℕ). getD row (2 + m + i) 0) nodes ∙ sym (field-is i inside)
 
-        part-by : (kind : Kind) → kindFrom k ≡ kind → partBy kind s f ≡ partOf (grammarOf g) row i
+        part-by : (kind : Kind) → kindFrom k ≡ kind → partBy kind s here ≡ partOf (grammarOf g) row i
         part-by kind p =
             let same : kindOf (grammarOf g) (edgeAt (right .edges) i .label) ≡ kind =
-            kind-read i inside ∙ ap (λ (y : ℕ). kindFrom (kindWord g y)) (sym label-read) ∙ ap kindFrom (sym word) ∙ p in
-            ap₂ (partBy kind) (label-read ∙ sym (label-is i inside)) field-read
+            kind-read i inside ∙ ap (λ (y : ℕ). kindFrom (kindWord g y)) (sym named) ∙ ap kindFrom (sym word) ∙ p in
+            ap₂ (partBy kind) (named ∙ sym (label-is i inside)) field-read
             ∙ ap (λ (y : Kind). partBy y (edgeAt (right .edges) i .label) (getD (fieldsIn right row) i 0)) (sym same)
             ∙ sym (part-in (grammarOf g) row i inside)
 
-        pub part-edge : k ≡ 0 → GraphEdge f ≡ partOf (grammarOf g) row i
+        pub part-edge : k ≡ 0 → GraphEdge here ≡ partOf (grammarOf g) row i
         part-edge p = part-by terminal (rw p refl)
 
-        pub part-row : (k ≡ 0 → ⊥) → Application s f ≡ partOf (grammarOf g) row i
+        pub part-row : (k ≡ 0 → ⊥) → Application s here ≡ partOf (grammarOf g) row i
         part-row p = part-by nonterminal (rw (ne-eqb k 0 p) refl)

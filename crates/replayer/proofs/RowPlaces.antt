@@ -4,12 +4,10 @@ use mathlib.Core.Bool.{Bool, true}
 use mathlib.Core.List.{List}
 use Prim.Native.Nat.{ℕ, _+_, _≤_, _<_}
 use native.Mathlib.Omega.{arith}
-use lib.ListN.{length, getD, take, drop, length-drop}
+use lib.ListN.{length, take, drop, length-drop}
 use lib.Seq.{getD-take, getD-drop, length-take-le}
 use lib.Dec.{ltb}
 use borrow.Author.Tests.{eqb-true, ltb-true}
-use Rattle.format.specs.Fields.{fieldCount, numberOf, fieldsOf}
-use Rattle.format.specs.FieldLaws.{fields-length, fields-in}
 use Rattle.hrg.specs.Counts.{tabulate}
 use Rattle.hrg.specs.Grammars.{Edge, Graph, Rule, noEdge, lhsOf, rankOf, rightOf, edgeAt}
 use Rattle.hrg.specs.Trees.{at, images}
@@ -21,10 +19,10 @@ use Rattle.questions.specs.Abstract.{ruleFrom, grammarOf, graphOf}
 use Rattle.questions.proofs.WellFormedLists.{tabulate-list, getD-build}
 use Rattle.questions.proofs.WellFormedAccepted.{rules-length, symbols-length, rank-is, rule-is, edge-is}
 use Rattle.joins.specs.Joins.{Accepted, KnownEdge}
-use Rattle.joins.proofs.Known.{rule-ok, right-nodes, right-edges, graph-nodes, graph-nodes-few}
+use Rattle.joins.proofs.Known.{rule-ok, right-nodes, right-edges, nodes-few, graph-nodes, graph-nodes-few}
 use Rattle.joins.proofs.EdgeMaps.{edge-ok}
 use Rattle.preorder.specs.Replay.{ruleIn, placeIn}
-use Rattle.replayer.specs.Fitting.{SizedRow}
+use Rattle.replayer.specs.Fitting.{nodeIn, SizedRow}
 use Rattle.replayer.proofs.NodeTests.{every-at, each-tabulated, map-tabulated}
 
 -- ---- a rule
@@ -84,26 +82,15 @@ module _ (g h : List ℕ) (e : ℕ) (known : e < graphEdges h) where
   pub graph-nodes-are : edgeAt (graphOf g h .edges) e .attachment ≡ tabulate (rankAt g (graphLabel h e)) (λ k. graphNode h e k)
   graph-nodes-are = ap (λ (d : Edge). d .attachment) graph-words
 
--- ---- the fields of a row with a rule
-pub first-field : (line : List ℕ) → 1 < fieldCount line → numberOf line 0 ≡ getD (fieldsOf line) 0 0
-first-field line h = sym (fields-in line 0 0 (omega arith))
-
-pub second-field : (line : List ℕ) → 1 < fieldCount line → numberOf line 1 ≡ ruleIn (fieldsOf line)
-second-field line h = sym (fields-in line 1 0 h)
-
--- the places, where the row has fields for them
-pub places-are : (line : List ℕ) (n : ℕ) → 2 + n ≤ fieldCount line → take n (drop 2 (fieldsOf line)) ≡ tabulate n (λ x. numberOf line (2 + x))
-places-are line n h =
-    let row = fieldsOf line in
-    sym (tabulate-list (take n (drop 2 row)) n (λ x. numberOf line (2 + x))
-    (sym (length-take-le n (drop 2 row) (omega (arith, length-drop 2 row, fields-length line))))
-    (λ x l. sym (getD-take n (drop 2 row) x 0 l ∙ getD-drop 2 row x 0 ∙ fields-in line (2 + x) 0 (omega arith))))
+-- ---- a row that has fields for its places
+pub places-are : (row : List ℕ) (n : ℕ) → 2 + n ≤ length row → take n (drop 2 row) ≡ tabulate n (λ x. nodeIn row x)
+places-are row n h =
+    sym (tabulate-list (take n (drop 2 row)) n (λ x. nodeIn row x)
+    (sym (length-take-le n (drop 2 row) (omega (arith, length-drop 2 row))))
+    (λ x l. sym (getD-take n (drop 2 row) x 0 l ∙ getD-drop 2 row x 0)))
 
 -- ---- a row of the right size
-module _ (g h line : List ℕ) (accepted : Accepted g h) (sized : SizedRow (grammarOf g) (graphOf g h) (fieldsOf line)) where
-  abbrev row : List ℕ
-  row = fieldsOf line
-
+module _ (g h row : List ℕ) (accepted : Accepted g h) (sized : SizedRow (grammarOf g) (graphOf g h) row) where
   abbrev r : ℕ
   r = ruleIn row
 
@@ -116,36 +103,39 @@ module _ (g h line : List ℕ) (accepted : Accepted g h) (sized : SizedRow (gram
   pub rule-known : r < ruleCount g
   rule-known = omega (arith, ltb-true r (length (grammarOf g .rules)) (sized .rule), rules-length g)
 
-  pub count-is : fieldCount line ≡ 2 + (ruleNodes g r + ruleEdges g r)
+  pub count-is : length row ≡ 2 + (ruleNodes g r + ruleEdges g r)
   count-is =
       omega (
         arith,
         eqb-true (length row) (2 + (P .nodes + length (P .edges))) (sized .sized),
-        fields-length line,
         right-nodes g r (accepted .grammar) rule-known,
         right-edges g r (accepted .grammar) rule-known,
       )
 
-  pub rule-number : numberOf line 1 ≡ r
-  rule-number = second-field line (omega (arith, count-is))
+  -- the row has a field for its rule, and one for each rule node
+  pub rule-there : 1 < length row
+  rule-there = omega (arith, count-is)
 
-  pub place-is : place ≡ tabulate (ruleNodes g r) (λ x. numberOf line (2 + x))
+  pub node-there : (x : ℕ) → x < ruleNodes g r → (x < 8) × (2 + x < length row)
+  node-there x l = (omega (arith, nodes-few g r (accepted .grammar) rule-known), omega (arith, count-is))
+
+  pub place-is : place ≡ tabulate (ruleNodes g r) (λ x. nodeIn row x)
   place-is =
-      ap (λ n. take n (drop 2 row)) (right-nodes g r (accepted .grammar) rule-known) ∙ places-are line (ruleNodes g r) (omega (arith, count-is))
+      ap (λ n. take n (drop 2 row)) (right-nodes g r (accepted .grammar) rule-known) ∙ places-are row (ruleNodes g r) (omega (arith, count-is))
 
-  pub place-at : (x : ℕ) → x < ruleNodes g r → at place x ≡ numberOf line (2 + x)
-  place-at x l = ap (λ (p : List ℕ). at p x) place-is ∙ at-tabulate (ruleNodes g r) (λ x. numberOf line (2 + x)) x l
+  pub place-at : (x : ℕ) → x < ruleNodes g r → at place x ≡ nodeIn row x
+  place-at x l = ap (λ (p : List ℕ). at p x) place-is ∙ at-tabulate (ruleNodes g r) (λ x. nodeIn row x) x l
 
-  pub place-small : (x : ℕ) → x < ruleNodes g r → numberOf line (2 + x) < 64
+  pub place-small : (x : ℕ) → x < ruleNodes g r → nodeIn row x < 64
   place-small x l =
       let t : ℕ → Bool = λ v. ltb v (graphOf g h .nodes) in
-      let all = sym (each-tabulated (ruleNodes g r) (λ x. numberOf line (2 + x)) t) ∙ ap (λ (p : List ℕ). each p t) (sym place-is) ∙ sized .placed in
-      omega (arith, ltb-true (numberOf line (2 + x)) (graphOf g h .nodes) (every-at (ruleNodes g r) (λ x. t (numberOf line (2 + x))) all x l), graph-nodes g h, graph-nodes-few g h accepted)
+      let all = sym (each-tabulated (ruleNodes g r) (λ x. nodeIn row x) t) ∙ ap (λ (p : List ℕ). each p t) (sym place-is) ∙ sized .placed in
+      omega (arith, ltb-true (nodeIn row x) (graphOf g h .nodes) (every-at (ruleNodes g r) (λ x. t (nodeIn row x)) all x l), graph-nodes g h, graph-nodes-few g h accepted)
 
   -- the graph nodes of some rule nodes
-  pub images-are : (n : ℕ) (f : ℕ → ℕ) → ((k : ℕ) → k < n → f k < ruleNodes g r) → images place (tabulate n f) ≡ tabulate n (λ k. numberOf line (2 + f k))
+  pub images-are : (n : ℕ) (f : ℕ → ℕ) → ((k : ℕ) → k < n → f k < ruleNodes g r) → images place (tabulate n f) ≡ tabulate n (λ k. nodeIn row (f k))
   images-are n f inside =
-      map-tabulated n (λ x. at place x) f ∙ tabulate-ext n (λ k. at place (f k)) (λ k. numberOf line (2 + f k)) (λ k l. place-at (f k) (inside k l))
+      map-tabulated n (λ x. at place x) f ∙ tabulate-ext n (λ k. at place (f k)) (λ k. nodeIn row (f k)) (λ k l. place-at (f k) (inside k l))
 
   pub edge-known : (i : ℕ) → i < length (P .edges) → KnownEdge g r i
   edge-known i l = record { grammar = accepted .grammar; rule = rule-known; edge = omega (arith, right-edges g r (accepted .grammar) rule-known) }

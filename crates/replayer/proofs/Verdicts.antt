@@ -5,7 +5,7 @@ use mathlib.Core.Bool.{Bool, true, false, true≢false, cond, _&&_}
 use mathlib.Core.List.{List, []}
 use Prim.Native.Nat.{ℕ, zero, suc, _*_, _≤_, _<_}
 use native.Mathlib.Omega.{arith}
-use lib.ListN.{length, getD, take}
+use lib.ListN.{length, getD, set, take, replicate}
 use lib.Dec.{eqb}
 use borrow.Author.Tests.{le-leb}
 use Rattle.masks.specs.Masks.{full}
@@ -27,11 +27,10 @@ use Rattle.joins.proofs.Known.{graph-size, graph-nodes, graph-ok, graph-nodes-f
 use Rattle.preorder.specs.Replay.{State, reached, failed, replayAt, whole, calls, replayed, replays}
 use Rattle.derivation.specs.Derivations.{replayText, DerivationOf}
 use Rattle.derivation.proofs.Derivations.{replay-text, replay-bad, replay-rows}
-use Rattle.replayer.specs.declared.Progress.{Progress}
 use Rattle.replayer.specs.declared.Verdict.{Verdict}
 use Rattle.replayer.specs.declared.Verdict.the-variants.{Unfit, Refused, Passed}
 use Rattle.replayer.specs.Fitting.{countIn, withAll}
-use Rattle.replayer.specs.Following.{textRows, RowsAt, Marks, Stands, Applied}
+use Rattle.replayer.specs.Following.{textRows, RowsAt, Progress, progressIn, Marks, Stands, Applied}
 use Rattle.replayer.specs.Verdicts.{numberOf, fitTables, replayOf, Exact}
 use Rattle.replayer.proofs.MaskTests.{marks-none, marks-append, marks-all, take-four}
 use Rattle.replayer.proofs.PlacedRows.{text-count, text-some, text-few, place-start}
@@ -77,8 +76,9 @@ module _ (g h : List ℕ) (ok : Accepted g h) (s : ℕ) (e : s ≡ startSymbol g
           graph-nodes-few g h ok,
         )
 
-    module _ (text : List ℕ) (n : ℕ) (c : n ≡ countIn (rowsIn text)) (place m : ℕ) (w : m ≡ withAll 0 (take x listed)) (r : Progress)
-        (a : Applied (grammarOf g) (graphOf g h) text s (take (rankOf (grammarOf g) s) listed) (10 * n) (record { ok = true; next = 0; at = place; edges = 0; nodes = m }) r) where
+    module _ (text : List ℕ) (n : ℕ) (c : n ≡ countIn (rowsIn text)) (place m : ℕ) (w : m ≡ withAll 0 (take x listed)) (p r : Progress)
+        (d : p ≡ record { ok = true; next = 0; at = place; edges = 0; nodes = m })
+        (a : Applied (grammarOf g) (graphOf g h) text s (take (rankOf (grammarOf g) s) listed) (10 * n) p r) where
       start-nodes : Marks (graphOf g h .nodes) m (graphOf g h .externals)
       start-nodes =
           subst (λ (y : ℕ). Marks (graphOf g h .nodes) y (graphOf g h .externals)) (sym (w ∙ ap (withAll 0) externals-take))
@@ -93,15 +93,25 @@ module _ (g h : List ℕ) (ok : Accepted g h) (s : ℕ) (e : s ≡ startSymbol g
           ap (λ (k : ℕ). replayAt k (grammarOf g) (graphOf g h) R s (take (rankOf (grammarOf g) s) listed) (reached 0 [] (graphOf g h .externals))) (ap (λ (k : ℕ). 10 * k) (c ∙ text-count text))
           ∙ ap₂ (λ (y : ℕ) (L : List ℕ). replayAt (calls R) (grammarOf g) (graphOf g h) R y L (reached 0 [] (graphOf g h .externals))) (e ∙ sym (start-is g)) (ap (λ (k : ℕ). take k listed) rank-read ∙ externals-take) in
           subst (Stands (graphOf g h) r) same
-          (a .stands [] (graphOf g h .externals) (record { passing = refl; row = refl; used-edges = marks-none (length (graphOf g h .edges)); used-nodes = start-nodes }))
+          (subst (λ (p : Progress). Applied (grammarOf g) (graphOf g h) text s (take (rankOf (grammarOf g) s) listed) (10 * n) p r) d a
+          .stands [] (graphOf g h .externals) (record { passing = refl; row = refl; used-edges = marks-none (length (graphOf g h .edges)); used-nodes = start-nodes }))
+
+-- the four words at the start
+module _ (st : List ℕ) (none : st ≡ replicate 4 0) (place m : ℕ) where
+  pub start-length : length (set (set st 1 place) 3 m) ≡ 4
+  start-length = ap (λ (l : List ℕ). length (set (set l 1 place) 3 m)) none
+
+  pub start-progress : progressIn true (set (set st 1 place) 3 m) ≡ record { ok = true; next = 0; at = place; edges = 0; nodes = m }
+  start-progress = ap (λ (l : List ℕ). progressIn true (set (set l 1 place) 3 m)) none
 
 -- the first row, and the bound on the calls
 module _ (text : List ℕ) (n : ℕ) (c : n ≡ countIn (rowsIn text)) where
   pub count-few : n ≤ 4096
   count-few = omega (arith, c ∙ text-count text, text-few text)
 
-  pub start-rows : 0 < n → (place : ℕ) → place ≡ afterLine text 0 → RowsAt text 0 place
-  start-rows some place e = subst (λ (y : ℕ). RowsAt text 0 y) (sym e) (place-start text (omega (arith, c ∙ text-count text)))
+  pub start-rows : 0 < n → (place : ℕ) → place ≡ afterLine text 0 → (p : Progress) (m : ℕ) → p ≡ record { ok = true; next = 0; at = place; edges = 0; nodes = m } → RowsAt text (p .next) (p .at)
+  start-rows some place e p m d =
+      subst (λ (p : Progress). RowsAt text (p .next) (p .at)) (sym d) (subst (λ (y : ℕ). RowsAt text 0 y) (sym e) (place-start text (omega (arith, c ∙ text-count text))))
 
 -- ---- the end
 whole-stands : (H : Graph) (R : List (List ℕ)) (p : Progress) (st : State) → Stands H p st
@@ -130,14 +140,19 @@ module _ (G : Grammar) (H : Graph) (text : List ℕ) where
       replay-rows G H text (textRows text) (text-some text some)
       ∙ rw (le-leb 1 (length (textRows text)) some, le-leb (length (textRows text)) 4096 (text-few text))
 
-module _ (g h text : List ℕ) (n : ℕ) (c : n ≡ countIn (rowsIn text)) (some : n ≡ 0 → ⊥) (p : Progress)
-    (k : Stands (graphOf g h) p (replayed (grammarOf g) (graphOf g h) (textRows text))) (b : Bool)
-    (t : b ≡ (p .ok && eqb (p .next) n && eqb (p .edges) (full (graphEdges h)) && eqb (p .nodes) (full (graphNodes h)))) where
-  pub whole-answer : replayText (grammarOf g) (graphOf g h) text ≡ b
-  whole-answer =
+module _ (g h text : List ℕ) (n : ℕ) (c : n ≡ countIn (rowsIn text)) (some : n ≡ 0 → ⊥) (ok : Bool) (st : List ℕ)
+    (k : Stands (graphOf g h) (progressIn ok st) (replayed (grammarOf g) (graphOf g h) (textRows text))) where
+  answer-by : replayText (grammarOf g) (graphOf g h) text ≡ (ok && eqb (getD st 0 0) n && eqb (getD st 2 0) (full (graphEdges h)) && eqb (getD st 3 0) (full (graphNodes h)))
+  answer-by =
       whole-passes (grammarOf g) (graphOf g h) text (omega (arith, c ∙ text-count text))
-      ∙ whole-stands (graphOf g h) (textRows text) p _ k
-      ∙ rw (sym (text-count text) ∙ sym c, graph-size g h, graph-nodes g h) (sym t)
+      ∙ whole-stands (graphOf g h) (textRows text) (progressIn ok st) _ k
+      ∙ rw (sym (text-count text) ∙ sym c, graph-size g h, graph-nodes g h)
+
+  pub failed-answer : ok ≡ false → replayText (grammarOf g) (graphOf g h) text ≡ false
+  failed-answer f = answer-by ∙ rw f
+
+  pub whole-answer : ok ≡ true → (b : Bool) → b ≡ (eqb (getD st 0 0) n && eqb (getD st 2 0) (full (graphEdges h)) && eqb (getD st 3 0) (full (graphNodes h))) → replayText (grammarOf g) (graphOf g h) text ≡ b
+  whole-answer y b t = answer-by ∙ rw y (sym t)
 
 -- ---- the answer
 pub tables-accepted : (g h : List ℕ) (a : Bool) → a ≡ checkGrammar g → a ≡ true → (b : Bool) → b ≡ checkGraph g h → b ≡ true → Accepted g h

@@ -1,23 +1,29 @@
 -- The tests of a replay (crate `preorder`, Replay) with masks for the lists of used numbers, as the functions make them.
 use mathlib.Core.Path.{_≡_}
-use mathlib.Core.Bool.{Bool, true, not, _&&_}
+use mathlib.Core.Bool.{Bool, true, false, not, _&&_}
 use mathlib.Core.List.{List, [], _∷_}
 use Prim.Native.Nat.{ℕ, _+_}
-use lib.ListN.{length}
+use lib.ListN.{length, getD}
 use lib.Dec.{eqb, ltb}
 use Rattle.masks.specs.Masks.{member, _∪_, single}
 use Rattle.hrg.specs.Counts.{tabulate}
-use Rattle.hrg.specs.Grammars.{Edge, Graph, Grammar, lhsOf, rightOf, edgeAt}
+use Rattle.hrg.specs.Grammars.{Graph, Grammar, lhsOf, rightOf, edgeAt}
 use Rattle.hrg.specs.Trees.{at, images}
 use Rattle.hrg.specs.WellFormedTest.{each}
 use Rattle.hrg.specs.ClosureRun.{sameList}
 use Rattle.scripts.specs.Scripts.{Script, bad, rows}
-use Rattle.preorder.specs.Replay.{numberIn, ruleIn, placeIn, fieldsIn, newNodes}
+use Rattle.preorder.specs.Replay.{numberIn, ruleIn, placeIn, newNodes}
+use Rattle.replayer.specs.declared.Taken.{Taken}
+use Rattle.replayer.specs.declared.Taken.the-variants.{Not, With}
 
 -- how many rows a text has, 0 where it has none
 abbrev pub countIn : Script → ℕ
 countIn bad = 0
 countIn (rows rs) = length rs
+
+-- the graph node on which a row places rule node x
+abbrev pub nodeIn : List ℕ → ℕ → ℕ
+nodeIn row x = getD row (2 + x) 0
 
 -- a list of at most four nodes in four places, 64 where there is none
 unfoldable pub fourOf : List ℕ → List ℕ
@@ -33,6 +39,11 @@ newIn m (v ∷ vs) = let rest = newIn (m ∪ single v) vs in not (member m v) &&
 unfoldable pub withAll : ℕ → List ℕ → ℕ
 withAll m [] = m
 withAll m (v ∷ vs) = withAll (m ∪ single v) vs
+
+-- what is answered of a row that passes or not, with the nodes that are then used
+abbrev pub takenIf : Bool → ℕ → Taken
+takenIf true m = With m
+takenIf false m = Not
 
 -- the row may stand as number n for an edge s on the nodes L, where the nodes of the mask are used
 unfoldable pub rowPasses : Grammar → Graph → ℕ → ℕ → List ℕ → ℕ → List ℕ → Bool

@@ -1,6 +1,6 @@
 -- What the functions promise: a replay with masks for the lists of used numbers, and with places in the text for the rows.
 use mathlib.Core.Path.{_≡_}
-use mathlib.Core.Bool.{true, false, cond}
+use mathlib.Core.Bool.{Bool, true, false, cond}
 use mathlib.Core.List.{List, []}
 use Prim.Native.Nat.{ℕ, _+_, _-_, _^_, _<_}
 use lib.ListN.{length, getD, drop}
@@ -11,7 +11,6 @@ use Rattle.scripts.specs.Scripts.{Script, bad, rows, rowsFrom, rowsIn}
 use Rattle.hrg.specs.Counts.{occurs}
 use Rattle.hrg.specs.Grammars.{Kind, terminal, nonterminal, Graph, Grammar, kindOf, rightOf, edgeAt}
 use Rattle.preorder.specs.Replay.{State, reached, failed, ruleIn, placeIn, fieldsIn, replayAt, replayEdges}
-use Rattle.replayer.specs.declared.Progress.{Progress}
 use Rattle.replayer.specs.declared.Part.{Part}
 use Rattle.replayer.specs.declared.Part.the-variants.{End, GraphEdge, Application}
 
@@ -28,6 +27,19 @@ textRows text = rowsOfScript (rowsIn text)
 -- From the place on, the text has the lines of the rows from number n on, and nothing behind them.
 pub record RowsAt (text : List ℕ) (n place : ℕ) : Type 0 where
   pub rest : rowsFrom (length (textRows text) - n) (linesOf (drop place text)) ≡ rows (drop n (textRows text))
+
+-- ---- how far a replay came
+-- whether it passes so far, the number of the next row, the place of its line, and the graph edges and graph nodes used
+pub record Progress : Type 0 where
+  pub ok : Bool
+  pub next : ℕ
+  pub at : ℕ
+  pub edges : ℕ
+  pub nodes : ℕ
+
+-- what an answer and the four words kept say
+abbrev pub progressIn : Bool → List ℕ → Progress
+progressIn b st = record { ok = b; next = getD st 0 0; at = getD st 1 0; edges = getD st 2 0; nodes = getD st 3 0 }
 
 -- ---- masks
 -- The mask has just the numbers of the list as members, and all are below n.

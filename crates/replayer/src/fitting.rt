@@ -1,35 +1,35 @@
-// One line of a derivation file against accepted tables: whether an application and its terminal edges fit.
+// The lines of a derivation file, and one row against accepted tables: whether an application and its terminal edges fit.
 ghost use mathlib.Core.Path.{_≡_};
-ghost use mathlib.Core.Bool.{true};
+ghost use mathlib.Core.Bool.{true, not};
 ghost use Prim.Native.Nat.{_+_, _≤_, _<_};
-ghost use lib.ListN.{length, take};
-ghost use lib.Dec.{eqb, ltb};
-ghost use Rattle.format.specs.Fields.{fieldsOf, numberOf};
-ghost use Rattle.format.specs.Shape.{shapeOf};
+ghost use lib.ListN.{length, take, drop, replicate};
+ghost use lib.Dec.{ltb};
+ghost use Rattle.masks.specs.Masks.{member};
+ghost use Rattle.format.specs.Lines.{lineOf};
 ghost use Rattle.scripts.specs.Scripts.{rowsIn, hasLetter};
-ghost use Rattle.hrg.specs.Counts.{occurs, tabulate};
 ghost use Rattle.hrg.specs.Grammars.{lhsOf, rightOf, rankOf, edgeAt};
 ghost use Rattle.hrg.specs.Trees.{images};
 ghost use Rattle.hrg.specs.Items.{keepIf};
 ghost use Rattle.hrg.specs.WellFormedTest.{every};
 ghost use Rattle.hrg.specs.ClosureRun.{sameList};
-ghost use Rattle.questions.specs.Layout.{rankAt, ruleSymbol, ruleExternal, edgeLabel, graphEdges, graphLabel};
+ghost use Rattle.questions.specs.Layout.{ruleCount, edgeLabel, graphEdges, graphLabel};
 ghost use Rattle.questions.specs.Checking.{checkGrammar};
 ghost use Rattle.questions.specs.Abstract.{grammarOf, graphOf};
 ghost use Rattle.joins.specs.Joins.{Accepted};
 ghost use Rattle.preorder.specs.Replay.{ruleIn, placeIn, newNodes};
-ghost use Rattle.replayer.specs.Fitting.{countIn, fourOf, newIn, withAll, rowPasses, edgePasses, SizedRow};
+ghost use Rattle.replayer.specs.Fitting.{countIn, nodeIn, fourOf, newIn, withAll, takenIf, rowPasses, edgePasses, SizedRow};
 ghost use Rattle.replayer.specs.RowParts.{lineFrom, saidCount, headPasses};
+use crate::Taken;
 
 // ---- the lines of a derivation file
-// Whether an ended line of the shape starts at `from`, with this letter.
-fn has_letter(text: &[u8], from: usize, letter: u8) -> bool
+// Whether the line that was found at `from` is an ended one of the shape, with this letter.
+fn has_letter(text: &[u8], from: usize, line: &[u8], letter: u8) -> bool
+    requires { ⌜ (from ≤ length (now text)) × (now line ≡ lineOf (drop from (now text))) ⌝ }
     ensures { λ r. ⌜ r ≡ hasLetter letter (lineFrom (now (text .entry)) from) ⌝ }
 {
-    if !lines::is_ended(text, from) {
+    if !lines::ends(text, from, line) {
         return false;
     }
-    let line = lines::next_line(text, from);
     if !lines::shape(line) {
         return false;
     }
@@ -40,10 +40,10 @@ fn has_letter(text: &[u8], from: usize, letter: u8) -> bool
 fn said_count(text: &[u8]) -> u64
     ensures { λ r. ⌜ r ≡ saidCount (now (text .entry)) ⌝ }
 {
-    if !has_letter(text, 0, 68) {
+    let line = lines::next_line(text, 0);
+    if !has_letter(text, 0, line, 68) {
         return 0;
     }
-    let line = lines::next_line(text, 0);
     if lines::field_count(line) != 1 {
         return 0;
     }
@@ -68,10 +68,11 @@ pub(crate) fn row_count(text: &[u8]) -> u64
     let mut at = lines::after_line(text, 0);
     let mut k: u64 = 0;
     while k < n {
-        if !has_letter(text, at, 65) {
+        let line = lines::next_line(text, at);
+        if !has_letter(text, at, line, 65) {
             return 0;
         }
-        at = lines::after_line(text, at);
+        at = lines::behind(text, at, line);
         k += 1;
     }
     if at < text.len() {
@@ -82,18 +83,17 @@ pub(crate) fn row_count(text: &[u8]) -> u64
 
 // ---- the row of an application
 // Whether the row has number n, and a rule for an edge s with as many fields as the rule needs. A row of one field has no rule.
-fn head_passes(grammar: &[u64], line: &[u8], n: u64, s: u64) -> bool
+fn head_passes(grammar: &[u64], row: &[u64], n: u64, s: u64) -> bool
     requires { ⌜ checkGrammar (now grammar) ≡ true ⌝ }
-    ensures { λ r. ⌜ r ≡ headPasses (grammarOf (now (grammar .entry))) n s (fieldsOf (now (line .entry))) ⌝ }
+    ensures { λ r. ⌜ r ≡ headPasses (grammarOf (now (grammar .entry))) n s (now (row .entry)) ⌝ }
 {
-    let count = lines::field_count(line);
-    if count < 2 {
+    if row.len() < 2 {
         return false;
     }
-    if lines::number(line, 0) != n {
+    if row[0] != n {
         return false;
     }
-    let r = lines::number(line, 1);
+    let r = row[1];
     if layout::rule_count(grammar) <= r {
         return false;
     }
@@ -102,17 +102,17 @@ fn head_passes(grammar: &[u64], line: &[u8], n: u64, s: u64) -> bool
     }
     let nodes = layout::rule_nodes(grammar, r);
     let edges = layout::rule_edges(grammar, r);
-    count as u64 == 2 + nodes + edges
+    row.len() as u64 == 2 + nodes + edges
 }
 
 // Whether each of the first `count` placed nodes is below `nodes`.
-fn places_known(line: &[u8], count: u64, nodes: u64) -> bool
-    requires { ⌜ count ≤ 8 ⌝ }
-    ensures { λ r. ⌜ r ≡ every count (λ x. ltb (numberOf (now (line .entry)) (2 + x)) nodes) ⌝ }
+fn places_known(row: &[u64], count: u64, nodes: u64) -> bool
+    requires { ⌜ (count ≤ 8) × (2 + count ≤ length (now row)) ⌝ }
+    ensures { λ r. ⌜ r ≡ every count (λ x. ltb (nodeIn (now (row .entry)) x) nodes) ⌝ }
 {
     let mut x: u64 = 0;
     while x < count {
-        if nodes <= lines::number(line, (2 + x) as usize) {
+        if nodes <= row[(2 + x) as usize] {
             return false;
         }
         x += 1;
@@ -121,16 +121,16 @@ fn places_known(line: &[u8], count: u64, nodes: u64) -> bool
 }
 
 // Whether the graph nodes of the rule's external nodes are the listed ones, in order.
-fn externals_fit(grammar: &[u64], graph: &[u64], line: &[u8], listed: [u64; 4]) -> bool
-    requires { ⌜ Accepted (now grammar) (now graph) × (shapeOf (now line) ≡ true) × SizedRow (grammarOf (now grammar)) (graphOf (now grammar) (now graph)) (fieldsOf (now line)) ⌝ }
-    ensures { λ r. ⌜ r ≡ sameList (images (placeIn (rightOf (grammarOf (now (grammar .entry))) (ruleIn (fieldsOf (now (line .entry))))) (fieldsOf (now (line .entry)))) (rightOf (grammarOf (now (grammar .entry))) (ruleIn (fieldsOf (now (line .entry)))) .externals)) (take (rankOf (grammarOf (now (grammar .entry))) (lhsOf (grammarOf (now (grammar .entry))) (ruleIn (fieldsOf (now (line .entry)))))) listed) ⌝ }
+fn externals_fit(grammar: &[u64], graph: &[u64], row: &[u64], listed: &[u64; 4]) -> bool
+    requires { ⌜ Accepted (now grammar) (now graph) × SizedRow (grammarOf (now grammar)) (graphOf (now grammar) (now graph)) (now row) × (length (now listed) ≡ 4) ⌝ }
+    ensures { λ r. ⌜ r ≡ sameList (images (placeIn (rightOf (grammarOf (now (grammar .entry))) (ruleIn (now (row .entry)))) (now (row .entry))) (rightOf (grammarOf (now (grammar .entry))) (ruleIn (now (row .entry))) .externals)) (take (rankOf (grammarOf (now (grammar .entry))) (lhsOf (grammarOf (now (grammar .entry))) (ruleIn (now (row .entry))))) (now (listed .entry))) ⌝ }
 {
-    let r = lines::number(line, 1);
+    let r = row[1];
     let rank = layout::rank_at(grammar, layout::rule_symbol(grammar, r));
     let mut k: u64 = 0;
     while k < rank {
         let x = layout::rule_external(grammar, r, k);
-        if lines::number(line, (2 + x) as usize) != listed[k as usize] {
+        if row[(2 + x) as usize] != listed[k as usize] {
             return false;
         }
         k += 1;
@@ -138,113 +138,106 @@ fn externals_fit(grammar: &[u64], graph: &[u64], line: &[u8], listed: [u64; 4]) 
     true
 }
 
-// The graph node of rule node x where that is inner, and 64, which is in no mask, where it is external.
-fn inner_node(grammar: &[u64], line: &[u8], r: u64, x: u64) -> u64
-    requires { ⌜ x ≤ 8 ⌝ }
-    ensures { λ v. ⌜ v ≡ keepIf (eqb (occurs x (tabulate (rankAt (now (grammar .entry)) (ruleSymbol (now (grammar .entry)) r)) (λ k. ruleExternal (now (grammar .entry)) r k))) 0) (numberOf (now (line .entry)) (2 + x)) ⌝ }
+// The external nodes of a rule as a mask.
+fn external_mask(grammar: &[u64], r: u64) -> u64
+    requires { ⌜ (checkGrammar (now grammar) ≡ true) × (r < ruleCount (now grammar)) ⌝ }
+    ensures { λ m. ⌜ m ≡ withAll 0 (rightOf (grammarOf (now (grammar .entry))) r .externals) ⌝ }
 {
     let rank = layout::rank_at(grammar, layout::rule_symbol(grammar, r));
+    let mut mask: u64 = 0;
     let mut k: u64 = 0;
     while k < rank {
-        if layout::rule_external(grammar, r, k) == x {
-            return 64;
-        }
+        mask = masks::with(mask, layout::rule_external(grammar, r, k));
         k += 1;
     }
-    lines::number(line, (2 + x) as usize)
+    mask
 }
 
-// Whether the nodes inside the application are new.
-fn inner_new(grammar: &[u64], graph: &[u64], line: &[u8], used: u64) -> bool
-    requires { ⌜ Accepted (now grammar) (now graph) × (shapeOf (now line) ≡ true) × SizedRow (grammarOf (now grammar)) (graphOf (now grammar) (now graph)) (fieldsOf (now line)) ⌝ }
-    ensures { λ r. ⌜ r ≡ newIn used (newNodes (rightOf (grammarOf (now (grammar .entry))) (ruleIn (fieldsOf (now (line .entry))))) (fieldsOf (now (line .entry)))) ⌝ }
+// The graph node of rule node x where that is inner, and 64, which is in no mask, where it is one of the outer ones.
+fn inner_node(row: &[u64], outer: u64, x: u64) -> u64
+    requires { ⌜ (x ≤ 8) × (2 + x < length (now row)) ⌝ }
+    ensures { λ v. ⌜ v ≡ keepIf (not (member outer x)) (nodeIn (now (row .entry)) x) ⌝ }
 {
-    let r = lines::number(line, 1);
-    let n = layout::rule_nodes(grammar, r);
-    let mut seen = used;
-    let mut x: u64 = 0;
-    while x < n {
-        let v = inner_node(grammar, line, r, x);
-        if masks::has(seen, v) {
-            return false;
-        }
-        seen = masks::with(seen, v);
-        x += 1;
+    if masks::has(outer, x) {
+        return 64;
     }
-    true
+    row[(2 + x) as usize]
 }
 
-// Whether the line may stand as application n for an edge s on the listed nodes, where some nodes are used.
-pub(crate) fn row_passes(
-    grammar: &[u64],
-    graph: &[u64],
-    line: &[u8],
-    n: u64,
-    s: u64,
-    listed: [u64; 4],
-    used: u64,
-) -> bool
-    requires { ⌜ Accepted (now grammar) (now graph) × (shapeOf (now line) ≡ true) ⌝ }
-    ensures { λ r. ⌜ r ≡ rowPasses (grammarOf (now (grammar .entry))) (graphOf (now (grammar .entry)) (now (graph .entry))) n s (take (rankOf (grammarOf (now (grammar .entry))) s) listed) used (fieldsOf (now (line .entry))) ⌝ }
+// The used nodes and those inside the application, where these are new.
+fn with_inner(grammar: &[u64], graph: &[u64], row: &[u64], used: u64) -> Taken
+    requires { ⌜ Accepted (now grammar) (now graph) × SizedRow (grammarOf (now grammar)) (graphOf (now grammar) (now graph)) (now row) ⌝ }
+    ensures { λ t. ⌜ t ≡ takenIf (newIn used (newNodes (rightOf (grammarOf (now (grammar .entry))) (ruleIn (now (row .entry)))) (now (row .entry)))) (withAll used (newNodes (rightOf (grammarOf (now (grammar .entry))) (ruleIn (now (row .entry)))) (now (row .entry)))) ⌝ }
 {
-    if !head_passes(grammar, line, n, s) {
-        return false;
-    }
-    let count = layout::rule_nodes(grammar, lines::number(line, 1));
-    if !places_known(line, count, layout::graph_nodes(graph)) {
-        return false;
-    }
-    if !externals_fit(grammar, graph, line, listed) {
-        return false;
-    }
-    inner_new(grammar, graph, line, used)
-}
-
-// The used nodes, and those inside the application of the line.
-pub(crate) fn with_nodes(grammar: &[u64], graph: &[u64], line: &[u8], used: u64) -> u64
-    requires { ⌜ Accepted (now grammar) (now graph) × (shapeOf (now line) ≡ true) × SizedRow (grammarOf (now grammar)) (graphOf (now grammar) (now graph)) (fieldsOf (now line)) ⌝ }
-    ensures { λ r. ⌜ r ≡ withAll used (newNodes (rightOf (grammarOf (now (grammar .entry))) (ruleIn (fieldsOf (now (line .entry))))) (fieldsOf (now (line .entry)))) ⌝ }
-{
-    let r = lines::number(line, 1);
+    let r = row[1];
+    let outer = external_mask(grammar, r);
     let n = layout::rule_nodes(grammar, r);
     let mut nodes = used;
     let mut x: u64 = 0;
     while x < n {
-        nodes = masks::with(nodes, inner_node(grammar, line, r, x));
+        let v = inner_node(row, outer, x);
+        if masks::has(nodes, v) {
+            return Taken::Not;
+        }
+        nodes = masks::with(nodes, v);
         x += 1;
     }
-    nodes
+    Taken::With(nodes)
+}
+
+// Whether the row may stand as application n for an edge s on the listed nodes, where some nodes are used.
+pub(crate) fn taken(
+    grammar: &[u64],
+    graph: &[u64],
+    row: &[u64],
+    n: u64,
+    s: u64,
+    listed: &[u64; 4],
+    used: u64,
+) -> Taken
+    requires { ⌜ Accepted (now grammar) (now graph) × (length (now listed) ≡ 4) ⌝ }
+    ensures { λ t. ⌜ t ≡ takenIf (rowPasses (grammarOf (now (grammar .entry))) (graphOf (now (grammar .entry)) (now (graph .entry))) n s (take (rankOf (grammarOf (now (grammar .entry))) s) (now (listed .entry))) used (now (row .entry))) (withAll used (newNodes (rightOf (grammarOf (now (grammar .entry))) (ruleIn (now (row .entry)))) (now (row .entry)))) ⌝ }
+{
+    if !head_passes(grammar, row, n, s) {
+        return Taken::Not;
+    }
+    let count = layout::rule_nodes(grammar, row[1]);
+    if !places_known(row, count, layout::graph_nodes(graph)) {
+        return Taken::Not;
+    }
+    if !externals_fit(grammar, graph, row, listed) {
+        return Taken::Not;
+    }
+    with_inner(grammar, graph, row, used)
 }
 
 // ---- the edges of an application
-// The graph nodes of edge i of the line's rule.
-pub(crate) fn listed_nodes(grammar: &[u64], graph: &[u64], line: &[u8], i: u64) -> [u64; 4]
-    requires { ⌜ Accepted (now grammar) (now graph) × (shapeOf (now line) ≡ true) × SizedRow (grammarOf (now grammar)) (graphOf (now grammar) (now graph)) (fieldsOf (now line)) × (i < length (rightOf (grammarOf (now grammar)) (ruleIn (fieldsOf (now line))) .edges)) ⌝ }
-    ensures { λ r. ⌜ r ≡ fourOf (images (placeIn (rightOf (grammarOf (now (grammar .entry))) (ruleIn (fieldsOf (now (line .entry))))) (fieldsOf (now (line .entry)))) (edgeAt (rightOf (grammarOf (now (grammar .entry))) (ruleIn (fieldsOf (now (line .entry)))) .edges) i .attachment)) ⌝ }
+// The graph nodes of edge i of the row's rule, in four places that have none yet.
+pub(crate) fn list_nodes(grammar: &[u64], graph: &[u64], row: &[u64], i: u64, nodes: &mut [u64; 4])
+    requires { ⌜ Accepted (now grammar) (now graph) × SizedRow (grammarOf (now grammar)) (graphOf (now grammar) (now graph)) (now row) × (i < length (rightOf (grammarOf (now grammar)) (ruleIn (now row)) .edges)) × (now nodes ≡ replicate 4 64) ⌝ }
+    ensures { λ r. ⌜ now (nodes .exit) ≡ fourOf (images (placeIn (rightOf (grammarOf (now (grammar .entry))) (ruleIn (now (row .entry)))) (now (row .entry))) (edgeAt (rightOf (grammarOf (now (grammar .entry))) (ruleIn (now (row .entry))) .edges) i .attachment)) ⌝ }
 {
-    let r = lines::number(line, 1);
+    let r = row[1];
     let rank = layout::rank_at(grammar, layout::edge_label(grammar, r, i));
-    let mut nodes = [64u64; 4];
     let mut k: u64 = 0;
     while k < rank {
         let x = layout::edge_node(grammar, r, i, k);
-        nodes[k as usize] = lines::number(line, (2 + x) as usize);
+        nodes[k as usize] = row[(2 + x) as usize];
         k += 1;
     }
-    nodes
 }
 
-// Whether graph edge g, with the label of edge i of the line's rule, lies on the graph nodes of that edge, in order.
-fn nodes_fit(grammar: &[u64], graph: &[u64], line: &[u8], i: u64, g: u64) -> bool
-    requires { ⌜ Accepted (now grammar) (now graph) × (shapeOf (now line) ≡ true) × SizedRow (grammarOf (now grammar)) (graphOf (now grammar) (now graph)) (fieldsOf (now line)) × (i < length (rightOf (grammarOf (now grammar)) (ruleIn (fieldsOf (now line))) .edges)) × (g < graphEdges (now graph)) × (graphLabel (now graph) g ≡ edgeLabel (now grammar) (ruleIn (fieldsOf (now line))) i) ⌝ }
-    ensures { λ r. ⌜ r ≡ sameList (edgeAt (graphOf (now (grammar .entry)) (now (graph .entry)) .edges) g .attachment) (images (placeIn (rightOf (grammarOf (now (grammar .entry))) (ruleIn (fieldsOf (now (line .entry))))) (fieldsOf (now (line .entry)))) (edgeAt (rightOf (grammarOf (now (grammar .entry))) (ruleIn (fieldsOf (now (line .entry)))) .edges) i .attachment)) ⌝ }
+// Whether graph edge g, with the label of edge i of the row's rule, lies on the graph nodes of that edge, in order.
+fn nodes_fit(grammar: &[u64], graph: &[u64], row: &[u64], i: u64, g: u64) -> bool
+    requires { ⌜ Accepted (now grammar) (now graph) × SizedRow (grammarOf (now grammar)) (graphOf (now grammar) (now graph)) (now row) × (i < length (rightOf (grammarOf (now grammar)) (ruleIn (now row)) .edges)) × (g < graphEdges (now graph)) × (graphLabel (now graph) g ≡ edgeLabel (now grammar) (ruleIn (now row)) i) ⌝ }
+    ensures { λ r. ⌜ r ≡ sameList (edgeAt (graphOf (now (grammar .entry)) (now (graph .entry)) .edges) g .attachment) (images (placeIn (rightOf (grammarOf (now (grammar .entry))) (ruleIn (now (row .entry)))) (now (row .entry))) (edgeAt (rightOf (grammarOf (now (grammar .entry))) (ruleIn (now (row .entry))) .edges) i .attachment)) ⌝ }
 {
-    let r = lines::number(line, 1);
+    let r = row[1];
     let rank = layout::rank_at(grammar, layout::edge_label(grammar, r, i));
     let mut k: u64 = 0;
     while k < rank {
         let x = layout::edge_node(grammar, r, i, k);
-        if layout::graph_node(graph, g, k) != lines::number(line, (2 + x) as usize) {
+        if layout::graph_node(graph, g, k) != row[(2 + x) as usize] {
             return false;
         }
         k += 1;
@@ -252,26 +245,26 @@ fn nodes_fit(grammar: &[u64], graph: &[u64], line: &[u8], i: u64, g: u64) -> boo
     true
 }
 
-// Whether graph edge g stands for edge i of the line's rule, where some edges are used.
+// Whether graph edge g stands for edge i of the row's rule, where some edges are used.
 pub(crate) fn edge_passes(
     grammar: &[u64],
     graph: &[u64],
-    line: &[u8],
+    row: &[u64],
     i: u64,
     g: u64,
     used: u64,
 ) -> bool
-    requires { ⌜ Accepted (now grammar) (now graph) × (shapeOf (now line) ≡ true) × SizedRow (grammarOf (now grammar)) (graphOf (now grammar) (now graph)) (fieldsOf (now line)) × (i < length (rightOf (grammarOf (now grammar)) (ruleIn (fieldsOf (now line))) .edges)) ⌝ }
-    ensures { λ r. ⌜ r ≡ edgePasses (graphOf (now (grammar .entry)) (now (graph .entry))) (edgeAt (rightOf (grammarOf (now (grammar .entry))) (ruleIn (fieldsOf (now (line .entry)))) .edges) i .label) (images (placeIn (rightOf (grammarOf (now (grammar .entry))) (ruleIn (fieldsOf (now (line .entry))))) (fieldsOf (now (line .entry)))) (edgeAt (rightOf (grammarOf (now (grammar .entry))) (ruleIn (fieldsOf (now (line .entry)))) .edges) i .attachment)) used g ⌝ }
+    requires { ⌜ Accepted (now grammar) (now graph) × SizedRow (grammarOf (now grammar)) (graphOf (now grammar) (now graph)) (now row) × (i < length (rightOf (grammarOf (now grammar)) (ruleIn (now row)) .edges)) ⌝ }
+    ensures { λ r. ⌜ r ≡ edgePasses (graphOf (now (grammar .entry)) (now (graph .entry))) (edgeAt (rightOf (grammarOf (now (grammar .entry))) (ruleIn (now (row .entry))) .edges) i .label) (images (placeIn (rightOf (grammarOf (now (grammar .entry))) (ruleIn (now (row .entry)))) (now (row .entry))) (edgeAt (rightOf (grammarOf (now (grammar .entry))) (ruleIn (now (row .entry))) .edges) i .attachment)) used g ⌝ }
 {
     if layout::graph_edges(graph) <= g {
         return false;
     }
-    let label = layout::edge_label(grammar, lines::number(line, 1), i);
+    let label = layout::edge_label(grammar, row[1], i);
     if layout::graph_label(graph, g) != label {
         return false;
     }
-    if !nodes_fit(grammar, graph, line, i, g) {
+    if !nodes_fit(grammar, graph, row, i, g) {
         return false;
     }
     !masks::has(used, g)

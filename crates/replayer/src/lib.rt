@@ -1,24 +1,22 @@
 // The replay of a derivation file.
 ghost use mathlib.Core.Path.{_≡_};
-ghost use mathlib.Core.Bool.{true, false, _&&_};
+ghost use mathlib.Core.Bool.{true, _&&_};
 ghost use Prim.Native.Nat.{ℕ, _+_, _≤_, _<_};
-ghost use lib.ListN.{getD, take};
+ghost use lib.ListN.{length, getD, set, take, drop, replicate};
 ghost use lib.Dec.{eqb};
 ghost use Rattle.masks.specs.Masks.{_∪_, single, full};
-ghost use Rattle.format.specs.Lines.{afterLine};
-ghost use Rattle.format.specs.Fields.{fieldsOf};
-ghost use Rattle.format.specs.Shape.{shapeOf};
+ghost use Rattle.format.specs.Lines.{lineOf, afterLine};
 ghost use Rattle.scripts.specs.Scripts.{rowsIn};
 ghost use Rattle.hrg.specs.Counts.{tabulate};
-ghost use Rattle.hrg.specs.Grammars.{rightOf, rankOf};
+ghost use Rattle.hrg.specs.Grammars.{rankOf};
 ghost use Rattle.questions.specs.Layout.{graphNodes, graphEdges, graphExternal};
 ghost use Rattle.questions.specs.Checking.{checkGrammar};
 ghost use Rattle.questions.specs.Abstract.{grammarOf, graphOf};
 ghost use Rattle.joins.specs.Joins.{Accepted};
-ghost use Rattle.preorder.specs.Replay.{ruleIn, newNodes, replayed};
+ghost use Rattle.preorder.specs.Replay.{replayed};
 ghost use Rattle.derivation.specs.Derivations.{replayText};
 ghost use Rattle.replayer.specs.Fitting.{countIn, withAll, SizedRow};
-ghost use Rattle.replayer.specs.Following.{textRows, RowsAt, Stands, Applied, Followed, RuledRow, partOf};
+ghost use Rattle.replayer.specs.Following.{textRows, RowsAt, progressIn, Stands, Applied, Followed, RuledRow, partOf};
 ghost use Rattle.replayer.specs.Verdicts.{replayOf, Exact};
 
 mod fitting;
@@ -30,13 +28,10 @@ pub enum Verdict {
     Passed,
 }
 
-// How far a replay came: whether it passes so far, the number of the next row, the place of its line, and the graph edges and graph nodes used.
-struct Progress {
-    ok: bool,
-    next: u64,
-    at: usize,
-    edges: u64,
-    nodes: u64,
+// What the tests of a row answer: it is not taken, or it is, and then these graph nodes are used.
+enum Taken {
+    Not,
+    With(u64),
 }
 
 // What a row says of an edge of its rule: it has no such edge, a graph edge, or an application for a symbol by its number.
@@ -47,57 +42,39 @@ enum Part {
 }
 
 // ---- steps of a replay
-fn failed() -> Progress
-    ensures { λ r. ⌜ r .ok ≡ false ⌝ }
-{
-    Progress {
-        ok: false,
-        next: 0,
-        at: 0,
-        edges: 0,
-        nodes: 0,
-    }
-}
+// How far it came is kept in four words that are lent all the way down, since a copy for each call is slow: the number of the next row, the place of its line, and the graph edges and the graph nodes used.
 
 // One graph edge more is used.
-fn with_edge(st: Progress, g: u64) -> Progress
-    requires { ⌜ g < 64 ⌝ }
-    ensures { λ r. ⌜ r ≡ record { ok = st .ok; next = st .next; at = st .at; edges = st .edges ∪ single g; nodes = st .nodes } ⌝ }
+fn use_edge(st: &mut [u64], g: u64)
+    requires { ⌜ (g < 64) × (length (now st) ≡ 4) ⌝ }
+    ensures { λ r. ⌜ now (st .exit) ≡ set (now (st .entry)) 2 (getD (now (st .entry)) 2 0 ∪ single g) ⌝ }
 {
-    Progress {
-        ok: st.ok,
-        next: st.next,
-        at: st.at,
-        edges: masks::with(st.edges, g),
-        nodes: st.nodes,
-    }
+    st[2] = masks::with(st[2], g);
 }
 
-// The row of the line is taken: its inner nodes are used, and the next row is due.
-fn opened(grammar: &[u64], graph: &[u64], text: &[u8], line: &[u8], st: Progress) -> Progress
-    requires { ⌜ Accepted (now grammar) (now graph) × (shapeOf (now line) ≡ true) × SizedRow (grammarOf (now grammar)) (graphOf (now grammar) (now graph)) (fieldsOf (now line)) × (st .next < 4096) ⌝ }
-    ensures { λ r. ⌜ r ≡ record { ok = st .ok; next = st .next + 1; at = afterLine (now (text .entry)) (st .at); edges = st .edges; nodes = withAll (st .nodes) (newNodes (rightOf (grammarOf (now (grammar .entry))) (ruleIn (fieldsOf (now (line .entry))))) (fieldsOf (now (line .entry)))) } ⌝ }
+// The row of the line is taken: these nodes are used, and the next row is due.
+fn open_row(text: &[u8], line: &[u8], nodes: u64, st: &mut [u64])
+    requires { ⌜ (length (now st) ≡ 4) × (getD (now st) 0 0 < 4096) × (getD (now st) 1 0 ≤ length (now text)) × (now line ≡ lineOf (drop (getD (now st) 1 0) (now text))) ⌝ }
+    ensures { λ r. ⌜ now (st .exit) ≡ set (set (set (now (st .entry)) 0 (getD (now (st .entry)) 0 0 + 1)) 1 (afterLine (now (text .entry)) (getD (now (st .entry)) 1 0))) 3 nodes ⌝ }
 {
-    Progress {
-        ok: st.ok,
-        next: st.next + 1,
-        at: lines::after_line(text, st.at),
-        edges: st.edges,
-        nodes: fitting::with_nodes(grammar, graph, line, st.nodes),
-    }
+    let next = st[0] + 1;
+    let at = lines::behind(text, st[1] as usize, line);
+    st[0] = next;
+    st[1] = at as u64;
+    st[3] = nodes;
 }
 
-// What the line says of edge i of its rule.
-fn part_at(grammar: &[u64], line: &[u8], i: u64) -> Part
-    requires { ⌜ (checkGrammar (now grammar) ≡ true) × RuledRow (grammarOf (now grammar)) (fieldsOf (now line)) ⌝ }
-    ensures { λ r. ⌜ r ≡ partOf (grammarOf (now (grammar .entry))) (fieldsOf (now (line .entry))) i ⌝ }
+// What the row says of edge i of its rule.
+fn part_at(grammar: &[u64], row: &[u64], i: u64) -> Part
+    requires { ⌜ (checkGrammar (now grammar) ≡ true) × RuledRow (grammarOf (now grammar)) (now row) ⌝ }
+    ensures { λ r. ⌜ r ≡ partOf (grammarOf (now (grammar .entry))) (now (row .entry)) i ⌝ }
 {
-    let rule = lines::number(line, 1);
+    let rule = row[1];
     if layout::rule_edges(grammar, rule) <= i {
         return Part::End;
     }
     let at = 2 + layout::rule_nodes(grammar, rule) + i;
-    let field = lines::number(line, at as usize);
+    let field = row[at as usize];
     let s = layout::edge_label(grammar, rule, i);
     match layout::kind_of(grammar, s) {
         0 => Part::GraphEdge(field),
@@ -106,76 +83,76 @@ fn part_at(grammar: &[u64], line: &[u8], i: u64) -> Part
 }
 
 // ---- the replay: `left` calls are left
-// The next row, for an edge s on the listed nodes.
+// The next row, for an edge s on the listed nodes. Its numbers are read once, for all that is asked of them.
 fn application(
     grammar: &[u64],
     graph: &[u64],
     text: &[u8],
     s: u64,
-    listed: [u64; 4],
+    listed: &[u64; 4],
     left: u64,
-    st: Progress,
-) -> Progress
-    requires { ⌜ Accepted (now grammar) (now graph) × RowsAt (now text) (st .next) (st .at) ⌝ }
-    ensures { λ r. ⌜ Applied (grammarOf (now (grammar .entry))) (graphOf (now (grammar .entry)) (now (graph .entry))) (now (text .entry)) s (take (rankOf (grammarOf (now (grammar .entry))) s) listed) left st r ⌝ }
+    st: &mut [u64],
+) -> bool
+    requires { ⌜ Accepted (now grammar) (now graph) × RowsAt (now text) (getD (now st) 0 0) (getD (now st) 1 0) × (length (now listed) ≡ 4) × (length (now st) ≡ 4) ⌝ }
+    ensures { λ r. ⌜ Applied (grammarOf (now (grammar .entry))) (graphOf (now (grammar .entry)) (now (graph .entry))) (now (text .entry)) s (take (rankOf (grammarOf (now (grammar .entry))) s) (now (listed .entry))) left (progressIn true (now (st .entry))) (progressIn r (now (st .exit))) ⌝ }
 {
     if left == 0 {
-        return failed();
+        return false;
     }
-    if text.len() <= st.at {
-        return failed();
+    let at = st[1] as usize;
+    if text.len() <= at {
+        return false;
     }
-    let line = lines::next_line(text, st.at);
-    if !fitting::row_passes(grammar, graph, line, st.next, s, listed, st.nodes) {
-        return failed();
+    let line = lines::next_line(text, at);
+    let mut fields = [0u64; 18];
+    let count = lines::read_row(line, &mut fields);
+    let row = &fields[..count];
+    let taken = fitting::taken(grammar, graph, row, st[0], s, listed, st[3]);
+    match taken {
+        Taken::Not => false,
+        Taken::With(nodes) => {
+            open_row(text, line, nodes, st);
+            edge_list(grammar, graph, text, row, 0, left - 1, st)
+        }
     }
-    let opening = opened(grammar, graph, text, line, st);
-    edge_list(grammar, graph, text, line, 0, left - 1, opening)
 }
 
-// The edges of the line's rule, from edge i on.
+// The edges of the row's rule, from edge i on.
 fn edge_list(
     grammar: &[u64],
     graph: &[u64],
     text: &[u8],
-    line: &[u8],
+    row: &[u64],
     i: u64,
     left: u64,
-    st: Progress,
-) -> Progress
-    requires { ⌜ Accepted (now grammar) (now graph) × (shapeOf (now line) ≡ true) × SizedRow (grammarOf (now grammar)) (graphOf (now grammar) (now graph)) (fieldsOf (now line)) × RowsAt (now text) (st .next) (st .at) ⌝ }
-    ensures { λ r. ⌜ Followed (grammarOf (now (grammar .entry))) (graphOf (now (grammar .entry)) (now (graph .entry))) (now (text .entry)) (fieldsOf (now (line .entry))) i left st r ⌝ }
+    st: &mut [u64],
+) -> bool
+    requires { ⌜ Accepted (now grammar) (now graph) × SizedRow (grammarOf (now grammar)) (graphOf (now grammar) (now graph)) (now row) × RowsAt (now text) (getD (now st) 0 0) (getD (now st) 1 0) × (length (now st) ≡ 4) ⌝ }
+    ensures { λ r. ⌜ Followed (grammarOf (now (grammar .entry))) (graphOf (now (grammar .entry)) (now (graph .entry))) (now (text .entry)) (now (row .entry)) i left (progressIn true (now (st .entry))) (progressIn r (now (st .exit))) ⌝ }
 {
     if left == 0 {
-        return failed();
+        return false;
     }
-    let part = part_at(grammar, line, i);
+    let part = part_at(grammar, row, i);
     match part {
-        Part::End => st,
+        Part::End => true,
         Part::GraphEdge(g) => {
-            if !fitting::edge_passes(grammar, graph, line, i, g, st.edges) {
-                return failed();
+            if !fitting::edge_passes(grammar, graph, row, i, g, st[2]) {
+                return false;
             }
-            edge_list(
-                grammar,
-                graph,
-                text,
-                line,
-                i + 1,
-                left - 1,
-                with_edge(st, g),
-            )
+            use_edge(st, g);
+            edge_list(grammar, graph, text, row, i + 1, left - 1, st)
         }
         Part::Application(s, number) => {
-            if number != st.next {
-                return failed();
+            if number != st[0] {
+                return false;
             }
-            let listed = fitting::listed_nodes(grammar, graph, line, i);
-            let under = application(grammar, graph, text, s, listed, left - 1, st);
-            if !under.ok {
-                return under;
+            let mut listed = [64u64; 4];
+            fitting::list_nodes(grammar, graph, row, i, &mut listed);
+            if !application(grammar, graph, text, s, &listed, left - 1, st) {
+                return false;
             }
-            edge_list(grammar, graph, text, line, i + 1, left - 1, under)
+            edge_list(grammar, graph, text, row, i + 1, left - 1, st)
         }
     }
 }
@@ -208,31 +185,25 @@ fn mask_of(listed: [u64; 4], n: u64) -> u64
 }
 
 // The replay of the n rows of the text, from one edge with the start symbol on the external nodes. A row takes at most ten calls.
-fn from_start(grammar: &[u64], graph: &[u64], text: &[u8], n: u64) -> Progress
-    requires { ⌜ Accepted (now grammar) (now graph) × (n ≡ countIn (rowsIn (now text))) × (0 < n) ⌝ }
-    ensures { λ r. ⌜ Stands (graphOf (now (grammar .entry)) (now (graph .entry))) r (replayed (grammarOf (now (grammar .entry))) (graphOf (now (grammar .entry)) (now (graph .entry))) (textRows (now (text .entry)))) ⌝ }
+fn from_start(grammar: &[u64], graph: &[u64], text: &[u8], n: u64, st: &mut [u64]) -> bool
+    requires { ⌜ Accepted (now grammar) (now graph) × (n ≡ countIn (rowsIn (now text))) × (0 < n) × (now st ≡ replicate 4 0) ⌝ }
+    ensures { λ r. ⌜ Stands (graphOf (now (grammar .entry)) (now (graph .entry))) (progressIn r (now (st .exit))) (replayed (grammarOf (now (grammar .entry))) (graphOf (now (grammar .entry)) (now (graph .entry))) (textRows (now (text .entry)))) ⌝ }
 {
     let s = layout::start_symbol(grammar);
     let listed = externals(graph);
-    let nodes = mask_of(listed, layout::rank_at(grammar, s));
-    let st = Progress {
-        ok: true,
-        next: 0,
-        at: lines::after_line(text, 0),
-        edges: 0,
-        nodes,
-    };
-    application(grammar, graph, text, s, listed, 10 * n, st)
+    st[1] = lines::after_line(text, 0) as u64;
+    st[3] = mask_of(listed, layout::rank_at(grammar, s));
+    application(grammar, graph, text, s, &listed, 10 * n, st)
 }
 
 // Whether all n rows, graph edges and graph nodes are used.
-fn is_whole(graph: &[u64], n: u64, st: Progress) -> bool
-    requires { ⌜ (graphNodes (now graph) ≤ 64) × (graphEdges (now graph) ≤ 64) ⌝ }
-    ensures { λ r. ⌜ r ≡ (st .ok && eqb (st .next) n && eqb (st .edges) (full (graphEdges (now (graph .entry)))) && eqb (st .nodes) (full (graphNodes (now (graph .entry))))) ⌝ }
+fn is_whole(graph: &[u64], n: u64, st: &[u64]) -> bool
+    requires { ⌜ (graphNodes (now graph) ≤ 64) × (graphEdges (now graph) ≤ 64) × (length (now st) ≡ 4) ⌝ }
+    ensures { λ r. ⌜ r ≡ (eqb (getD (now (st .entry)) 0 0) n && eqb (getD (now (st .entry)) 2 0) (full (graphEdges (now (graph .entry)))) && eqb (getD (now (st .entry)) 3 0) (full (graphNodes (now (graph .entry))))) ⌝ }
 {
     let edges = masks::full(layout::graph_edges(graph));
     let nodes = masks::full(layout::graph_nodes(graph));
-    st.ok & (st.next == n) & (st.edges == edges) & (st.nodes == nodes)
+    (st[0] == n) & (st[2] == edges) & (st[3] == nodes)
 }
 
 // Question 13 for accepted tables: is the text a derivation of the graph?
@@ -244,8 +215,11 @@ pub fn passes(grammar: &[u64], graph: &[u64], text: &[u8]) -> bool
     if n == 0 {
         return false;
     }
-    let st = from_start(grammar, graph, text, n);
-    is_whole(graph, n, st)
+    let mut st = [0u64; 4];
+    if !from_start(grammar, graph, text, n, &mut st) {
+        return false;
+    }
+    is_whole(graph, n, &st)
 }
 
 // Questions 8 and 13.

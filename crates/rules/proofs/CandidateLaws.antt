@@ -2,7 +2,7 @@
 use mathlib.Core.Path.{_≡_, refl, sym, ap, _∙_}
 use mathlib.Core.Bool.{Bool, true, false, _&&_, not, cond, false≢true, or-true}
 use mathlib.Core.List.{List, [], _∷_, _++_, map}
-use Prim.Native.Nat.{ℕ, _+_, _-_, _*_, _^_, _≤_, _<_}
+use Prim.Native.Nat.{ℕ, _+_, _-_, _*_, _%_, _^_, _≤_, _<_}
 use native.Mathlib.Omega.{arith}
 use lib.ListN.{length, getD, take}
 use lib.Seq.{getD-take}
@@ -125,19 +125,22 @@ module _ (g h : List ℕ) (accepted : Accepted g h) (x : Record) where
     module _ (near : want < 64) where
       -- the plan node above
       module _ (up : Parent) (there : ParentAt g (x .of) (x .plan) up) where
-        pub candidates-nowhere : 16 ≤ up .node → Candidates g h x 0
-        candidates-nowhere far = absurd (omega (arith, is, want-missing g (x .of) (x .plan) _ (there .above) (le-ltb (up .node) 16 far)))
+        abbrev q : ℕ
+        q = up .word % 32
 
-        pub introduces : up .node < 16 → (i : ℕ) → i ≡ planSecond g (x .of) (up .node) → Introduces g h x want i
+        pub candidates-nowhere : 16 ≤ q → Candidates g h x 0
+        candidates-nowhere far = absurd (omega (arith, is, want-missing g (x .of) (x .plan) _ (there .above) (le-ltb q 16 far)))
+
+        pub introduces : q < 16 → (i : ℕ) → i ≡ planSecond g (x .of) q → Introduces g h x want i
         introduces l i second =
-            let found = lt-ltb (up .node) 16 l in
+            let found = lt-ltb q 16 l in
             let k = there .above .known found in
-            let node = planNode (planOf G (x .of)) (up .node) in
+            let node = planNode (planOf G (x .of)) q in
             let told : want ≡ getD (wantsAt G (x .of) (x .plan) node) 0 80 = is ∙ sym (want-found g (x .of) (x .plan) _ (there .above) found (getD (wantsAt G (x .of) (x .plan) node) 0 80) refl) in
             let (j, shape, label) = introduced G (x .of) (x .plan) want near node told in
-            let same : i ≡ j = second ∙ second-is (planKind g (x .of) (up .node)) (planFirst g (x .of) (up .node)) (planSecond g (x .of) (up .node)) (x .plan) j (sym (node-is g (x .of) (up .node) k (planKind g (x .of) (up .node)) refl) ∙ shape) in
+            let same : i ≡ j = second ∙ second-is (planKind g (x .of) q) (planFirst g (x .of) q) (planSecond g (x .of) q) (x .plan) j (sym (node-is g (x .of) q k (planKind g (x .of) q) refl) ∙ shape) in
             record {
-              above = up .node;
+              above = q;
               here = record { accepted = accepted; node = k; isActive = isActive };
               parent = there .above .parent found;
               node = shape ∙ ap (introduce (x .plan)) (sym same);

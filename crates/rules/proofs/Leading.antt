@@ -1,12 +1,12 @@
 -- A record whose plan node is the first child of the one above it never comes second, and any other never first.
 use mathlib.Core.Path.{_≡_, refl, sym, ap, ap₂, _∙_}
-use mathlib.Core.Bool.{Bool, true, false, _&&_, cond, false≢true}
+use mathlib.Core.Bool.{Bool, true, false, _&&_, not, cond, false≢true}
 use mathlib.Core.List.{List, [], _∷_}
-use Prim.Native.Nat.{ℕ, zero, suc, _+_, _≤_, _<_}
+use Prim.Native.Nat.{ℕ, zero, suc, _+_, _/_, _%_, _≤_, _<_}
 use native.Mathlib.Omega.{arith}
 use lib.ListN.{length, take}
 use lib.Dec.{eqb}
-use borrow.Author.Tests.{eq-eqb, ne-eqb, eqb-true, eqb-false, lt-ltb, le-ltb}
+use borrow.Author.Tests.{eq-eqb, ne-eqb, eqb-true, eqb-false, lt-ltb, le-ltb, not-true, not-false}
 use Rattle.hrg.specs.Counts.{hit, occurs}
 use Rattle.hrg.specs.Grammars.{Graph, PlanNode, leaf, introduce, join, Rule, Grammar, ruleOf, rightOf, planOf, planNode}
 use Rattle.hrg.specs.Items.{Item, active, passive}
@@ -26,6 +26,7 @@ use Rattle.rules.specs.Plans.{ParentAt, Leads}
 use Rattle.rules.proofs.Parents.{child-lower}
 use Rattle.rules.proofs.RuleItems.{guard-none, each-none, item-active, pair-passive, binary-nowhere}
 use Rattle.rules.proofs.Meeting.{rule-or-none}
+use Rattle.rules.proofs.JoinWords.{join-first, join-later as word-later}
 
 -- ---- the first child of a plan node, d where there is none
 abbrev firstOf : ℕ → PlanNode → ℕ
@@ -97,7 +98,7 @@ binary-earlier G H r p m f h r′ p′ m′ k = rule-or-none (eqb r′ r) _ (λ 
         (λ a b n s. h q a b (omega (arith, ap (λ r. length (planOf G r)) e)) (ap (λ r. planNode (planOf G r) q) (sym e) ∙ n) s))
 
 -- ---- a plan node is a child at most once
-child-some : (pl : List PlanNode) (c q : ℕ) → occurs c (children (planNode pl q)) ≤ occurs c (allChildren pl)
+pub child-some : (pl : List PlanNode) (c q : ℕ) → occurs c (children (planNode pl q)) ≤ occurs c (allChildren pl)
 unfolding allChildren occurs
 child-some [] c q = omega arith
 child-some (n ∷ pl) c zero = omega (arith, occurs-append c (children n) (allChildren pl))
@@ -115,31 +116,37 @@ module _ (g : List ℕ) (checked : checkGrammar g ≡ true) (x : Record) where
   leads-passive k = record { not = λ e H y. pair-passive G H x y (ne-eqb (x .kind) 0 k); yes = λ e. absurd (false≢true e) }
 
   module _ (k : x .kind ≡ 0) (above : Parent) (is : ParentAt g (x .of) (x .plan) above) where
+    abbrev up : ℕ
+    up = above .word % 32
+
     item : itemOf G x ≡ active (x .of) (x .plan) (x .edges) (take (rightOf G (x .of) .nodes) (x .nodes))
     item = item-active G x (eq-eqb (x .kind) 0 k)
 
-    pub leads-nowhere : 16 ≤ above .node → Leads g x false
+    pub leads-nowhere : 16 ≤ up → Leads g x false
     leads-nowhere l = record {
       not = λ e H y.
           ap (λ (i : Item). binaryOf G H i (itemOf G y)) item
-          ∙ binary-nowhere G H _ _ _ _ (is .above .nowhere (le-ltb (above .node) 16 l) .none) (itemOf G y);
+          ∙ binary-nowhere G H _ _ _ _ (is .above .nowhere (le-ltb up 16 l) .none) (itemOf G y);
       yes = λ e. absurd (false≢true e);
     }
 
-    module _ (l : above .node < 16) (c : ℕ) (first : c ≡ planFirst g (x .of) (above .node)) where
-      known : KnownNode g (x .of) (above .node)
-      known = is .above .known (lt-ltb (above .node) 16 l)
+    module _ (l : up < 16) where
+      abbrev c : ℕ
+      c = planFirst g (x .of) up
 
-      only : (q : ℕ) → q < length pl → 0 < occurs (x .plan) (children (planNode pl q)) → q ≡ above .node
-      only q n o = is .above .parent (lt-ltb (above .node) 16 l) .only q (omega (arith, plan-size g (x .of) checked (known .rule))) o
+      known : KnownNode g (x .of) up
+      known = is .above .known (lt-ltb up 16 l)
 
-      from : planNode pl (above .node) ≡ planFrom (planKind g (x .of) (above .node)) c (planSecond g (x .of) (above .node))
-      from = node-is g (x .of) (above .node) known _ refl ∙ ap (λ c. planFrom (planKind g (x .of) (above .node)) c (planSecond g (x .of) (above .node))) (sym first)
+      only : (q : ℕ) → q < length pl → 0 < occurs (x .plan) (children (planNode pl q)) → q ≡ up
+      only q n o = is .above .parent (lt-ltb up 16 l) .only q (omega (arith, plan-size g (x .of) checked (known .rule))) o
+
+      from : planNode pl up ≡ planFrom (planKind g (x .of) up) c (planSecond g (x .of) up)
+      from = node-is g (x .of) up known _ refl
 
       not-first : (c ≡ x .plan → ⊥) → (q : ℕ) → q < length pl → firstOf (suc (x .plan)) (planNode pl q) ≡ x .plan → ⊥
       not-first n q d e =
-          let s : q ≡ above .node = only q d (first-occurs (x .plan) (planNode pl q) e) in
-          first-other (x .plan) (planKind g (x .of) (above .node)) c (planSecond g (x .of) (above .node)) n
+          let s : q ≡ up = only q d (first-occurs (x .plan) (planNode pl q) e) in
+          first-other (x .plan) (planKind g (x .of) up) c (planSecond g (x .of) up) n
           (ap (firstOf (suc (x .plan))) (sym from) ∙ ap (λ q. firstOf (suc (x .plan)) (planNode pl q)) (sym s) ∙ e)
 
       not-second : c ≡ x .plan → (q a b : ℕ) → q < length pl → planNode pl q ≡ join a b → b ≡ x .plan → ⊥
@@ -147,9 +154,9 @@ module _ (g : List ℕ) (checked : checkGrammar g ≡ true) (x : Record) where
       not-second n q a b d node e =
           let two : occurs (x .plan) (children (planNode pl q)) ≡ hit (x .plan) a + (hit (x .plan) b + 0) = ap (λ (n : PlanNode). occurs (x .plan) (children n)) node in
           let hit-b : hit (x .plan) b ≡ 1 = ap (hit (x .plan)) e ∙ hit-self (x .plan) in
-          let s : q ≡ above .node = only q d (omega arith) in
+          let s : q ≡ up = only q d (omega arith) in
           let same : a ≡ x .plan =
-          ap (firstOf c) (sym node) ∙ ap (λ q. firstOf c (planNode pl q)) s ∙ ap (firstOf c) from ∙ first-from (planKind g (x .of) (above .node)) c (planSecond g (x .of) (above .node)) ∙ n
+          ap (firstOf c) (sym node) ∙ ap (λ q. firstOf c (planNode pl q)) s ∙ ap (firstOf c) from ∙ first-from (planKind g (x .of) up) c (planSecond g (x .of) up) ∙ n
           in
           let hit-a : hit (x .plan) a ≡ 1 = ap (hit (x .plan)) same ∙ hit-self (x .plan) in
           let size = plan-size g (x .of) checked (known .rule) in
@@ -160,8 +167,11 @@ module _ (g : List ℕ) (checked : checkGrammar g ≡ true) (x : Record) where
       second-none n H y true t = ap₂ (binaryOf G H) (item-active G y t) item ∙ binary-earlier G H _ _ _ _ (not-second n) _ _ _ _
       second-none n H y false t = pair-passive G H y x t
 
-      pub leads-first : Leads g x (eqb c (x .plan))
+      -- which of its parent's children x is at, is told by the word
+      pub leads-first : Leads g x (not (eqb (above .word / 32 % 4) 3))
       leads-first = record {
-        not = λ e H y. ap (λ (i : Item). binaryOf G H i (itemOf G y)) item ∙ binary-later G H _ _ _ _ (not-first (eqb-false c (x .plan) e)) (itemOf G y);
-        yes = λ e H y. second-none (eqb-true c (x .plan) e) H y (eqb (y .kind) 0) refl;
+        not = λ e H y.
+            ap (λ (i : Item). binaryOf G H i (itemOf G y)) item
+            ∙ binary-later G H _ _ _ _ (not-first (word-later g (x .of) (x .plan) (above .word) (is .join l) (eqb-true (above .word / 32 % 4) 3 (not-false _ e)) .0)) (itemOf G y);
+        yes = λ e H y. second-none (join-first g (x .of) (x .plan) (above .word) (is .join l) (eqb-false (above .word / 32 % 4) 3 (not-true _ e)) .0) H y (eqb (y .kind) 0) refl;
       }

@@ -2,6 +2,8 @@
 -- the parent of a plan node, and lists of nodes
 pub mod Parents
 pub mod NodeLists
+-- a plan node as one number
+pub mod JoinWords
 -- what a rule makes, as at most one item
 pub mod RuleItems
 pub mod RuleAnswers

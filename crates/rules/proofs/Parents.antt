@@ -72,7 +72,7 @@ module _ (g : List ℕ) (r p : ℕ) (checked : checkGrammar g ≡ true) (rule : 
   pub child-lower : (q : ℕ) → q < rulePlan g r → 0 < occurs p (children (planNode pl q)) → p < q
   child-lower q l h = ok .lower q p (omega (arith, plan-size g r checked rule)) h
 
-  once : (q q′ : ℕ) → q < q′ → q′ < rulePlan g r → 0 < occurs p (children (planNode pl q)) → 0 < occurs p (children (planNode pl q′)) → ⊥
+  pub once : (q q′ : ℕ) → q < q′ → q′ < rulePlan g r → 0 < occurs p (children (planNode pl q)) → 0 < occurs p (children (planNode pl q′)) → ⊥
   once q q′ l n h k =
       omega (arith, two-parents pl p q q′ l h k, child-lower q (omega arith) h, ok .child-once p (omega (arith, child-lower q (omega arith) h, plan-size g r checked rule)))
 

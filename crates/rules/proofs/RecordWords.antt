@@ -134,7 +134,7 @@ module _ (w k t : List ℕ) (r q m : ℕ) (long : length w ≡ 16) (kept : lengt
   }
 
 -- ---- what a pair makes, in words
-module _ (g h x y w k t : List ℕ) (j : Joined) (p : Place) (b : Bool) (c : ℕ) (size : length x ≡ 16) (long : length w ≡ 16) (kind : ofWords w .kind ≡ 0) (handled : ofWords w .handled ≡ 0) (kept : length k ≡ length (mapIn w)) where
+module _ (g h x y w k t : List ℕ) (j : Joined) (p : Place) (b : Bool) (size : length x ≡ 16) (long : length w ≡ 16) (kind : ofWords w .kind ≡ 0) (handled : ofWords w .handled ≡ 0) (kept : length k ≡ length (mapIn w)) where
   abbrev r : ℕ
   r = ofWords x .of
 
@@ -145,15 +145,15 @@ module _ (g h x y w k t : List ℕ) (j : Joined) (p : Place) (b : Bool) (c : ℕ
   nodes = ruleNodes g (ofWords x .of)
 
   pub pair-into-made : length t ≡ length (mapIn (withItem w k r (p .node) m)) → ofWords x .kind ≡ 0 → (above : Above g (ofWords x .of) (ofWords x .plan) p) (found : p .found ≡ true)
-      → Second g r (p .node) (ofWords y) k b → b ≡ true → c ≡ planFirst g r (p .node) → c ≡ ofWords x .plan
+      → Second g r (p .node) (ofWords y) k b → b ≡ true → planFirst g r (p .node) ≡ ofWords x .plan
       → Makes g h (combine (graphOf g h) (ruleOf (grammarOf g) r) r (p .node) (ofWords x .edges) (ofWords y .edges) (take nodes (mapIn x)) (take nodes (mapIn (withItem w k r (p .node) m)))) r (p .node) (ofWords x .edges ∪ ofWords y .edges) t j
       → Into g h (binaryOf (grammarOf g) (graphOf g h) (itemOf (grammarOf g) (ofWords x)) (itemOf (grammarOf g) (ofWords y))) w (record { found = j .found; images = j .images }) (withMap (withItem w k r (p .node) m) t)
   unfolding _∪_
-  pair-into-made kept′ isActive above found second holds first here makes =
+  pair-into-made kept′ isActive above found second holds first makes =
       into-made g h
       (combine (graphOf g h) (ruleOf (grammarOf g) r) r (p .node) (ofWords x .edges) (ofWords y .edges) (take nodes (mapIn x)) (take nodes (mapIn (withItem w k r (p .node) m))))
       (binaryOf (grammarOf g) (graphOf g h) (itemOf (grammarOf g) (ofWords x)) (itemOf (grammarOf g) (ofWords y)))
       r (p .node) m t j w (withMap (withItem w k r (p .node) m) t) makes
       (ap (λ (k : List ℕ). combine (graphOf g h) (ruleOf (grammarOf g) r) r (p .node) (ofWords x .edges) (ofWords y .edges) (take nodes (mapIn x)) (take nodes k)) (item-map w k long kept r (p .node) m)
-      ∙ pair-both g h (ofWords x) (ofWords y) isActive p above found k b second holds c first here (mapIn x) (map-words x size))
+      ∙ pair-both g h (ofWords x) (ofWords y) isActive p above found k b second holds first (mapIn x) (map-words x size))
       (made-record w k t r (p .node) m long kept kept′ kind handled) (made-rest w k t r (p .node) m long kept kept′ kind handled)

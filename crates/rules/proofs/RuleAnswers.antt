@@ -2,7 +2,7 @@
 use mathlib.Core.Path.{_≡_, refl, sym, ap, ap₂, _∙_, subst}
 use mathlib.Core.Bool.{Bool, true, false, _&&_, cond, true≢false, false≢true}
 use mathlib.Core.List.{List, [], _∷_, map}
-use Prim.Native.Nat.{ℕ, _≤_, _<_}
+use Prim.Native.Nat.{ℕ, _/_, _%_, _≤_, _<_}
 use native.Mathlib.Omega.{arith}
 use lib.ListN.{length, take}
 use lib.Seq.{length-take-le}
@@ -18,23 +18,24 @@ use Rattle.hrg.specs.Items.{Item, active, passive, attach}
 use Rattle.hrg.specs.WellFormed.{children, EdgeOk}
 use Rattle.hrg.specs.ClosureRun.{guard, combine, nonterminalAt, joinAt, binaryOf}
 use Rattle.hrg.proofs.Sums.{none-left}
-use Rattle.hrg.proofs.Plans.{introduce-known}
 use Rattle.agenda.specs.Records.{recordOf, itemOf, plus}
 use Rattle.agenda.specs.Consequences.{withTerminal, pair}
 use Rattle.agenda.specs.declared.Record.{Record}
 use Rattle.records.specs.Words.{ofWords}
-use Rattle.questions.specs.Layout.{rankAt, ruleNodes, ruleEdges, edgeLabel, planKind, planFirst, planSecond, graphEdges, graphLabel}
+use Rattle.questions.specs.Layout.{rankAt, ruleNodes, edgeLabel, planKind, planFirst, planSecond, graphEdges, graphLabel}
 use Rattle.questions.specs.Abstract.{grammarOf, graphOf}
 use Rattle.questions.proofs.WellFormedLent.{checked-grammar-ok}
 use Rattle.joins.specs.declared.Joined.{Joined}
 use Rattle.rules.specs.declared.Filled.{Filled}
 use Rattle.rules.specs.declared.Place.{Place}
 use Rattle.joins.specs.Joins.{Accepted, KnownNode, KnownEdge, Spans, BareFrom, Makes, edgeNodes}
+use Rattle.rules.specs.Plans.{secondWord}
 use Rattle.rules.specs.Rules.{Rest, Into, Second, terminalItems, binaryAt, Above}
-use Rattle.joins.proofs.Known.{right-nodes, nodes-few, plan-ok, plan-size, graph-size, graph-ok, graph-edges-few}
-use Rattle.joins.proofs.PlanMasks.{node-is, introduced-is, joined-is}
+use Rattle.joins.proofs.Known.{right-nodes, nodes-few, plan-size, graph-size, graph-ok, graph-edges-few}
+use Rattle.joins.proofs.PlanMasks.{node-is, joined-is}
 use Rattle.joins.proofs.EdgeMaps.{edge-ok, edge-label as rule-label, edge-rank, take-padded, padded-bare, length-attach}
 use Rattle.joins.proofs.Openness.{spans-left, spans-right}
+use Rattle.rules.proofs.JoinWords.{introduced, second-edge, asked-known, asked-label, second-other}
 use Rattle.rules.proofs.NodeLists.{label-is}
 use Rattle.rules.proofs.RuleItems.{guard-none, binary-nowhere, binary-place, firstIs, first-none, item-active, item-passive, item-edges, with-terminal, binary-apart, pair-passive, edge-pair}
 
@@ -87,14 +88,14 @@ module _ (g : List ℕ) (r q : ℕ) (known : KnownNode g r q) where
   size = right-nodes g r (known .grammar) (known .rule)
 
   -- an item that is not at the first child
-  pub first-other : (c : ℕ) → c ≡ planFirst g r q → (H : Graph) (p m : ℕ) (f : List ℕ) (b : Item) → (c ≡ p → ⊥) → binaryAt G H (active r p m f) b q ≡ []
-  first-other c e H p m f b other =
+  first-other : (H : Graph) (p m : ℕ) (f : List ℕ) (b : Item) → (planFirst g r q ≡ p → ⊥) → binaryAt G H (active r p m f) b q ≡ []
+  first-other H p m f b other =
       first-none G H r p m f b q (ap (λ (n : PlanNode). firstIs n p) (node-is g r q known (planKind g r q) refl) ∙ go (eqb (planKind g r q) 0) (eqb (planKind g r q) 1))
     where
       go : (a b : Bool) → firstIs (cond a leaf (cond b (introduce (planFirst g r q) (planSecond g r q)) (join (planFirst g r q) (planSecond g r q)))) p ≡ false
       go true b = refl
-      go false true = ne-eqb (planFirst g r q) p (λ s. other (e ∙ s))
-      go false false = ne-eqb (planFirst g r q) p (λ s. other (e ∙ s))
+      go false true = ne-eqb (planFirst g r q) p other
+      go false false = ne-eqb (planFirst g r q) p other
 
   module _ (y : Record) (t : List ℕ) where
     second-none : ((H : Graph) (p m : ℕ) (f : List ℕ) → binaryAt G H (active r p m f) (itemOf G y) q ≡ []) → Second g r q y t false
@@ -113,28 +114,19 @@ module _ (g : List ℕ) (r q : ℕ) (known : KnownNode g r q) where
     unfolding binaryAt
     with-passive e H p m f = ap (λ (b : Item). binaryAt G H (active r p m f) b q) (item-passive G y (ne-eqb (y .kind) 0 e))
 
-    pub second-leaf : (kind : ℕ) → kind ≡ planKind g r q → kind ≡ 0 → Second g r q y t false
-    second-leaf kind a e =
-        let here : node ≡ leaf = node-is g r q known kind a ∙ rw e in
-        second-none (λ H p m f. first-none G H r p m f (itemOf G y) q (ap (λ (n : PlanNode). firstIs n p) here))
-
     -- the nonterminal rule
-    module _ (kind i : ℕ) (a : kind ≡ planKind g r q) (second : i ≡ planSecond g r q) (introduces : kind ≡ 1) where
+    module _ (w i : ℕ) (asks : w ≡ secondWord g r q) (for-edge : w % 4 ≡ 1) (second : i ≡ planSecond g r q) where
       edge-node : node ≡ introduce (planFirst g r q) i
-      edge-node = introduced-is g r q known kind (planFirst g r q) i a refl second introduces
+      edge-node = introduced g r q known (second-edge g r q w asks for-edge known .0) ∙ ap (introduce (planFirst g r q)) (sym second)
 
-      pub filled-known : KnownEdge g r i
-      filled-known = record {
-        grammar = known .grammar;
-        rule = known .rule;
-        edge = introduce-known (ruleEdges g r) (planOf G r) (plan-ok g r (known .grammar) (known .rule)) q (planFirst g r q) i edge-node;
-      }
+      edge-known : KnownEdge g r i
+      edge-known = asked-known g r q w asks for-edge known i second
 
       abbrev edge : Edge
       edge = edgeAt (R .production .right .edges) i
 
       edge-label : edge .label ≡ edgeLabel g r i
-      edge-label = rule-label g r i filled-known
+      edge-label = rule-label g r i edge-known
 
       pub filled-active : y .kind ≡ 0 → Second g r q y t false
       unfolding joinAt
@@ -155,15 +147,18 @@ module _ (g : List ℕ) (r q : ℕ) (known : KnownNode g r q) where
           with-passive e H p m f
           ∙ ap (λ (n : PlanNode). nonterminalAt H R r p m f (y .of) (y .edges) (take (rankOf G (y .of)) (y .nodes)) q n) edge-node
 
-      module _ (l : ℕ) (label : l ≡ edgeLabel g r i) (isPassive : y .kind ≡ 0 → ⊥) where
-        pub filled-label : (l ≡ y .of → ⊥) → Second g r q y t false
+      module _ (isPassive : y .kind ≡ 0 → ⊥) where
+        label : w / 4 % 64 ≡ edgeLabel g r i
+        label = asked-label g r q w asks for-edge known i second
+
+        pub filled-label : (w / 4 % 64 ≡ y .of → ⊥) → Second g r q y t false
         filled-label e =
             second-none
             (λ H p m f.
             filled-items isPassive H p m f
             ∙ ap (λ b. guard b (joint H m f)) (and-no (eqb (planFirst g r q) p) (eqb (y .of) (edge .label)) (ne-eqb (y .of) (edge .label) (λ s. e (label ∙ sym (s ∙ edge-label))))))
 
-        pub filled-made : l ≡ y .of → (places : List ℕ) → y .nodes ≡ places → t ≡ padded (attach n (edgeNodes g r i) (take (rankAt g (edgeLabel g r i)) places)) → Second g r q y t true
+        pub filled-made : w / 4 % 64 ≡ y .of → (places : List ℕ) → y .nodes ≡ places → t ≡ padded (attach n (edgeNodes g r i) (take (rankAt g (edgeLabel g r i)) places)) → Second g r q y t true
         filled-made s places nodes t-is =
             second-some
             (λ H p m f d.
@@ -176,7 +171,7 @@ module _ (g : List ℕ) (r q : ℕ) (known : KnownNode g r q) where
             same = sym s ∙ label ∙ sym edge-label
 
             ranks : rankOf G (y .of) ≡ rankAt g (edgeLabel g r i)
-            ranks = ap (rankOf G) same ∙ sym (edge-ok g r i filled-known .listed .ranked) ∙ edge-rank g r i filled-known
+            ranks = ap (rankOf G) same ∙ sym (edge-ok g r i edge-known .listed .ranked) ∙ edge-rank g r i edge-known
 
             map-is : attach (R .production .right .nodes) (edge .attachment) (take (rankOf G (y .of)) (y .nodes)) ≡ take n t
             map-is =
@@ -186,9 +181,14 @@ module _ (g : List ℕ) (r q : ℕ) (known : KnownNode g r q) where
                 (nodes-few g r (known .grammar) (known .rule)))
 
     -- the join rule
-    module _ (kind d : ℕ) (a : kind ≡ planKind g r q) (second : d ≡ planSecond g r q) (not-leaf : kind ≡ 0 → ⊥) (not-introduce : kind ≡ 1 → ⊥) where
+    module _ (w : ℕ) (asks : w ≡ secondWord g r q) (not-leaf : planKind g r q ≡ 0 → ⊥) (not-edge : w % 4 ≡ 1 → ⊥) where
+      abbrev d : ℕ
+      d = w / 4
+
       join-node : node ≡ join (planFirst g r q) d
-      join-node = joined-is g r q known kind (planFirst g r q) d a refl second not-leaf not-introduce
+      join-node =
+          let other = second-other g r q w asks not-edge in
+          joined-is g r q known (planKind g r q) (planFirst g r q) d refl refl (other .1) not-leaf (other .0)
 
       pub joined-passive : (y .kind ≡ 0 → ⊥) → Second g r q y t false
       unfolding nonterminalAt
@@ -284,19 +284,19 @@ module _ (g h : List ℕ) where
         pair-at : pairs ≡ binaryAt G′ H (active (x .of) (x .plan) (x .edges) (take (rightOf G′ (x .of) .nodes) (x .nodes))) (itemOf G′ y) (p .node)
         pair-at = ap (λ (i : Item). binaryOf G′ H i (itemOf G′ y)) is ∙ binary-above g H _ _ _ _ p above found (itemOf G′ y)
 
-        pub pair-other : (c : ℕ) → c ≡ planFirst g (x .of) (p .node) → (c ≡ x .plan → ⊥) → pairs ≡ []
-        pair-other c e other = pair-at ∙ first-other g (x .of) (p .node) (above .known found) c e H _ _ _ (itemOf G′ y) other
+        pub pair-other : (planFirst g (x .of) (p .node) ≡ x .plan → ⊥) → pairs ≡ []
+        pair-other other = pair-at ∙ first-other g (x .of) (p .node) (above .known found) H _ _ _ (itemOf G′ y) other
 
         module _ (t : List ℕ) (b : Bool) (second : Second g (x .of) (p .node) y t b) where
           pub pair-neither : b ≡ false → pairs ≡ []
           pair-neither e = pair-at ∙ second .none e H _ _ _
 
-          pub pair-both : b ≡ true → (c : ℕ) → c ≡ planFirst g (x .of) (p .node) → c ≡ x .plan → (places : List ℕ) → x .nodes ≡ places
+          pub pair-both : b ≡ true → planFirst g (x .of) (p .node) ≡ x .plan → (places : List ℕ) → x .nodes ≡ places
               → combine H (ruleOf G′ (x .of)) (x .of) (p .node) (x .edges) (y .edges) (take (ruleNodes g (x .of)) places) (take (ruleNodes g (x .of)) t) ≡ pairs
-          pair-both e c first here places nodes =
+          pair-both e first places nodes =
               let known = above .known found in
               sym
-              (pair-at ∙ second .some e H _ _ _ (sym first ∙ here)
+              (pair-at ∙ second .some e H _ _ _ first
               ∙ ap₂ (λ (i : ℕ) (l : List ℕ). combine H (ruleOf G′ (x .of)) (x .of) (p .node) (x .edges) (y .edges) (take i l) (take (ruleNodes g (x .of)) t))
               (right-nodes g (x .of) (known .grammar) (known .rule)) nodes)
 

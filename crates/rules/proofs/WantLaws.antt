@@ -1,6 +1,6 @@
 -- What an item wants is told by the one plan node above it, and read off a table word by word.
 use mathlib.Core.Path.{_≡_, refl, sym, ap, ap₂, _∙_}
-use mathlib.Core.Bool.{Bool, true, false, _&&_, cond}
+use mathlib.Core.Bool.{Bool, true, false, _&&_, _||_, cond, false≢true}
 use mathlib.Core.List.{List, [], _∷_, _++_}
 use Prim.Native.Nat.{ℕ, _+_, _*_, _/_, _%_, _≤_, _<_}
 use native.Mathlib.Omega.{arith}
@@ -8,7 +8,7 @@ use native.Mathlib.Decide.{decLt}
 use lib.ListN.{length, getD, set, replicate, getD-replicate, List·getD-eq-default}
 use lib.Seq.{getD-set-same, getD-set-other}
 use lib.Dec.{eqb, ltb}
-use borrow.Author.Tests.{eq-eqb, ne-eqb, lt-ltb, le-ltb}
+use borrow.Author.Tests.{eq-eqb, ne-eqb, eqb-true, eqb-false, lt-ltb, le-ltb}
 use Rattle.hrg.specs.Counts.{hit, occurs}
 use Rattle.hrg.specs.Grammars.{Rule, Grammar, noRule, PlanNode, leaf, introduce, join, ruleOf, rightOf, planOf, planNode, edgeAt}
 use Rattle.hrg.specs.WellFormed.{children}
@@ -26,8 +26,11 @@ use Rattle.joins.proofs.PlanMasks.{node-is, introduced-is, joined-is}
 use Rattle.joins.proofs.EdgeMaps.{edge-label}
 use Rattle.rules.specs.declared.Place.{Place}
 use Rattle.rules.specs.Rules.{Above}
-use Rattle.rules.specs.Wants.{wantsAt, wantOf, wantIn, WantTable}
-use Rattle.rules.proofs.Parents.{child-lower}
+use Rattle.rules.specs.declared.plans.Parent.{Parent}
+use Rattle.rules.specs.Plans.{JoinAt, ParentAt, parentIn, PlanTable}
+use Rattle.rules.specs.Wants.{wantsAt, wantOf, wantBy, wantIn, WantTable}
+use Rattle.rules.proofs.Parents.{child-join, child-lower}
+use Rattle.rules.proofs.JoinWords.{child-kind, second-edge, second-other, join-first, join-later, later-joins}
 use Rattle.rules.proofs.RuleItems.{each-none, each-only}
 
 -- ---- a plan node that has no child p wants nothing of an item at p
@@ -77,10 +80,6 @@ module _ (g : List ℕ) (r p q : ℕ) (known : KnownNode g r q) (kind first seco
   told-is : (n : PlanNode) → planNode (planOf (grammarOf g) r) q ≡ n → getD (wantsAt (grammarOf g) r p n) 0 80 ≡ told
   told-is n e = ap (λ (n : PlanNode). getD (wantsAt (grammarOf g) r p n) 0 80) (sym e)
 
-  pub told-leaf : kind ≡ 0 → 80 ≡ told
-  unfolding wantsAt
-  told-leaf e = told-is leaf (node-is g r q known kind a ∙ rw e)
-
   -- an edge
   module _ (one : kind ≡ 1) where
     introduced : planNode (planOf (grammarOf g) r) q ≡ introduce first second
@@ -98,22 +97,10 @@ module _ (g : List ℕ) (r p q : ℕ) (known : KnownNode g r q) (kind first seco
         ∙ ap (λ (t : Bool). getD (guard t (edgeAt (rightOf (grammarOf g) r .edges) second .label ∷ [])) 0 80) (sym (eq-eqb first p e))
         ∙ told-is (introduce first second) introduced
 
-    pub told-no-edge : (first ≡ p → ⊥) → 80 ≡ told
-    unfolding wantsAt
-    told-no-edge e =
-        ap (λ (t : Bool). getD (guard t (edgeAt (rightOf (grammarOf g) r .edges) second .label ∷ [])) 0 80) (sym (ne-eqb first p e))
-        ∙ told-is (introduce first second) introduced
-
   -- two children
   module _ (x : kind ≡ 0 → ⊥) (y : kind ≡ 1 → ⊥) where
     joined : planNode (planOf (grammarOf g) r) q ≡ join first second
     joined = joined-is g r q known kind first second a b c x y
-
-    pub children-few : (first < 16) × (second < 16)
-    children-few =
-        let l = join-lower (ruleEdges g r) (planOf (grammarOf g) r) (plan-ok g r (known .grammar) (known .rule)) q first second joined in
-        let few = plan-few g r (known .grammar) (known .rule) in
-        (omega (arith, l .0, few, known .node), omega (arith, l .1, few, known .node))
 
     abbrev either : Bool → Bool → ℕ
     either s t = getD (guard s ((64 + second) ∷ []) ++ guard t ((64 + first) ∷ [])) 0 80
@@ -126,9 +113,83 @@ module _ (g : List ℕ) (r p q : ℕ) (known : KnownNode g r q) (kind first seco
     unfolding wantsAt
     told-first e d = ap₂ either (sym (ne-eqb first p e)) (sym (eq-eqb second p d)) ∙ told-is (join first second) joined
 
-    pub told-neither : (first ≡ p → ⊥) → (second ≡ p → ⊥) → 80 ≡ told
-    unfolding wantsAt
-    told-neither e d = ap₂ either (sym (ne-eqb first p e)) (sym (ne-eqb second p d)) ∙ told-is (join first second) joined
+-- ---- what the word of a plan node tells
+module _ (g : List ℕ) (r p : ℕ) (x : Parent) (is : ParentAt g r p x) where
+  abbrev w : ℕ
+  w = x .word
+
+  abbrev q : ℕ
+  q = x .word % 32
+
+  module _ (l : q < 16) where
+    found : ltb q 16 ≡ true
+    found = lt-ltb q 16 l
+
+    above : KnownNode g r q
+    above = is .above .known found
+
+    child : JoinAt g r p w
+    child = is .join l
+
+    want-edge : w / 32 % 4 ≡ 1 → w / 32 / 4 % 64 ≡ wantOf (grammarOf g) r p
+    want-edge one =
+        let first = join-first g r p w child (λ e. omega arith) in
+        let edge = second-edge g r q (w / 32) (first .1) one above in
+        want-found g r p _ (is .above) found _ (told-edge g r p q above (planKind g r q) (planFirst g r q) (planSecond g r q) refl refl refl (edge .0) _ (first .0) (edge .1))
+
+    want-second : (w / 32 % 4 ≡ 1 → ⊥) → (w / 32 % 4 ≡ 3 → ⊥) → 64 + w / 32 / 4 ≡ wantOf (grammarOf g) r p
+    want-second one three =
+        let first = join-first g r p w child three in
+        let other = second-other g r q (w / 32) (first .1) one in
+        want-found g r p _ (is .above) found _
+        (ap (λ k. 64 + k) (other .1)
+        ∙ told-second g r p q above (planKind g r q) (planFirst g r q) (planSecond g r q) refl refl refl (child-kind g r q above p (child .child)) (other .0) (first .0))
+
+    want-first : w / 32 % 4 ≡ 3 → 64 + w / 32 / 4 ≡ wantOf (grammarOf g) r p
+    want-first three =
+        let later = join-later g r p w child three in
+        let joins = later-joins g r p w child three above in
+        let is-second : planSecond g r q ≡ p = sym (second-of (eqb p (planFirst g r q)) (ne-eqb p (planFirst g r q) (λ e. later .0 (sym e))) (child-join g r q p above (planKind g r q) (planFirst g r q) (planSecond g r q) refl refl refl (joins .0) (joins .1) ∙ lt-ltb 0 _ (child .child))) in
+        want-found g r p _ (is .above) found _
+        (ap (λ k. 64 + k) (later .1)
+        ∙ told-first g r p q above (planKind g r q) (planFirst g r q) (planSecond g r q) refl refl refl (joins .0) (joins .1) (later .0) is-second)
+      where
+        second-of : (b : Bool) → b ≡ false → (b || eqb p (planSecond g r q)) ≡ true → p ≡ planSecond g r q
+        second-of true e h = absurd (false≢true (sym e))
+        second-of false e h = eqb-true p (planSecond g r q) h
+
+  pub want-told : wantBy w ≡ wantOf (grammarOf g) r p
+  unfolding wantBy
+  want-told = go (decLt q 16)
+    where
+      kinds : q < 16 → (a b : Bool) → eqb (w / 32 % 4) 1 ≡ a → eqb (w / 32 % 4) 3 ≡ b → cond a (w / 32 / 4 % 64) (64 + w / 32 / 4) ≡ wantOf (grammarOf g) r p
+      kinds l true b e d = want-edge l (eqb-true (w / 32 % 4) 1 e)
+      kinds l false true e d = want-first l (eqb-true (w / 32 % 4) 3 d)
+      kinds l false false e d = want-second l (eqb-false (w / 32 % 4) 1 e) (eqb-false (w / 32 % 4) 3 d)
+
+      go : Dec (q < 16) → cond (ltb q 16) (cond (eqb (w / 32 % 4) 1) (w / 32 / 4 % 64) (64 + w / 32 / 4)) 80 ≡ wantOf (grammarOf g) r p
+      go (yes l) = rw (lt-ltb q 16 l) (kinds l (eqb (w / 32 % 4) 1) (eqb (w / 32 % 4) 3) refl refl)
+      go (no l) = rw (le-ltb q 16 (omega arith)) (want-missing g r p _ (is .above) (le-ltb q 16 (omega arith)))
+
+-- the same of a place of the table
+pub want-placed : (g plans : List ℕ) (i w : ℕ) → PlanTable g plans → i < 1024 → w ≡ wantBy (getD plans i 0) → w ≡ wantOf (grammarOf g) (i / 16) (i % 16)
+want-placed g plans i w table l e =
+    let s : 16 * (i / 16) + i % 16 ≡ i = omega arith in
+    e ∙ ap (λ k. wantBy (getD plans k 0)) (sym s)
+    ∙ want-told g (i / 16) (i % 16) (parentIn plans (16 * (i / 16) + i % 16)) (table .each (i / 16) (i % 16) (omega arith) (omega arith))
+
+-- what a function reads off a word
+pub by-none : (w : ℕ) → 16 ≤ w % 32 → 80 ≡ wantBy w
+unfolding wantBy
+by-none w l = rw (le-ltb (w % 32) 16 l)
+
+pub by-edge : (w : ℕ) → w % 32 < 16 → w / 32 % 4 ≡ 1 → w / 32 / 4 % 64 ≡ wantBy w
+unfolding wantBy
+by-edge w l e = rw (lt-ltb (w % 32) 16 l, eq-eqb (w / 32 % 4) 1 e)
+
+pub by-child : (w : ℕ) → w % 32 < 16 → (w / 32 % 4 ≡ 1 → ⊥) → 64 + w / 32 / 4 ≡ wantBy w
+unfolding wantBy
+by-child w l e = rw (lt-ltb (w % 32) 16 l, ne-eqb (w / 32 % 4) 1 e)
 
 -- ---- the table
 -- the words before i are told, the others are as they were made

@@ -2,4 +2,5 @@
 pub mod Rules
 pub mod Wants
 pub mod Plans
+pub mod Filling
 pub mod Candidates

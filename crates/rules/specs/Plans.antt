@@ -1,27 +1,52 @@
--- The plan node above each, and the rule nodes that are open there, in a table of two halves.
+-- The plan node above each, what it makes of an item there, and the rule nodes that are open there, in a table of two halves.
 use mathlib.Core.Path.{_≡_}
-use mathlib.Core.Bool.{Bool, true, false}
+use mathlib.Core.Bool.{Bool, true, false, cond}
 use mathlib.Core.List.{List, []}
-use Prim.Native.Nat.{ℕ, _+_, _*_, _<_}
+use Prim.Native.Nat.{ℕ, _+_, _*_, _%_, _<_}
 use lib.ListN.{getD}
-use lib.Dec.{ltb}
-use Rattle.hrg.specs.Grammars.{Graph}
+use lib.Dec.{eqb, ltb}
+use Rattle.hrg.specs.Counts.{occurs}
+use Rattle.hrg.specs.Grammars.{Graph, planOf, planNode}
+use Rattle.hrg.specs.WellFormed.{children}
 use Rattle.hrg.specs.ClosureRun.{binaryOf}
 use Rattle.agenda.specs.Records.{itemOf}
 use Rattle.agenda.specs.declared.Record.{Record}
+use Rattle.questions.specs.Layout.{planKind, planFirst, planSecond, edgeLabel}
 use Rattle.questions.specs.Abstract.{grammarOf}
-use Rattle.joins.specs.Joins.{OpenAt}
+use Rattle.joins.specs.Joins.{OpenAt, nodesWord}
 use Rattle.rules.specs.declared.plans.Parent.{Parent}
 use Rattle.rules.specs.Rules.{Above}
 
--- x is the one plan node of rule r that p may be a child of, and the open rule nodes there; its number is 16 or more where there is none
+-- ---- a plan node as one number
+-- the label of edge i of rule r, and its nodes
+unfoldable pub edgeWord : List ℕ → ℕ → ℕ → ℕ
+edgeWord g r i = edgeLabel g r i + 64 * nodesWord g r i
+
+-- what plan node q asks for beside an item at its first child: the edge that it introduces, or an item at its second child
+unfoldable pub secondWord : List ℕ → ℕ → ℕ → ℕ
+unfolding edgeWord
+secondWord g r q = cond (eqb (planKind g r q) 1) (1 + 4 * edgeWord g r (planSecond g r q)) (2 + 4 * planSecond g r q)
+
+-- the number of q for an item at its child p, and what q asks for beside it
+unfoldable pub joinWord : List ℕ → ℕ → ℕ → ℕ → ℕ
+unfolding secondWord
+joinWord g r p q = q + 32 * cond (eqb (planFirst g r q) p) (secondWord g r q) (3 + 4 * planFirst g r q)
+
+-- the word w is that of plan node w % 32 for its child p
+pub record JoinAt (g : List ℕ) (r p w : ℕ) : Type 0 where
+  pub child : 0 < occurs p (children (planNode (planOf (grammarOf g) r) (w % 32)))
+  pub word : w ≡ joinWord g r p (w % 32)
+
+-- ---- the plan node above each
+-- x is the word of the one plan node of rule r that p may be a child of, and the open rule nodes there; that node's number is 16 or more where there is none
 pub record ParentAt (g : List ℕ) (r p : ℕ) (x : Parent) : Type 0 where
-  pub above : Above g r p (record { found = ltb (x .node) 16; node = x .node })
-  pub opened : x .node < 16 → OpenAt g r (x .node) (x .stays)
+  pub above : Above g r p (record { found = ltb (x .word % 32) 16; node = x .word % 32 })
+  pub opened : x .word % 32 < 16 → OpenAt g r (x .word % 32) (x .stays)
+  pub join : x .word % 32 < 16 → JoinAt g r p (x .word)
 
 -- the words of a table for place i, which is 16 * r + p for rule r and plan node p
 abbrev pub parentIn : List ℕ → ℕ → Parent
-parentIn t i = record { node = getD t i 0; stays = getD t (1024 + i) 0 }
+parentIn t i = record { word = getD t i 0; stays = getD t (1024 + i) 0 }
 
 -- t is the table of g
 pub record PlanTable (g t : List ℕ) : Type 0 where

@@ -2,7 +2,7 @@
 use mathlib.Core.Path.{_≡_}
 use mathlib.Core.Bool.{_&&_, cond}
 use mathlib.Core.List.{List, [], _∷_, _++_}
-use Prim.Native.Nat.{ℕ, _+_, _*_}
+use Prim.Native.Nat.{ℕ, _+_, _*_, _/_, _%_}
 use lib.ListN.{length, getD}
 use lib.Dec.{eqb, ltb}
 use Rattle.hrg.specs.Grammars.{Grammar, PlanNode, leaf, introduce, join, rightOf, planOf, planNode, edgeAt}
@@ -23,6 +23,10 @@ wantsAt G r p (join a b) = guard (eqb a p) ((64 + b) ∷ []) ++ guard (eqb b p) 
 unfoldable pub wantOf : Grammar → ℕ → ℕ → ℕ
 unfolding wantsAt
 wantOf G r p = getD (eachTo (length (planOf G r)) (λ q. wantsAt G r p (planNode (planOf G r) q))) 0 nothing
+
+-- what the plan node of a word (`joinWord`) wants
+unfoldable pub wantBy : ℕ → ℕ
+wantBy w = cond (ltb (w % 32) 16) (cond (eqb (w / 32 % 4) 1) (w / 32 / 4 % 64) (64 + w / 32 / 4)) nothing
 
 -- the word of a table for rule r and plan node p
 unfoldable pub wantIn : List ℕ → ℕ → ℕ → ℕ

@@ -5,21 +5,19 @@ ghost use Prim.Native.Nat.{_+_, _*_, _<_};
 ghost use lib.ListN.{length, getD, take};
 ghost use lib.Bits.{bitAnd};
 ghost use lib.Dec.{ltb};
-ghost use Rattle.hrg.specs.Counts.{occurs};
-ghost use Rattle.hrg.specs.Grammars.{rightOf, planOf, planNode, edgeAt};
+ghost use Rattle.hrg.specs.Grammars.{rightOf, edgeAt};
 ghost use Rattle.hrg.specs.Trees.{padded, images};
-ghost use Rattle.hrg.specs.WellFormed.{children};
 ghost use Rattle.hrg.specs.ClosureRun.{binaryOf};
 ghost use Rattle.agenda.specs.Records.{itemOf};
 ghost use Rattle.records.specs.Words.{ofWords};
-ghost use Rattle.questions.specs.Layout.{ruleCount, ruleNodes, graphEdges};
+ghost use Rattle.questions.specs.Layout.{ruleCount, ruleNodes, planKind, graphEdges};
 ghost use Rattle.questions.specs.Checking.{checkGrammar};
 ghost use Rattle.questions.specs.Abstract.{grammarOf, graphOf};
 ghost use Rattle.joins.specs.Joins.{KnownNode, Accepted, Spans};
 ghost use Rattle.joins.specs.Graphs.{GraphTable};
-ghost use Rattle.rules.specs.Rules.{Into, Second, terminalItems, ParentOf, Above};
+ghost use Rattle.rules.specs.Rules.{Into, Second, terminalItems};
 ghost use Rattle.rules.specs.Wants.{wantOf};
-ghost use Rattle.rules.specs.Plans.{PlanTable};
+ghost use Rattle.rules.specs.Plans.{secondWord, PlanTable};
 ghost use Rattle.rules.specs.Candidates.{Introduces, Candidates};
 
 pub mod plans;
@@ -35,64 +33,6 @@ pub struct Filled {
 pub struct Place {
     pub found: bool,
     pub node: u64,
-}
-
-// ---- the plan
-// Whether plan node p is a child of plan node q.
-fn is_child(g: &[u64], r: u64, q: u64, p: u64) -> bool
-    requires { ⌜ KnownNode (now g) r q ⌝ }
-    ensures { λ x. ⌜ x ≡ ltb 0 (occurs p (children (planNode (planOf (grammarOf (now (g .entry))) r) q))) ⌝ }
-{
-    let kind = layout::plan_kind(g, r, q);
-    let first = layout::plan_first(g, r, q);
-    let second = layout::plan_second(g, r, q);
-    match kind {
-        0 => false,
-        1 => p == first,
-        _ => (p == first) | (p == second),
-    }
-}
-
-// The plan node that p is a child of; the number of plan nodes where there is none. In a chain it is the next one.
-fn parent(g: &[u64], r: u64, p: u64) -> u64
-    requires { ⌜ KnownNode (now g) r p ⌝ }
-    ensures { λ q. ⌜ ParentOf (now (g .entry)) r p q ⌝ }
-{
-    let n = layout::rule_plan(g, r);
-    let mut q = p + 1;
-    while q < n {
-        if is_child(g, r, q, p) {
-            return q;
-        }
-        q += 1;
-    }
-    n
-}
-
-// The same for a rule and a plan node that may not be there.
-pub fn place_above(g: &[u64], r: u64, p: u64) -> Place
-    requires { ⌜ checkGrammar (now g) ≡ true ⌝ }
-    ensures { λ x. ⌜ Above (now (g .entry)) r p x ⌝ }
-{
-    let none = Place {
-        found: false,
-        node: 0,
-    };
-    if layout::rule_count(g) <= r {
-        return none;
-    }
-    let n = layout::rule_plan(g, r);
-    if n <= p {
-        return none;
-    }
-    let q = parent(g, r, p);
-    if n <= q {
-        return none;
-    }
-    Place {
-        found: true,
-        node: q,
-    }
 }
 
 // ---- lists of graph nodes: eight places, 64 where there is none
@@ -142,25 +82,22 @@ fn copy_map(l: &[u64], t: &mut [u64])
     t[7] = l[7];
 }
 
-// Whether y can be the second at plan node q of rule `of`, and its map into t. By the nonterminal rule q introduces an edge and y is passive and has the edge's symbol; by the join rule y is active and at the second child. Its words past the rule's nodes may be any, and count for nothing.
-fn second_map(g: &[u64], of: u64, q: u64, y: &[u64], t: &mut [u64]) -> bool
-    requires { ⌜ KnownNode (now g) of q × (length (now y) ≡ 16) × (length (now t) ≡ 8) ⌝ }
+// Whether y can be the second at plan node q of rule `of`, of which w tells what it asks for, and its map into t. By the nonterminal rule q introduces an edge and y is passive and has the edge's symbol; by the join rule y is active and at the second child. Its words past the rule's nodes may be any, and count for nothing.
+fn second_map(g: &[u64], of: u64, q: u64, w: u64, y: &[u64], t: &mut [u64]) -> bool
+    requires { ⌜ KnownNode (now g) of q × (planKind (now g) of q ≡ 0 → ⊥) × (w ≡ secondWord (now g) of q) × (length (now y) ≡ 16) × (length (now t) ≡ 8) ⌝ }
     ensures { λ b. ⌜ Second (now (g .entry)) of q (ofWords (now (y .entry))) (now (t .exit)) b ⌝ }
 {
-    let kind = plans::kind_at(g, of, q);
-    let second = plans::second_at(g, of, q);
-    if kind == 1 {
+    let asked = w / 4;
+    if w % 4 == 1 {
         if y[0] == 0 {
             return false;
         }
-        if plans::label_at(g, of, second) != y[1] {
+        if asked % 64 != y[1] {
             return false;
         }
-        joins::attach(g, of, second, &y[6..14], t);
+        let i = plans::second_at(g, of, q);
+        joins::attach_by(g, of, i, asked / 64, &y[6..14], t);
         return true;
-    }
-    if kind == 0 {
-        return false;
     }
     if y[0] != 0 {
         return false;
@@ -168,7 +105,7 @@ fn second_map(g: &[u64], of: u64, q: u64, y: &[u64], t: &mut [u64]) -> bool
     if y[1] != of {
         return false;
     }
-    if second != y[2] {
+    if asked != y[2] {
         return false;
     }
     copy_map(&y[6..14], t);
@@ -200,14 +137,15 @@ pub fn pair_into(
     }
     let of = x[1];
     let above = plans::parent_in(g, plans, of, x[2]);
-    if above.node >= 16 {
+    let q = above.word % 32;
+    if q >= 16 {
         return none;
     }
-    let q = above.node;
-    if plans::first_at(g, of, q) != x[2] {
+    let w = above.word / 32;
+    if w % 4 == 3 {
         return none;
     }
-    if !second_map(g, of, q, y, &mut out[6..14]) {
+    if !second_map(g, of, q, w, y, &mut out[6..14]) {
         return none;
     }
     out[1] = of;
@@ -328,11 +266,11 @@ pub fn candidates(
         return 0;
     }
     let of = x[1];
-    let above = plans::parent_in(g, plans, of, x[2]);
-    if above.node >= 16 {
+    let q = plans::parent_in(g, plans, of, x[2]).word % 32;
+    if q >= 16 {
         return 0;
     }
-    let i = plans::second_at(g, of, above.node);
+    let i = plans::second_at(g, of, q);
     let m = graph[(257 + want) as usize] & !x[3];
     fitting(g, h, graph, want, x, i, m)
 }

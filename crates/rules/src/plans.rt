@@ -1,57 +1,101 @@
-// The plan node above each, and the rule nodes that are open there: worked out once, for all pairs.
+// What the plan node above each asks for, and the rule nodes that are open there: worked out once, for all pairs.
 ghost use mathlib.Core.Path.{_≡_};
 ghost use mathlib.Core.Bool.{true};
-ghost use Prim.Native.Nat.{_<_};
-ghost use lib.ListN.{length};
+ghost use Prim.Native.Nat.{_+_, _*_, _<_};
+ghost use lib.ListN.{length, replicate};
 ghost use Rattle.questions.specs.Checking.{checkGrammar};
-ghost use Rattle.questions.specs.Layout.{planKind, planFirst, planSecond, edgeLabel, edgeNode};
-ghost use Rattle.joins.specs.Joins.{KnownNode, KnownEdge};
+ghost use Rattle.questions.specs.Layout.{ruleCount, planKind, planFirst, planSecond, edgeLabel, edgeNode};
+ghost use Rattle.joins.specs.Joins.{KnownNode, KnownEdge, OpenAt};
 ghost use Rattle.records.specs.Words.{ofWords};
-ghost use Rattle.rules.specs.Plans.{ParentAt, PlanTable, Leads};
+ghost use Rattle.rules.specs.Rules.{Above};
+ghost use Rattle.rules.specs.Plans.{secondWord, ParentAt, PlanTable, Leads};
+ghost use Rattle.rules.specs.Filling.{Placed, Put, ToldTo};
+use crate::Place;
 
-// A plan node, 16 where there is none, and the rule nodes that are open there.
+// A plan node as one number (`joinWord`), which has 16 for its number where there is none, and the rule nodes that are open there.
 pub(crate) struct Parent {
-    pub(crate) node: u64,
+    pub(crate) word: u64,
     pub(crate) stays: u64,
 }
 
-// The plan node above p in rule r.
-fn parent_of(g: &[u64], r: u64, p: u64) -> Parent
-    requires { ⌜ checkGrammar (now g) ≡ true ⌝ }
-    ensures { λ x. ⌜ ParentAt (now (g .entry)) r p x ⌝ }
+// ---- the table
+// What plan node q asks for beside an item at its first child.
+fn second_word(g: &[u64], r: u64, q: u64) -> u64
+    requires { ⌜ KnownNode (now g) r q × (planKind (now g) r q ≡ 0 → ⊥) ⌝ }
+    ensures { λ w. ⌜ (w ≡ secondWord (now (g .entry)) r q) × (w < 67108864) ⌝ }
 {
-    let above = crate::place_above(g, r, p);
-    if !above.found {
-        return Parent { node: 16, stays: 0 };
+    let second = second_at(g, r, q);
+    if kind_at(g, r, q) == 1 {
+        let label = label_at(g, r, second);
+        return 1 + 4 * (label + 64 * joins::nodes_word(g, r, second));
     }
-    let node = above.node;
-    let stays = joins::open_at(g, r, node);
-    Parent { node, stays }
+    2 + 4 * second
 }
 
-// The table for all rules and plan nodes, in two halves; where there are none it stays as it is made.
-pub fn table(g: &[u64]) -> [u64; 2048]
-    requires { ⌜ checkGrammar (now g) ≡ true ⌝ }
-    ensures { λ t. ⌜ PlanTable (now (g .entry)) t ⌝ }
+// The words of plan node p of rule r.
+fn put(t: &mut [u64], r: u64, p: u64, w: u64, o: u64)
+    requires { ⌜ (length (now t) ≡ 2048) × (r < 64) × (p < 16) ⌝ }
+    ensures { λ x. ⌜ Placed (now (t .entry)) (now (t .exit)) (16 * r + p) w o ⌝ }
 {
-    let mut t = [16u64; 2048];
-    let n = 16 * layout::rule_count(g);
-    let mut i: u64 = 0;
-    while i < n {
-        let x = parent_of(g, i / 16, i % 16);
-        t[i as usize] = x.node;
-        t[(1024 + i) as usize] = x.stays;
-        i += 1;
-    }
-    t
+    let i = (16 * r + p) as usize;
+    t[i] = w;
+    t[1024 + i] = o;
 }
 
-// The same, read off a table.
+// The children of plan node q, at which the rule nodes o are open, are told of it.
+fn put_children(g: &[u64], r: u64, q: u64, o: u64, t: &mut [u64])
+    requires { ⌜ KnownNode (now g) r q × (length (now t) ≡ 2048) ⌝ }
+    ensures { λ x. ⌜ Put (now (g .entry)) r q o (now (t .entry)) (now (t .exit)) ⌝ }
+{
+    let kind = kind_at(g, r, q);
+    if kind == 0 {
+        return;
+    }
+    let first = first_at(g, r, q);
+    let w = second_word(g, r, q);
+    put(t, r, first, q + 32 * w, o);
+    if kind == 1 {
+        return;
+    }
+    put(t, r, second_at(g, r, q), q + 32 * (3 + 4 * first), o);
+}
+
+// The plan nodes of rule r, which have lower numbers than their parents.
+fn fill_rule(g: &[u64], r: u64, t: &mut [u64])
+    requires { ⌜ (checkGrammar (now g) ≡ true) × (r < ruleCount (now g)) × ToldTo (now g) (now t) r 0 ⌝ }
+    ensures { λ x. ⌜ ToldTo (now (g .entry)) (now (t .exit)) (r + 1) 0 ⌝ }
+{
+    let n = layout::rule_plan(g, r);
+    let mut ms = [0u64; 16];
+    let mut q: u64 = 0;
+    while q < n {
+        let m = joins::node_below(g, r, q, &ms);
+        ms[q as usize] = m;
+        let o = joins::open_at(g, r, q, m);
+        put_children(g, r, q, o, t);
+        q += 1;
+    }
+}
+
+// The table for all rules and plan nodes, in two halves; where there are none it stays as it was made.
+pub fn fill(g: &[u64], t: &mut [u64])
+    requires { ⌜ (checkGrammar (now g) ≡ true) × (now t ≡ replicate 2048 16) ⌝ }
+    ensures { λ x. ⌜ PlanTable (now (g .entry)) (now (t .exit)) ⌝ }
+{
+    let n = layout::rule_count(g);
+    let mut r: u64 = 0;
+    while r < n {
+        fill_rule(g, r, t);
+        r += 1;
+    }
+}
+
+// ---- read off the table
 pub(crate) fn parent_in(g: &[u64], t: &[u64; 2048], r: u64, p: u64) -> Parent
     requires { ⌜ (checkGrammar (now g) ≡ true) × PlanTable (now g) (now t) ⌝ }
     ensures { λ x. ⌜ ParentAt (now (g .entry)) r p x ⌝ }
 {
-    let none = Parent { node: 16, stays: 0 };
+    let none = Parent { word: 16, stays: 0 };
     if r >= 64 {
         return none;
     }
@@ -60,9 +104,32 @@ pub(crate) fn parent_in(g: &[u64], t: &[u64; 2048], r: u64, p: u64) -> Parent
     }
     let i = (16 * r + p) as usize;
     Parent {
-        node: t[i],
+        word: t[i],
         stays: t[1024 + i],
     }
+}
+
+// The plan node above p in rule r: any rule and a plan node that may not be there.
+pub fn place_above(g: &[u64], t: &[u64; 2048], r: u64, p: u64) -> Place
+    requires { ⌜ (checkGrammar (now g) ≡ true) × PlanTable (now g) (now t) ⌝ }
+    ensures { λ x. ⌜ Above (now (g .entry)) r p x ⌝ }
+{
+    let node = parent_in(g, t, r, p).word % 32;
+    Place {
+        found: node < 16,
+        node,
+    }
+}
+
+// The open rule nodes at plan node p: those that its first child is told of, and none at a leaf.
+pub fn open_at(g: &[u64], t: &[u64; 2048], r: u64, p: u64) -> u64
+    requires { ⌜ KnownNode (now g) r p × PlanTable (now g) (now t) ⌝ }
+    ensures { λ o. ⌜ OpenAt (now (g .entry)) r p o ⌝ }
+{
+    if kind_at(g, r, p) == 0 {
+        return 0;
+    }
+    parent_in(g, t, r, first_at(g, r, p)).stays
 }
 
 // ---- words of a plan node and an edge that are there, read with no test of the table's end
@@ -109,10 +176,9 @@ pub fn leads(g: &[u64], plans: &[u64; 2048], x: &[u64]) -> bool
     if x[0] != 0 {
         return false;
     }
-    let of = x[1];
-    let above = parent_in(g, plans, of, x[2]);
-    if above.node >= 16 {
+    let w = parent_in(g, plans, x[1], x[2]).word;
+    if w % 32 >= 16 {
         return false;
     }
-    first_at(g, of, above.node) == x[2]
+    w / 32 % 4 != 3
 }

@@ -92,11 +92,15 @@ pub fn advance(g: &[u64], h: &[u64], chart: &mut [u64], steps: u64)
     requires { ⌜ Accepted (now g) (now h) × Fits (now chart) × (capacity (now chart) ≤ 4096) ⌝ }
     ensures { λ r. ⌜ now (chart .exit) ≡ written (now (chart .entry)) (runChart (grammarOf (now (g .entry))) (graphOf (now (g .entry)) (now (h .entry))) (capacity (now (chart .entry))) steps (chartOf (now (chart .entry)))) ⌝ }
 {
-    let wants = rules::wants::table(g);
-    let plans = rules::plans::table(g);
-    let pivots = pivots::table(g, &wants);
-    let graph = joins::graphs::table(g, h);
-    let mut index = [0u32; 49155];
+    let mut plans = [16u64; 2048];
+    rules::plans::fill(g, &mut plans);
+    let mut wants = [80u64; 1024];
+    rules::wants::fill(g, &plans, &mut wants);
+    let mut pivots = [0u64; 1088];
+    pivots::fill(g, &plans, &wants, &mut pivots);
+    let mut graph = [0u64; 577];
+    joins::graphs::fill(g, h, &mut graph);
+    let mut index = [0u32; 49289];
     index::build(g, h, &graph, &wants, &pivots, chart, &mut index);
     advance_by(
         g,

@@ -31,17 +31,17 @@ marked-by m x r a = go (decLt x 64)
     go (yes h) = rw (lt-ltb x 64 h) (a .value h)
     go (no h) = rw (le-ltb x 64 (omega arith)) (a .same (omega arith))
 
-pub marks-next : (l : List ℕ) (n k x m r v : ℕ) → n ≡ length l → k < n → x ≡ getD l k 0 → Added m x r → marks m (drop k l) ≡ v → marks r (drop (k + 1) l) ≡ v
+pub marks-next : (l : List ℕ) (k x m r v : ℕ) → k < length l → x ≡ getD l k 0 → Added m x r → marks m (drop k l) ≡ v → marks r (drop (k + 1) l) ≡ v
 unfolding marks
-marks-next l n k x m r v w h e a p =
+marks-next l k x m r v h e a p =
     ap (λ n. marks n (drop (k + 1) l)) (marked-by m x r a ∙ ap (marked m) e)
     ∙ ap (λ n. marks (marked m (getD l k 0)) (drop n l)) (add-one k)
-    ∙ sym (ap (marks m) (drop-cons l k 0 (omega arith)))
+    ∙ sym (ap (marks m) (drop-cons l k 0 h))
     ∙ p
 
-pub marks-done : (l : List ℕ) (n k m v : ℕ) → n ≡ length l → n ≤ k → marks m (drop k l) ≡ v → m ≡ v
+pub marks-done : (l : List ℕ) (k m v : ℕ) → length l ≤ k → marks m (drop k l) ≡ v → m ≡ v
 unfolding marks
-marks-done l n k m v w h p = sym (ap (marks m) (drop-of-length-le l {i = k} (omega arith))) ∙ p
+marks-done l k m v h p = sym (ap (marks m) (drop-of-length-le l {i = k} h)) ∙ p
 
 pub marks-append : (m : ℕ) (xs ys : List ℕ) → marks m (xs ++ ys) ≡ marks (marks m xs) ys
 unfolding marks
@@ -51,10 +51,10 @@ marks-append m (x ∷ xs) ys = marks-append (marked m x) xs ys
 -- a list made of a function, in the same terms
 pub line-next : (n : ℕ) (f : ℕ → ℕ) (k x m r v : ℕ) → k < n → x ≡ f k → Added m x r → marks m (drop k (tabulate n f)) ≡ v → marks r (drop (k + 1) (tabulate n f)) ≡ v
 line-next n f k x m r v h e a p =
-    marks-next (tabulate n f) n k x m r v (sym (length-tabulate n f)) h (e ∙ sym (getD-tabulate n f k 0 h)) a p
+    marks-next (tabulate n f) k x m r v (omega (arith, length-tabulate n f)) (e ∙ sym (getD-tabulate n f k 0 h)) a p
 
 pub line-done : (n : ℕ) (f : ℕ → ℕ) (k m v : ℕ) → n ≤ k → marks m (drop k (tabulate n f)) ≡ v → m ≡ v
-line-done n f k m v h p = marks-done (tabulate n f) n k m v (sym (length-tabulate n f)) h p
+line-done n f k m v h p = marks-done (tabulate n f) k m v (omega (arith, length-tabulate n f)) p
 
 -- ---- the edges one by one
 pub edges-none : (g : List ℕ) (r : ℕ) → 0 ≡ marks 0 (nodesOnEdges g r 0)

@@ -4,5 +4,6 @@ pub mod Listing
 pub mod Covering
 pub mod Planning
 pub mod LineFields
+pub mod Gaps
 pub mod OnePass
 pub mod LineAnswers

@@ -1,65 +1,51 @@
--- The fields of a line that is stored in a table.
-use Prim.Native.Nat.{ℕ, zero, suc, _+_, _*_, _≤_, _<_}
+-- The line that is due, judged where it stands in a table.
+use Prim.Native.Nat.{ℕ, _+_, _-_, _*_, _≤_}
 use native.Mathlib.Omega.{arith}
-use mathlib.Core.Path.{_≡_, refl, sym, ap, _∙_}
-use mathlib.Core.Bool.{cond}
-use mathlib.Core.List.{List, [], _∷_}
-use lib.ListN.{length, getD, take, length-take}
-use lib.Seq.{getD-take, ext-getD}
+use mathlib.Core.Path.{_≡_, sym, ap, _∙_, subst}
+use mathlib.Core.Bool.{Bool, false, cond, false≢true}
+use mathlib.Core.List.{List}
+use lib.ListN.{length, getD, take, drop, length-take, length-drop}
+use lib.Seq.{getD-take, getD-drop, ext-getD}
 use Rattle.hrg.specs.Counts.{tabulate}
 use Rattle.hrg.proofs.Sums.{length-tabulate}
 use Rattle.questions.specs.declared.Due.{Due}
 use Rattle.questions.specs.Layout.{placeOf, inTable, word}
+use Rattle.questions.specs.Questions.{judge}
 use Rattle.questions.specs.Checking.{fieldsDue, storedFields}
 use Rattle.questions.specs.Walk.{Room}
 use Rattle.questions.proofs.StoredLaws.{getD-tabulate}
 use Rattle.questions.proofs.WellFormedWalk.{room-in, room-place}
+use Rattle.tables.specs.Concluding.{Zeros, Stands}
 
--- ---- the fields of a stored line
--- the first j values are words
-abbrev Copied : (ℕ → ℕ) → List ℕ → ℕ → Type 0
-Copied f vs j = (k : ℕ) → k < j → getD vs k 0 ≡ f k
-
-copied-all : (f : ℕ → ℕ) (vs : List ℕ) (n j : ℕ) → n ≤ length vs → n ≤ j → Copied f vs j → take n vs ≡ tabulate n f
-copied-all f vs n j h l p =
-    ext-getD 0 (take n vs) (tabulate n f) (length-take n vs ∙ omega (arith, length-tabulate n f))
-    λ k d.
-    let w : k < n = omega (arith, length-take n vs) in
-    getD-take n vs k 0 w ∙ p k (omega arith) ∙ sym (getD-tabulate n f k 0 w)
-
--- nine words of a line, and nine zeros
-abbrev lineWords : List ℕ → ℕ → List ℕ
-lineWords t at =
-    getD t at 0 ∷ getD t (at + 1) 0 ∷ getD t (at + 2) 0 ∷ getD t (at + 3) 0 ∷ getD t (at + 4) 0 ∷ getD t (at + 5) 0 ∷ getD t (at + 6) 0 ∷ getD t (at + 7) 0
-    ∷ getD t (at + 8) 0 ∷ 0 ∷ 0 ∷ 0 ∷ 0 ∷ 0 ∷ 0 ∷ 0 ∷ 0 ∷ 0 ∷ []
-
-pub line-words : (t : List ℕ) (p n : ℕ) → n ≤ 9 → take n (lineWords t (9 * p)) ≡ tabulate n (λ j. word t p j)
+-- n words from a line's place on
+part-words : (t : List ℕ) (p n m : ℕ) → 9 * p + n ≤ length t → m ≡ n → take m (drop (9 * p) t) ≡ tabulate n (λ j. word t p j)
 unfolding word
-line-words t p n h = copied-all (λ j. getD t (9 * p + j) 0) (lineWords t (9 * p)) n 9 (omega arith) h each
+part-words t p n m h e =
+    ext-getD 0 (take m (drop (9 * p) t)) (tabulate n (λ j. getD t (9 * p + j) 0)) (size ∙ sym (length-tabulate n (λ j. getD t (9 * p + j) 0)))
+    λ k d.
+    getD-take m (drop (9 * p) t) k 0 (omega (arith, size)) ∙ getD-drop (9 * p) t k 0 ∙ sym (getD-tabulate n (λ j. getD t (9 * p + j) 0) k 0 (omega (arith, size)))
   where
-    each : (k : ℕ) → k < 9 → getD (lineWords t (9 * p)) k 0 ≡ getD t (9 * p + k) 0
-    each zero l = ap (λ i. getD t i 0) (let e : 9 * p ≡ 9 * p + 0 = omega arith in e)
-    each (suc zero) l = refl
-    each (suc (suc zero)) l = refl
-    each (suc (suc (suc zero))) l = refl
-    each (suc (suc (suc (suc zero)))) l = refl
-    each (suc (suc (suc (suc (suc zero))))) l = refl
-    each (suc (suc (suc (suc (suc (suc zero)))))) l = refl
-    each (suc (suc (suc (suc (suc (suc (suc zero))))))) l = refl
-    each (suc (suc (suc (suc (suc (suc (suc (suc zero)))))))) l = refl
-    each (suc (suc (suc (suc (suc (suc (suc (suc (suc k))))))))) l = absurd (omega arith)
+    size : length (take m (drop (9 * p) t)) ≡ n
+    size = omega (arith, length-take m (drop (9 * p) t), length-drop (9 * p) t)
 
-pub stored-in : (g c t : List ℕ) (due : Due) (p n : ℕ) (fs : List ℕ) → Room (length t) due → p ≡ cond (inTable due) (placeOf due) 0
-    → n ≡ fieldsDue g c t due → fs ≡ tabulate n (λ j. word t p j) → fs ≡ cond (inTable due) (storedFields g c t due) []
-unfolding storedFields
-stored-in g c t due p n fs h ep en w =
-    let place : p ≡ placeOf due = ep ∙ ap (λ a. cond a (placeOf due) 0) (room-in (length t) due h) in
-    w ∙ rw (en, place, room-in (length t) due h)
+pub line-fits : (t : List ℕ) (due : Due) (at : ℕ) → Room (length t) due → at ≡ 9 * placeOf due → at + 9 ≤ length t
+line-fits t due at room place = omega (arith, place, room-place (length t) due room)
 
-pub stored-inside : (t : List ℕ) (due : Due) (p : ℕ) → Room (length t) due → p ≡ cond (inTable due) (placeOf due) 0 → 9 * p + 9 ≤ length t
-stored-inside t due p h ep =
-    let place : p ≡ placeOf due = ep ∙ ap (λ a. cond a (placeOf due) 0) (room-in (length t) due h) in
-    omega (arith, room-place (length t) due h)
+module _ (g t : List ℕ) (due : Due) (at n : ℕ) (room : Room (length t) due) (place : at ≡ 9 * placeOf due) (count : n ≡ fieldsDue g t t due) (few : n ≤ 9) where
+  fields : take (at + n - at) (drop at t) ≡ storedFields g t t due
+  unfolding storedFields
+  fields =
+      ap (λ i. take (at + n - at) (drop i t)) place
+      ∙ part-words t (placeOf due) (fieldsDue g t t due) (at + n - at) (omega (arith, line-fits t due at room place)) (omega arith)
 
-pub fields-length : (fs : List ℕ) (n m : ℕ) (f : ℕ → ℕ) → fs ≡ tabulate n f → m ≡ n → length fs ≡ m
-fields-length fs n m f e q = ap length e ∙ length-tabulate n f ∙ sym q
+  module _ (k : ℕ) (e : k ≡ cond (inTable due) (judge g t due (take (at + n - at) (drop at t))) 2) where
+    judged : k ≡ judge g t due (storedFields g t t due)
+    judged = e ∙ rw (room-in (length t) due room, fields)
+
+    pub stands-no : (k ≡ 0 → ⊥) → Stands g t due false
+    stands-no h = record { yes = λ y. absurd (false≢true y); no = λ y j z. h (judged ∙ j) }
+
+    pub stands-rest : k ≡ 0 → (b : Bool) → Zeros t (at + n) (at + 9) b → Stands g t due b
+    stands-rest h b zs =
+        let here = subst (λ i. Zeros t (i + fieldsDue g t t due) (i + 9) b) place (subst (λ m. Zeros t (at + m) (at + 9) b) count zs) in
+        record { yes = λ y. (sym judged ∙ h, here .yes y); no = λ y j z. here .no y z }

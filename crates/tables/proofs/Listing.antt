@@ -4,7 +4,7 @@ use native.Mathlib.Omega.{arith}
 use native.Mathlib.Decide.{ℕ-discrete}
 use mathlib.Core.Path.{_≡_, refl, sym, ap, _∙_, subst}
 use mathlib.Core.Bool.{Bool, true, false}
-use mathlib.Core.List.{List, []}
+use mathlib.Core.List.{List}
 use lib.ListN.{length, getD, take, drop, length-drop}
 use lib.Seq.{take-all, getD-drop}
 use lib.Dec.{T}
@@ -105,10 +105,10 @@ module _ (nodes : ℕ) (fs : List ℕ) (start : ℕ) where
       record { begun = omega arith; part = subst (Seen nodes (drop start fs) 0) (let e : 0 ≡ start - start = omega arith in e) (seen-none nodes (drop start fs)) }
 
   module _ (seen k : ℕ) (s : Looked nodes fs start seen k) where
-    pub look-all : (n : ℕ) → n ≡ length fs → n ≤ k → true ≡ listed nodes (drop start fs)
-    look-all n e h = seen-all nodes (drop start fs) seen (k - start) (s .part) (omega (arith, length-drop start fs))
+    pub look-all : length fs ≤ k → true ≡ listed nodes (drop start fs)
+    look-all h = seen-all nodes (drop start fs) seen (k - start) (s .part) (omega (arith, length-drop start fs))
 
-    module _ (n x : ℕ) (e : n ≡ length fs) (h : k < n) (v : x ≡ getD fs k 0) where
+    module _ (x : ℕ) (h : k < length fs) (v : x ≡ getD fs k 0) where
       inner : k - start < length (drop start fs)
       inner = omega (arith, length-drop start fs, s .begun)
 

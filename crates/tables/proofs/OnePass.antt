@@ -1,15 +1,13 @@
 -- Question 8's pass: the lines judged where they stand give the verdict of the lines judged and stored in a cleared table.
 use Prim.Native.Nat.{ℕ, zero, suc, _+_, _-_, _*_, _/_, _%_, _≤_, _<_}
 use native.Mathlib.Omega.{arith}
-use native.Mathlib.Decide.{decLt}
+use native.Mathlib.Decide.{decLt, ℕ-discrete}
 use mathlib.Core.Path.{_≡_, refl, sym, ap, ap₂, _∙_, subst}
 use mathlib.Core.Logic.{_⊎_, inl, inr}
 use mathlib.Core.Bool.{Bool, true, false, not, cond, false≢true}
 use mathlib.Core.List.{List, []}
-use lib.Bits.{bitOr, or-add-and, and-le-l, and-le-r}
-use lib.Dec.{eqb}
 use lib.ListN.{length, getD, take, replicate, length-take, length-replicate, List·getD-eq-default}
-use borrow.Author.Tests.{eqb-true, eqb-false, lt-leb, not-true, not-false}
+use borrow.Author.Tests.{lt-leb, not-true, not-false}
 use Rattle.hrg.specs.Counts.{tabulate}
 use Rattle.hrg.proofs.Sums.{length-tabulate}
 use Rattle.questions.specs.declared.Due.{Due}
@@ -24,56 +22,7 @@ use Rattle.questions.proofs.WellFormedQuestions.{passes-rule, passes-edge}
 use Rattle.questions.proofs.WellFormedWalk.{IsLine, reach, reach-line, room-in, room-place, room-next, next-forward, Agree, Before, next-agree, judge-agree, before-next, walk-onward}
 use Rattle.questions.proofs.WellFormedReading.{check-walk}
 use Rattle.questions.proofs.Filled.{when-line, filled-by, by-filled, word-take}
-use Rattle.tables.specs.Concluding.{nothingDue, Opens, Zero, Zeros, Gathered, eightFrom}
-
--- ---- words that are 0
-or-none : (a b : ℕ) → bitOr a b ≡ 0 → (a ≡ 0) × (b ≡ 0)
-or-none a b h = (omega (arith, or-add-and a b, and-le-r a b), omega (arith, or-add-and a b, and-le-l a b))
-
-pub gathered-none : (t : List ℕ) (a : ℕ) → Gathered t a a 0
-gathered-none t a = record { yes = λ h i k l. absurd (omega arith); no = λ z. refl }
-
-pub gathered-more : (t : List ℕ) (a i any : ℕ) → Gathered t a i any → a ≤ i → Gathered t a (i + 1) (bitOr any (getD t i 0))
-gathered-more t a i any G l = record {
-  yes = λ h k b e. go k b e (or-none any (getD t i 0) h) (decLt k i);
-  no = λ z.
-      let x : any ≡ 0 = G .no (λ k b e. z k b (omega arith)) in
-      let y : getD t i 0 ≡ 0 = z i l (omega arith) in
-      rw (x, y);
-}
-  where
-    go : (k : ℕ) → a ≤ k → k < i + 1 → (any ≡ 0) × (getD t i 0 ≡ 0) → Dec (k < i) → getD t k 0 ≡ 0
-    go k b e h (yes d) = G .yes (h .0) k b d
-    go k b e h (no d) = let same : k ≡ i = omega arith in rw same (h .1)
-
--- the same where the next place is said otherwise
-gathered-on : (t : List ℕ) (a i j any : ℕ) → Gathered t a i any → a ≤ i → i + 1 ≡ j → Gathered t a j (bitOr any (getD t i 0))
-gathered-on t a i j any G l e = subst (λ k. Gathered t a k (bitOr any (getD t i 0))) e (gathered-more t a i any G l)
-
-gathered-eight : (t : List ℕ) (a i any r : ℕ) → Gathered t a i any → a ≤ i → r ≡ eightFrom t i any → Gathered t a (i + 8) r
-gathered-eight t a i any r G l e =
-    let one = gathered-on t a i (i + 1) any G l (omega arith) in
-    let two = gathered-on t a (i + 1) (i + 2) _ one (omega arith) (omega arith) in
-    let three = gathered-on t a (i + 2) (i + 3) _ two (omega arith) (omega arith) in
-    let four = gathered-on t a (i + 3) (i + 4) _ three (omega arith) (omega arith) in
-    let five = gathered-on t a (i + 4) (i + 5) _ four (omega arith) (omega arith) in
-    let six = gathered-on t a (i + 5) (i + 6) _ five (omega arith) (omega arith) in
-    let seven = gathered-on t a (i + 6) (i + 7) _ six (omega arith) (omega arith) in
-    subst (Gathered t a (i + 8)) (sym e) (gathered-on t a (i + 7) (i + 8) _ seven (omega arith) (omega arith))
-
-pub gathered-turn : (t : List ℕ) (a i any p q r s : ℕ) → Gathered t a i any → a ≤ i → p ≡ eightFrom t i any → q ≡ eightFrom t (i + 8) p → r ≡ eightFrom t (i + 16) q
-    → s ≡ eightFrom t (i + 24) r → Gathered t a (i + 32) s
-gathered-turn t a i any p q r s G l e f g h =
-    let one = gathered-eight t a i any p G l e in
-    let two = subst (λ k. Gathered t a k q) (let x : i + 8 + 8 ≡ i + 16 = omega arith in x) (gathered-eight t a (i + 8) p q one (omega arith) f) in
-    let three = subst (λ k. Gathered t a k r) (let x : i + 16 + 8 ≡ i + 24 = omega arith in x) (gathered-eight t a (i + 16) q r two (omega arith) g) in
-    subst (λ k. Gathered t a k s) (let x : i + 24 + 8 ≡ i + 32 = omega arith in x) (gathered-eight t a (i + 24) r s three (omega arith) h)
-
-pub gathered-all : (t : List ℕ) (a b i any : ℕ) → Gathered t a i any → i ≡ b → Zeros t a b (eqb any 0)
-gathered-all t a b i any G e = record {
-  yes = λ h. subst (Zero t a) e (G .yes (eqb-true any 0 h));
-  no = λ h z. eqb-false any 0 h (G .no (subst (Zero t a) (sym e) z));
-}
+use Rattle.tables.specs.Concluding.{nothingDue, Opens, Zero, Zeros, Stands}
 
 -- a table that is too short
 short-filled : (size : ℕ) (t : List ℕ) (v : Verdict) → length t < size → false ≡ filledBy size t v
@@ -322,18 +271,15 @@ module _ (size : ℕ) (g t : List ℕ) (goal : Bool) (fits : size ≤ length t) 
       refused-c : (judge g c due fsc ≡ 0 → ⊥) → false ≡ goal
       refused-c h = sym (filled-refused size t (judge g c due fsc) _ h) ∙ turned
 
-      pub pass-no : (gs : List ℕ) (k : ℕ) → gs ≡ storedFields g t t due → k ≡ judge g t due gs → (k ≡ 0 → ⊥) → false ≡ goal
-      pass-no gs k e q h = go (fields-alike g c t due (P .before) agree)
+      pub pass-no : (judge g t due (storedFields g t t due) ≡ 0 → ⊥) → false ≡ goal
+      pass-no h = go (fields-alike g c t due (P .before) agree)
         where
           go : Alike g c t due → false ≡ goal
-          go (inl a) = refused-c (λ y. h (q ∙ ap (judge g t due) e ∙ sym (judged-c (storedFields g t t due)) ∙ ap (judge g c due) (sym a) ∙ y))
+          go (inl a) = refused-c (λ y. h (sym (judged-c (storedFields g t t due)) ∙ ap (judge g c due) (sym a) ∙ y))
           go (inr a) = refused-c (a .0)
 
       -- a line that passes
-      module _ (gs : List ℕ) (e : gs ≡ storedFields g t t due) (k : ℕ) (q : k ≡ judge g t due gs) (y : k ≡ 0) where
-        passed : judge g t due fs ≡ 0
-        passed = ap (judge g t due) (sym e) ∙ sym q ∙ y
-
+      module _ (passed : judge g t due (storedFields g t t due) ≡ 0) where
         same-fields : fsc ≡ fs
         same-fields = go (fields-alike g c t due (P .before) agree)
           where
@@ -380,53 +326,49 @@ module _ (size : ℕ) (g t : List ℕ) (goal : Bool) (fits : size ≤ length t) 
             ∙ word-stored-same c (placeOf due) fs fits-c j b
             ∙ List·getD-eq-default fs 0 {n = j} a
 
-        module _ (m : ℕ) (count : length gs ≡ m) where
-          length-gs : length fs ≡ m
-          length-gs = ap length (sym e) ∙ count
+        pub pass-tail : (Zero t (9 * placeOf due + fieldsDue g t t due) (9 * placeOf due + 9) → ⊥) → false ≡ goal
+        pass-tail n = not-goal goal (λ y. n (λ i a f.
+            word-at t i 0 (ap₂ (word t) (let e : i / 9 ≡ placeOf due = omega arith in e) (let e : i % 9 ≡ i - 9 * placeOf due = omega arith in e)
+            ∙ behind y (i - 9 * placeOf due) (omega (arith, length-fs)) (omega arith))))
 
-          pub pass-tail : (b : Bool) → b ≡ false → Zeros t (9 * placeOf due + m) (9 * placeOf due + 9) b → false ≡ goal
-          pass-tail b h z = not-goal goal (λ y. z .no h (λ i a f.
-              word-at t i 0 (ap₂ (word t) (let e : i / 9 ≡ placeOf due = omega arith in e) (let e : i % 9 ≡ i - 9 * placeOf due = omega arith in e)
-              ∙ behind y (i - 9 * placeOf due) (omega (arith, length-gs)) (omega arith))))
+        module _ (tail : Zero t (9 * placeOf due + fieldsDue g t t due) (9 * placeOf due + 9)) where
+          own-line : (j : ℕ) → j < 9 → Dec (j < fieldsDue g t t due) → getD fs j 0 ≡ word t (placeOf due) j
+          unfolding storedFields
+          own-line j b (yes d) = getD-tabulate (fieldsDue g t t due) (λ i. word t (placeOf due) i) j 0 (omega arith)
+          own-line j b (no d) = List·getD-eq-default fs 0 {n = j} (omega (arith, length-fs)) ∙ sym (at-word t (placeOf due) j 0 (tail (9 * placeOf due + j) (omega arith) (omega arith)))
 
-          module _ (tail : Zero t (9 * placeOf due + m) (9 * placeOf due + 9)) where
-            own-line : (j : ℕ) → j < 9 → Dec (j < m) → getD fs j 0 ≡ word t (placeOf due) j
-            unfolding storedFields
-            own-line j b (yes d) = getD-tabulate (fieldsDue g t t due) (λ i. word t (placeOf due) i) j 0 (omega (arith, length-fs, length-gs))
-            own-line j b (no d) = List·getD-eq-default fs 0 {n = j} (omega (arith, length-gs)) ∙ sym (at-word t (placeOf due) j 0 (tail (9 * placeOf due + j) (omega arith) (omega arith)))
+          agree-c : Agree c′ t (suc (placeOf due))
+          agree-c o j a b = go (decLt o (placeOf due))
+            where
+              go : Dec (o < placeOf due) → word c′ o j ≡ word t o j
+              go (yes d) = word-stored-other c (placeOf due) fs fits-c o j (λ x. omega arith) b ∙ agree o j d b
+              go (no d) =
+                  let same : o ≡ placeOf due = omega arith in
+                  ap (λ r. word c′ r j) same ∙ word-stored-same c (placeOf due) fs fits-c j b ∙ own-line j b (decLt j (fieldsDue g t t due)) ∙ ap (λ r. word t r j) (sym same)
 
-            agree-c : Agree c′ t (suc (placeOf due))
-            agree-c o j a b = go (decLt o (placeOf due))
-              where
-                go : Dec (o < placeOf due) → word c′ o j ≡ word t o j
-                go (yes d) = word-stored-other c (placeOf due) fs fits-c o j (λ x. omega arith) b ∙ agree o j d b
-                go (no d) =
-                    let same : o ≡ placeOf due = omega arith in
-                    ap (λ r. word c′ r j) same ∙ word-stored-same c (placeOf due) fs fits-c j b ∙ own-line j b (decLt j m) ∙ ap (λ r. word t r j) (sym same)
+          next-c : next c′ due ≡ next t due
+          next-c = next-agree c′ t due agree-c
 
-            next-c : next c′ due ≡ next t due
-            next-c = next-agree c′ t due agree-c
-
-            pub pass-next : (d : Due) → d ≡ next t due → Passing size g t goal (left - 1) d (9 * placeOf due + 9)
-            pass-next d x = subst (λ (d : Due). Passing size g t goal (left - 1) d (9 * placeOf due + 9)) (next-c ∙ sym x) (record {
-              c = c′;
-              p = suc (placeOf due);
-              place = omega arith;
-              inside = omega (arith, pass-at);
-              long = long-c;
-              room = room-c c′;
-              before = before-next g c due fs (subst (λ m. Room m due) (sym (P .long)) (P .room)) (P .before) passed-c;
-              agree = agree-c;
-              clear = λ o j a b. word-stored-other c (placeOf due) fs fits-c o j (λ x. omega arith) b ∙ P .clear o j (omega (arith, P .low, reach-line due isLine)) b;
-              low = forward c′;
-              verdict = onward;
-            })
+          pub pass-next : (d : Due) → d ≡ next t due → Passing size g t goal (left - 1) d (9 * placeOf due + 9)
+          pass-next d x = subst (λ (d : Due). Passing size g t goal (left - 1) d (9 * placeOf due + 9)) (next-c ∙ sym x) (record {
+            c = c′;
+            p = suc (placeOf due);
+            place = omega arith;
+            inside = omega (arith, pass-at);
+            long = long-c;
+            room = room-c c′;
+            before = before-next g c due fs (subst (λ m. Room m due) (sym (P .long)) (P .room)) (P .before) passed-c;
+            agree = agree-c;
+            clear = λ o j a b. word-stored-other c (placeOf due) fs fits-c o j (λ x. omega arith) b ∙ P .clear o j (omega (arith, P .low, reach-line due isLine)) b;
+            low = forward c′;
+            verdict = onward;
+          })
 
 -- ---- one turn, by what the functions answer
 module _ (size : ℕ) (g t : List ℕ) (goal : Bool) (fits : size ≤ length t) (left : ℕ) (due : Due) (from : ℕ) (P : Passing size g t goal left due from)
-    (l : 0 < left) (b : Bool) (is : b ≡ nothingDue due) (no : b ≡ false) (pl : ℕ) (ep : pl ≡ cond (inTable due) (placeOf due) 0) where
+    (l : 0 < left) (b : Bool) (is : b ≡ nothingDue due) (some : b ≡ false) (pl : ℕ) (ep : pl ≡ cond (inTable due) (placeOf due) 0) where
   line : nothingDue due ≡ false
-  line = sym is ∙ no
+  line = sym is ∙ some
 
   inside : inTable due ≡ true
   inside = pass-in size g t goal fits left due from P l line
@@ -443,30 +385,25 @@ module _ (size : ℕ) (g t : List ℕ) (goal : Bool) (fits : size ≤ length t) 
   pub turn-gap : (z : Bool) → Zeros t from (9 * pl) z → not z ≡ true → false ≡ goal
   turn-gap z zs h = pass-gap size g t goal fits left due from P l line z (not-true z h) (subst (λ n. Zeros t from (9 * n) z) (sym here) zs)
 
-  module _ (z : Bool) (zs : Zeros t from (9 * pl) z) (ok : not z ≡ false) (gs : List ℕ) (eg : gs ≡ cond (inTable due) (storedFields g t t due) []) (k : ℕ) (ek : k ≡ cond (inTable due) (judge g t due gs) 2) where
+  pub turn-here : 9 * pl ≡ 9 * placeOf due
+  turn-here = ap (λ n. 9 * n) (sym here)
+
+  module _ (z : Bool) (zs : Zeros t from (9 * pl) z) (ok : not z ≡ false) (v : Bool) (stands : Stands g t due v) where
     gap : Zero t from (9 * placeOf due)
     gap = subst (λ n. Zero t from (9 * n)) (sym here) (zs .yes (not-false z ok))
 
-    fields : gs ≡ storedFields g t t due
-    fields = eg ∙ ap (λ a. cond a (storedFields g t t due) []) inside
+    pub turn-no : not v ≡ true → false ≡ goal
+    turn-no h = go (ℕ-discrete (judge g t due (storedFields g t t due)) 0)
+      where
+        go : Dec (judge g t due (storedFields g t t due) ≡ 0) → false ≡ goal
+        go (yes e) = pass-tail size g t goal fits left due from P l line gap e (stands .no (not-true v h) e)
+        go (no n) = pass-no size g t goal fits left due from P l line gap n
 
-    judged : k ≡ judge g t due gs
-    judged = ek ∙ ap (λ a. cond a (judge g t due gs) 2) inside
-
-    pub turn-no : (k ≡ 0 → ⊥) → false ≡ goal
-    turn-no h = pass-no size g t goal fits left due from P l line gap gs k fields judged h
-
-    module _ (y : k ≡ 0) (m : ℕ) (count : length gs ≡ m) (v : Bool) (vs : Zeros t (9 * pl + m) (9 * pl + 9) v) where
-      tail : Zeros t (9 * placeOf due + m) (9 * placeOf due + 9) v
-      tail = subst (λ n. Zeros t (9 * n + m) (9 * n + 9) v) (sym here) vs
-
-      pub turn-tail : not v ≡ true → false ≡ goal
-      turn-tail h = pass-tail size g t goal fits left due from P l line gap gs fields k judged y m count v (not-true v h) tail
-
-      pub turn-next : not v ≡ false → (d : Due) → d ≡ cond (inTable due) (next t due) Nothing → Passing size g t goal (left - 1) d (9 * pl + 9)
-      turn-next h d e =
-          subst (λ n. Passing size g t goal (left - 1) d (9 * n + 9)) here
-          (pass-next size g t goal fits left due from P l line gap gs fields k judged y m count (tail .yes (not-false v h)) d (e ∙ ap (λ a. cond a (next t due) Nothing) inside))
+    pub turn-next : not v ≡ false → (d : Due) → d ≡ cond (inTable due) (next t due) Nothing → Passing size g t goal (left - 1) d (9 * pl + 9)
+    turn-next h d e =
+        let both = stands .yes (not-false v h) in
+        subst (λ n. Passing size g t goal (left - 1) d (9 * n + 9)) here
+        (pass-next size g t goal fits left due from P l line gap (both .0) (both .1) d (e ∙ ap (λ a. cond a (next t due) Nothing) inside))
 
 -- ---- the two tables
 pub grammar-short : (t : List ℕ) → length t < 14985 → false ≡ checkGrammar t

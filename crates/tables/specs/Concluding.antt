@@ -2,9 +2,12 @@
 use mathlib.Core.Path.{_≡_}
 use mathlib.Core.Bool.{Bool, true, false}
 use mathlib.Core.List.{List}
-use Prim.Native.Nat.{ℕ, _+_, _≤_, _<_}
+use Prim.Native.Nat.{ℕ, _+_, _*_, _≤_, _<_}
 use lib.Bits.{bitOr}
 use lib.ListN.{getD}
+use Rattle.questions.specs.Layout.{placeOf}
+use Rattle.questions.specs.Questions.{judge}
+use Rattle.questions.specs.Checking.{fieldsDue, storedFields}
 use Rattle.questions.specs.declared.Due.{Due}
 use Rattle.questions.specs.declared.Due.the-variants.{Grammar, Symbol, Rule, RuleEdge, PlanLine, Graph, GraphEdge, Nothing}
 
@@ -50,3 +53,8 @@ eightFrom t i any =
     bitOr (bitOr (bitOr (bitOr
     (bitOr (bitOr (bitOr (bitOr any (getD t i 0)) (getD t (i + 1) 0)) (getD t (i + 2) 0)) (getD t (i + 3) 0))
     (getD t (i + 4) 0)) (getD t (i + 5) 0)) (getD t (i + 6) 0)) (getD t (i + 7) 0)
+
+-- r says whether the line that is due stands in t: it passes, and the words behind its fields are 0
+pub record Stands (g t : List ℕ) (due : Due) (r : Bool) : Type 0 where
+  pub yes : r ≡ true → (judge g t due (storedFields g t t due) ≡ 0) × Zero t (9 * placeOf due + fieldsDue g t t due) (9 * placeOf due + 9)
+  pub no : r ≡ false → judge g t due (storedFields g t t due) ≡ 0 → Zero t (9 * placeOf due + fieldsDue g t t due) (9 * placeOf due + 9) → ⊥

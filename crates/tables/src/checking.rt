@@ -1,17 +1,13 @@
 // Question 8 for tables, in one pass: the lines that a table holds are judged where they stand, and the words between them must be 0.
 ghost use mathlib.Core.Path.{_≡_};
-ghost use mathlib.Core.Bool.{cond, true};
-ghost use mathlib.Core.List.{[]};
 ghost use Prim.Native.Nat.{_+_, _*_, _≤_};
 ghost use lib.ListN.{length, replicate};
-ghost use Rattle.hrg.specs.Counts.{tabulate};
-ghost use Rattle.questions.specs.Layout.{inTable, fieldsIn, word};
+ghost use Rattle.questions.specs.Layout.{placeOf};
 ghost use Rattle.questions.specs.Walk.{Room};
-ghost use Rattle.tables.specs.Concluding.{nothingDue, Opens, Zeros, Gathered, eightFrom};
-ghost use Rattle.questions.specs.Checking.{fieldsDue, storedFields, checkLines, filledBy, checkGrammar, checkGraph};
+ghost use Rattle.tables.specs.Concluding.{nothingDue, Opens, Zeros, Gathered, eightFrom, Stands};
+ghost use Rattle.questions.specs.Checking.{fieldsDue, checkLines, filledBy, checkGrammar, checkGraph};
 use crate::judging;
 use questions::Due;
-use questions::Fields;
 
 // How far words were gathered, and the one word made of them.
 struct Gathering {
@@ -33,43 +29,6 @@ fn fields_due(g: &[u64], t: &[u64], due: Due) -> u64
         Due::GraphEdge(e) => 1 + layout::rank_at(g, layout::graph_label(t, e)),
         Due::Nothing => 0,
     }
-}
-
-// The first n words of the line at place p. All nine are read, so that nothing is tested on the way.
-fn line_fields(t: &[u64], p: u64, n: u64) -> Fields
-    requires { ⌜ (n ≤ 9) × (9 * p + 9 ≤ length (now t)) ⌝ }
-    ensures { λ x. ⌜ (fieldsIn x ≡ tabulate n (λ j. word (now (t .entry)) p j)) × (x .count ≡ n) ⌝ }
-{
-    let at = (9 * p) as usize;
-    let values = [
-        t[at],
-        t[at + 1],
-        t[at + 2],
-        t[at + 3],
-        t[at + 4],
-        t[at + 5],
-        t[at + 6],
-        t[at + 7],
-        t[at + 8],
-        0,
-        0,
-        0,
-        0,
-        0,
-        0,
-        0,
-        0,
-        0,
-    ];
-    Fields { values, count: n }
-}
-
-// The fields of the line at its place of t.
-fn stored_fields(g: &[u64], t: &[u64], due: Due) -> Fields
-    requires { ⌜ Room (length (now t)) due ⌝ }
-    ensures { λ x. ⌜ (fieldsIn x ≡ cond (inTable due) (storedFields (now (g .entry)) (now (t .entry)) (now (t .entry)) due) []) × (x .count ≤ 9) × (length (fieldsIn x) ≡ x .count) ⌝ }
-{
-    line_fields(t, layout::place_of(due), fields_due(g, t, due))
 }
 
 // Whether nothing is due any more.
@@ -113,19 +72,46 @@ fn gather(t: &[u64], a: u64, b: u64) -> Gathering
     Gathering { from: i, any }
 }
 
-// Whether the words of t from a to b are 0. One word is made of all, so that nothing is tested on the way.
+// Whether the words of t from a to b are 0, for a few words: each is tested.
+fn few_zeros(t: &[u64], a: u64, b: u64) -> bool
+    requires { ⌜ (a ≤ b) × (b ≤ length (now t)) ⌝ }
+    ensures { λ x. ⌜ Zeros (now (t .entry)) a b x ⌝ }
+{
+    let mut i = a;
+    while i < b {
+        if t[i as usize] != 0 {
+            return false;
+        }
+        i += 1;
+    }
+    true
+}
+
+// The same for any number of words: mostly there are none between two lines; of many one word is made, so that little is tested on the way.
 fn zeros(t: &[u64], a: u64, b: u64) -> bool
     requires { ⌜ (a ≤ b) × (b ≤ length (now t)) ⌝ }
     ensures { λ x. ⌜ Zeros (now (t .entry)) a b x ⌝ }
 {
-    let gathered = gather(t, a, b);
-    let mut any = gathered.any;
-    let mut i = gathered.from;
-    while i < b {
-        any = any | t[i as usize];
-        i += 1;
+    if a == b {
+        return true;
     }
-    any == 0
+    let gathered = gather(t, a, b);
+    if gathered.any != 0 {
+        return false;
+    }
+    few_zeros(t, gathered.from, b)
+}
+
+// Whether the line that is due passes where it stands in t, from word `at` on, and the words behind its fields are 0.
+fn check_line(g: &[u64], t: &[u64], due: Due, at: u64) -> bool
+    requires { ⌜ Room (length (now t)) due × (at ≡ 9 * placeOf due) ⌝ }
+    ensures { λ x. ⌜ Stands (now (g .entry)) (now (t .entry)) due x ⌝ }
+{
+    let end = at + fields_due(g, t, due);
+    if judging::judge(g, t, due, &t[at as usize..end as usize]) != 0 {
+        return false;
+    }
+    few_zeros(t, end, at + 9)
 }
 
 // The lines of t from `first` on, at most `lines` of them, judged in t itself; the words between their fields, as far as `size`, are 0.
@@ -145,11 +131,7 @@ fn check_lines(g: &[u64], t: &[u64], first: Due, lines: u64, size: u64) -> bool
         if !zeros(t, from, at) {
             return false;
         }
-        let f = stored_fields(g, t, due);
-        if judging::judge(g, t, due, f) != 0 {
-            return false;
-        }
-        if !zeros(t, at + f.count, at + 9) {
+        if !check_line(g, t, due, at) {
             return false;
         }
         due = layout::next_due(t, due);

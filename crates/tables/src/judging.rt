@@ -4,20 +4,19 @@ ghost use mathlib.Core.Bool.{cond, _&&_, _||_};
 ghost use Prim.Native.Nat.{_+_, _≤_};
 ghost use lib.ListN.{length};
 ghost use lib.Dec.{eqb, ltb};
-ghost use Rattle.questions.specs.Layout.{inTable, fieldsIn, rulePlan};
+ghost use Rattle.questions.specs.Layout.{inTable, rulePlan};
 ghost use Rattle.questions.specs.Questions.{ask, planWhole, judgeGrammar, judgeSymbol, judgeRule, judgeRuleEdge, judgePlan, judgeGraph, judgeGraphEdge, judge};
 ghost use Rattle.questions.specs.Walk.{Room};
 ghost use Rattle.tables.specs.Plans.{PlanRoom};
 use crate::marks;
 use crate::plans;
 use questions::Due;
-use questions::Fields;
 
 // `G`: symbols (1-64), rules (1-64), start symbol.
-fn judge_grammar(f: Fields) -> u64
-    ensures { λ x. ⌜ x ≡ judgeGrammar (fieldsIn f) ⌝ }
+fn judge_grammar(f: &[u64]) -> u64
+    ensures { λ x. ⌜ x ≡ judgeGrammar (now (f .entry)) ⌝ }
 {
-    let n = layout::field_count(f);
+    let n = f.len() as u64;
     let symbols = layout::field(f, 0);
     let rules = layout::field(f, 1);
     let start = layout::field(f, 2);
@@ -35,10 +34,10 @@ fn judge_grammar(f: Fields) -> u64
 }
 
 // `S`: its number, kind, rank.
-fn judge_symbol(g: &[u64], s: u64, f: Fields) -> u64
-    ensures { λ x. ⌜ x ≡ judgeSymbol (now (g .entry)) s (fieldsIn f) ⌝ }
+fn judge_symbol(g: &[u64], s: u64, f: &[u64]) -> u64
+    ensures { λ x. ⌜ x ≡ judgeSymbol (now (g .entry)) s (now (f .entry)) ⌝ }
 {
-    let n = layout::field_count(f);
+    let n = f.len() as u64;
     let number = layout::field(f, 0);
     let kind = layout::field(f, 1);
     let rank = layout::field(f, 2);
@@ -59,10 +58,10 @@ fn judge_symbol(g: &[u64], s: u64, f: Fields) -> u64
 }
 
 // `R`: its number, its nonterminal, nodes (1-8), edges (1-8), plan nodes (2-16), then its external nodes.
-fn judge_rule(g: &[u64], r: u64, f: Fields) -> u64
-    ensures { λ x. ⌜ x ≡ judgeRule (now (g .entry)) r (fieldsIn f) ⌝ }
+fn judge_rule(g: &[u64], r: u64, f: &[u64]) -> u64
+    ensures { λ x. ⌜ x ≡ judgeRule (now (g .entry)) r (now (f .entry)) ⌝ }
 {
-    let n = layout::field_count(f);
+    let n = f.len() as u64;
     let number = layout::field(f, 0);
     let symbol = layout::field(f, 1);
     let nodes = layout::field(f, 2);
@@ -91,11 +90,11 @@ fn judge_rule(g: &[u64], r: u64, f: Fields) -> u64
 }
 
 // `E` of a rule: symbol of rank 1 or more, then that many nodes; with the last one, is every node on an edge?
-fn judge_rule_edge(g: &[u64], r: u64, i: u64, f: Fields) -> u64
+fn judge_rule_edge(g: &[u64], r: u64, i: u64, f: &[u64]) -> u64
     requires { ⌜ (r ≤ 63) × (i ≤ 7) ⌝ }
-    ensures { λ x. ⌜ x ≡ judgeRuleEdge (now (g .entry)) r i (fieldsIn f) ⌝ }
+    ensures { λ x. ⌜ x ≡ judgeRuleEdge (now (g .entry)) r i (now (f .entry)) ⌝ }
 {
-    let n = layout::field_count(f);
+    let n = f.len() as u64;
     let label = layout::field(f, 0);
     let symbols = layout::symbol_count(g);
     let rank = layout::rank_at(g, label);
@@ -149,11 +148,11 @@ fn judge_known_plan(
 }
 
 // `P`: kind, first, second.
-fn judge_plan(g: &[u64], r: u64, q: u64, f: Fields) -> u64
+fn judge_plan(g: &[u64], r: u64, q: u64, f: &[u64]) -> u64
     requires { ⌜ PlanRoom (now g) r q ⌝ }
-    ensures { λ x. ⌜ x ≡ judgePlan (now (g .entry)) r q (fieldsIn f) ⌝ }
+    ensures { λ x. ⌜ x ≡ judgePlan (now (g .entry)) r q (now (f .entry)) ⌝ }
 {
-    let n = layout::field_count(f);
+    let n = f.len() as u64;
     let kind = layout::field(f, 0);
     let first = layout::field(f, 1);
     let second = layout::field(f, 2);
@@ -178,10 +177,10 @@ fn judge_plan(g: &[u64], r: u64, q: u64, f: Fields) -> u64
 }
 
 // `H`: nodes (1-64), edges (1-64), then external nodes, as many as the start's rank.
-fn judge_graph(g: &[u64], f: Fields) -> u64
-    ensures { λ x. ⌜ x ≡ judgeGraph (now (g .entry)) (fieldsIn f) ⌝ }
+fn judge_graph(g: &[u64], f: &[u64]) -> u64
+    ensures { λ x. ⌜ x ≡ judgeGraph (now (g .entry)) (now (f .entry)) ⌝ }
 {
-    let n = layout::field_count(f);
+    let n = f.len() as u64;
     let nodes = layout::field(f, 0);
     let edges = layout::field(f, 1);
     let fixed = (2 <= n) & ((1 <= nodes) & (nodes <= 64)) & ((1 <= edges) & (edges <= 64));
@@ -199,11 +198,11 @@ fn judge_graph(g: &[u64], f: Fields) -> u64
 }
 
 // `E` of a graph: a terminal symbol, then as many nodes as its rank; with the last one, is every node on an edge?
-fn judge_graph_edge(g: &[u64], h: &[u64], e: u64, f: Fields) -> u64
+fn judge_graph_edge(g: &[u64], h: &[u64], e: u64, f: &[u64]) -> u64
     requires { ⌜ e ≤ 63 ⌝ }
-    ensures { λ x. ⌜ x ≡ judgeGraphEdge (now (g .entry)) (now (h .entry)) e (fieldsIn f) ⌝ }
+    ensures { λ x. ⌜ x ≡ judgeGraphEdge (now (g .entry)) (now (h .entry)) e (now (f .entry)) ⌝ }
 {
-    let n = layout::field_count(f);
+    let n = f.len() as u64;
     let label = layout::field(f, 0);
     let symbols = layout::symbol_count(g);
     let kind = layout::kind_of(g, label);
@@ -228,9 +227,9 @@ fn judge_graph_edge(g: &[u64], h: &[u64], e: u64, f: Fields) -> u64
 }
 
 // Questions 3 to 7 for the line that is due in the table t; a graph's lines are judged with the grammar table g. A line that is in no table is refused 2.
-pub fn judge(g: &[u64], t: &[u64], due: Due, f: Fields) -> u64
+pub fn judge(g: &[u64], t: &[u64], due: Due, f: &[u64]) -> u64
     requires { ⌜ Room (length (now t)) due ⌝ }
-    ensures { λ x. ⌜ x ≡ cond (inTable due) (judge (now (g .entry)) (now (t .entry)) due (fieldsIn f)) 2 ⌝ }
+    ensures { λ x. ⌜ x ≡ cond (inTable due) (judge (now (g .entry)) (now (t .entry)) due (now (f .entry))) 2 ⌝ }
 {
     if !layout::in_table(due) {
         return 2;

@@ -7,21 +7,20 @@ ghost use lib.Dec.{leb, eqb};
 ghost use Rattle.masks.specs.Masks.{_∪_, full};
 ghost use lib.ListN.{drop};
 ghost use Rattle.hrg.specs.Counts.{tabulate};
-ghost use Rattle.questions.specs.Layout.{fieldsIn, word, ruleNodes, graphNodes};
+ghost use Rattle.questions.specs.Layout.{word, ruleNodes, graphNodes};
 ghost use Rattle.questions.specs.Questions.{listed, covered, nodesOnEdges, nodesOnGraph};
 ghost use Rattle.tables.specs.Marks.{marks};
-use questions::Fields;
 
 // Whether the fields from `from` on are in range and distinct.
-pub(crate) fn listed(f: Fields, from: u64, nodes: u64) -> bool
-    ensures { λ r. ⌜ r ≡ listed nodes (drop from (fieldsIn f)) ⌝ }
+pub(crate) fn listed(f: &[u64], from: u64, nodes: u64) -> bool
+    ensures { λ r. ⌜ r ≡ listed nodes (drop from (now (f .entry))) ⌝ }
 {
-    let n = layout::field_count(f);
+    let n = f.len() as u64;
     let top = layout::at_most(64, nodes);
     let mut seen: u64 = 0;
     let mut k = from;
     while k < n {
-        let x = layout::field(f, k);
+        let x = f[k as usize];
         if top <= x {
             return false;
         }
@@ -35,14 +34,14 @@ pub(crate) fn listed(f: Fields, from: u64, nodes: u64) -> bool
 }
 
 // m with the fields from `from` on.
-fn mark_fields(m: u64, f: Fields, from: u64) -> u64
-    ensures { λ r. ⌜ r ≡ marks m (drop from (fieldsIn f)) ⌝ }
+fn mark_fields(m: u64, f: &[u64], from: u64) -> u64
+    ensures { λ r. ⌜ r ≡ marks m (drop from (now (f .entry))) ⌝ }
 {
-    let n = layout::field_count(f);
+    let n = f.len() as u64;
     let mut mask = m;
     let mut k = from;
     while k < n {
-        mask = masks::with(mask, layout::field(f, k));
+        mask = masks::with(mask, f[k as usize]);
         k += 1;
     }
     mask
@@ -101,18 +100,18 @@ pub(crate) fn has_all(m: u64, nodes: u64) -> bool
 }
 
 // Whether every node of rule r is on one of the first n edges, or in the fields of the next edge's line.
-pub(crate) fn rule_covered(g: &[u64], r: u64, n: u64, f: Fields) -> bool
+pub(crate) fn rule_covered(g: &[u64], r: u64, n: u64, f: &[u64]) -> bool
     requires { ⌜ (r ≤ 63) × (n ≤ 8) ⌝ }
-    ensures { λ x. ⌜ x ≡ covered (ruleNodes (now (g .entry)) r) (nodesOnEdges (now (g .entry)) r n ++ drop 1 (fieldsIn f)) ⌝ }
+    ensures { λ x. ⌜ x ≡ covered (ruleNodes (now (g .entry)) r) (nodesOnEdges (now (g .entry)) r n ++ drop 1 (now (f .entry))) ⌝ }
 {
     let m = mark_fields(mark_edges(g, r, n), f, 1);
     has_all(m, layout::rule_nodes(g, r))
 }
 
 // The same of a graph.
-pub(crate) fn graph_covered(g: &[u64], h: &[u64], n: u64, f: Fields) -> bool
+pub(crate) fn graph_covered(g: &[u64], h: &[u64], n: u64, f: &[u64]) -> bool
     requires { ⌜ n ≤ 64 ⌝ }
-    ensures { λ x. ⌜ x ≡ covered (graphNodes (now (h .entry))) (nodesOnGraph (now (g .entry)) (now (h .entry)) n ++ drop 1 (fieldsIn f)) ⌝ }
+    ensures { λ x. ⌜ x ≡ covered (graphNodes (now (h .entry))) (nodesOnGraph (now (g .entry)) (now (h .entry)) n ++ drop 1 (now (f .entry))) ⌝ }
 {
     let m = mark_fields(mark_graph(g, h, n), f, 1);
     has_all(m, layout::graph_nodes(h))

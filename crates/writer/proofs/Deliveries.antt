@@ -2,10 +2,10 @@
 use mathlib.Core.Path.{_≡_, refl, sym, ap, _∙_, subst}
 use mathlib.Core.Bool.{Bool, true, false, cond, _&&_}
 use mathlib.Core.List.{List, [], _∷_, _++_}
-use Prim.Native.Nat.{ℕ, _+_, _≤_, _<_}
+use Prim.Native.Nat.{ℕ, _+_, _-_, _≤_, _<_}
 use native.Mathlib.Decide.{decLe}
 use native.Mathlib.Omega.{arith}
-use lib.ListN.{length, take, drop, length-drop}
+use lib.ListN.{length, take, drop, replicate, length-drop, length-replicate}
 use lib.Seq.{take-all}
 use lib.Dec.{leb}
 use borrow.Author.Tests.{le-leb, lt-leb}
@@ -37,11 +37,22 @@ use Rattle.writing.specs.declared.Answer.{Answer}
 use Rattle.writing.specs.declared.Answer.the-variants.{Unfit, TooSmall, Unfinished, Underivable, NoRoom, Written}
 use Rattle.writing.proofs.Writings.{text-held, text-short, write-by}
 use Rattle.writing.proofs.Choices.{write-choices}
+use Rattle.extractor.specs.Lists.{ListedIn}
 use Rattle.extractor.specs.Texts.{textBy, textAt}
 use Rattle.writer.specs.Delivering.{Leaves, delivered}
 
 leaves : (wrote other : Wrote) → wrote ≡ other → Leaves wrote (other .answer) (other .out)
 leaves wrote other e = record { answer = ap (λ (x : Wrote). x .answer) (sym e); bytes = ap (λ (x : Wrote). x .out) (sym e) }
+
+-- ---- what a list says that has eight places more than it may have applications
+pub listed-in : (look : ℕ → Record) (G : Grammar) (size limit n : ℕ) (js list : List ℕ) → size ≡ limit + 8 → ListedIn (size - 8) (listing look G (size - 8) js) list n → ListedIn limit (listing look G limit js) list n
+listed-in look G size limit n js list e p =
+    let same : size - 8 ≡ limit = omega arith in
+    subst (λ (k : ℕ). ListedIn k (listing look G k js) list n) same p
+
+-- sizes that are all 0
+pub all-none : (k : ℕ) → replicate {A = ℕ} k 0 ≡ replicate (length (replicate {A = ℕ} k 0)) 0
+all-none k = ap (λ (n : ℕ). replicate {A = ℕ} n 0) (sym (length-replicate {A = ℕ} k 0))
 
 -- ---- a text is delivered
 module _ (G : Grammar) (H : Graph) (text out : List ℕ) (b : Bool) (is : b ≡ replayText G H text) where

@@ -116,43 +116,39 @@ fn write_short(
     n: usize,
     out: &mut [u8],
 ) -> Answer
-    requires { ⌜ Accepted (now grammar) (now graph) × ListedIn (listing (λ k. recordAt (now chart) k) (grammarOf (now grammar)) 4096 (j ∷ [])) (now list) n × (n ≤ length (now list)) × (n ≤ 256) ⌝ }
+    requires { ⌜ Accepted (now grammar) (now graph) × ListedIn 4096 (listing (λ k. recordAt (now chart) k) (grammarOf (now grammar)) 4096 (j ∷ [])) (now list) n × (n ≤ length (now list)) × (n ≤ 256) ⌝ }
     ensures { λ r. ⌜ Leaves (writeSpelt (grammarOf (now (grammar .entry))) (graphOf (now (grammar .entry)) (now (graph .entry))) (now (out .entry)) (treeAt (λ k. recordAt (now (chart .entry)) k) (grammarOf (now (grammar .entry))) (graphOf (now (grammar .entry)) (now (graph .entry))) 4096 j)) r (now (out .exit)) ⌝ }
 {
+    let mut sizes = [0u64; 264];
     let mut buffer = [0u8; 18950];
-    let start = extractor::extract(grammar, graph, chart, j, list, n, &mut buffer);
+    let start = extractor::extract(grammar, graph, chart, j, list, n, &mut sizes, &mut buffer);
     deliver_from(grammar, graph, &buffer, start, out)
 }
 
-// The same of at most 4,096 applications.
-fn write_long(
-    grammar: &[u64],
-    graph: &[u64],
-    chart: &[u64],
-    j: u64,
-    list: &[u64],
-    n: usize,
-    out: &mut [u8],
-) -> Answer
-    requires { ⌜ Accepted (now grammar) (now graph) × ListedIn (listing (λ k. recordAt (now chart) k) (grammarOf (now grammar)) 4096 (j ∷ [])) (now list) n × (n ≤ length (now list)) ⌝ }
-    ensures { λ r. ⌜ Leaves (writeSpelt (grammarOf (now (grammar .entry))) (graphOf (now (grammar .entry)) (now (graph .entry))) (now (out .entry)) (treeAt (λ k. recordAt (now (chart .entry)) k) (grammarOf (now (grammar .entry))) (graphOf (now (grammar .entry)) (now (graph .entry))) 4096 j)) r (now (out .exit)) ⌝ }
-{
-    let mut buffer = [0u8; 303110];
-    let start = extractor::extract(grammar, graph, chart, j, list, n, &mut buffer);
-    deliver_from(grammar, graph, &buffer, start, out)
-}
-
-// The derivation of the passive item at place j. Most are short, and a long buffer takes longer to clear than they take to write.
-fn write_item(grammar: &[u64], graph: &[u64], chart: &[u64], j: u64, out: &mut [u8]) -> Answer
+// The same of at most 4,096 applications, which are not listed yet.
+fn write_long(grammar: &[u64], graph: &[u64], chart: &[u64], j: u64, out: &mut [u8]) -> Answer
     requires { ⌜ Accepted (now grammar) (now graph) ⌝ }
     ensures { λ r. ⌜ Leaves (writeSpelt (grammarOf (now (grammar .entry))) (graphOf (now (grammar .entry)) (now (graph .entry))) (now (out .entry)) (treeAt (λ k. recordAt (now (chart .entry)) k) (grammarOf (now (grammar .entry))) (graphOf (now (grammar .entry)) (now (graph .entry))) 4096 j)) r (now (out .exit)) ⌝ }
 {
     let mut list = [0u64; 4104];
     let n = extractor::listing::list_applications(grammar, chart, j, &mut list);
-    if n <= 256 {
-        return write_short(grammar, graph, chart, j, &list, n, out);
+    let mut sizes = [0u64; 4104];
+    let mut buffer = [0u8; 303110];
+    let start = extractor::extract(grammar, graph, chart, j, &list, n, &mut sizes, &mut buffer);
+    deliver_from(grammar, graph, &buffer, start, out)
+}
+
+// The derivation of the passive item at place j. Most are short: long lists and a long buffer take longer to clear than those take to write.
+fn write_item(grammar: &[u64], graph: &[u64], chart: &[u64], j: u64, out: &mut [u8]) -> Answer
+    requires { ⌜ Accepted (now grammar) (now graph) ⌝ }
+    ensures { λ r. ⌜ Leaves (writeSpelt (grammarOf (now (grammar .entry))) (graphOf (now (grammar .entry)) (now (graph .entry))) (now (out .entry)) (treeAt (λ k. recordAt (now (chart .entry)) k) (grammarOf (now (grammar .entry))) (graphOf (now (grammar .entry)) (now (graph .entry))) 4096 j)) r (now (out .exit)) ⌝ }
+{
+    let mut list = [0u64; 264];
+    let n = extractor::listing::list_applications(grammar, chart, j, &mut list);
+    if n == 0 {
+        return write_long(grammar, graph, chart, j, out);
     }
-    write_long(grammar, graph, chart, j, &list, n, out)
+    write_short(grammar, graph, chart, j, &list, n, out)
 }
 
 // Questions 11 and 12.

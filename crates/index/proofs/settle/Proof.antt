@@ -40,7 +40,7 @@ returns-2 c =
     let t = c .before .before .remove in
     let d = t .kept in
     let rs = chartOf (s .chart .now) .records in
-    (λ wants pivots I. settled (s .index .now) (t .last .0) (s .j) wants pivots rs I (inside (s .chart .now) (s .j) (c .before .before .before .before .before .before .before .before .before .pre .1)) (c .before .before .before .field2 .result) (is-waiting (s .chart .now) (s .j) (c .before .before .before .before .before .before .before .before .before .pre .1) (c .before .before .before .before .before .before .field .result) (c .before .before .before .before .before .before .field .ensures) (c .before .before .before .before .before .if1 .left)) (has-count (s .chart .now) (s .j) (c .before .before .before .before .before .before .before .before .before .pre .1) (c .before .before .before .before .before .before .field .result) (c .before .before .before .before .before .before .field .ensures) (c .before .before .before .field2 .result) (c .before .before .before .field2 .ensures)) (t .ensures rs _), near-put 8192 8192 (s .index .now) (t .last .0) (c .before .before .before .before .before .before .before .before .before .pre .0) (omega arith) (omega arith))
+    (λ wants pivots I. settled (s .index .now) (t .last .0) (s .j) wants pivots rs I (inside (s .chart .now) (s .j) (c .before .before .before .before .before .before .before .before .before .pre .1)) (c .before .before .before .field2 .result) (is-waiting (s .chart .now) (s .j) (c .before .before .before .before .before .before .before .before .before .pre .1) (c .before .before .before .before .before .before .field .result) (c .before .before .before .before .before .before .field .ensures) (c .before .before .before .before .before .if1 .left)) (has-count (s .chart .now) (s .j) (c .before .before .before .before .before .before .before .before .before .pre .1) (c .before .before .before .before .before .before .field .result) (c .before .before .before .before .before .before .field .ensures) (c .before .before .before .field2 .result) (c .before .before .before .field2 .ensures)) (t .ensures rs _), near-put 12288 4230 (s .index .now) (t .last .0) (c .before .before .before .before .before .before .before .before .before .pre .0) (omega arith) (omega arith))
 
 pub settle-spec : {M : Type 1} → statement M
 settle-spec =

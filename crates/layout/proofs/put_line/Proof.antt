@@ -5,13 +5,13 @@ use mathlib.Core.Path.{_≡_, refl}
 use lib.ListN.{length, length-set}
 use borrow.Author.Needs.{needs}
 use Rattle.layout.specs.Storing.{pasted}
-use Rattle.questions.specs.Layout.{block, fieldsIn}
+use Rattle.questions.specs.Layout.{block}
 use Rattle.layout.proofs.Words.{paste-start, put-next, put-done}
 use Rattle.layout.proofs.put_line.Statement.{statement}
 use Rattle.layout.proofs.put_line.Tie as tie
 
 abbrev Inv-loop : tie.InvT-loop
-Inv-loop t₀ at f j₀ t j = (j ≤ 9) × (length t ≡ length t₀) × (t ≡ pasted t₀ at (block (fieldsIn f)) j)
+Inv-loop t₀ at f j₀ t j = (j ≤ 9) × (length t ≡ length t₀) × (t ≡ pasted t₀ at (block f) j)
 
 abbrev μ-loop : tie.MeasureT-loop
 μ-loop t₀ at f j₀ t j = 9 - j

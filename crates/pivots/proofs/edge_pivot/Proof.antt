@@ -7,13 +7,13 @@ use Rattle.pivots.proofs.edge_pivot.Statement.{statement}
 use Rattle.pivots.proofs.edge_pivot.Tie as tie
 
 abbrev Inv-loop : tie.InvT-loop
-Inv-loop g r p i nodes rank k₀ k = k ≤ rank
+Inv-loop g plans r p i nodes rank k₀ k = k ≤ rank
 
 abbrev μ-loop : tie.MeasureT-loop
-μ-loop g r p i nodes rank k₀ k = rank - k
+μ-loop g plans r p i nodes rank k₀ k = rank - k
 
 open-at-requires : tie.Need-open-at-requires Inv-loop μ-loop
-open-at-requires c κs = c .before .pre .0
+open-at-requires c κs = (c .before .pre .0, c .before .pre .2)
 
 edge-label-requires : tie.Need-edge-label-requires Inv-loop μ-loop
 edge-label-requires c κs = search needs

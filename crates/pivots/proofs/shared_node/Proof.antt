@@ -7,16 +7,16 @@ use Rattle.pivots.proofs.shared_node.Statement.{statement}
 use Rattle.pivots.proofs.shared_node.Tie as tie
 
 abbrev Inv-loop : tie.InvT-loop
-Inv-loop g r p q here there v₀ v = Searched g r p q v
+Inv-loop g plans r p q here there v₀ v = Searched g r p q v
 
 abbrev μ-loop : tie.MeasureT-loop
-μ-loop g r p q here there v₀ v = v
+μ-loop g plans r p q here there v₀ v = v
 
 open-at-requires : tie.Need-open-at-requires Inv-loop μ-loop
-open-at-requires c κs = c .before .pre .0
+open-at-requires c κs = (c .before .pre .0, c .before .pre .2)
 
 open-at-requires-2 : tie.Need-open-at-requires-2 Inv-loop μ-loop
-open-at-requires-2 c κs = c .before .before .pre .1
+open-at-requires-2 c κs = (c .before .before .pre .1, c .before .before .pre .2)
 
 rule-nodes-requires : tie.Need-rule-nodes-requires Inv-loop μ-loop
 rule-nodes-requires c κs = search needs

@@ -11,10 +11,10 @@ use Rattle.readers.proofs.fields_of.Statement.{statement}
 use Rattle.readers.proofs.fields_of.Tie as tie
 
 abbrev Inv-loop : tie.InvT-loop
-Inv-loop line count values₀ k₀ values k = (k ≤ count) × (length values ≡ 18) × (take k values ≡ take k (fieldsOf line))
+Inv-loop line values₀ count k₀ values k = (k ≤ count) × (length values ≡ length values₀) × (take k values ≡ take k (fieldsOf line))
 
 abbrev μ-loop : tie.MeasureT-loop
-μ-loop line count values₀ k₀ values k = count - k
+μ-loop line values₀ count k₀ values k = count - k
 
 field-count-requires : tie.Need-field-count-requires Inv-loop μ-loop
 field-count-requires c κs = search needs
@@ -26,10 +26,10 @@ number-requires : tie.Need-number-requires Inv-loop μ-loop
 number-requires c κs = search needs
 
 mul-values : tie.Need-mul-values Inv-loop μ-loop
-mul-values c = omega (arith, c .before .before .before .field-count .ensures, shape-shaped _ (c .before .before .before .before .before .pre) .few)
+mul-values c = omega (arith, c .before .before .before .field-count .ensures, shape-shaped _ (c .before .before .before .before .before .before .pre .0) .few)
 
-array-write-values : tie.Need-array-write-values Inv-loop μ-loop
-array-write-values c = omega (arith, c .before .before .before .field-count .ensures, shape-shaped _ (c .before .before .before .before .before .pre) .few)
+slice-write-values : tie.Need-slice-write-values Inv-loop μ-loop
+slice-write-values c = omega (arith, c .before .before .before .field-count .ensures, shape-shaped _ (c .before .before .before .before .before .before .pre .0) .few)
 
 add-k : tie.Need-add-k Inv-loop μ-loop
 add-k c = search needs
@@ -38,10 +38,13 @@ loop-less : tie.Need-loop-less Inv-loop μ-loop
 loop-less c = search needs
 
 loop-again : tie.Need-loop-again Inv-loop μ-loop
-loop-again c = (omega arith, simp length-set (c .before .before .loop .inv .1), fields-more _ _ _ _ (omega (arith, c .before .before .before .field-count .ensures)) (omega (arith, c .before .before .before .field-count .ensures, shape-shaped _ (c .before .before .before .before .before .pre) .few)) (c .number .ensures) (c .before .before .loop .inv .2))
+loop-again c = (omega arith, simp length-set (c .before .before .loop .inv .1), fields-more _ _ _ _ (omega (arith, c .before .before .before .field-count .ensures)) (omega (arith, c .before .before .before .field-count .ensures, shape-shaped _ (c .before .before .before .before .before .before .pre .0) .few)) (c .number .ensures) (c .before .before .loop .inv .2))
+
+same-length : tie.Need-same-length Inv-loop μ-loop
+same-length c = c .before .loop .inv .1
 
 returns : tie.Need-returns Inv-loop μ-loop
-returns c = fields-done _ _ _ _ (c .before .before .field-count .ensures) (c .before .loop .inv .0) (c .loop-test .left) (c .before .loop .inv .2)
+returns c = (fields-done _ _ _ _ (c .before .before .field-count .ensures) (c .before .loop .inv .0) (c .loop-test .left) (c .before .loop .inv .2), omega (arith, c .before .before .field-count .ensures, shape-shaped _ (c .before .before .before .before .before .pre .0) .few))
 
 pub fields-of-spec : {M : Type 1} → statement M
 fields-of-spec =
@@ -53,8 +56,9 @@ fields-of-spec =
     loop-holds
     number-requires
     mul-values
-    array-write-values
+    slice-write-values
     add-k
     loop-less
     loop-again
+    same-length
     returns)

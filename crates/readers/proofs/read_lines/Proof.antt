@@ -1,10 +1,10 @@
 -- The loop over the lines that count: reading what is left gives what the whole text gives.
 use native.Mathlib.Omega.{arith}
 use Prim.Native.Nat.{_-_}
-use mathlib.Core.Path.{refl, sym, _∙_}
+use mathlib.Core.Path.{refl, _∙_}
 use lib.ListN.{length}
 use borrow.Author.Needs.{needs}
-use Rattle.readers.proofs.Turns.{passed-shape, reads-done, Reading, turn-no, turn-on, turn-less}
+use Rattle.readers.proofs.Turns.{reads-done, Reading, turn-no, turn-on, turn-less}
 use Rattle.readers.proofs.read_lines.Statement.{statement}
 use Rattle.readers.proofs.read_lines.Tie as tie
 
@@ -26,17 +26,17 @@ counting-start-requires c κs = search needs
 is-ended-requires : tie.Need-is-ended-requires Inv-loop μ-loop
 is-ended-requires c κs = search needs
 
-judge-line-requires : tie.Need-judge-line-requires Inv-loop μ-loop
-judge-line-requires c κs = c .before .before .before .before .before .loop .inv .room
+read-line-requires : tie.Need-read-line-requires Inv-loop μ-loop
+read-line-requires c κs = c .before .before .before .before .before .loop .inv .room
 
 same-length : tie.Need-same-length Inv-loop μ-loop
-same-length c = c .before .before .before .before .before .before .before .loop .inv .size
+same-length c = c .before .before .before .read-line .kept .1 .0 ∙ c .before .before .before .before .before .before .before .before .before .loop .inv .size
 
 returns : tie.Need-returns Inv-loop μ-loop
-returns c = turn-no _ _ _ _ _ _ _ (c .before .before .before .before .before .before .before .loop .inv) (c .before .before .before .before .before .before .loop-test .taken) _ (c .before .before .before .before .before .next-counting .ensures .contents) _ (c .before .before .before .before .counting-start .ensures) _ (c .before .before .is-ended .ensures) _ (c .before .judge-line .ensures) (c .if1 .taken)
+returns c = turn-no _ _ _ _ _ _ _ (c .before .before .before .before .before .before .before .before .before .loop .inv) (c .before .before .before .before .before .before .before .before .loop-test .taken) _ (c .before .before .before .before .before .before .before .next-counting .ensures .contents) _ (c .before .before .before .before .before .before .counting-start .ensures) _ (c .before .before .before .before .is-ended .ensures) _ (c .before .before .before .read-line .ensures .0) (c .if1 .taken) _
 
-store-line-requires : tie.Need-store-line-requires Inv-loop μ-loop
-store-line-requires c κs = (c .before .before .before .before .before .before .before .before .loop .inv .room, passed-shape _ _ _ _ (sym (c .before .before .judge-line .ensures) ∙ c .before .if1 .left))
+next-due-requires : tie.Need-next-due-requires Inv-loop μ-loop
+next-due-requires c κs = search needs
 
 after-line-requires : tie.Need-after-line-requires Inv-loop μ-loop
 after-line-requires c κs = search needs
@@ -45,7 +45,7 @@ loop-less : tie.Need-loop-less Inv-loop μ-loop
 loop-less c = omega (arith, turn-less _ _ _ _ (c .before .before .before .before .before .before .before .before .before .before .before .loop-test .taken) (c .before .before .before .before .before .before .before .before .before .counting-start .ensures) (c .after-line .ensures))
 
 loop-again : tie.Need-loop-again Inv-loop μ-loop
-loop-again c = turn-on _ _ _ _ _ _ _ (c .before .before .before .before .before .before .before .before .before .before .before .before .loop .inv) (c .before .before .before .before .before .before .before .before .before .before .before .loop-test .taken) _ (c .before .before .before .before .before .before .before .before .before .before .next-counting .ensures .contents) _ (c .before .before .before .before .before .before .before .before .before .counting-start .ensures) _ (c .before .before .before .before .before .before .before .is-ended .ensures) _ (c .before .before .before .before .before .before .judge-line .ensures) (c .before .before .before .before .before .if1 .left) _ _ _ (c .before .before .before .store-line .kept .0) (c .before .before .before .store-line .ensures .0) (c .before .before .before .store-line .ensures .1) (c .after-line .ensures)
+loop-again c = turn-on _ _ _ _ _ _ _ (c .before .before .before .before .before .before .before .before .before .before .before .before .loop .inv) (c .before .before .before .before .before .before .before .before .before .before .before .loop-test .taken) _ (c .before .before .before .before .before .before .before .before .before .before .next-counting .ensures .contents) _ (c .before .before .before .before .before .before .before .before .before .counting-start .ensures) _ (c .before .before .before .before .before .before .before .is-ended .ensures) _ (c .before .before .before .before .before .before .read-line .ensures .0) (c .before .before .before .if1 .left) _ _ _ (c .before .before .before .before .before .before .read-line .kept .1 .0) (c .before .before .before .before .before .before .read-line .ensures .1) (c .before .next-due .ensures) (c .after-line .ensures)
 
 missing-line-requires : tie.Need-missing-line-requires Inv-loop μ-loop
 missing-line-requires c κs = search needs
@@ -66,10 +66,10 @@ read-lines-spec =
     next-counting-requires
     counting-start-requires
     is-ended-requires
-    judge-line-requires
+    read-line-requires
     same-length
     returns
-    store-line-requires
+    next-due-requires
     after-line-requires
     loop-less
     loop-again

@@ -5,44 +5,60 @@ use Rattle.steps.proofs.ReadyLaws.{built-ready, count-small}
 use Rattle.steps.proofs.advance.Statement.{statement}
 use Rattle.steps.proofs.advance.Tie as tie
 
-table-requires : tie.Need-table-requires
-table-requires c κs = c .before .before .before .pre .0 .grammar
+slice-aggregate-fill : tie.Need-slice-aggregate-fill
+slice-aggregate-fill c = search needs
 
-table-requires-2 : tie.Need-table-requires-2
-table-requires-2 c κs = c .before .before .before .before .pre .0 .grammar
+fill-requires : tie.Need-fill-requires
+fill-requires c κs = search needs
 
-table-requires-3 : tie.Need-table-requires-3
-table-requires-3 c κs = (c .before .before .before .before .before .before .pre .0 .grammar, c .before .before .table .ensures)
+slice-aggregate-fill-2 : tie.Need-slice-aggregate-fill-2
+slice-aggregate-fill-2 c = search needs
 
-table-requires-4 : tie.Need-table-requires-4
-table-requires-4 c κs = c .before .before .before .before .before .before .before .pre .0
+fill-requires-2 : tie.Need-fill-requires-2
+fill-requires-2 c κs = search needs
+
+slice-aggregate-fill-3 : tie.Need-slice-aggregate-fill-3
+slice-aggregate-fill-3 c = search needs
+
+fill-requires-3 : tie.Need-fill-requires-3
+fill-requires-3 c κs = search needs
+
+slice-aggregate-fill-4 : tie.Need-slice-aggregate-fill-4
+slice-aggregate-fill-4 c = search needs
+
+fill-requires-4 : tie.Need-fill-requires-4
+fill-requires-4 c κs = search needs
 
 slice-aggregate-build : tie.Need-slice-aggregate-build
 slice-aggregate-build c = search needs
 
 build-requires : tie.Need-build-requires
-build-requires c κs = (empty-zeros, count-small _ (c .before .before .before .before .before .before .before .before .before .before .before .before .before .pre .2), c .before .before .before .before .before .before .before .before .before .before .before .before .before .pre .0, c .before .before .before .before .before .table4 .ensures)
+build-requires c κs = (empty-zeros, count-small _ (c .before .before .before .before .before .before .before .before .before .before .before .before .before .before .before .before .before .before .before .before .before .before .before .pre .2), c .before .before .before .before .before .before .before .before .before .before .before .before .before .before .before .before .before .before .before .before .before .before .before .pre .0, c .before .before .before .before .before .before .fill4 .ensures)
 
 slice-aggregate-advance-by : tie.Need-slice-aggregate-advance-by
 slice-aggregate-advance-by c = search needs
 
 advance-by-requires : tie.Need-advance-by-requires
-advance-by-requires c κs = (record { accepted = c .before .before .before .before .before .before .before .before .before .before .before .before .before .before .before .before .before .before .before .before .before .pre .0; wanted = c .before .before .before .before .before .before .before .before .before .before .before .before .before .before .before .before .before .table .ensures; planned = c .before .before .before .before .before .before .before .before .before .before .before .before .before .before .before .before .table2 .ensures; pivoted = c .before .before .before .before .before .before .before .before .before .before .before .before .before .before .table3 .ensures; graphed = c .before .before .before .before .before .before .before .before .before .before .before .before .before .table4 .ensures }, built-ready _ _ _ _ _ _ (c .before .before .before .before .before .before .before .before .before .before .before .before .before .before .before .before .before .before .before .before .before .pre .1) (c .before .before .before .before .before .before .before .before .before .before .before .before .before .before .before .before .before .before .before .before .before .pre .2) (c .before .before .before .before .before .before .before .build .ensures .0) (c .before .before .before .before .before .before .before .build .ensures .1))
+advance-by-requires c κs = (record { accepted = c .before .before .before .before .before .before .before .before .before .before .before .before .before .before .before .before .before .before .before .before .before .before .before .before .before .before .before .before .before .before .before .pre .0; wanted = c .before .before .before .before .before .before .before .before .before .before .before .before .before .before .before .before .before .before .before .before .before .before .fill2 .ensures; planned = c .before .before .before .before .before .before .before .before .before .before .before .before .before .before .before .before .before .before .before .before .before .before .before .before .before .before .fill .ensures; pivoted = c .before .before .before .before .before .before .before .before .before .before .before .before .before .before .before .before .before .fill3 .ensures; graphed = c .before .before .before .before .before .before .before .before .before .before .before .before .before .before .fill4 .ensures }, built-ready _ _ _ _ _ _ (c .before .before .before .before .before .before .before .before .before .before .before .before .before .before .before .before .before .before .before .before .before .before .before .before .before .before .before .before .before .before .before .pre .1) (c .before .before .before .before .before .before .before .before .before .before .before .before .before .before .before .before .before .before .before .before .before .before .before .before .before .before .before .before .before .before .before .pre .2) (c .before .before .before .before .before .before .before .build .ensures .0) (c .before .before .before .before .before .before .before .build .ensures .1))
 
 same-length : tie.Need-same-length
 same-length c = search needs
 
 returns : tie.Need-returns
-returns c = c .before .before .before .advance-by .ensures
+returns c = search needs
 
 pub advance-spec : {M : Type 1} → statement M
 advance-spec =
     tie.close
     (tie.spec
-    table-requires
-    table-requires-2
-    table-requires-3
-    table-requires-4
+    slice-aggregate-fill
+    fill-requires
+    slice-aggregate-fill-2
+    fill-requires-2
+    slice-aggregate-fill-3
+    fill-requires-3
+    slice-aggregate-fill-4
+    fill-requires-4
     slice-aggregate-build
     build-requires
     slice-aggregate-advance-by

@@ -53,7 +53,7 @@ step-requires c κs =
     (c .before .before .before .before .before .before .before .before .before .before .before .before .before .before .before .before .pre .0, next-ready (s .g .now) (s .h .now) (s .wants .now) (s .pivots .now) (l .chart) (l .index) (c .before .before .before .before .before .before .before .next .last .1 .0) (l .inv .4) (c .before .before .before .before .before .before .before .next .ensures .1 (s .wants .now) (s .pivots .now)) (c .before .before .before .before .before .before .before .next .ensures .2), next-known (c .before .before .before .before .before .before .before .before .before .before .before .loop .chart) _ (c .before .before .before .before .before .before .before .next .result) (c .before .before .before .j .given .1) (c .before .before .before .before .before .before .before .next .ensures .0))
 
 add-i : tie.Need-add-i Inv-loop μ-loop
-add-i c = search needs
+add-i c = omega (arith, c .before .before .before .before .before .before .before .before .before .before .before .before .before .before .before .loop-test .taken)
 
 loop-less : tie.Need-loop-less Inv-loop μ-loop
 loop-less c = omega (arith, c .before .before .before .before .before .before .before .before .before .before .before .before .before .before .before .loop-test .taken)

@@ -1,23 +1,21 @@
--- The applications are listed once, whatever buffer holds their text.
+-- What a short list holds is listed; more is listed again in a long one.
 use native.Mathlib.Omega.{arith}
+use Prim.Native.Nat.{ℕ}
+use lib.ListN.{length-replicate}
+use Rattle.writer.proofs.Deliveries.{listed-in}
+use Rattle.extractor.proofs.ListLaws.{listed-more}
 use borrow.Author.Needs.{needs}
 use Rattle.writer.proofs.write_item.Statement.{statement}
 use Rattle.writer.proofs.write_item.Tie as tie
-use Rattle.extractor.proofs.listing.list_applications.Reads as list-applications-reads
-use Rattle.writer.proofs.write_long.Reads as write-long-reads
-use Rattle.writer.proofs.write_short.Reads as write-short-reads
 
 slice-aggregate-list-applications : tie.Need-slice-aggregate-list-applications
 slice-aggregate-list-applications c = search needs
 
 list-applications-requires : tie.Need-list-applications-requires
-list-applications-requires c κs = (c .before .before .before .before .before .pre .grammar, omega arith)
+list-applications-requires c κs = search needs
 
-slice-aggregate-write-short : tie.Need-slice-aggregate-write-short
-slice-aggregate-write-short c = search needs
-
-write-short-requires : tie.Need-write-short-requires
-write-short-requires c κs = (c .before .before .before .before .before .before .before .before .before .before .pre, c .before .before .before .before .list-applications .ensures, omega arith, c .before .before .if1 .taken)
+write-long-requires : tie.Need-write-long-requires
+write-long-requires c κs = search needs
 
 same-length : tie.Need-same-length
 same-length c = search needs
@@ -25,11 +23,11 @@ same-length c = search needs
 returns : tie.Need-returns
 returns c = search needs
 
-slice-aggregate-write-long : tie.Need-slice-aggregate-write-long
-slice-aggregate-write-long c = search needs
+slice-aggregate-write-short : tie.Need-slice-aggregate-write-short
+slice-aggregate-write-short c = search needs
 
-write-long-requires : tie.Need-write-long-requires
-write-long-requires c κs = (c .before .before .before .before .before .before .before .before .before .before .pre, c .before .before .before .before .list-applications .ensures, omega arith)
+write-short-requires : tie.Need-write-short-requires
+write-short-requires c κs = (c .before .before .before .before .before .before .before .before .before .before .pre, listed-more _ _ 256 4096 _ _ _ (omega arith) (c .before .before .if1 .left) (listed-in _ _ _ 256 _ _ _ (length-replicate {A = ℕ} 264 0) (c .before .before .before .before .list-applications .ensures)), omega (arith, c .before .before .before .before .list-applications .ensures .few, c .before .before .before .before .list-applications .kept .1 .1 .1 .0, length-replicate {A = ℕ} 264 0), omega (arith, c .before .before .before .before .list-applications .ensures .few, length-replicate {A = ℕ} 264 0))
 
 same-length-2 : tie.Need-same-length-2
 same-length-2 c = search needs
@@ -43,11 +41,10 @@ write-item-spec =
     (tie.spec
     slice-aggregate-list-applications
     list-applications-requires
-    slice-aggregate-write-short
-    write-short-requires
+    write-long-requires
     same-length
     returns
-    slice-aggregate-write-long
-    write-long-requires
+    slice-aggregate-write-short
+    write-short-requires
     same-length-2
     returns-2)

@@ -1,34 +1,39 @@
--- A plan node past the end is a leaf, another is its table line.
-use borrow.Author.Needs.{needs}
-use Rattle.extractor.proofs.RuleLookup.{line-past, line-at}
+-- A plan node is a line of the table.
+use native.Mathlib.Omega.{arith}
+use Rattle.joins.proofs.Known.{grammar-long}
+use Rattle.extractor.proofs.RuleLookup.{node-place, line-at}
 use Rattle.extractor.proofs.lookup.plan_line.Statement.{statement}
 use Rattle.extractor.proofs.lookup.plan_line.Tie as tie
 
-plan-size-requires : tie.Need-plan-size-requires
-plan-size-requires c κs = search needs
+mul-at : tie.Need-mul-at
+mul-at c = omega (arith, node-place _ _ _ (c .before .pre))
+
+add-at : tie.Need-add-at
+add-at c = omega (arith, node-place _ _ _ (c .before .pre))
+
+add-at-2 : tie.Need-add-at-2
+add-at-2 c = omega (arith, node-place _ _ _ (c .before .pre))
+
+word-in-requires : tie.Need-word-in-requires
+word-in-requires c κs = omega (arith, node-place _ _ _ (c .before .pre), grammar-long _ (c .before .pre .grammar))
+
+word-in-requires-2 : tie.Need-word-in-requires-2
+word-in-requires-2 c κs = omega (arith, node-place _ _ _ (c .before .before .pre), grammar-long _ (c .before .before .pre .grammar))
+
+word-in-requires-3 : tie.Need-word-in-requires-3
+word-in-requires-3 c κs = omega (arith, node-place _ _ _ (c .before .before .before .pre), grammar-long _ (c .before .before .before .pre .grammar))
 
 returns : tie.Need-returns
-returns c = line-past _ _ _ _ (c .before .plan-size .ensures) (c .if1 .taken)
-
-plan-kind-requires : tie.Need-plan-kind-requires
-plan-kind-requires c κs = search needs
-
-plan-first-requires : tie.Need-plan-first-requires
-plan-first-requires c κs = search needs
-
-plan-second-requires : tie.Need-plan-second-requires
-plan-second-requires c κs = search needs
-
-returns-2 : tie.Need-returns-2
-returns-2 c = line-at _ _ _ _ _ _ _ (c .before .before .before .before .before .before .pre) (c .before .before .before .before .plan-size .ensures) (c .before .before .before .if1 .left) (c .before .before .plan-kind .ensures) (c .before .plan-first .ensures) (c .plan-second .ensures)
+returns c = line-at _ _ _ _ _ _ (c .before .before .before .before .pre) (c .before .before .word-in .ensures) (c .before .word-in2 .ensures) (c .word-in3 .ensures)
 
 pub plan-line-spec : {M : Type 1} → statement M
 plan-line-spec =
     tie.close
     (tie.spec
-    plan-size-requires
-    returns
-    plan-kind-requires
-    plan-first-requires
-    plan-second-requires
-    returns-2)
+    mul-at
+    add-at
+    add-at-2
+    word-in-requires
+    word-in-requires-2
+    word-in-requires-3
+    returns)

@@ -1,20 +1,29 @@
 -- An unknown rule has no plan, a known one has that of its table lines.
-use borrow.Author.Needs.{needs}
+use native.Mathlib.Omega.{arith}
+use Rattle.joins.proofs.Known.{grammar-long, rule-few}
 use Rattle.extractor.proofs.RuleLookup.{plan-none, plan-some}
 use Rattle.extractor.proofs.lookup.plan_size.Statement.{statement}
 use Rattle.extractor.proofs.lookup.plan_size.Tie as tie
 
-rule-count-requires : tie.Need-rule-count-requires
-rule-count-requires c κs = search needs
+word-in-requires : tie.Need-word-in-requires
+word-in-requires c κs = omega (arith, grammar-long _ (c .before .pre))
 
 returns : tie.Need-returns
-returns c = plan-none _ _ _ (c .before .rule-count .ensures) (c .if1 .taken)
+returns c = plan-none _ _ _ (c .before .word-in .ensures) (c .if1 .taken)
 
-rule-plan-requires : tie.Need-rule-plan-requires
-rule-plan-requires c κs = search needs
+mul-word-in : tie.Need-mul-word-in
+mul-word-in c = omega (arith, rule-few _ (c .before .before .before .args .r) (c .before .before .before .pre) (omega (arith, c .before .word-in .ensures, c .if1 .left)))
+
+add-word-in : tie.Need-add-word-in
+add-word-in c = omega (arith, rule-few _ (c .before .before .before .args .r) (c .before .before .before .pre) (omega (arith, c .before .word-in .ensures, c .if1 .left)))
+
+word-in-requires-2 : tie.Need-word-in-requires-2
+word-in-requires-2 c κs = omega (arith, grammar-long _ (c .before .before .before .pre), rule-few _ (c .before .before .before .args .r) (c .before .before .before .pre) (omega (arith, c .before .word-in .ensures, c .if1 .left)))
 
 returns-2 : tie.Need-returns-2
-returns-2 c = plan-some _ _ _ (c .before .before .rule-count .ensures) _ (c .before .if1 .left) (c .rule-plan .ensures)
+returns-2 c = plan-some _ _ _ (c .before .before .word-in .ensures) _ (c .before .if1 .left) (c .word-in2 .ensures)
 
 pub plan-size-spec : {M : Type 1} → statement M
-plan-size-spec = tie.close (tie.spec rule-count-requires returns rule-plan-requires returns-2)
+plan-size-spec =
+    tie.close
+    (tie.spec word-in-requires returns mul-word-in add-word-in word-in-requires-2 returns-2)

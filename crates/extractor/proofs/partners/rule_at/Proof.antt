@@ -4,14 +4,14 @@ use Rattle.extractor.proofs.PartnerLaws.{rule-by}
 use Rattle.extractor.proofs.partners.rule_at.Statement.{statement}
 use Rattle.extractor.proofs.partners.rule_at.Tie as tie
 
-root-at-requires : tie.Need-root-at-requires
-root-at-requires c κs = search needs
+first-at-requires : tie.Need-first-at-requires
+first-at-requires c κs = search needs
 
 field-requires : tie.Need-field-requires
 field-requires c κs = search needs
 
 returns : tie.Need-returns
-returns c = rule-by _ _ _ _ (c .before .root-at .ensures) (c .field .ensures)
+returns c = rule-by _ _ _ _ (c .before .first-at .ensures) (c .field .ensures)
 
 pub rule-at-spec : {M : Type 1} → statement M
-rule-at-spec = tie.close (tie.spec root-at-requires field-requires returns)
+rule-at-spec = tie.close (tie.spec first-at-requires field-requires returns)

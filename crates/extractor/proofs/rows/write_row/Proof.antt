@@ -1,6 +1,6 @@
 -- A row of at most 18 fields takes at most 74 bytes.
-use borrow.Author.Needs.{needs}
 use Rattle.extractor.proofs.RowLaws.{line-by}
+use borrow.Author.Needs.{needs}
 use Rattle.extractor.proofs.rows.write_row.Statement.{statement}
 use Rattle.extractor.proofs.rows.write_row.Tie as tie
 
@@ -20,7 +20,7 @@ same-length : tie.Need-same-length
 same-length c = search needs
 
 returns : tie.Need-returns
-returns c = line-by _ _ _ _ _ (search needs) (c .before .before .before .before .before .before .pre .0) (c .before .before .before .before .before .before .pre .1) (c .before .before .before .before .before .before .pre .2) (c .before .before .write-line .ensures .1)
+returns c = line-by _ _ _ _ _ (c .before .before .before .before .before .before .pre .0) (c .before .before .before .before .before .before .pre .1) (c .before .before .before .before .before .before .pre .2) (c .before .before .before .before .before .before .pre .3) (c .before .before .write-line .ensures)
 
 pub write-row-spec : {M : Type 1} → statement M
 write-row-spec =

@@ -5,34 +5,30 @@ use Rattle.replayer.proofs.TextRows.{letter-open, letter-shape, letter-
 use Rattle.replayer.proofs.fitting.has_letter.Statement.{statement}
 use Rattle.replayer.proofs.fitting.has_letter.Tie as tie
 
-is-ended-requires : tie.Need-is-ended-requires
-is-ended-requires c κs = search needs
+ends-requires : tie.Need-ends-requires
+ends-requires c κs = search needs
 
 returns : tie.Need-returns
-returns c = letter-open _ _ _ _ (c .before .is-ended .ensures) (not-true _ (c .if1 .taken))
-
-next-line-requires : tie.Need-next-line-requires
-next-line-requires c κs = search needs
+returns c = letter-open _ _ _ _ (c .before .ends .ensures) (not-true _ (c .if1 .taken))
 
 shape-requires : tie.Need-shape-requires
 shape-requires c κs = search needs
 
 returns-2 : tie.Need-returns-2
-returns-2 c = letter-shape _ _ _ _ (c .before .before .before .before .is-ended .ensures) (not-false _ (c .before .before .before .if1 .left)) _ (c .before .before .next-line .ensures .contents) _ (c .before .shape .ensures) (not-true _ (c .if2 .taken))
+returns-2 c = letter-shape _ _ _ _ (c .before .before .before .ends .ensures) (not-false _ (c .before .before .if1 .left)) _ (c .before .before .before .before .before .before .pre .1) _ (c .before .shape .ensures) (not-true _ (c .if2 .taken))
 
 letter-byte-requires : tie.Need-letter-byte-requires
 letter-byte-requires c κs = search needs
 
 returns-3 : tie.Need-returns-3
-returns-3 c = letter-same _ _ _ _ (c .before .before .before .before .before .is-ended .ensures) (not-false _ (c .before .before .before .before .if1 .left)) _ (c .before .before .before .next-line .ensures .contents) _ (c .before .before .shape .ensures) (not-false _ (c .before .if2 .left)) _ (c .letter-byte .ensures)
+returns-3 c = letter-same _ _ _ _ (c .before .before .before .before .ends .ensures) (not-false _ (c .before .before .before .if1 .left)) _ (c .before .before .before .before .before .before .before .pre .1) _ (c .before .before .shape .ensures) (not-false _ (c .before .if2 .left)) _ (c .letter-byte .ensures)
 
 pub has-letter-spec : {M : Type 1} → statement M
 has-letter-spec =
     tie.close
     (tie.spec
-    is-ended-requires
+    ends-requires
     returns
-    next-line-requires
     shape-requires
     returns-2
     letter-byte-requires

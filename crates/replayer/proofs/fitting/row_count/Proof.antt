@@ -25,14 +25,17 @@ after-line-requires c κs = search needs
 loop-holds : tie.Need-loop-holds Inv-loop μ-loop
 loop-holds c = count-first _ _ (c .before .before .said-count .ensures) _ (c .before .if1 .left) (c .after-line .ensures)
 
+next-line-requires : tie.Need-next-line-requires Inv-loop μ-loop
+next-line-requires c κs = search needs
+
 has-letter-requires : tie.Need-has-letter-requires Inv-loop μ-loop
-has-letter-requires c κs = search needs
+has-letter-requires c κs = (c .before .before .loop .inv .within, c .next-line .ensures .contents)
 
 returns-2 : tie.Need-returns-2 Inv-loop μ-loop
-returns-2 c = count-refused _ _ _ _ (c .before .before .before .loop .inv) (c .before .before .loop-test .taken) _ (c .before .has-letter .ensures) (not-true _ (c .if2 .taken))
+returns-2 c = count-refused _ _ _ _ (c .before .before .before .before .loop .inv) (c .before .before .before .loop-test .taken) _ (c .before .has-letter .ensures) (not-true _ (c .if2 .taken))
 
-after-line-requires-2 : tie.Need-after-line-requires-2 Inv-loop μ-loop
-after-line-requires-2 c κs = search needs
+behind-requires : tie.Need-behind-requires Inv-loop μ-loop
+behind-requires c κs = (c .before .before .before .before .loop .inv .within, c .before .before .next-line .ensures .contents)
 
 add-k : tie.Need-add-k Inv-loop μ-loop
 add-k c = omega arith
@@ -41,7 +44,7 @@ loop-less : tie.Need-loop-less Inv-loop μ-loop
 loop-less c = omega arith
 
 loop-again : tie.Need-loop-again Inv-loop μ-loop
-loop-again c = count-next _ _ _ _ (c .before .before .before .before .loop .inv) (c .before .before .before .loop-test .taken) _ (c .before .before .has-letter .ensures) (not-false _ (c .before .if2 .left)) _ (c .after-line2 .ensures)
+loop-again c = count-next _ _ _ _ (c .before .before .before .before .before .loop .inv) (c .before .before .before .before .loop-test .taken) _ (c .before .before .has-letter .ensures) (not-false _ (c .before .if2 .left)) _ (c .behind .ensures)
 
 returns-3 : tie.Need-returns-3 Inv-loop μ-loop
 returns-3 c = count-behind _ _ _ _ (c .before .before .loop .inv) (c .before .loop-test .left) (c .if3 .taken)
@@ -59,9 +62,10 @@ row-count-spec =
     returns
     after-line-requires
     loop-holds
+    next-line-requires
     has-letter-requires
     returns-2
-    after-line-requires-2
+    behind-requires
     add-k
     loop-less
     loop-again

@@ -1,6 +1,4 @@
--- A passive record and one with no plan node above it never come first; for the others the first child there decides.
-use native.Mathlib.Omega.{arith}
-use borrow.Author.Tests.{lt-ltb}
+-- A passive record and one with no plan node above it never come first; for the others the word of the node above decides.
 use borrow.Author.Needs.{needs}
 use Rattle.records.specs.Words.{ofWords}
 use Rattle.rules.proofs.Leading.{leads-passive, leads-nowhere, leads-first}
@@ -14,28 +12,22 @@ returns : tie.Need-returns
 unfolding ofWords
 returns c = leads-passive _ (c .before .before .before .before .pre .0) _ (c .if1 .taken)
 
-shared-slice-read-of : tie.Need-shared-slice-read-of
-shared-slice-read-of c = search needs
-
 shared-slice-read-parent-in : tie.Need-shared-slice-read-parent-in
 shared-slice-read-parent-in c = search needs
+
+shared-slice-read-parent-in-2 : tie.Need-shared-slice-read-parent-in-2
+shared-slice-read-parent-in-2 c = search needs
 
 parent-in-requires : tie.Need-parent-in-requires
 parent-in-requires c κs = search needs
 
 returns-2 : tie.Need-returns-2
 unfolding ofWords
-returns-2 c = leads-nowhere _ (c .before .before .before .before .before .before .before .before .before .pre .0) _ (c .before .before .before .before .before .if1 .left) _ (c .before .before .parent-in .ensures) (c .if2 .taken)
-
-first-at-requires : tie.Need-first-at-requires
-first-at-requires c κs = c .before .before .parent-in .ensures .above .known (lt-ltb _ _ (c .if2 .left))
-
-shared-slice-read-result : tie.Need-shared-slice-read-result
-shared-slice-read-result c = search needs
+returns-2 c = leads-nowhere _ (c .before .before .before .before .before .before .before .before .pre .0) _ (c .before .before .before .before .if1 .left) _ (c .before .parent-in .ensures) (c .if2 .taken)
 
 returns-3 : tie.Need-returns-3
 unfolding ofWords
-returns-3 c = leads-first _ (c .before .before .before .before .before .before .before .before .before .before .before .pre .0) _ (c .before .before .before .before .before .before .before .if1 .left) _ (c .before .before .before .before .parent-in .ensures) (c .before .before .if2 .left) _ (c .before .first-at .ensures)
+returns-3 c = leads-first _ (c .before .before .before .before .before .before .before .before .pre .0) _ (c .before .before .before .before .if1 .left) _ (c .before .parent-in .ensures) (c .if2 .left)
 
 pub leads-spec : {M : Type 1} → statement M
 leads-spec =
@@ -43,10 +35,8 @@ leads-spec =
     (tie.spec
     shared-slice-read-if1
     returns
-    shared-slice-read-of
     shared-slice-read-parent-in
+    shared-slice-read-parent-in-2
     parent-in-requires
     returns-2
-    first-at-requires
-    shared-slice-read-result
     returns-3)

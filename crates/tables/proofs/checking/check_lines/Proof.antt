@@ -4,7 +4,7 @@ use borrow.Author.Needs.{needs}
 use mathlib.Core.Path.{sym, _∙_}
 use lib.ListN.{replicate}
 use Rattle.questions.specs.Checking.{checkLines, filledBy}
-use Rattle.tables.proofs.OnePass.{room-more, Passing, pass-start, pass-none, pass-end, turn-from, turn-fits, turn-gap, turn-no, turn-tail, turn-next}
+use Rattle.tables.proofs.OnePass.{room-more, Passing, pass-start, pass-none, pass-end, turn-from, turn-fits, turn-here, turn-gap, turn-no, turn-next}
 use Rattle.tables.proofs.checking.check_lines.Statement.{statement}
 use Rattle.tables.proofs.checking.check_lines.Tie as tie
 
@@ -21,7 +21,7 @@ is-nothing-requires : tie.Need-is-nothing-requires Inv-loop μ-loop
 is-nothing-requires c κs = search needs
 
 zeros-requires : tie.Need-zeros-requires Inv-loop μ-loop
-zeros-requires c κs = (omega (arith, c .before .before .before .loop .inv .inside, c .before .before .before .loop .inv .place), (c .before .before .before .before .before .before .pre .2))
+zeros-requires c κs = (omega (arith, c .before .before .before .loop .inv .inside, c .before .before .before .loop .inv .place), c .before .before .before .before .before .before .pre .2)
 
 returns : tie.Need-returns Inv-loop μ-loop
 returns c = pass-end _ _ _ _ (c .before .before .before .before .before .before .before .pre .2) _ _ _ (c .before .before .before .before .loop .inv) (c .before .before .before .loop-test .taken) (sym (c .before .before .is-nothing .ensures) ∙ c .before .if1 .taken) _ (c .zeros .ensures)
@@ -33,31 +33,16 @@ mul-at : tie.Need-mul-at Inv-loop μ-loop
 mul-at c = search needs
 
 zeros-requires-2 : tie.Need-zeros-requires-2 Inv-loop μ-loop
-zeros-requires-2 c κs = (turn-from _ _ _ _ (c .before .before .before .before .before .before .before .pre .2) _ _ _ (c .before .before .before .before .loop .inv) (c .before .before .before .loop-test .taken) _ (c .before .before .is-nothing .ensures) (c .before .if1 .left) _ (c .place-of .ensures .0), omega (arith, (c .before .before .before .before .before .before .before .pre .2), turn-fits _ _ _ _ (c .before .before .before .before .before .before .before .pre .2) _ _ _ (c .before .before .before .before .loop .inv) (c .before .before .before .loop-test .taken) _ (c .before .before .is-nothing .ensures) (c .before .if1 .left) _ (c .place-of .ensures .0)))
+zeros-requires-2 c κs = (turn-from _ _ _ _ (c .before .before .before .before .before .before .before .pre .2) _ _ _ (c .before .before .before .before .loop .inv) (c .before .before .before .loop-test .taken) _ (c .before .before .is-nothing .ensures) (c .before .if1 .left) _ (c .place-of .ensures .0), omega (arith, c .before .before .before .before .before .before .before .pre .2, turn-fits _ _ _ _ (c .before .before .before .before .before .before .before .pre .2) _ _ _ (c .before .before .before .before .loop .inv) (c .before .before .before .loop-test .taken) _ (c .before .before .is-nothing .ensures) (c .before .if1 .left) _ (c .place-of .ensures .0)))
 
 returns-2 : tie.Need-returns-2 Inv-loop μ-loop
 returns-2 c = turn-gap _ _ _ _ (c .before .before .before .before .before .before .before .before .before .pre .2) _ _ _ (c .before .before .before .before .before .before .loop .inv) (c .before .before .before .before .before .loop-test .taken) _ (c .before .before .before .before .is-nothing .ensures) (c .before .before .before .if1 .left) _ (c .before .before .place-of .ensures .0) _ (c .before .zeros2 .ensures) (c .if2 .taken)
 
-stored-fields-requires : tie.Need-stored-fields-requires Inv-loop μ-loop
-stored-fields-requires c κs = room-more _ _ (c .before .before .before .before .before .before .loop .due) (c .before .before .before .before .before .before .before .before .before .pre .2) (c .before .before .before .before .before .before .loop .inv .room)
-
-judge-requires : tie.Need-judge-requires Inv-loop μ-loop
-judge-requires c κs = room-more _ _ (c .before .before .before .before .before .before .before .loop .due) (c .before .before .before .before .before .before .before .before .before .before .pre .2) (c .before .before .before .before .before .before .before .loop .inv .room)
+check-line-requires : tie.Need-check-line-requires Inv-loop μ-loop
+check-line-requires c κs = (room-more _ _ (c .before .before .before .before .before .before .loop .due) (c .before .before .before .before .before .before .before .before .before .pre .2) (c .before .before .before .before .before .before .loop .inv .room), turn-here _ _ _ _ (c .before .before .before .before .before .before .before .before .before .pre .2) _ _ _ (c .before .before .before .before .before .before .loop .inv) (c .before .before .before .before .before .loop-test .taken) _ (c .before .before .before .before .is-nothing .ensures) (c .before .before .before .if1 .left) _ (c .before .before .place-of .ensures .0))
 
 returns-3 : tie.Need-returns-3 Inv-loop μ-loop
-returns-3 c = turn-no _ _ _ _ (c .before .before .before .before .before .before .before .before .before .before .before .before .pre .2) _ _ _ (c .before .before .before .before .before .before .before .before .before .loop .inv) (c .before .before .before .before .before .before .before .before .loop-test .taken) _ (c .before .before .before .before .before .before .before .is-nothing .ensures) (c .before .before .before .before .before .before .if1 .left) _ (c .before .before .before .before .before .place-of .ensures .0) _ (c .before .before .before .before .zeros2 .ensures) (c .before .before .before .if2 .left) _ (c .before .before .stored-fields .ensures .0) _ (c .before .judge .ensures) (c .if3 .taken)
-
-add-zeros : tie.Need-add-zeros Inv-loop μ-loop
-add-zeros c = search needs
-
-add-zeros-2 : tie.Need-add-zeros-2 Inv-loop μ-loop
-add-zeros-2 c = search needs
-
-zeros-requires-3 : tie.Need-zeros-requires-3 Inv-loop μ-loop
-zeros-requires-3 c κs = (omega arith, omega (arith, (c .before .before .before .before .before .before .before .before .before .before .before .before .before .pre .2), turn-fits _ _ _ _ (c .before .before .before .before .before .before .before .before .before .before .before .before .before .pre .2) _ _ _ (c .before .before .before .before .before .before .before .before .before .before .loop .inv) (c .before .before .before .before .before .before .before .before .before .loop-test .taken) _ (c .before .before .before .before .before .before .before .before .is-nothing .ensures) (c .before .before .before .before .before .before .before .if1 .left) _ (c .before .before .before .before .before .before .place-of .ensures .0)))
-
-returns-4 : tie.Need-returns-4 Inv-loop μ-loop
-returns-4 c = turn-tail _ _ _ _ (c .before .before .before .before .before .before .before .before .before .before .before .before .before .before .before .pre .2) _ _ _ (c .before .before .before .before .before .before .before .before .before .before .before .before .loop .inv) (c .before .before .before .before .before .before .before .before .before .before .before .loop-test .taken) _ (c .before .before .before .before .before .before .before .before .before .before .is-nothing .ensures) (c .before .before .before .before .before .before .before .before .before .if1 .left) _ (c .before .before .before .before .before .before .before .before .place-of .ensures .0) _ (c .before .before .before .before .before .before .before .zeros2 .ensures) (c .before .before .before .before .before .before .if2 .left) _ (c .before .before .before .before .before .stored-fields .ensures .0) _ (c .before .before .before .before .judge .ensures) (c .before .before .before .if3 .left) _ (c .before .before .before .before .before .stored-fields .ensures .2) _ (c .before .zeros3 .ensures) (c .if4 .taken)
+returns-3 c = turn-no _ _ _ _ (c .before .before .before .before .before .before .before .before .before .before .before .pre .2) _ _ _ (c .before .before .before .before .before .before .before .before .loop .inv) (c .before .before .before .before .before .before .before .loop-test .taken) _ (c .before .before .before .before .before .before .is-nothing .ensures) (c .before .before .before .before .before .if1 .left) _ (c .before .before .before .before .place-of .ensures .0) _ (c .before .before .before .zeros2 .ensures) (c .before .before .if2 .left) _ (c .before .check-line .ensures) (c .if3 .taken)
 
 next-due-requires : tie.Need-next-due-requires Inv-loop μ-loop
 next-due-requires c κs = search needs
@@ -72,10 +57,10 @@ loop-less : tie.Need-loop-less Inv-loop μ-loop
 loop-less c = search needs
 
 loop-again : tie.Need-loop-again Inv-loop μ-loop
-loop-again c = turn-next _ _ _ _ (c .before .before .before .before .before .before .before .before .before .before .before .before .before .before .before .before .pre .2) _ _ _ (c .before .before .before .before .before .before .before .before .before .before .before .before .before .loop .inv) (c .before .before .before .before .before .before .before .before .before .before .before .before .loop-test .taken) _ (c .before .before .before .before .before .before .before .before .before .before .before .is-nothing .ensures) (c .before .before .before .before .before .before .before .before .before .before .if1 .left) _ (c .before .before .before .before .before .before .before .before .before .place-of .ensures .0) _ (c .before .before .before .before .before .before .before .before .zeros2 .ensures) (c .before .before .before .before .before .before .before .if2 .left) _ (c .before .before .before .before .before .before .stored-fields .ensures .0) _ (c .before .before .before .before .before .judge .ensures) (c .before .before .before .before .if3 .left) _ (c .before .before .before .before .before .before .stored-fields .ensures .2) _ (c .before .before .zeros3 .ensures) (c .before .if4 .left) _ (c .next-due .ensures)
+loop-again c = turn-next _ _ _ _ (c .before .before .before .before .before .before .before .before .before .before .before .before .pre .2) _ _ _ (c .before .before .before .before .before .before .before .before .before .loop .inv) (c .before .before .before .before .before .before .before .before .loop-test .taken) _ (c .before .before .before .before .before .before .before .is-nothing .ensures) (c .before .before .before .before .before .before .if1 .left) _ (c .before .before .before .before .before .place-of .ensures .0) _ (c .before .before .before .before .zeros2 .ensures) (c .before .before .before .if2 .left) _ (c .before .before .check-line .ensures) (c .before .if3 .left) _ (c .next-due .ensures)
 
-returns-5 : tie.Need-returns-5 Inv-loop μ-loop
-returns-5 c = pass-none _ _ _ _ (c .before .before .before .before .pre .2) _ _ _ (c .before .loop .inv) (c .loop-test .left)
+returns-4 : tie.Need-returns-4 Inv-loop μ-loop
+returns-4 c = pass-none _ _ _ _ (c .before .before .before .before .pre .2) _ _ _ (c .before .loop .inv) (c .loop-test .left)
 
 pub check-lines-spec : {M : Type 1} → statement M
 check-lines-spec =
@@ -91,16 +76,11 @@ check-lines-spec =
     mul-at
     zeros-requires-2
     returns-2
-    stored-fields-requires
-    judge-requires
+    check-line-requires
     returns-3
-    add-zeros
-    add-zeros-2
-    zeros-requires-3
-    returns-4
     next-due-requires
     add-from
     sub-left
     loop-less
     loop-again
-    returns-5)
+    returns-4)

@@ -2,7 +2,7 @@
 use native.Mathlib.Omega.{arith}
 use Prim.Native.Nat.{_-_, _≤_}
 use Rattle.tables.specs.Concluding.{Gathered}
-use Rattle.tables.proofs.OnePass.{gathered-none, gathered-turn}
+use Rattle.tables.proofs.Gaps.{gathered-none, gathered-turn}
 use Rattle.tables.proofs.checking.gather.Statement.{statement}
 use Rattle.tables.proofs.checking.gather.Tie as tie
 use Rattle.tables.proofs.checking.with_eight.Reads as with-eight-reads
