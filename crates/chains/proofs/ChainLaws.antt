@@ -1,5 +1,5 @@
 -- What is found on a chain is what a search through all records finds, and how chains are kept as records come.
-use Prim.Native.Nat.{ℕ, zero, suc, _+_, _-_, _*_, _≤_, _<_}
+use Prim.Native.Nat.{ℕ, zero, suc, _+_, _-_, _*_, _/_, _%_, _≤_, _<_}
 use mathlib.Core.Path.{_≡_, refl, sym, ap, ap₂, _∙_, subst}
 use mathlib.Core.Logic.{_≢_}
 use mathlib.Core.List.{List, [], _∷_, _++_}
@@ -20,30 +20,45 @@ use Rattle.agenda.proofs.Records.{same-bare}
 use Rattle.agenda.proofs.Adding.{cond-by}
 use Rattle.records.specs.Words.{itemCount, ofWords, recordAt, recordsAt, chartOf}
 use Rattle.records.proofs.WordLaws.{length-records, record-in, item-fits, part-record-at}
-use Rattle.chains.specs.Chains.{mixed, bucketOf, lastIn, Chained, linked, Cleared}
+use Rattle.chains.specs.Chains.{mixed, hashOf, bucketOf, tagOf, lastIn, linkOf, Chained, linked, Cleared}
 
--- ---- buckets
+-- ---- hashes
 pub bucket-below : (x : Record) → bucketOf x < 8192
-unfolding bucketOf
+unfolding bucketOf hashOf
 bucket-below x = omega arith
 
--- records of the same item are of one bucket
-pub same-bucket : (x y : Record) → sameRecord x y ≡ true → bucketOf x ≡ bucketOf y
-unfolding bucketOf mixed
-same-bucket x y h = ap bucketOf (same-bare x y h)
+-- the hash makes the bucket and the tag
+bucket-by : (x y : Record) → hashOf x ≡ hashOf y → bucketOf x ≡ bucketOf y
+unfolding bucketOf
+bucket-by x y e = ap (λ h. h / 524288) e
 
--- so is a record that is improved or handled
-pub improved-bucket : (y x : Record) → bucketOf (improved y x) ≡ bucketOf y
-unfolding bucketOf mixed
-improved-bucket y x = refl
+tag-by : (x y : Record) → hashOf x ≡ hashOf y → tagOf x ≡ tagOf y
+unfolding tagOf
+tag-by x y e = ap (λ h. h % 524288) e
 
-pub handled-bucket : (y : Record) → bucketOf (handledNow y) ≡ bucketOf y
-unfolding bucketOf mixed
-handled-bucket y = refl
+-- records of the same item have one hash
+same-hash : (x y : Record) → sameRecord x y ≡ true → hashOf x ≡ hashOf y
+unfolding hashOf mixed
+same-hash x y h = ap hashOf (same-bare x y h)
 
-other-bucket : (x y : Record) (t : Bool) → sameRecord x y ≡ t → (bucketOf y ≡ bucketOf x → ⊥) → sameRecord x y ≡ false
-other-bucket x y true e h = absurd (h (sym (same-bucket x y e)))
-other-bucket x y false e h = e
+-- so has a record that is improved or handled
+improved-hash : (y x : Record) → hashOf (improved y x) ≡ hashOf y
+unfolding hashOf mixed
+improved-hash y x = refl
+
+handled-hash : (y : Record) → hashOf (handledNow y) ≡ hashOf y
+unfolding hashOf mixed
+handled-hash y = refl
+
+other-hash : (x y : Record) (t : Bool) → sameRecord x y ≡ t → (hashOf x ≡ hashOf y → ⊥) → sameRecord x y ≡ false
+other-hash x y true e h = absurd (h (same-hash x y e))
+other-hash x y false e h = e
+
+other-bucket : (x y : Record) → (bucketOf y ≡ bucketOf x → ⊥) → sameRecord x y ≡ false
+other-bucket x y h = other-hash x y (sameRecord x y) refl (λ e. h (bucket-by y x (sym e)))
+
+other-tag : (x y : Record) → (tagOf y ≡ tagOf x → ⊥) → sameRecord x y ≡ false
+other-tag x y h = other-hash x y (sameRecord x y) refl (λ e. h (tag-by y x (sym e)))
 
 -- ---- the last record of a bucket
 module _ (b : ℕ) (rs : List Record) where
@@ -78,12 +93,33 @@ module _ (b : ℕ) (rs : List Record) where
           let q : lastIn b rs i ≡ lastIn b rs k = ap (lastIn b rs) (e ∙ add-one k) ∙ last-other k (eqb-false _ _ p) in
           absurd (omega (arith, last-below k))
 
--- only the buckets of the first n records tell
-pub last-cong : (b : ℕ) (rs ss : List Record) (n : ℕ) → ((k : ℕ) → k < n → bucketOf (recordIn rs k) ≡ bucketOf (recordIn ss k)) → lastIn b rs n ≡ lastIn b ss n
+-- only the hashes of the first n records tell
+last-cong : (b : ℕ) (rs ss : List Record) (n : ℕ) → ((k : ℕ) → k < n → hashOf (recordIn rs k) ≡ hashOf (recordIn ss k)) → lastIn b rs n ≡ lastIn b ss n
 unfolding lastIn
 last-cong b rs ss zero h = refl
 last-cong b rs ss (suc n) h =
-    ap₂ (λ (i m : ℕ). cond (eqb i b) (n + 1) m) (h n (omega arith)) (last-cong b rs ss n (λ k l. h k (omega arith)))
+    ap₂ (λ (i m : ℕ). cond (eqb i b) (n + 1) m) (bucket-by (recordIn rs n) (recordIn ss n) (h n (omega arith))) (last-cong b rs ss n (λ k l. h k (omega arith)))
+
+-- ---- the word that leads to a record
+module _ (rs : List Record) where
+  link-more : (k : ℕ) → linkOf rs (k + 1) ≡ k + 1 + 8192 * tagOf (recordIn rs k)
+  unfolding linkOf
+  link-more k = ap (linkOf rs) (add-one k)
+
+  link-place : (i : ℕ) → i < 8192 → linkOf rs i % 8192 ≡ i
+  unfolding linkOf
+  link-place zero h = refl
+  link-place (suc k) h = omega arith
+
+link-cong : (rs ss : List Record) (i n : ℕ) → i ≤ n → ((k : ℕ) → k < n → hashOf (recordIn rs k) ≡ hashOf (recordIn ss k)) → linkOf rs i ≡ linkOf ss i
+unfolding linkOf
+link-cong rs ss zero n l h = refl
+link-cong rs ss (suc k) n l h = ap (λ t. k + 1 + 8192 * t) (tag-by (recordIn rs k) (recordIn ss k) (h k (omega arith)))
+
+-- the word of the last of the first n records of a bucket
+word-cong : (b : ℕ) (rs ss : List Record) (n : ℕ) → ((k : ℕ) → k < n → hashOf (recordIn rs k) ≡ hashOf (recordIn ss k)) → linkOf rs (lastIn b rs n) ≡ linkOf ss (lastIn b ss n)
+word-cong b rs ss n h =
+    link-cong rs ss (lastIn b rs n) n (last-below b rs n) h ∙ ap (linkOf ss) (last-cong b rs ss n h)
 
 -- ---- the search
 module _ (x : Record) (rs : List Record) where
@@ -98,58 +134,82 @@ module _ (x : Record) (rs : List Record) where
   same-on-chain (suc n) =
       cond-by (λ k. lastSame x rs k ≡ lastSame x rs (suc n)) (eqb (bucketOf (recordIn rs n)) (bucketOf x))
       (λ t. ap (lastSame x rs) (add-one n))
-      (λ t. same-on-chain n ∙ sym (search-turn n false (other-bucket x (recordIn rs n) (sameRecord x (recordIn rs n)) refl (eqb-false _ _ t))))
+      (λ t. same-on-chain n ∙ sym (search-turn n false (other-bucket x (recordIn rs n) (eqb-false _ _ t))))
 
--- i is 0 or the place + 1 of a record on the chain of x, and what is found from there on is what is found at all
-pub record OnChain (x : Record) (rs : List Record) (i : ℕ) : Type 0 where
-  pub low : i ≤ length rs
-  pub own : i ≡ lastIn (bucketOf x) rs i
-  pub found : lastSame x rs i ≡ lastSame x rs (length rs)
+-- n is 0 or the place + 1 of a record on the chain of x, and what is found from there on is what is found at all
+pub record OnChain (x : Record) (rs : List Record) (n : ℕ) : Type 0 where
+  pub low : n ≤ length rs
+  pub own : n ≡ lastIn (bucketOf x) rs n
+  pub found : lastSame x rs n ≡ lastSame x rs (length rs)
+
+-- .. and i is the word that leads there
+pub record Leads (x : Record) (rs : List Record) (i : ℕ) : Type 0 where
+  pub at : OnChain x rs (i % 8192)
+  pub word : i ≡ linkOf rs (i % 8192)
 
 -- from what is found of the first n
-on-chain : (x : Record) (rs : List Record) (n : ℕ) → n ≤ length rs → lastSame x rs n ≡ lastSame x rs (length rs) → OnChain x rs (lastIn (bucketOf x) rs n)
-on-chain x rs n h e = record {
-  low = omega (arith, last-below (bucketOf x) rs n);
-  own = sym (last-last (bucketOf x) rs n);
-  found = same-on-chain x rs n ∙ e;
-}
+leads : (x : Record) (rs : List Record) (n i : ℕ) → length rs ≤ 4096 → n ≤ length rs → lastSame x rs n ≡ lastSame x rs (length rs) → i ≡ linkOf rs (lastIn (bucketOf x) rs n) → Leads x rs i
+leads x rs n i f h e p =
+    let q : i % 8192 ≡ lastIn (bucketOf x) rs n = ap (λ k. k % 8192) p ∙ link-place rs (lastIn (bucketOf x) rs n) (omega (arith, last-below (bucketOf x) rs n)) in
+    record {
+      at = subst (OnChain x rs) (sym q) (record {
+        low = omega (arith, last-below (bucketOf x) rs n);
+        own = sym (last-last (bucketOf x) rs n);
+        found = same-on-chain x rs n ∙ e;
+      });
+      word = p ∙ ap (linkOf rs) (sym q);
+    }
 
-module _ (x : Record) (rs : List Record) (links : List ℕ) (c : Chained links rs) where
-  pub chain-start : (b i : ℕ) → b ≡ bucketOf x → i ≡ getD links b 0 → OnChain x rs i
-  chain-start b i e p =
-      let q : i ≡ lastIn (bucketOf x) rs (length rs) = p ∙ ap (λ k. getD links k 0) e ∙ c .last (bucketOf x) (bucket-below x) in
-      subst (OnChain x rs) (sym q) (on-chain x rs (length rs) (omega arith) refl)
+pub chain-start : (x : Record) (rs : List Record) (links : List ℕ) → Chained links rs → (h i : ℕ) → h ≡ hashOf x → i ≡ getD links (h / 524288) 0 → Leads x rs i
+unfolding bucketOf
+chain-start x rs links c h i e p =
+    leads x rs (length rs) i (c .few) (omega arith) refl (p ∙ ap (λ k. getD links (k / 524288) 0) e ∙ c .last (bucketOf x) (bucket-below x))
 
-  module _ (i : ℕ) (o : OnChain x rs i) (h : i ≡ 0 → ⊥) where
-    place : i ≡ i - 1 + 1
-    place = omega arith
+module _ (x : Record) (rs : List Record) (i : ℕ) (o : Leads x rs i) (n : i ≡ 0 → ⊥) where
+  pub chain-some : i % 8192 ≡ 0 → ⊥
+  unfolding linkOf
+  chain-some e = n (o .word ∙ ap (linkOf rs) e)
 
-    turn : (t : Bool) → t ≡ sameRecord x (recordIn rs (i - 1)) → lastSame x rs i ≡ cond t (At (i - 1)) (lastSame x rs (i - 1))
-    turn t e = ap (lastSame x rs) (place ∙ add-one (i - 1)) ∙ search-turn x rs (i - 1) t (sym e)
+  place : i % 8192 ≡ i % 8192 - 1 + 1
+  place = omega (arith, chain-some)
 
-    pub chain-hit : (t : Bool) → t ≡ sameRecord x (recordIn rs (i - 1)) → t ≡ true → At (i - 1) ≡ lastSame x rs (length rs)
-    chain-hit t e y = sym (turn t e ∙ rw y) ∙ o .found
+  kept-tag : i / 8192 ≡ tagOf (recordIn rs (i % 8192 - 1))
+  kept-tag =
+      let q : i ≡ i % 8192 - 1 + 1 + 8192 * tagOf (recordIn rs (i % 8192 - 1)) = o .word ∙ ap (linkOf rs) place ∙ link-more rs (i % 8192 - 1) in
+      omega (arith, q, place)
 
-    module _ (t : Bool) (e : t ≡ sameRecord x (recordIn rs (i - 1))) (y : t ≡ false) (m : ℕ) (p : m ≡ getD links (8191 + i) 0) where
-      missed : lastSame x rs (i - 1) ≡ lastSame x rs (length rs)
-      missed = sym (turn t e ∙ rw y) ∙ o .found
+  -- a record with another tag is of another item
+  pub chain-skip : (h : ℕ) → h ≡ hashOf x → (i / 8192 ≡ h % 524288 → ⊥) → sameRecord x (recordIn rs (i % 8192 - 1)) ≡ false
+  unfolding tagOf
+  chain-skip h e d = other-tag x (recordIn rs (i % 8192 - 1)) (λ z. d (kept-tag ∙ z ∙ ap (λ k. k % 524288) (sym e)))
 
-      back : m ≡ lastIn (bucketOf x) rs (i - 1)
-      back =
-          let q : 8191 + i ≡ 8192 + (i - 1) = omega arith in
-          let l = o .low in
-          p ∙ ap (λ k. getD links k 0) q ∙ c .previous (i - 1) (omega arith)
-          ∙ ap (λ b. lastIn b rs (i - 1)) (own-bucket (bucketOf x) rs i (i - 1) place (o .own))
+  turn : (t : Bool) → sameRecord x (recordIn rs (i % 8192 - 1)) ≡ t → lastSame x rs (i % 8192) ≡ cond t (At (i % 8192 - 1)) (lastSame x rs (i % 8192 - 1))
+  turn t e = ap (lastSame x rs) (place ∙ add-one (i % 8192 - 1)) ∙ search-turn x rs (i % 8192 - 1) t e
 
-      pub chain-next : OnChain x rs m
-      chain-next = let l = o .low in subst (OnChain x rs) (sym back) (on-chain x rs (i - 1) (omega arith) missed)
+  pub chain-hit : sameRecord x (recordIn rs (i % 8192 - 1)) ≡ true → At (i % 8192 - 1) ≡ lastSame x rs (length rs)
+  chain-hit e = sym (turn true e) ∙ o .at .found
 
-      pub chain-less : m < i
-      chain-less = omega (arith, back, last-below (bucketOf x) rs (i - 1))
+  module _ (links : List ℕ) (c : Chained links rs) (e : sameRecord x (recordIn rs (i % 8192 - 1)) ≡ false) (m : ℕ) (p : m ≡ getD links (8191 + i % 8192) 0) where
+    back : m ≡ linkOf rs (lastIn (bucketOf x) rs (i % 8192 - 1))
+    back =
+        let q : 8191 + i % 8192 ≡ 8192 + (i % 8192 - 1) = omega (arith, place) in
+        let l = o .at .low in
+        p ∙ ap (λ k. getD links k 0) q ∙ c .previous (i % 8192 - 1) (omega (arith, place))
+        ∙ ap (λ b. linkOf rs (lastIn b rs (i % 8192 - 1))) (own-bucket (bucketOf x) rs (i % 8192) (i % 8192 - 1) place (o .at .own))
 
-pub chain-end : (x : Record) (rs : List Record) (i : ℕ) → OnChain x rs i → i ≡ 0 → Nowhere ≡ lastSame x rs (length rs)
+    pub chain-next : Leads x rs m
+    chain-next = let l = o .at .low in leads x rs (i % 8192 - 1) m (c .few) (omega arith) (sym (turn false e) ∙ o .at .found) back
+
+    pub chain-less : m % 8192 < i % 8192
+    chain-less =
+        let l = o .at .low in
+        let f = c .few in
+        let b = last-below (bucketOf x) rs (i % 8192 - 1) in
+        omega (arith, place, ap (λ k. k % 8192) back, link-place rs (lastIn (bucketOf x) rs (i % 8192 - 1)) (omega (arith, b)))
+
+pub chain-end : (x : Record) (rs : List Record) (i : ℕ) → Leads x rs i → i ≡ 0 → Nowhere ≡ lastSame x rs (length rs)
 unfolding lastSame
-chain-end x rs i o e = ap (lastSame x rs) (sym e) ∙ o .found
+chain-end x rs i o e = ap (λ k. lastSame x rs (k % 8192)) (sym e) ∙ o .at .found
 
 -- the records of words
 pub counted : (w : List ℕ) → length (chartOf w .records) ≡ itemCount w
@@ -160,9 +220,9 @@ counted w = length-records w (itemCount w)
 pub inside : (w : List ℕ) (i : ℕ) → i ≤ length (chartOf w .records) → (i ≡ 0 → ⊥) → 2 + 16 * (i - 1) + 16 ≤ length w
 inside w i l h = item-fits w (i - 1) (omega (arith, counted w))
 
-pub same-in : (x : Record) (w : List ℕ) (k : ℕ) (t : Bool) → k < length (chartOf w .records) → t ≡ sameRecord x (recordAt w k) → t ≡ sameRecord x (recordIn (chartOf w .records) k)
+pub same-in : (x : Record) (w : List ℕ) (k : ℕ) (t u : Bool) → k < length (chartOf w .records) → t ≡ sameRecord x (recordAt w k) → t ≡ u → sameRecord x (recordIn (chartOf w .records) k) ≡ u
 unfolding chartOf
-same-in x w k t h e = e ∙ ap (sameRecord x) (sym (record-in w (itemCount w) k (omega (arith, counted w))))
+same-in x w k t u h e y = ap (sameRecord x) (record-in w (itemCount w) k (omega (arith, counted w))) ∙ sym e ∙ y
 
 -- what `find` finds is what `records::find` finds among all items of the words
 pub same-found : (x : Record) (w : List ℕ) → lastSame x (chartOf w .records) (length (chartOf w .records)) ≡ lastSame x (recordsAt w (itemCount w)) (itemCount w)
@@ -170,35 +230,38 @@ unfolding chartOf
 same-found x w = ap (lastSame x (recordsAt w (itemCount w))) (length-records w (itemCount w))
 
 -- ---- chains that are kept
--- where the buckets stay
-pub chained-kept : (links : List ℕ) (rs ss : List Record) → Chained links rs → length rs ≡ length ss → ((k : ℕ) → k < length rs → bucketOf (recordIn rs k) ≡ bucketOf (recordIn ss k)) → Chained links ss
+-- where the hashes stay
+chained-kept : (links : List ℕ) (rs ss : List Record) → Chained links rs → length rs ≡ length ss → ((k : ℕ) → k < length rs → hashOf (recordIn rs k) ≡ hashOf (recordIn ss k)) → Chained links ss
 chained-kept links rs ss c e h = record {
   words = c .words;
   few = let l = c .few in omega arith;
-  last = λ b l. c .last b l ∙ last-cong b rs ss (length rs) h ∙ ap (lastIn b ss) e;
-  previous = λ j l. c .previous j (omega arith) ∙ ap (λ b. lastIn b rs j) (h j (omega arith)) ∙ last-cong (bucketOf (recordIn ss j)) rs ss j (λ k m. h k (omega arith));
+  last = λ b l. c .last b l ∙ word-cong b rs ss (length rs) h ∙ ap (λ n. linkOf ss (lastIn b ss n)) e;
+  previous = λ j l.
+      c .previous j (omega arith)
+      ∙ ap (λ b. linkOf rs (lastIn b rs j)) (bucket-by (recordIn rs j) (recordIn ss j) (h j (omega arith)))
+      ∙ word-cong (bucketOf (recordIn ss j)) rs ss j (λ k m. h k (omega arith));
 }
 
--- where a record is replaced by one of its bucket
-pub chained-set : (links : List ℕ) (rs : List Record) (j : ℕ) (y : Record) → Chained links rs → bucketOf y ≡ bucketOf (recordIn rs j) → Chained links (set rs j y)
+-- where a record is replaced by one of its hash
+chained-set : (links : List ℕ) (rs : List Record) (j : ℕ) (y : Record) → Chained links rs → hashOf y ≡ hashOf (recordIn rs j) → Chained links (set rs j y)
 chained-set links rs j y c e = chained-kept links rs (set rs j y) c (sym (length-set rs j y)) (λ k l. go k l (decLt k j) (decLt j k))
   where
-    else : (k : ℕ) → k ≢ j → bucketOf (recordIn rs k) ≡ bucketOf (recordIn (set rs j y) k)
-    else k d = ap bucketOf (sym (getD-set-other rs j k y noRecord d))
+    else : (k : ℕ) → k ≢ j → hashOf (recordIn rs k) ≡ hashOf (recordIn (set rs j y) k)
+    else k d = ap hashOf (sym (getD-set-other rs j k y noRecord d))
 
-    go : (k : ℕ) → k < length rs → Dec (k < j) → Dec (j < k) → bucketOf (recordIn rs k) ≡ bucketOf (recordIn (set rs j y) k)
+    go : (k : ℕ) → k < length rs → Dec (k < j) → Dec (j < k) → hashOf (recordIn rs k) ≡ hashOf (recordIn (set rs j y) k)
     go k l (yes d) q = else k (λ z. omega arith)
     go k l (no d) (yes q) = else k (λ z. omega arith)
     go k l (no d) (no q) =
         let z : k ≡ j = omega arith in
         let b : j < length rs = omega arith in
-        ap (λ i. bucketOf (recordIn rs i)) z ∙ sym e ∙ ap bucketOf (sym (getD-set-same rs j y noRecord b)) ∙ ap (λ i. bucketOf (recordIn (set rs j y) i)) (sym z)
+        ap (λ i. hashOf (recordIn rs i)) z ∙ sym e ∙ ap hashOf (sym (getD-set-same rs j y noRecord b)) ∙ ap (λ i. hashOf (recordIn (set rs j y) i)) (sym z)
 
 pub chained-improved : (links : List ℕ) (rs : List Record) (j : ℕ) (x : Record) → Chained links rs → Chained links (set rs j (improved (recordIn rs j) x))
-chained-improved links rs j x c = chained-set links rs j (improved (recordIn rs j) x) c (improved-bucket (recordIn rs j) x)
+chained-improved links rs j x c = chained-set links rs j (improved (recordIn rs j) x) c (improved-hash (recordIn rs j) x)
 
 pub chained-handled : (links : List ℕ) (rs : List Record) (j : ℕ) → Chained links rs → Chained links (set rs j (handledNow (recordIn rs j)))
-chained-handled links rs j c = chained-set links rs j (handledNow (recordIn rs j)) c (handled-bucket (recordIn rs j))
+chained-handled links rs j c = chained-set links rs j (handledNow (recordIn rs j)) c (handled-hash (recordIn rs j))
 
 -- ---- one record more
 module _ (rs : List Record) (x : Record) where
@@ -211,8 +274,8 @@ module _ (rs : List Record) (x : Record) where
   longer : length (rs ++ (x ∷ [])) ≡ suc (length rs)
   longer = length-append rs (x ∷ []) ∙ add-one (length rs)
 
-  same-last : (b n : ℕ) → n ≤ length rs → lastIn b rs n ≡ lastIn b (rs ++ (x ∷ [])) n
-  same-last b n h = last-cong b rs (rs ++ (x ∷ [])) n (λ k l. ap bucketOf (in-front k (omega arith)))
+  same-word : (b n : ℕ) → n ≤ length rs → linkOf rs (lastIn b rs n) ≡ linkOf (rs ++ (x ∷ [])) (lastIn b (rs ++ (x ∷ [])) n)
+  same-word b n h = word-cong b rs (rs ++ (x ∷ [])) n (λ k l. ap hashOf (in-front k (omega arith)))
 
 -- two words that are set, one after the other
 module _ (l : List ℕ) (i a j d : ℕ) where
@@ -228,68 +291,79 @@ module _ (l : List ℕ) (i a j d : ℕ) where
   twice-other : (k : ℕ) → k ≢ i → k ≢ j → getD (set (set l i a) j d) k 0 ≡ getD l k 0
   twice-other k m n = getD-set-other (set l i a) j k d 0 n ∙ getD-set-other l i k a 0 m
 
-module _ (links : List ℕ) (rs : List Record) (x : Record) (b : ℕ) (c : Chained links rs) (e : bucketOf x ≡ b) (h : length rs < 4096) where
-  small : b < 8192
-  small = omega (arith, bucket-below x)
+module _ (links : List ℕ) (rs : List Record) (x : Record) (h : ℕ) (c : Chained links rs) (e : h ≡ hashOf x) (few : length rs < 4096) where
+  small : h / 524288 < 8192
+  unfolding bucketOf
+  small = omega (arith, e, bucket-below x)
+
+  own : bucketOf (recordIn (rs ++ (x ∷ [])) (length rs)) ≡ h / 524288
+  unfolding bucketOf
+  own = ap bucketOf (at-end rs x) ∙ ap (λ k. k / 524288) (sym e)
+
+  own-link : length rs + 1 + 8192 * (h % 524288) ≡ linkOf (rs ++ (x ∷ [])) (length rs + 1)
+  unfolding tagOf
+  own-link =
+      ap (λ k. length rs + 1 + 8192 * (k % 524288)) (e ∙ ap hashOf (sym (at-end rs x)))
+      ∙ sym (link-more (rs ++ (x ∷ [])) (length rs))
 
   wide : length links ≡ 12288
   wide = c .words
 
-  own-word : getD (linked links (length rs) b) b 0 ≡ length rs + 1
+  own-word : getD (linked links (length rs) h) (h / 524288) 0 ≡ length rs + 1 + 8192 * (h % 524288)
   unfolding linked
-  own-word = twice-second links (8192 + length rs) _ b (length rs + 1) (omega (arith, wide, small))
+  own-word = twice-second links (8192 + length rs) _ (h / 524288) _ (omega (arith, wide, small))
 
-  new-word : getD (linked links (length rs) b) (8192 + length rs) 0 ≡ getD links b 0
+  new-word : getD (linked links (length rs) h) (8192 + length rs) 0 ≡ getD links (h / 524288) 0
   unfolding linked
-  new-word = twice-first links (8192 + length rs) _ b (length rs + 1) (λ z. omega (arith, small)) (omega (arith, wide))
+  new-word = twice-first links (8192 + length rs) _ (h / 524288) _ (λ z. omega (arith, small)) (omega (arith, wide))
 
-  other-word : (k : ℕ) → k ≢ 8192 + length rs → k ≢ b → getD (linked links (length rs) b) k 0 ≡ getD links k 0
+  other-word : (k : ℕ) → k ≢ 8192 + length rs → k ≢ h / 524288 → getD (linked links (length rs) h) k 0 ≡ getD links k 0
   unfolding linked
-  other-word k p q = twice-other links (8192 + length rs) _ b (length rs + 1) k p q
+  other-word k p q = twice-other links (8192 + length rs) _ (h / 524288) _ k p q
 
-  last-more : (d : ℕ) → d < 8192 → getD (linked links (length rs) b) d 0 ≡ lastIn d (rs ++ (x ∷ [])) (suc (length rs))
-  last-more d l = go (eqb b d) refl
+  last-more : (d : ℕ) → d < 8192 → getD (linked links (length rs) h) d 0 ≡ linkOf (rs ++ (x ∷ [])) (lastIn d (rs ++ (x ∷ [])) (suc (length rs)))
+  last-more d l = go (eqb (h / 524288) d) refl
     where
-      go : (t : Bool) → eqb b d ≡ t → getD (linked links (length rs) b) d 0 ≡ lastIn d (rs ++ (x ∷ [])) (suc (length rs))
+      go : (t : Bool) → eqb (h / 524288) d ≡ t → getD (linked links (length rs) h) d 0 ≡ linkOf (rs ++ (x ∷ [])) (lastIn d (rs ++ (x ∷ [])) (suc (length rs)))
       go true p =
-          let q : b ≡ d = eqb-true _ _ p in
-          ap (λ k. getD (linked links (length rs) b) k 0) (sym q) ∙ own-word
-          ∙ sym (last-own d (rs ++ (x ∷ [])) (length rs) (ap bucketOf (at-end rs x) ∙ e ∙ q))
+          let q : h / 524288 ≡ d = eqb-true _ _ p in
+          ap (λ k. getD (linked links (length rs) h) k 0) (sym q) ∙ own-word ∙ own-link
+          ∙ ap (linkOf (rs ++ (x ∷ []))) (sym (last-own d (rs ++ (x ∷ [])) (length rs) (own ∙ q)))
       go false p =
-          let q : b ≡ d → ⊥ = eqb-false _ _ p in
-          other-word d (λ z. omega arith) (λ z. q (sym z)) ∙ c .last d l ∙ same-last rs x d (length rs) (omega arith)
-          ∙ sym (last-other d (rs ++ (x ∷ [])) (length rs) (λ z. q (sym e ∙ sym (ap bucketOf (at-end rs x)) ∙ z)))
+          let q : h / 524288 ≡ d → ⊥ = eqb-false _ _ p in
+          other-word d (λ z. omega arith) (λ z. q (sym z)) ∙ c .last d l ∙ same-word rs x d (length rs) (omega arith)
+          ∙ ap (linkOf (rs ++ (x ∷ []))) (sym (last-other d (rs ++ (x ∷ [])) (length rs) (λ z. q (sym own ∙ z))))
 
-  previous-more : (j : ℕ) → j ≤ length rs → getD (linked links (length rs) b) (8192 + j) 0 ≡ lastIn (bucketOf (recordIn (rs ++ (x ∷ [])) j)) (rs ++ (x ∷ [])) j
+  previous-more : (j : ℕ) → j ≤ length rs → getD (linked links (length rs) h) (8192 + j) 0 ≡ linkOf (rs ++ (x ∷ [])) (lastIn (bucketOf (recordIn (rs ++ (x ∷ [])) j)) (rs ++ (x ∷ [])) j)
   previous-more j l = go (decLt j (length rs))
     where
-      go : Dec (j < length rs) → getD (linked links (length rs) b) (8192 + j) 0 ≡ lastIn (bucketOf (recordIn (rs ++ (x ∷ [])) j)) (rs ++ (x ∷ [])) j
+      go : Dec (j < length rs) → getD (linked links (length rs) h) (8192 + j) 0 ≡ linkOf (rs ++ (x ∷ [])) (lastIn (bucketOf (recordIn (rs ++ (x ∷ [])) j)) (rs ++ (x ∷ [])) j)
       go (yes d) =
           other-word (8192 + j) (λ z. omega arith) (λ z. omega (arith, small)) ∙ c .previous j d
-          ∙ ap (λ y. lastIn (bucketOf y) rs j) (in-front rs x j d) ∙ same-last rs x _ j l
+          ∙ ap (λ y. linkOf rs (lastIn (bucketOf y) rs j)) (in-front rs x j d) ∙ same-word rs x _ j l
       go (no d) =
           let z : j ≡ length rs = omega arith in
-          ap (λ k. getD (linked links (length rs) b) (8192 + k) 0) z ∙ new-word ∙ c .last b small
-          ∙ same-last rs x b (length rs) (omega arith)
-          ∙ ap (λ d. lastIn d (rs ++ (x ∷ [])) (length rs)) (sym e ∙ sym (ap bucketOf (at-end rs x)))
-          ∙ ap (λ k. lastIn (bucketOf (recordIn (rs ++ (x ∷ [])) k)) (rs ++ (x ∷ [])) k) (sym z)
+          ap (λ k. getD (linked links (length rs) h) (8192 + k) 0) z ∙ new-word ∙ c .last (h / 524288) small
+          ∙ same-word rs x (h / 524288) (length rs) (omega arith)
+          ∙ ap (λ d. linkOf (rs ++ (x ∷ [])) (lastIn d (rs ++ (x ∷ [])) (length rs))) (sym own)
+          ∙ ap (λ k. linkOf (rs ++ (x ∷ [])) (lastIn (bucketOf (recordIn (rs ++ (x ∷ [])) k)) (rs ++ (x ∷ [])) k)) (sym z)
 
-  pub length-linked : length (linked links (length rs) b) ≡ 12288
+  length-linked : length (linked links (length rs) h) ≡ 12288
   unfolding linked
-  length-linked = length-twice links (8192 + length rs) _ b (length rs + 1) ∙ wide
+  length-linked = length-twice links (8192 + length rs) _ (h / 524288) _ ∙ wide
 
   -- record x, the last one, joins its bucket
-  pub chained-more : Chained (linked links (length rs) b) (rs ++ (x ∷ []))
+  pub chained-more : Chained (linked links (length rs) h) (rs ++ (x ∷ []))
   chained-more = record {
     words = length-linked;
     few = omega (arith, longer rs x);
-    last = λ d l. last-more d l ∙ ap (lastIn d (rs ++ (x ∷ []))) (sym (longer rs x));
+    last = λ d l. last-more d l ∙ ap (λ n. linkOf (rs ++ (x ∷ [])) (lastIn d (rs ++ (x ∷ [])) n)) (sym (longer rs x));
     previous = λ j l. previous-more j (omega (arith, longer rs x));
   }
 
 -- ---- chains made anew
 pub chained-none : (links : List ℕ) → Cleared links → Chained links []
-unfolding lastIn
+unfolding lastIn linkOf
 chained-none links c = record {
   words = c .words;
   few = omega arith;
@@ -298,18 +372,18 @@ chained-none links c = record {
 }
 
 -- the first records of words, one more of them
-pub chained-next : (w links next : List ℕ) (j b : ℕ) (x : Record) → Chained links (recordsAt w j) → j < 4096 → x ≡ recordAt w j → b ≡ bucketOf x → next ≡ linked links j b → Chained next (recordsAt w (j + 1))
+pub chained-next : (w links next : List ℕ) (j h : ℕ) (x : Record) → Chained links (recordsAt w j) → j < 4096 → x ≡ recordAt w j → h ≡ hashOf x → next ≡ linked links j h → Chained next (recordsAt w (j + 1))
 unfolding recordsAt
-chained-next w links next j b x c h e p q =
+chained-next w links next j h x c f e p q =
     let l : length (recordsAt w j) ≡ j = length-records w j in
-    let z : next ≡ linked links (length (recordsAt w j)) b = q ∙ ap (λ k. linked links k b) (sym l) in
+    let z : next ≡ linked links (length (recordsAt w j)) h = q ∙ ap (λ k. linked links k h) (sym l) in
     rw add-one (subst (λ (m : List ℕ). Chained m (recordsAt w j ++ (recordAt w j ∷ []))) (sym z)
-    (chained-more links (recordsAt w j) (recordAt w j) b c (ap bucketOf (sym e) ∙ sym p) (omega arith)))
+    (chained-more links (recordsAt w j) (recordAt w j) h c (p ∙ ap hashOf e) (omega arith)))
 
 -- .. whose words are a part of the chart
-pub chained-part : (w links next : List ℕ) (n j b at m : ℕ) → Chained links (recordsAt w j) → n ≡ itemCount w → j < n → n ≤ 4096 → at ≡ 2 + 16 * j → m ≡ 16 → b ≡ bucketOf (ofWords (take m (drop at w))) → next ≡ linked links j b → Chained next (recordsAt w (j + 1))
-chained-part w links next n j b at m c e h l p q r s =
-    chained-next w links next j b (ofWords (take m (drop at w))) c (omega arith) (part-record-at w j at m p q (item-fits w j (omega arith))) r s
+pub chained-part : (w links next : List ℕ) (n j h at m : ℕ) → Chained links (recordsAt w j) → n ≡ itemCount w → j < n → n ≤ 4096 → at ≡ 2 + 16 * j → m ≡ 16 → h ≡ hashOf (ofWords (take m (drop at w))) → next ≡ linked links j h → Chained next (recordsAt w (j + 1))
+chained-part w links next n j h at m c e f l p q r s =
+    chained-next w links next j h (ofWords (take m (drop at w))) c (omega arith) (part-record-at w j at m p q (item-fits w j (omega arith))) r s
 
 pub chained-all : (w links : List ℕ) (n j : ℕ) → n ≡ itemCount w → j ≤ n → n ≤ j → Chained links (recordsAt w j) → Chained links (chartOf w .records)
 unfolding chartOf

@@ -4,24 +4,25 @@ use mathlib.Core.Path.{_≡_, refl, sym, ap, _∙_, subst}
 use mathlib.Core.Bool.{Bool, true, false, _&&_, cond}
 use mathlib.Core.List.{List}
 use native.Mathlib.Omega.{arith}
-use lib.Dec.{eqb}
 use lib.ListN.{length, getD}
 use borrow.Author.Tests.{eq-eqb, ne-eqb}
 use Rattle.agenda.specs.declared.Record.{Record}
-use Rattle.agenda.specs.Steps.{Chart, leastWaiting, handledCount, runChart, startChart, sumOf}
+use Rattle.agenda.specs.declared.Found.the-variants.{Nowhere}
+use Rattle.agenda.specs.Steps.{leastWaiting, handledCount, runChart, startChart, sumOf}
 use Rattle.questions.specs.Checking.{checkGrammar, checkGraph}
 use Rattle.questions.specs.Abstract.{grammarOf, graphOf}
 use Rattle.joins.specs.Joins.{Accepted}
 use Rattle.records.specs.Words.{Fits, capacity, itemCount, recordsAt, chartOf, written}
 use Rattle.records.proofs.WordLaws.{length-records}
 use Rattle.validity.specs.Checking.{holds, knownChart}
-use Rattle.chart.specs.Calls.{Called, fit, fitChart, whenWaiting, answerOf, startAnswer, startOf, runOf, runsOf, standingOf, refused}
+use Rattle.steps.specs.Runs.{nextIn}
+use Rattle.chart.specs.Calls.{Called, fit, fitChart, whenWaiting, answerOf, startAnswer, startOf, runOf, runsOf, standingOf}
 use Rattle.chart.specs.Facts.{RunRight, StartChoices, RunChoices}
 use Rattle.chart.specs.declared.Outcome.{Outcome}
 use Rattle.chart.specs.declared.Outcome.the-variants.{Unfit, TooSmall, Unfinished, Done}
 use Rattle.hrg.proofs.Degrees.{and-true as both}
 use Rattle.validity.proofs.KnownCharts.{holds-header, holds-most, known-fits}
-use Rattle.chart.proofs.Waiting.{none-waits, some-waits}
+use Rattle.chart.proofs.Waiting.{none-waits, some-waits, idle-counted}
 use Rattle.chart.proofs.Calls.{and-both, start-is, start-not, run-is, run-not, run-chart}
 use Rattle.chart.proofs.Demand.{runs-right, start-right}
 
@@ -100,12 +101,9 @@ module _ (w : List ℕ) (m : ℕ) (mark : m ≡ getD w 1 0) where
   unfolding answerOf chartOf
   outcome-small n = rw (ne-eqb (getD w 1 0) 0 (λ z. n (mark ∙ z))) refl
 
-  module _ (n d : ℕ) (clear : m ≡ 0) (number : n ≡ itemCount w) (steps : d ≡ handledCount (recordsAt w n)) where
+  module _ (n d : ℕ) (clear : m ≡ 0) (number : n ≡ itemCount w) (steps : d ≡ handledCount (recordsAt w (itemCount w))) where
     abbrev rs : List Record
     rs = recordsAt w (itemCount w)
-
-    count-here : d ≡ handledCount rs
-    count-here = steps ∙ ap (λ k. handledCount (recordsAt w k)) number
 
     length-here : length rs ≡ n
     length-here = length-records w (itemCount w) ∙ sym number
@@ -117,12 +115,21 @@ module _ (w : List ℕ) (m : ℕ) (mark : m ≡ getD w 1 0) where
     pub outcome-done : d ≡ n → Done d ≡ answerOf (chartOf w)
     outcome-done e =
         outcome-by (Done d)
-        (ap Done count-here ∙ ap (whenWaiting (handledCount rs)) (sym (none-waits rs (sym count-here ∙ e ∙ sym length-here))))
+        (ap Done steps ∙ ap (whenWaiting (handledCount rs)) (sym (none-waits rs (sym steps ∙ e ∙ sym length-here))))
 
     pub outcome-waits : (d ≡ n → ⊥) → Unfinished d ≡ answerOf (chartOf w)
     outcome-waits f =
-        let (j, at) = some-waits rs (λ e. f (count-here ∙ e ∙ length-here)) in
-        outcome-by (Unfinished d) (ap Unfinished count-here ∙ ap (whenWaiting (handledCount rs)) (sym at))
+        let (j, at) = some-waits rs (λ e. f (steps ∙ e ∙ length-here)) in
+        outcome-by (Unfinished d) (ap Unfinished steps ∙ ap (whenWaiting (handledCount rs)) (sym at))
+
+  -- where no step is left all are handled
+  pub outcome-idle : (n : ℕ) → m ≡ 0 → n ≡ itemCount w → nextIn (chartOf w) ≡ Nowhere → Done n ≡ answerOf (chartOf w)
+  unfolding nextIn chartOf
+  outcome-idle n clear number idle =
+      let rs = recordsAt w (itemCount w) in
+      let least : leastWaiting rs (length rs) ≡ Nowhere = ap (λ (b : Bool). cond b (leastWaiting rs (length rs)) Nowhere) (sym (eq-eqb (getD w 1 0) 0 (sym mark ∙ clear))) ∙ idle in
+      let all : handledCount rs ≡ n = idle-counted rs least ∙ length-records w (itemCount w) ∙ sym number in
+      ap Done (sym all) ∙ outcome-done n (handledCount rs) clear number refl all
 
 -- ---- run
 not-by : (g h w : List ℕ) → fit g h w ≡ false → fitChart g h w ≡ false

@@ -1,5 +1,5 @@
 -- A record waits exactly where not all of them are handled.
-use mathlib.Core.Path.{_≡_, refl}
+use mathlib.Core.Path.{_≡_, refl, ap}
 use mathlib.Core.Bool.{Bool, true, false}
 use mathlib.Core.List.{List, [], _∷_}
 use Prim.Native.Nat.{ℕ, zero, suc, _+_, _<_}
@@ -52,3 +52,14 @@ module _ (rs : List Record) where
       go : (f : Found) → Chosen rs (length rs) f → (j : ℕ) × (f ≡ At j)
       go Nowhere (nothing h) = absurd (n (all-counted rs h))
       go (At j) (waits l w h) = (j, refl)
+
+  pub idle-counted : leastWaiting rs (length rs) ≡ Nowhere → handledCount rs ≡ length rs
+  idle-counted e = go (leastWaiting rs (length rs)) (chosen rs (length rs)) e
+    where
+      some : Found → ℕ
+      some Nowhere = 0
+      some (At j) = 1
+
+      go : (f : Found) → Chosen rs (length rs) f → f ≡ Nowhere → handledCount rs ≡ length rs
+      go Nowhere (nothing h) n = all-counted rs h
+      go (At j) (waits l w h) n = absurd (omega (arith, ap some n))

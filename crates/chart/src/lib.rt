@@ -1,6 +1,10 @@
 // The chart: start and run on lent memory.
 ghost use mathlib.Core.Path.{_≡_};
-ghost use Rattle.records.specs.Words.{chartOf};
+ghost use mathlib.Core.Bool.{true};
+ghost use Rattle.agenda.specs.declared.Found.the-variants.{Nowhere};
+ghost use Rattle.agenda.specs.Steps.{handledCount};
+ghost use Rattle.records.specs.Words.{itemCount, recordsAt, chartOf};
+ghost use Rattle.steps.specs.Runs.{nextIn};
 ghost use Rattle.chart.specs.Calls.{fit, answerOf, startOf, runOf, standingOf};
 ghost use Rattle.chart.specs.Facts.{StartChoices, RunChoices};
 
@@ -40,19 +44,33 @@ pub fn start(grammar: &[u64], graph: &[u64], chart: &mut [u64]) -> Outcome
     Outcome::Done(0)
 }
 
-// Questions 9 and 10, by what stands in the chart: items wait where not all are handled.
-fn outcome_of(chart: &[u64]) -> Outcome
+// Questions 9 and 10, by what stands in the chart, of which `done` items are handled: items wait where these are not all.
+fn outcome_of(chart: &[u64], done: u64) -> Outcome
+    requires { ⌜ done ≡ handledCount (recordsAt (now chart) (itemCount (now chart))) ⌝ }
     ensures { λ r. ⌜ r ≡ answerOf (chartOf (now (chart .entry))) ⌝ }
 {
     if records::mark_of(chart) != 0 {
         return Outcome::TooSmall;
     }
-    let n = records::item_count(chart);
-    let done = records::handled_steps(chart, n);
-    if done == n {
+    if done == records::item_count(chart) {
         return Outcome::Done(done);
     }
     Outcome::Unfinished(done)
+}
+
+// The same, where `all` only if no step is left: then the records need not be counted.
+fn outcome_after(chart: &[u64], all: bool) -> Outcome
+    requires { ⌜ (all ≡ true → nextIn (chartOf (now chart)) ≡ Nowhere) ⌝ }
+    ensures { λ r. ⌜ r ≡ answerOf (chartOf (now (chart .entry))) ⌝ }
+{
+    let n = records::item_count(chart);
+    if !all {
+        return outcome_of(chart, records::handled_steps(chart, n));
+    }
+    if records::mark_of(chart) != 0 {
+        return Outcome::TooSmall;
+    }
+    Outcome::Done(n)
 }
 
 // How the chart stands: what a run of no steps says.
@@ -62,10 +80,11 @@ pub fn standing(grammar: &[u64], graph: &[u64], chart: &[u64]) -> Outcome
     if !is_fit(grammar, graph, chart) {
         return Outcome::Unfit;
     }
-    if !validity::known(grammar, graph, chart) {
+    let tested = validity::known(grammar, graph, chart);
+    if !tested.known {
         return Outcome::Unfit;
     }
-    outcome_of(chart)
+    outcome_of(chart, tested.handled)
 }
 
 // Does the steps given, or as many as are left.
@@ -75,9 +94,9 @@ pub fn run(grammar: &[u64], graph: &[u64], chart: &mut [u64], steps: u64) -> Out
     if !is_fit(grammar, graph, chart) {
         return Outcome::Unfit;
     }
-    if !validity::known(grammar, graph, chart) {
+    if !validity::known(grammar, graph, chart).known {
         return Outcome::Unfit;
     }
-    steps::advance(grammar, graph, chart, steps);
-    outcome_of(chart)
+    let all = steps::advance(grammar, graph, chart, steps);
+    outcome_after(chart, all)
 }

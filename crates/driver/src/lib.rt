@@ -98,9 +98,8 @@ fn write_number(out: &mut [u8], at: usize, letter: u8, n: u64) -> usize
     requires { ⌜ at + 6 ≤ length (now out) ⌝ }
     ensures { λ r. ⌜ (r ≡ at + 6) × (now (out .exit) ≡ sets (now (out .entry)) at (lineText letter (n ∷ []))) ⌝ }
 {
-    let mut fields = [0u64; 18];
-    fields[0] = n;
-    lines::write_line(out, at, letter, fields, 1)
+    let fields = [n];
+    lines::write_line(out, at, letter, &fields, 1)
 }
 
 fn put_refusal(k: u64, out: &mut [u8; 32774]) -> usize

@@ -16,7 +16,6 @@ mod numbers;
 mod partners;
 mod places;
 mod rows;
-mod texts;
 
 // Writes the text of the n applications listed under the passive record at j to the end of the buffer and answers where it starts; the buffer's end where none are
 // listed: they are more than 4,096. A line has at most 74 bytes, the first one six. The sizes of the trees are worked out in a part that is lent, all 0, with more
@@ -40,6 +39,6 @@ pub fn extract(
     let at = rows::write_rows(grammar, graph, chart, list, n, sizes, text);
     let head = [n as u64];
     let start = at - 6;
-    texts::write_line(text, start, 68, &head, 1);
+    lines::write_line(text, start, 68, &head, 1);
     start
 }

@@ -52,7 +52,7 @@ fn write_row(fields: &[u64], count: u64, text: &mut [u8], at: usize) -> usize
 {
     let n = count as usize;
     let start = at - (4 * n + 2);
-    crate::texts::write_line(text, start, 65, fields, n);
+    lines::write_line(text, start, 65, fields, n);
     start
 }
 

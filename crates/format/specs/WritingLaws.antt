@@ -92,12 +92,12 @@ true-writable letter ns w =
     rw (true-capital letter (w .capital), le-leb 1 (length ns) (w .some), le-leb (length ns) 18 (w .few))
     (all-of (length ns) (λ k. leb (getD ns k 0) 9999) (λ k l. le-leb (getD ns k 0) 9999 (w .small k)))
 
--- the test as the code makes it, over the array and the count
-pub writable-first : (letter : ℕ) (fields : List ℕ) (count : ℕ) → 1 ≤ count → count ≤ 18 → length fields ≡ 18
+-- the test as the code makes it, over the numbers that are lent and the count
+pub writable-first : (letter : ℕ) (fields : List ℕ) (count : ℕ) → 1 ≤ count → count ≤ 18 → count ≤ length fields
     → writable letter (take count fields) ≡ (isCapital letter && allBelow count (λ k. leb (getD fields k 0) 9999))
 unfolding writable
 writable-first letter fields count h l e =
-    let size : length (take count fields) ≡ count = length-take-le count fields (omega arith) in
+    let size : length (take count fields) ≡ count = length-take-le count fields e in
     rw (size, le-leb 1 count h, le-leb count 18 l)
     (ap (λ (t : Bool). isCapital letter && t)
     (all-same count (λ k. leb (getD (take count fields) k 0) 9999) (λ k. leb (getD fields k 0) 9999) (λ k b. rw (getD-take count fields k 0 b))))

@@ -55,7 +55,7 @@ module _ (w : List ℕ) (j : ℕ) (l : j < itemCount w) (r : ℕ) (e : r ≡ fie
   unfolding chartOf
   here = record-in w (itemCount w) j l
 
-  pub is-handled : (r ≡ 0 → ⊥) → isHandled (recordIn (chartOf w .records) j) ≡ true
+  is-handled : (r ≡ 0 → ⊥) → isHandled (recordIn (chartOf w .records) j) ≡ true
   is-handled h = ap isHandled here ∙ handled-yes w j r e h
 
   pub is-waiting : r ≡ 0 → isHandled (recordIn (chartOf w .records) j) ≡ false

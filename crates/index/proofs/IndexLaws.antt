@@ -1,4 +1,4 @@
--- The indexes as a record comes, is improved or handled.
+-- The indexes as a record comes, is improved or taken.
 use Prim.Native.Nat.{ℕ, _+_, _*_, _≤_, _<_}
 use mathlib.Core.Path.{_≡_, refl, sym, ap, _∙_, subst}
 use mathlib.Core.List.{List, [], _∷_, _++_}
@@ -10,16 +10,17 @@ use lib.Dec.{eqb}
 use lib.ListN.{length, length-append, getD, set, length-set, replicate, length-replicate, getD-replicate, List·getD-eq-default, List·getD-append}
 use lib.Seq.{getD-at, getD-set-same, getD-set-other}
 use Rattle.agenda.specs.declared.Record.{Record}
+use Rattle.agenda.specs.declared.Found.{Found}
+use Rattle.agenda.specs.declared.Found.the-variants.{At, Nowhere}
 use Rattle.agenda.specs.Records.{isHandled}
 use Rattle.agenda.specs.Consequences.{noRecord, recordIn}
-use Rattle.agenda.specs.Steps.{improved, handledNow}
+use Rattle.agenda.specs.Steps.{leastWaiting, improved, handledNow}
 use Rattle.records.specs.Words.{itemCount, recordAt, recordsAt, chartOf}
-use Rattle.records.proofs.WordLaws.{length-records}
-use Rattle.chains.specs.Chains.{bucketOf, Chained, Cleared, linked}
+use Rattle.records.proofs.WordLaws.{length-records, Below, one, least-below}
+use Rattle.chains.specs.Chains.{hashOf, Chained, Cleared, linked}
 use Rattle.chains.proofs.ChainLaws.{chained-more, chained-improved, chained-handled}
-use Rattle.ranking.specs.Ranking.{orderOf, orderAt, Ranked, Replaces}
-use Rattle.ranking.proofs.Orders.{order-past, order-handled, waiting-order, appended-order, improved-order, handled-order}
-use Rattle.ranking.proofs.SetLaws.{ranked-still}
+use Rattle.ranking.specs.Ranking.{orderOf, orderAt, Ranked, Replaces, takenFrom}
+use Rattle.ranking.proofs.Orders.{order-past, waiting-order, appended-order, improved-order}
 use Rattle.lists.specs.Lists.{Listed, Unlisted, Ready, Within, enteredAll}
 use Rattle.lists.proofs.ListLaws.{listed-none, listed-ready, listed-entered-all}
 use Rattle.pivots.specs.Keys.{keysOf, regularOf}
@@ -280,14 +281,14 @@ module _ (ix links : List ℕ) (rs : List Record) (e : Empty ix) (c : Chained li
         (rw (k .ranks, ranks-new (put 0 12288 ix links) ranks mid-size (r .size)) r)
 
 -- ---- one record more
-module _ (wants pivots ix listed links ranks : List ℕ) (n b : ℕ) (x : Record) (rs : List Record) (I : Indexed wants pivots ix rs) (e : n ≡ length rs) (h : n < 4096) where
+module _ (wants pivots ix listed links ranks : List ℕ) (n h : ℕ) (x : Record) (rs : List Record) (I : Indexed wants pivots ix rs) (e : n ≡ length rs) (f : n < 4096) where
   keyed : listed ≡ listedWith wants pivots ix n x → Keyed wants pivots listed (rs ++ (x ∷ [])) × Kept ix listed
-  keyed o = rw o (keyed-more wants pivots ix n x rs (keyed-of wants pivots ix rs I) e h)
+  keyed o = rw o (keyed-more wants pivots ix n x rs (keyed-of wants pivots ix rs I) e f)
 
-  longer : Kept ix listed → b ≡ bucketOf x → links ≡ linked (linksOf listed) n b → Chained links (rs ++ (x ∷ []))
+  longer : Kept ix listed → h ≡ hashOf x → links ≡ linked (linksOf listed) n h → Chained links (rs ++ (x ∷ []))
   longer k p q =
-      subst (λ (l : List ℕ). Chained l (rs ++ (x ∷ []))) (sym (q ∙ ap (λ i. linked (linksOf listed) i b) e))
-      (chained-more (linksOf listed) rs x b (rw (k .links) (I .chained)) (sym p) (omega arith))
+      subst (λ (l : List ℕ). Chained l (rs ++ (x ∷ []))) (sym (q ∙ ap (λ i. linked (linksOf listed) i h) e))
+      (chained-more (linksOf listed) rs x h (rw (k .links) (I .chained)) p (omega arith))
 
   not-not : (t : Bool) → not (not t) ≡ t
   not-not true = refl
@@ -298,19 +299,19 @@ module _ (wants pivots ix listed links ranks : List ℕ) (n b : ℕ) (x : Record
       subst (λ k. Replaces k (orderOf (eqb (x .handled) 0) k (x .count)) rs (rs ++ (x ∷ []))) (sym e)
       (subst (λ (t : Bool). Replaces (length rs) (orderOf t (length rs) (x .count)) rs (rs ++ (x ∷ []))) (not-not (eqb (x .handled) 0)) (appended-order rs x))
 
-  pub entered : listed ≡ listedWith wants pivots ix n x → b ≡ bucketOf x → links ≡ linked (linksOf listed) n b
+  pub entered : listed ≡ listedWith wants pivots ix n x → h ≡ hashOf x → links ≡ linked (linksOf listed) n h
       → (Ranked (ranksOf (put 0 12288 listed links)) rs → orderAt rs n ≡ 0 → Replaces n (orderOf (eqb (x .handled) 0) n (x .count)) rs (rs ++ (x ∷ [])) → Ranked ranks (rs ++ (x ∷ [])))
       → Indexed wants pivots (put 12288 4230 (put 0 12288 listed links) ranks) (rs ++ (x ∷ []))
-  entered o p q f =
+  entered o p q r =
       let K = keyed o in
       let c = longer (K .1) p q in
-      indexed-both wants pivots listed links ranks (rs ++ (x ∷ [])) (K .0) c (f (rw (links-ranks listed links (K .0 .size) (c .words), K .1 .ranks) (I .ranked)) (order-past rs n (omega arith)) order)
+      indexed-both wants pivots listed links ranks (rs ++ (x ∷ [])) (K .0) c (r (rw (links-ranks listed links (K .0 .size) (c .words), K .1 .ranks) (I .ranked)) (order-past rs n (omega arith)) order)
 
   pub entered-near : listed ≡ listedWith wants pivots ix n x → length links ≡ 12288 → length ranks ≡ 4230 → NearKept ix (put 12288 4230 (put 0 12288 listed links) ranks)
   entered-near o p q =
       let s = keyed o .0 .size in
       near-on ix listed (put 12288 4230 (put 0 12288 listed links) ranks)
-      (rw o (near-more wants pivots ix n x rs (keyed-of wants pivots ix rs I) e h))
+      (rw o (near-more wants pivots ix n x rs (keyed-of wants pivots ix rs I) e f))
       (near-on listed (put 0 12288 listed links) (put 12288 4230 (put 0 12288 listed links) ranks) (near-put 0 12288 listed links s p (omega arith))
       (near-put 12288 4230 (put 0 12288 listed links) ranks (links-size listed links s p) q (omega arith)))
 
@@ -342,18 +343,11 @@ module _ (ix ranks : List ℕ) (j : ℕ) (wants pivots : List ℕ) (rs : List Re
       let y = recordIn rs j in
       indexed-ranks wants pivots ix ranks (set rs j (handledNow y)) (keyed-set (handledNow y) (handled-keys wants pivots y) (handled-regular pivots y)) (chained-handled (linksOf ix) rs j (I .chained)) r
 
-  pub settled : (n : ℕ) → isHandled (recordIn rs j) ≡ false → n ≡ recordIn rs j .count
-      → (Ranked (ranksOf ix) rs → orderAt rs j ≡ orderOf true j n → Replaces j 0 rs (set rs j (handledNow (recordIn rs j))) → Ranked ranks (set rs j (handledNow (recordIn rs j))))
-      → Indexed wants pivots (put 12288 4230 ix ranks) (set rs j (handledNow (recordIn rs j)))
-  settled n h e f = handled-by (f (I .ranked) (waiting-order rs j n l h e) (handled-order rs j l))
-
-  -- .. of a record that is handled already
-  pub settled-still : isHandled (recordIn rs j) ≡ true → Indexed wants pivots ix (set rs j (handledNow (recordIn rs j)))
-  settled-still h =
-      let y = recordIn rs j in
-      indexed-by wants pivots ix (set rs j (handledNow y)) (keyed-set (handledNow y) (handled-keys wants pivots y) (handled-regular pivots y)) (chained-handled (linksOf ix) rs j (I .chained))
-      (ranked-still (ranksOf ix) j rs (set rs j (handledNow y)) (I .ranked) (order-handled rs j h) (handled-order rs j l))
-
--- ---- the ranking is made anew of the same records
-pub reranked : (wants pivots ix ranks : List ℕ) (rs : List Record) → Ranked ranks rs → Indexed wants pivots ix rs → Indexed wants pivots (put 12288 4230 ix ranks) rs
-reranked wants pivots ix ranks rs r I = indexed-ranks wants pivots ix ranks rs (keyed-of wants pivots ix rs I) (I .chained) r
+-- ---- a record is taken, or none: then the ranking may be made anew
+pub taken-by : (wants pivots ix ranks : List ℕ) (rs : List Record) (f : Found) → f ≡ leastWaiting rs (length rs) → Ranked ranks (takenFrom rs f) → Indexed wants pivots ix rs
+    → Indexed wants pivots (put 12288 4230 ix ranks) (takenFrom rs f)
+taken-by wants pivots ix ranks rs f e r I = go f (rw e (least-below rs (length rs))) r
+  where
+    go : (f : Found) → Below (length rs) f → Ranked ranks (takenFrom rs f) → Indexed wants pivots (put 12288 4230 ix ranks) (takenFrom rs f)
+    go Nowhere b r = indexed-ranks wants pivots ix ranks rs (keyed-of wants pivots ix rs I) (I .chained) r
+    go (At j) (one l) r = handled-by ix ranks j wants pivots rs I l r

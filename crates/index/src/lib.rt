@@ -12,10 +12,10 @@ ghost use Rattle.agenda.specs.declared.Record.{Record};
 ghost use Rattle.agenda.specs.declared.Found.the-variants.{At, Nowhere};
 ghost use Rattle.agenda.specs.Records.{isHandled};
 ghost use Rattle.agenda.specs.Consequences.{recordIn};
-ghost use Rattle.agenda.specs.Steps.{leastWaiting, improved, handledNow, placed};
-ghost use Rattle.records.specs.Words.{Fits, ofWords, capacity, itemCount, chartOf, improvedAt, appendedTo, addedTo, markedAt};
-ghost use Rattle.chains.specs.Chains.{bucketOf};
-ghost use Rattle.ranking.specs.Ranking.{Ranked};
+ghost use Rattle.agenda.specs.Steps.{leastWaiting, improved, placed};
+ghost use Rattle.records.specs.Words.{Fits, ofWords, capacity, itemCount, chartOf, improvedAt, appendedTo, addedTo};
+ghost use Rattle.chains.specs.Chains.{hashOf};
+ghost use Rattle.ranking.specs.Ranking.{Ranked, takenFrom};
 ghost use Rattle.joins.specs.Joins.{Accepted, Spans};
 ghost use Rattle.joins.specs.Graphs.{GraphTable};
 ghost use Rattle.lists.specs.Lists.{Within, Ready, Unlisted};
@@ -122,12 +122,12 @@ pub fn build(
     span_all(g, h, graph, chart, index);
 }
 
-// The first waiting record of least count. The ranking may be made anew for it.
-pub fn next(chart: &[u64], index: &mut [u32]) -> Found
+// The first waiting record of least count waits no more: whoever takes it marks it in the chart. The ranking may be made anew for it.
+pub fn take(chart: &[u64], index: &mut [u32]) -> Found
     requires { ⌜ (length (now index) ≡ indexWords) × Ranked (ranksOf (now index)) (chartOf (now chart) .records) × (length (chartOf (now chart) .records) ≤ 4096) ⌝ }
-    ensures { λ r. ⌜ (r ≡ leastWaiting (chartOf (now (chart .entry)) .records) (length (chartOf (now (chart .entry)) .records))) × ((wants pivots : List ℕ) → Indexed wants pivots (now (index .entry)) (chartOf (now (chart .entry)) .records) → Indexed wants pivots (now (index .exit)) (chartOf (now (chart .entry)) .records)) × NearKept (now (index .entry)) (now (index .exit)) ⌝ }
+    ensures { λ r. ⌜ (r ≡ leastWaiting (chartOf (now (chart .entry)) .records) (length (chartOf (now (chart .entry)) .records))) × ((wants pivots : List ℕ) → Indexed wants pivots (now (index .entry)) (chartOf (now (chart .entry)) .records) → Indexed wants pivots (now (index .exit)) (takenFrom (chartOf (now (chart .entry)) .records) r)) × NearKept (now (index .entry)) (now (index .exit)) ⌝ }
 {
-    ranking::least(chart, &mut index[RANKS..LISTS])
+    ranking::take(chart, &mut index[RANKS..LISTS])
 }
 
 // Five cursors, each at the first entry of its key.
@@ -238,12 +238,12 @@ pub fn regular(index: &[u32]) -> bool
 }
 
 // Record n, one more than there are, is that of the words x.
-fn enter(wants: &[u64; 1024], pivots: &[u64; 1088], index: &mut [u32], n: u64, x: &[u64], b: u64)
-    requires { ⌜ (length (now index) ≡ indexWords) × Ready (listsOf (now index)) × (n < 4096) × (length (now x) ≡ 16) × (b ≡ bucketOf (ofWords (now x))) × (b < 8192) ⌝ }
+fn enter(wants: &[u64; 1024], pivots: &[u64; 1088], index: &mut [u32], n: u64, x: &[u64], h: u64)
+    requires { ⌜ (length (now index) ≡ indexWords) × Ready (listsOf (now index)) × (n < 4096) × (length (now x) ≡ 16) × (h ≡ hashOf (ofWords (now x))) × (h < 4294967296) ⌝ }
     ensures { λ r. ⌜ ((rs : List Record) → Indexed (now (wants .entry)) (now (pivots .entry)) (now (index .entry)) rs → n ≡ length rs → Indexed (now (wants .entry)) (now (pivots .entry)) (now (index .exit)) (rs ++ (ofWords (now (x .entry)) ∷ [])) × NearKept (now (index .entry)) (now (index .exit))) ⌝ }
 {
     list(wants, pivots, index, n, x);
-    chains::link(&mut index[0..RANKS], n, b);
+    chains::link(&mut index[0..RANKS], n, h);
     ranking::place(&mut index[RANKS..LISTS], n, x[5] == 0, x[4]);
 }
 
@@ -253,17 +253,6 @@ fn recount(index: &mut [u32], j: u64, old: u64, count: u64)
     ensures { λ r. ⌜ ((wants pivots : List ℕ) (rs : List Record) (x : Record) → Indexed wants pivots (now (index .entry)) rs → j < length rs → isHandled (recordIn rs j) ≡ false → old ≡ recordIn rs j .count → count ≡ x .count → Indexed wants pivots (now (index .exit)) (set rs j (improved (recordIn rs j) x))) × NearKept (now (index .entry)) (now (index .exit)) ⌝ }
 {
     ranking::recount(&mut index[RANKS..LISTS], j, old, count);
-}
-
-// Record j waits no more. One that is handled already is not in the ranking.
-fn settle(chart: &[u64], index: &mut [u32], j: u64)
-    requires { ⌜ (length (now index) ≡ indexWords) × (j < itemCount (now chart)) × (j < 4096) ⌝ }
-    ensures { λ r. ⌜ ((wants pivots : List ℕ) → Indexed wants pivots (now (index .entry)) (chartOf (now (chart .entry)) .records) → Indexed wants pivots (now (index .exit)) (set (chartOf (now (chart .entry)) .records) j (handledNow (recordIn (chartOf (now (chart .entry)) .records) j)))) × NearKept (now (index .entry)) (now (index .exit)) ⌝ }
-{
-    if records::field(chart, j, 5) != 0 {
-        return;
-    }
-    ranking::remove(&mut index[RANKS..LISTS], j, records::field(chart, j, 4));
 }
 
 // The record at place j, found again with the item of x, takes the count and the partners of x if that is better.
@@ -289,16 +278,16 @@ fn behind(
     chart: &mut [u64],
     index: &mut [u32],
     x: &[u64],
-    b: u64,
+    h: u64,
     o: u64,
 )
-    requires { ⌜ Indexed (now wants) (now pivots) (now index) (chartOf (now chart) .records) × (capacity (now chart) ≤ 4096) × (length (now x) ≡ 16) × (b ≡ bucketOf (ofWords (now x))) × (b < 8192) ⌝ }
+    requires { ⌜ Indexed (now wants) (now pivots) (now index) (chartOf (now chart) .records) × (capacity (now chart) ≤ 4096) × (length (now x) ≡ 16) × (h ≡ hashOf (ofWords (now x))) × (h < 4294967296) ⌝ }
     ensures { λ r. ⌜ (now (chart .exit) ≡ appendedTo (now (chart .entry)) (itemCount (now (chart .entry))) (ofWords (now (x .entry)))) × Indexed (now (wants .entry)) (now (pivots .entry)) (now (index .exit)) (placed (capacity (now (chart .entry))) (ofWords (now (x .entry))) (chartOf (now (chart .entry))) Nowhere .records) × ((g h : List ℕ) → Spanned g h (now (index .entry)) (chartOf (now (chart .entry)) .records) → Spans g h (ofWords (now (x .entry)) .edges) o → Spanned g h (now (index .exit)) (placed (capacity (now (chart .entry))) (ofWords (now (x .entry))) (chartOf (now (chart .entry))) Nowhere .records)) ⌝ }
 {
     let n = records::item_count(chart);
     if n < records::capacity_of(chart) {
         put_near(index, n, o);
-        enter(wants, pivots, index, n, x, b);
+        enter(wants, pivots, index, n, x, h);
         records::append_words(chart, n, x);
         return;
     }
@@ -320,18 +309,9 @@ pub fn add(
     if records::mark_of(chart) != 0 {
         return;
     }
-    let b = chains::bucket(x);
-    match chains::find(chart, &index[0..RANKS], x, b) {
+    let h = chains::hash(x);
+    match chains::find(chart, &index[0..RANKS], x, h) {
         Found::At(j) => again(chart, index, j, x),
-        Found::Nowhere => behind(wants, pivots, chart, index, x, b, o),
+        Found::Nowhere => behind(wants, pivots, chart, index, x, h, o),
     }
-}
-
-// The record at place j becomes handled.
-pub fn handle(chart: &mut [u64], index: &mut [u32], j: u64)
-    requires { ⌜ (length (now index) ≡ indexWords) × Fits (now chart) × (j < itemCount (now chart)) × (j < 4096) ⌝ }
-    ensures { λ r. ⌜ (now (chart .exit) ≡ markedAt (now (chart .entry)) j) × ((wants pivots : List ℕ) → Indexed wants pivots (now (index .entry)) (chartOf (now (chart .entry)) .records) → Indexed wants pivots (now (index .exit)) (chartOf (now (chart .exit)) .records)) × ((g h : List ℕ) → Spanned g h (now (index .entry)) (chartOf (now (chart .entry)) .records) → Spanned g h (now (index .exit)) (chartOf (now (chart .exit)) .records)) ⌝ }
-{
-    settle(chart, index, j);
-    records::mark_handled(chart, j);
 }

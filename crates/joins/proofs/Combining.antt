@@ -15,7 +15,7 @@ use Rattle.masks.specs.Laws.{bit-le, member-true, member-false, true-member, lt
 use Rattle.hrg.specs.Counts.{hit, occurs, tabulate}
 use Rattle.hrg.specs.Grammars.{Graph, Rule, touches, ruleOf, edgeAt}
 use Rattle.hrg.specs.Trees.{unplaced, at, padded}
-use Rattle.hrg.specs.Items.{Item, active, orElse, joined, keepIf, restrict, below, isBoundary, isOpen, isOpenAt}
+use Rattle.hrg.specs.Items.{Item, active, orElse, joined, keepIf, restrict, isBoundary, isOpen, isOpenAt}
 use Rattle.hrg.specs.WellFormedTest.{every}
 use Rattle.hrg.specs.ClosureRun.{guard, agree, oneToOne, covering, combine}
 use Rattle.hrg.proofs.Sums.{hit-self, hit-ne, length-tabulate, at-tabulate, tabulate-ext, occurs-at, occurs-find}
@@ -27,7 +27,7 @@ use Rattle.joins.specs.declared.Joined.{Joined}
 use Rattle.joins.specs.declared.Merged.{Merged}
 use Rattle.joins.specs.Joins.{Accepted, KnownNode, NodesIn, OpenAt, OpenIn, Spans, Keeps, openBy, openJoined, lostAt, noneLost, Merges, Makes}
 use Rattle.joins.specs.Graphs.{GraphTable}
-use Rattle.joins.proofs.Known.{rule-ok, right-nodes, nodes-few, graph-ok, graph-nodes, graph-nodes-few}
+use Rattle.joins.proofs.Known.{right-nodes, nodes-few, graph-ok, graph-nodes, graph-nodes-few}
 use Rattle.joins.proofs.Touching.{member-both, touches-some}
 use Rattle.joins.proofs.Openness.{bool-same, some-find, open-by, open-few}
 use Rattle.joins.proofs.MapLaws.{every-true, every-same, agreeAt, length-joined, at-joined}
@@ -334,16 +334,6 @@ module _ (g h : List ℕ) (r q m₁ m₂ : ℕ) (f k : List ℕ) (accepted : Acc
         }
 
 -- an open rule node is one of the rule's nodes
-pub open-rule-known : (g : List ℕ) (r p x : ℕ) → KnownNode g r p → isOpenAt (ruleOf (grammarOf g) r) p x ≡ true → x < ruleNodes g r
-unfolding isOpenAt
-open-rule-known g r p x known o =
-    let right = ruleOf (grammarOf g) r .production .right in
-    omega (
-      arith,
-      right-nodes g r (known .grammar) (known .rule),
-      boundary-inside (λ i. ltb 0 (occurs i (below (ruleOf (grammarOf g) r .plan) p))) right x (λ i l. rule-ok g r (known .grammar) (known .rule) .right .edge i l .listed .inside x) o,
-    )
-
 -- two maps that differ at a rule node where both have an image make nothing
 pub combine-differ : (H : Graph) (R : Rule) (r q m₁ m₂ : ℕ) (f k : List ℕ) (x : ℕ) → x < R .production .right .nodes → at f x < unplaced → at k x < unplaced → (at f x ≡ at k x → ⊥)
     → combine H R r q m₁ m₂ f k ≡ []

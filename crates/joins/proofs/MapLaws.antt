@@ -142,16 +142,6 @@ over-all t k n i f bare a b p = is-padded f (tabulate n t) (p .size) (λ x h. go
     go x (yes d) = p .before x (omega arith) ∙ sym (at-tabulate n t x d)
     go x (no d) = p .after x (omega arith) ∙ bare .past x (omega arith) ∙ sym (at-past (tabulate n t) x (omega (arith, length-tabulate n t)))
 
--- two maps as one
-module _ (f k : List ℕ) (size : length f ≡ 8) (size′ : length k ≡ 8) where
-  pub merge-next : (i v : ℕ) (j : List ℕ) → i < 8 → v ≡ orElse (getD f i 0) (getD k i 0) → Placed (λ x. orElse (at f x) (at k x)) i j → Placed (λ x. orElse (at f x) (at k x)) (i + 1) (set j i v)
-  merge-next i v j h e p =
-      placed-next (λ x. orElse (at f x) (at k x)) i v j h (e ∙ ap₂ orElse (getD-any f i 0 unplaced (omega arith)) (getD-any k i 0 unplaced (omega arith))) p
-
-pub merge-all : (f k : List ℕ) (n i : ℕ) (j : List ℕ) → i ≤ n → n ≤ i → Placed (λ x. orElse (at f x) (at k x)) i j → j ≡ padded (joined n f k)
-unfolding joined
-merge-all f k n i j a b p = placed-all (λ x. orElse (at f x) (at k x)) n i j a b p
-
 -- ---- the images so far
 pub seen-none : (j : List ℕ) → NodesIn 0 (take 0 j)
 unfolding occurs

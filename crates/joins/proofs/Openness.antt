@@ -2,27 +2,27 @@
 use mathlib.Core.Path.{_≡_, refl, sym, ap, ap₂, _∙_}
 use mathlib.Core.Bool.{Bool, true, false, _&&_, _||_, not, or-true, false≢true}
 use mathlib.Core.List.{List}
-use Prim.Native.Nat.{ℕ, zero, suc, _+_, _-_, _*_, _/_, _%_, _^_, _≤_, _<_}
+use Prim.Native.Nat.{ℕ, zero, suc, _+_, _-_, _*_, _/_, _%_, _^_, _<_}
 use native.Mathlib.Nat.{pow-suc}
 use native.Mathlib.Omega.{arith}
 use native.Mathlib.Decide.{decLt}
-use lib.ListN.{length, getD}
-use lib.Bits.{bitAnd, bitOr}
+use lib.ListN.{getD}
+use lib.Bits.{bitAnd}
 use lib.Pow.{shr-shr}
 use lib.Dec.{eqb, ltb}
 use borrow.Author.Tests.{eq-eqb, ne-eqb, eqb-true, eqb-false, lt-ltb, ltb-true, not-true}
-use Rattle.masks.specs.Masks.{bit, member, _∪_, single, full, Found}
-use Rattle.masks.specs.Laws.{member-true, true-member, member-false, false-member, nonempty, lt-bits, member-union, member-single, member-full, shifted-single}
+use Rattle.masks.specs.Masks.{bit, member, _∪_, single, Found}
+use Rattle.masks.specs.Laws.{member-true, true-member, member-false, false-member, nonempty, lt-bits, member-union, member-single, shifted-single}
 use Rattle.hrg.specs.Counts.{occurs, tabulate}
-use Rattle.hrg.specs.Grammars.{Graph, touches, edgeAt}
+use Rattle.hrg.specs.Grammars.{touches}
 use Rattle.hrg.specs.Items.{isBoundary, isOpen}
 use Rattle.hrg.proofs.Sums.{occurs-at, occurs-find, at-tabulate, length-tabulate}
 use Rattle.hrg.proofs.Degrees.{and-true}
 use Rattle.questions.specs.Layout.{rankAt, graphEdges, graphLabel, graphNode}
 use Rattle.questions.specs.Abstract.{graphOf}
-use Rattle.joins.specs.Joins.{Accepted, NodesIn, someBoth, OpenIn, Spans, edgesOn, openBy}
-use Rattle.joins.specs.Graphs.{nodesOf, onEdge, marksTo, marks, GraphTable}
-use Rattle.joins.proofs.Known.{graph-ok, graph-size, graph-edges-few}
+use Rattle.joins.specs.Joins.{Accepted, someBoth, OpenIn, Spans, edgesOn, openBy}
+use Rattle.joins.specs.Graphs.{onEdge, marksTo, marks, GraphTable}
+use Rattle.joins.proofs.Known.{graph-size}
 use Rattle.joins.proofs.PlanMasks.{member-none}
 use Rattle.joins.proofs.Touching.{member-both, touches-some}
 use Rattle.joins.proofs.GraphLaws.{edge-nodes, edge-few, label-few, node-few, some-in, by-four}
@@ -222,10 +222,6 @@ module _ (g h : List ℕ) where
   -- any set holds the open nodes of no edges, and the set of all nodes those of any
   pub spans-none : (o : ℕ) → Spans g h 0 o
   spans-none o = record { each = λ v l p. let (e, _, x, _) = open-edge g h 0 v p in absurd (false≢true (sym (member-none e) ∙ x)) }
-
-  pub spans-full : (m : ℕ) → Spans g h m 18446744073709551615
-  unfolding full
-  spans-full m = record { each = λ v l p. member-full 64 v ∙ lt-ltb v 64 l }
 
   pub spans-open : (m o : ℕ) → OpenIn g h m o → Spans g h m o
   spans-open m o opened = record { each = λ v l p. opened .members v l ∙ p }

@@ -2,7 +2,7 @@
 use mathlib.Core.Path.{_≡_, refl, sym, ap, _∙_}
 use mathlib.Core.Bool.{Bool, true, false, _||_}
 use mathlib.Core.List.{List, [], _∷_, _++_}
-use Prim.Native.Nat.{ℕ, zero, suc, _+_, _≤_, _<_}
+use Prim.Native.Nat.{ℕ, zero, suc, _+_, _<_}
 use native.Mathlib.Omega.{arith}
 use native.Mathlib.Decide.{decLt}
 use lib.ListN.{length, getD, set, length-set}
@@ -125,12 +125,6 @@ masks-more g ms r q m h before here = record { each = λ p l. go p l (decLt p q)
     go : (p : ℕ) → p < q + 1 → Dec (p < q) → EdgesBelow g r p (getD (set ms q m) p 0)
     go p l (yes d) = rw (getD-set-other ms q p m 0 (λ e. omega arith)) (before .each p d)
     go p l (no d) = let e : p ≡ q = omega arith in rw (e, getD-set-same ms q m 0 h) here
-
-pub masks-to : (g ms : List ℕ) (r q p : ℕ) → p ≤ q → MasksBelow g r q ms → MasksBelow g r p ms
-masks-to g ms r q p h before = record { each = λ i l. before .each i (omega arith) }
-
-pub known-before : (g : List ℕ) (r p q : ℕ) → KnownNode g r p → q ≤ p → KnownNode g r q
-known-before g r p q k h = record { grammar = k .grammar; rule = k .rule; node = omega (arith, k .node) }
 
 pub set-size : (ms : List ℕ) (q m n : ℕ) → length ms ≡ n → length (set ms q m) ≡ n
 set-size ms q m n h = length-set ms q m ∙ h

@@ -17,7 +17,7 @@ ghost use Rattle.joins.specs.Joins.{KnownNode, KnownEdge, Accepted, Edge
 ghost use Rattle.joins.specs.Graphs.{GraphTable, Touched};
 
 pub mod graphs;
-pub mod maps;
+mod maps;
 
 // The nodes on edges of a set, and on the other edges.
 struct Sides {

@@ -1,5 +1,6 @@
 // Lines of fixed columns: found in a text, judged, read field by field, and written.
 ghost use mathlib.Core.Path.{_≡_};
+ghost use mathlib.Core.Bool.{_&&_};
 ghost use mathlib.Core.List.{[], _∷_};
 ghost use Prim.Native.Nat.{_+_, _-_, _*_, _%_, _≤_, _<_};
 ghost use lib.ListN.{length, take, drop, getD};
@@ -107,6 +108,7 @@ fn digit(b: u8) -> u64
     (b - 48) as u64
 }
 
+// What stands in the column of p for n. Most numbers are small, and are blank there without a division.
 fn column(p: u64, n: u64) -> u8
     requires { ⌜ 0 < p ⌝ }
     ensures { λ r. ⌜ r ≡ columnOf p n ⌝ }
@@ -343,9 +345,9 @@ pub fn put_field(out: &mut [u8], at: usize, n: u64) -> usize
     }
 }
 
-fn write_fields(out: &mut [u8], at: usize, fields: [u64; 18], count: usize) -> usize
-    requires { ⌜ (count ≤ 18) × (at + 4 * count ≤ length (now out)) ⌝ }
-    ensures { λ r. ⌜ (r ≡ at + 4 * count) × (now (out .exit) ≡ sets (now (out .entry)) at (fieldsText (take count fields))) ⌝ }
+fn write_fields(out: &mut [u8], at: usize, fields: &[u64], count: usize) -> usize
+    requires { ⌜ (count ≤ length (now fields)) × (at + 4 * count ≤ length (now out)) ⌝ }
+    ensures { λ r. ⌜ (r ≡ at + 4 * count) × (now (out .exit) ≡ sets (now (out .entry)) at (fieldsText (take count (now (fields .entry))))) ⌝ }
 {
     let mut p = at;
     let mut k = 0;
@@ -357,9 +359,9 @@ fn write_fields(out: &mut [u8], at: usize, fields: [u64; 18], count: usize) -> u
 }
 
 // Whether each of the first `count` numbers has a text of four columns.
-fn all_small(fields: [u64; 18], count: usize) -> bool
-    requires { ⌜ count ≤ 18 ⌝ }
-    ensures { λ r. ⌜ r ≡ allBelow count (λ k. leb (getD fields k 0) 9999) ⌝ }
+fn all_small(fields: &[u64], count: usize) -> bool
+    requires { ⌜ count ≤ length (now fields) ⌝ }
+    ensures { λ r. ⌜ r ≡ allBelow count (λ k. leb (getD (now (fields .entry)) k 0) 9999) ⌝ }
 {
     let mut k = 0;
     while k < count {
@@ -371,9 +373,9 @@ fn all_small(fields: [u64; 18], count: usize) -> bool
     true
 }
 
-fn is_writable(letter: u8, fields: [u64; 18], count: usize) -> bool
-    requires { ⌜ count ≤ 18 ⌝ }
-    ensures { λ r. ⌜ r ≡ writableOf letter (take count fields) ⌝ }
+fn is_writable(letter: u8, fields: &[u64], count: usize) -> bool
+    requires { ⌜ (count ≤ 18) × (count ≤ length (now fields)) ⌝ }
+    ensures { λ r. ⌜ r ≡ writableOf letter (take count (now (fields .entry))) ⌝ }
 {
     if count < 1 {
         return false;
@@ -381,9 +383,10 @@ fn is_writable(letter: u8, fields: [u64; 18], count: usize) -> bool
     is_capital(letter) & all_small(fields, count)
 }
 
-pub fn write_line(out: &mut [u8], at: usize, letter: u8, fields: [u64; 18], count: usize) -> usize
-    requires { ⌜ (count ≤ 18) × (at + (4 * count + 2) ≤ length (now out)) ⌝ }
-    ensures { λ r. ⌜ (r ≡ at + (4 * count + 2)) × (now (out .exit) ≡ sets (now (out .entry)) at (lineText letter (take count fields))) ⌝ }
+// The line of a letter and the first `count` of `fields`, where there is room for it; answers the next place.
+pub fn write_line(out: &mut [u8], at: usize, letter: u8, fields: &[u64], count: usize) -> usize
+    requires { ⌜ (count ≤ length (now fields)) × (at + (4 * count + 2) ≤ length (now out)) ⌝ }
+    ensures { λ r. ⌜ (r ≡ at + (4 * count + 2)) × (now (out .exit) ≡ sets (now (out .entry)) at (lineText letter (take count (now (fields .entry))))) ⌝ }
 {
     out[at] = letter;
     let p = write_fields(out, at + 1, fields, count);
@@ -393,16 +396,17 @@ pub fn write_line(out: &mut [u8], at: usize, letter: u8, fields: [u64; 18], coun
 
 // Writes the line of a letter and the first `count` of `fields` at `at` and answers the next place.
 // A line that is not of the shape (no capital letter, no field or more than 18, a number above
-// 9,999), or that the buffer has no room for, is not written, and `at` is answered.
+// 9,999), that has more fields than are lent, or that the buffer has no room for, is not written,
+// and `at` is answered.
 pub fn put_line(out: &mut [u8], at: usize, letter: u8, fields: [u64; 18], count: usize) -> usize
     ensures { λ r. ⌜ Put (lineFits (now (out .entry)) at letter fields count) (now (out .entry)) at (lineText letter (take count fields)) (now (out .exit)) r ⌝ }
 {
     if count > 18 {
         return at;
     }
-    if is_writable(letter, fields, count) {
+    if is_writable(letter, &fields, count) {
         if has_room(out.len(), at, 4 * count + 2) {
-            write_line(out, at, letter, fields, count)
+            write_line(out, at, letter, &fields, count)
         } else {
             at
         }

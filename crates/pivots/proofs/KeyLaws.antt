@@ -7,7 +7,7 @@ use native.Mathlib.Omega.{arith}
 use native.Mathlib.Decide.{decLt, ℕ-discrete}
 use lib.ListN.{length, getD}
 use lib.Dec.{eqb, ltb, leb}
-use borrow.Author.Tests.{eq-eqb, ne-eqb, eqb-true, eqb-false, lt-ltb, le-ltb, ltb-true, ltb-false, lt-leb}
+use borrow.Author.Tests.{eq-eqb, ne-eqb, eqb-true, eqb-false, lt-ltb, le-ltb, ltb-true, lt-leb}
 use Rattle.masks.specs.Masks.{bit, single}
 use Rattle.masks.specs.Laws.{bit-single-other}
 use Rattle.hrg.specs.Trees.{at}
@@ -190,14 +190,6 @@ improved-keys wants pivots y x = refl
 pub handled-keys : (wants pivots : List ℕ) (y : Record) → keysOf wants pivots (handledNow y) ≡ keysOf wants pivots y
 unfolding keysOf
 handled-keys wants pivots y = refl
-
-pub improved-query : (wants pivots : List ℕ) (y x : Record) → queryOf wants pivots (improved y x) ≡ queryOf wants pivots y
-unfolding queryOf
-improved-query wants pivots y x = refl
-
-pub handled-query : (wants pivots : List ℕ) (y : Record) → queryOf wants pivots (handledNow y) ≡ queryOf wants pivots y
-unfolding queryOf
-handled-query wants pivots y = refl
 
 -- keys are at most 2,048
 few-of : (b : Bool) (x y : ℕ) → x ≤ 2048 → y ≤ 2048 → cond b x y ≤ 2048

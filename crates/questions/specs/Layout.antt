@@ -7,7 +7,6 @@ use lib.Dec.{ltb}
 use Rattle.hrg.specs.Counts.{tabulate}
 use Rattle.format.specs.declared.Letter.{Letter}
 use Rattle.format.specs.declared.Letter.the-variants.{G, S, R, E, P, H, D, A, Other}
-use Rattle.questions.specs.declared.Fields.{Fields}
 use Rattle.questions.specs.declared.Due.{Due}
 use Rattle.questions.specs.declared.Due.the-variants.{Grammar, Symbol, Rule, RuleEdge, PlanLine, Graph, GraphEdge, Nothing}
 
@@ -43,10 +42,6 @@ inTable (PlanLine r q) = ltb r 64 && ltb q 16
 inTable Graph = true
 inTable (GraphEdge e) = ltb e 64
 inTable Nothing = true
-
--- the fields that a record of fields holds
-abbrev pub fieldsIn : Fields → List ℕ
-fieldsIn f = take (f .count) (f .values)
 
 -- words of the largest grammar and graph: 1,665 and 65 places
 abbrev pub grammarWords : ℕ

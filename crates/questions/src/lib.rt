@@ -11,12 +11,6 @@ pub enum Due {
     Nothing,
 }
 
-// The fields of a line: the first `count` values.
-pub struct Fields {
-    pub values: [u64; 18],
-    pub count: u64,
-}
-
 // A reader's answer: done, or one of 01's refusals.
 pub enum Answer {
     Done,

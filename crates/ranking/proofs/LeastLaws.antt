@@ -1,6 +1,6 @@
--- The least number of the set is that of the first waiting record of least count.
+-- The least number of the set is that of the first waiting record of least count, which leaves it.
 use Prim.Native.Nat.{ℕ, zero, suc, _+_, _-_, _*_, _%_, _≤_, _<_}
-use mathlib.Core.Path.{_≡_, refl, sym, ap, _∙_}
+use mathlib.Core.Path.{_≡_, refl, sym, ap, _∙_, subst}
 use mathlib.Core.List.{List}
 use mathlib.Core.Bool.{Bool, true, false, cond}
 use native.Mathlib.Omega.{arith}
@@ -14,11 +14,13 @@ use Rattle.agenda.specs.declared.Found.the-variants.{At, Nowhere}
 use Rattle.agenda.specs.Records.{isHandled}
 use Rattle.agenda.specs.Consequences.{recordIn}
 use Rattle.agenda.specs.Steps.{lesser, leastWaiting}
-use Rattle.records.specs.Words.{itemCount, recordsAt, chartOf}
-use Rattle.records.proofs.WordLaws.{length-records}
-use Rattle.queues.specs.Queues.{holds, Least}
-use Rattle.ranking.specs.Ranking.{orderAt, setOf, Ranked}
-use Rattle.ranking.proofs.Orders.{order-handled, order-waits, order-some}
+use Rattle.records.specs.Words.{itemCount, fieldAt, recordsAt, chartOf}
+use Rattle.records.proofs.WordLaws.{length-records, record-in, count-of}
+use Rattle.queues.specs.Queues.{holds, Removed, Least}
+use Rattle.ranking.specs.Ranking.{orderOf, orderAt, setOf, Ranked, Replaces, takenFrom}
+use Rattle.ranking.proofs.Orders.{order-positive, order-handled, order-waits, order-some, handled-order}
+use Rattle.ranking.proofs.Parts.{put}
+use Rattle.ranking.proofs.SetLaws.{removed-set}
 
 module _ (rs : List Record) where
   abbrev Waits : ℕ → Type 0
@@ -111,6 +113,16 @@ module _ (rs : List Record) where
     pub least-held : At (r % 4096) ≡ leastWaiting rs (length rs)
     least-held = told (leastWaiting rs (length rs)) (chosen (length rs) (omega arith) m)
 
+    -- .. and it leaves the set
+    pub taken-held : (new : List ℕ) → Removed (setOf w) r new → Ranked (put 2 4228 w new) (takenFrom rs (At (r % 4096)))
+    taken-held new I =
+        let j = r % 4096 in
+        let n = recordIn rs j .count in
+        let s = order-some rs j (λ q. omega (arith, order-least)) in
+        let e : r ≡ 4096 * (n - getD w 1 0) + j = omega (arith, order-least, s .1) in
+        removed-set w j n (omega arith) rs (takenFrom rs (At j)) R (s .1 ∙ sym (order-positive j n)) (handled-order rs j (s .0)) new (omega (arith, order-least, s .1))
+        (subst (λ p. Removed (setOf w) p new) e I)
+
 -- ---- the records looked through
 pub least-all : (w : List ℕ) (n : ℕ) (r : Found) → n ≡ itemCount w → r ≡ leastWaiting (recordsAt w n) n → r ≡ leastWaiting (chartOf w .records) (length (chartOf w .records))
 unfolding chartOf
@@ -123,3 +135,24 @@ least-told w n r f e q p = sym e ∙ least-all w n r q p
 pub few : (w : List ℕ) → length (chartOf w .records) ≤ 4096 → itemCount w ≤ 4096
 unfolding chartOf
 few w h = omega (arith, length-records w (itemCount w))
+
+-- .. and the one found leaves the words made anew
+module _ (w : List ℕ) (j : ℕ) (m : length (chartOf w .records) ≤ 4096) (p : At j ≡ leastWaiting (chartOf w .records) (length (chartOf w .records))) where
+  abbrev rs : List Record
+  rs = chartOf w .records
+
+  waits : (n : ℕ) → Chosen rs n (At j) → Waits rs j
+  waits n (chosen-at i a b c) = b
+
+  order-told : (j < length rs) × (orderAt rs j ≡ 4096 * recordIn rs j .count + j + 1)
+  order-told = order-some rs j (waits (length rs) (subst (Chosen rs (length rs)) (sym p) (chosen rs (length rs) (omega arith) m)))
+
+  pub told-small : j < 4096
+  told-small = omega (arith, order-told .0)
+
+  count-told : (n : ℕ) → n ≡ fieldAt w j 4 → recordIn rs j .count ≡ n
+  unfolding chartOf
+  count-told n e = ap (λ (x : Record). x .count) (record-in w (itemCount w) j (omega (arith, order-told .0, length-records w (itemCount w)))) ∙ count-of w j ∙ sym e
+
+  pub taken-told : (n : ℕ) (new : List ℕ) → n ≡ fieldAt w j 4 → (orderAt rs j ≡ orderOf true j n → Replaces j 0 rs (takenFrom rs (At j)) → Ranked new (takenFrom rs (At j))) → Ranked new (takenFrom rs (At j))
+  taken-told n new e f = f (order-told .1 ∙ sym (order-positive j (recordIn rs j .count)) ∙ ap (orderOf true j) (count-told n e)) (handled-order rs j (order-told .0))

@@ -2,12 +2,15 @@
 use mathlib.Core.Bool.{Bool, _&&_, not, cond}
 use mathlib.Core.List.{List}
 use mathlib.Core.Path.{_≡_}
-use Prim.Native.Nat.{ℕ, _+_, _*_, _/_, _%_, _≤_, _<_}
-use lib.ListN.{length, getD, take, drop}
+use Prim.Native.Nat.{ℕ, _+_, _*_, _%_, _<_}
+use lib.ListN.{length, getD, set, take, drop}
 use lib.Dec.{eqb, ltb}
 use Rattle.agenda.specs.declared.Record.{Record}
+use Rattle.agenda.specs.declared.Found.{Found}
+use Rattle.agenda.specs.declared.Found.the-variants.{At, Nowhere}
 use Rattle.agenda.specs.Records.{isHandled}
 use Rattle.agenda.specs.Consequences.{recordIn}
+use Rattle.agenda.specs.Steps.{handledNow}
 use Rattle.queues.specs.Queues.{holds, Levels}
 
 -- what a record is in the ranking: 0 if it does not wait, else a number that is less for a lesser count and, of equal counts, for an earlier place
@@ -47,3 +50,8 @@ pub record Ranked (w : List ℕ) (rs : List Record) : Type 0 where
 pub record Replaces (j p : ℕ) (rs rs′ : List Record) : Type 0 where
   pub given : orderAt rs′ j ≡ p
   pub others : (k : ℕ) → (k ≡ j → ⊥) → orderAt rs′ k ≡ orderAt rs k
+
+-- the records, of which the one found is handled
+abbrev pub takenFrom : List Record → Found → List Record
+takenFrom rs Nowhere = rs
+takenFrom rs (At j) = set rs j (handledNow (recordIn rs j))

@@ -9,7 +9,7 @@ ghost use lib.ListN.{length};
 ghost use Rattle.agenda.specs.declared.Record.{Record};
 ghost use Rattle.agenda.specs.Steps.{leastWaiting};
 ghost use Rattle.records.specs.Words.{itemCount, chartOf};
-ghost use Rattle.ranking.specs.Ranking.{orderOf, orderAt, Ranked, Replaces};
+ghost use Rattle.ranking.specs.Ranking.{orderOf, orderAt, Ranked, Replaces, takenFrom};
 use agenda::Found;
 
 // where the set begins and ends
@@ -45,7 +45,7 @@ pub fn place(ranks: &mut [u32], j: u64, waits: bool, count: u64)
 }
 
 // The record at place j, which waited with the count given, waits no more.
-pub fn remove(ranks: &mut [u32], j: u64, count: u64)
+fn remove(ranks: &mut [u32], j: u64, count: u64)
     requires { ⌜ (length (now ranks) ≡ 4230) × (j < 4096) ⌝ }
     ensures { λ r. ⌜ ((rs rs′ : List Record) → Ranked (now (ranks .entry)) rs → orderAt rs j ≡ orderOf true j count → Replaces j 0 rs rs′ → Ranked (now (ranks .exit)) rs′) ⌝ }
 {
@@ -99,31 +99,34 @@ fn renew(chart: &[u64], ranks: &mut [u32], base: u64)
     fill(chart, ranks);
 }
 
-// The records looked through: the words are made anew from the least count.
+// The records looked through: the words are made anew from the least count, and the record found leaves them.
 fn again(chart: &[u64], ranks: &mut [u32]) -> Found
     requires { ⌜ Ranked (now ranks) (chartOf (now chart) .records) × (length (chartOf (now chart) .records) ≤ 4096) ⌝ }
-    ensures { λ r. ⌜ (r ≡ leastWaiting (chartOf (now (chart .entry)) .records) (length (chartOf (now (chart .entry)) .records))) × Ranked (now (ranks .exit)) (chartOf (now (chart .entry)) .records) ⌝ }
+    ensures { λ r. ⌜ (r ≡ leastWaiting (chartOf (now (chart .entry)) .records) (length (chartOf (now (chart .entry)) .records))) × Ranked (now (ranks .exit)) (takenFrom (chartOf (now (chart .entry)) .records) r) ⌝ }
 {
     let found = records::least(chart, records::item_count(chart));
     match found {
         Found::Nowhere => Found::Nowhere,
         Found::At(j) => {
-            renew(chart, ranks, records::field(chart, j, 4));
+            let count = records::field(chart, j, 4);
+            renew(chart, ranks, count);
+            remove(ranks, j, count);
             Found::At(j)
         }
     }
 }
 
-// The first waiting record of least count.
-pub fn least(chart: &[u64], ranks: &mut [u32]) -> Found
+// The first waiting record of least count waits no more. Its number is at hand, so that the chart need not be read for it.
+pub fn take(chart: &[u64], ranks: &mut [u32]) -> Found
     requires { ⌜ Ranked (now ranks) (chartOf (now chart) .records) × (length (chartOf (now chart) .records) ≤ 4096) ⌝ }
-    ensures { λ r. ⌜ (r ≡ leastWaiting (chartOf (now (chart .entry)) .records) (length (chartOf (now (chart .entry)) .records))) × Ranked (now (ranks .exit)) (chartOf (now (chart .entry)) .records) ⌝ }
+    ensures { λ r. ⌜ (r ≡ leastWaiting (chartOf (now (chart .entry)) .records) (length (chartOf (now (chart .entry)) .records))) × Ranked (now (ranks .exit)) (takenFrom (chartOf (now (chart .entry)) .records) r) ⌝ }
 {
     if ranks[0] != 0 {
         return again(chart, ranks);
     }
     let p = queues::first(&ranks[SET..END]);
     if p < 131072 {
+        queues::remove(&mut ranks[SET..END], p);
         return Found::At(p % 4096);
     }
     again(chart, ranks)

@@ -3,7 +3,7 @@ ghost use mathlib.Core.Path.{_≡_};
 ghost use mathlib.Core.Bool.{true};
 ghost use mathlib.Core.List.{_++_};
 ghost use Prim.Native.Nat.{_≤_, _<_};
-ghost use lib.ListN.{length, take, drop};
+ghost use lib.ListN.{length, drop};
 ghost use lib.Dec.{eqb};
 ghost use Rattle.format.specs.Fields.{fieldsOf};
 ghost use Rattle.format.specs.Shape.{letterOf, shapeOf, kindLetter};
@@ -85,27 +85,13 @@ fn letter_due(line: &[u8], due: Due) -> bool
 }
 
 // ---- one line
-// The fields of a line, as the first of `values`: how many there are.
-fn fields_of(line: &[u8], values: &mut [u64]) -> usize
-    requires { ⌜ (shapeOf (now line) ≡ true) × (length (now values) ≡ 18) ⌝ }
-    ensures { λ r. ⌜ (take r (now (values .exit)) ≡ fieldsOf (now (line .entry))) × (r ≤ 18) ⌝ }
-{
-    let count = lines::field_count(line);
-    let mut k = 0;
-    while k < count {
-        values[k] = lines::number(line, k);
-        k += 1;
-    }
-    count
-}
-
 // Questions 3 to 7 for a line of the shape: one that passes is stored.
 fn store_line(g: &[u64], t: &mut [u64], due: Due, line: &[u8]) -> u64
     requires { ⌜ Room (length (now t)) due × (shapeOf (now line) ≡ true) ⌝ }
     ensures { λ r. ⌜ (r ≡ judge (now (g .entry)) (now (t .entry)) due (fieldsOf (now (line .entry)))) × Stores (now (t .entry)) due (now (line .entry)) r (now (t .exit)) ⌝ }
 {
     let mut values = [0u64; 18];
-    let n = fields_of(line, &mut values);
+    let n = lines::read_row(line, &mut values);
     let f = &values[..n];
     let k = tables::judging::judge(g, t, due, f);
     if k != 0 {

@@ -2,12 +2,12 @@
 use mathlib.Core.Path.{_≡_, sym, ap, _∙_}
 use mathlib.Core.Bool.{Bool, true, false, _||_, false≢true}
 use mathlib.Core.List.{List, [], _∷_}
-use Prim.Native.Nat.{ℕ, zero, suc, _+_, _≤_, _<_}
+use Prim.Native.Nat.{ℕ, zero, suc, _≤_, _<_}
 use native.Mathlib.Omega.{arith}
 use native.Mathlib.Decide.{decLt}
 use lib.ListN.{length, List·getD-eq-default}
 use lib.Dec.{eqb, ltb}
-use borrow.Author.Tests.{ltb-true, ltb-false}
+use borrow.Author.Tests.{ltb-true}
 use Rattle.hrg.specs.Counts.{occurs}
 use Rattle.hrg.specs.Grammars.{Rule, noRule, PlanNode, leaf, introduce, join, planOf, planNode}
 use Rattle.hrg.specs.WellFormed.{children, allChildren, PlanOk}
@@ -57,11 +57,7 @@ module _ (g : List ℕ) (r q p : ℕ) (known : KnownNode g r q) where
         rw (← some-one p first, ← some-one p second)
         (sym (some-append p (first ∷ []) (second ∷ [])) ∙ test-is (join first second) (joined-is g r q known kind first second a b c x y))
 
--- ---- the search
--- p is a child of no plan node before q
-pub record NotBefore (g : List ℕ) (r p q : ℕ) : Type 0 where
-  pub each : (q′ : ℕ) → q′ < q → q′ < rulePlan g r → 0 < occurs p (children (planNode (planOf (grammarOf g) r) q′)) → ⊥
-
+-- ---- of an accepted grammar table
 module _ (g : List ℕ) (r p : ℕ) (checked : checkGrammar g ≡ true) (rule : r < ruleCount g) where
   abbrev pl : List PlanNode
   pl = planOf (grammarOf g) r
@@ -76,9 +72,6 @@ module _ (g : List ℕ) (r p : ℕ) (checked : checkGrammar g ≡ true) (rule : 
   once q q′ l n h k =
       omega (arith, two-parents pl p q q′ l h k, child-lower q (omega arith) h, ok .child-once p (omega (arith, child-lower q (omega arith) h, plan-size g r checked rule)))
 
-  pub parent-first : NotBefore g r p (p + 1)
-  parent-first = record { each = λ q l n h. omega (arith, child-lower q n h) }
-
   pub parent-found : (q : ℕ) → q < rulePlan g r → ltb 0 (occurs p (children (planNode pl q))) ≡ true → ParentOf g r p q
   parent-found q n t = record { only = λ q′ l k. go q′ l k (decLt q q′) (decLt q′ q) }
     where
@@ -89,18 +82,6 @@ module _ (g : List ℕ) (r p : ℕ) (checked : checkGrammar g ≡ true) (rule : 
       go q′ l k (yes d) e = absurd (once q q′ d l here k)
       go q′ l k (no d) (yes e) = absurd (once q′ q e n k here)
       go q′ l k (no d) (no e) = omega arith
-
-  pub parent-next : (q : ℕ) → ltb 0 (occurs p (children (planNode pl q))) ≡ false → NotBefore g r p q → NotBefore g r p (q + 1)
-  parent-next q t before = record { each = λ q′ l n h. go q′ l n h (decLt q′ q) }
-    where
-      go : (q′ : ℕ) → q′ < q + 1 → q′ < rulePlan g r → 0 < occurs p (children (planNode pl q′)) → Dec (q′ < q) → ⊥
-      go q′ l n h (yes d) = before .each q′ d n h
-      go q′ l n h (no d) =
-          let e : q′ ≡ q = omega arith in
-          omega (arith, ap (λ i. occurs p (children (planNode pl i))) e, ltb-false 0 (occurs p (children (planNode pl q))) t)
-
-  pub parent-none : (q n : ℕ) → rulePlan g r ≤ q → NotBefore g r p q → ParentOf g r p n
-  parent-none q n l before = record { only = λ q′ k h. absurd (before .each q′ (omega arith) k h) }
 
 -- ---- for any rule and plan node
 abbrev nowhere : Place
@@ -115,14 +96,7 @@ above-unknown g r p h =
       none = λ q l. absurd (omega (arith, ap (λ (R : Rule). length (R .plan)) (List·getD-eq-default (grammarOf g .rules) noRule {n = r} (omega (arith, rules-length g)))));
     })
 
-pub above-found : (g : List ℕ) (r p q : ℕ) → KnownNode g r q → ParentOf g r p q → Above g r p (record { found = true; node = q })
-above-found g r p q known parent = record { known = λ e. known; parent = λ e. parent; nowhere = λ e. absurd (false≢true (sym e)) }
-
 module _ (g : List ℕ) (r p : ℕ) (checked : checkGrammar g ≡ true) (rule : r < ruleCount g) where
   pub above-past : rulePlan g r ≤ p → Above g r p nowhere
   above-past h =
       above-none g r p (record { none = λ q l. none-left _ (λ o. omega (arith, child-lower g r p checked rule q (omega (arith, plan-size g r checked rule)) o, plan-size g r checked rule)) })
-
-  pub above-last : (q : ℕ) → ParentOf g r p q → rulePlan g r ≤ q → Above g r p nowhere
-  above-last q parent h =
-      above-none g r p (record { none = λ q′ l. none-left _ (λ o. omega (arith, parent .only q′ (omega (arith, plan-size g r checked rule)) o, plan-size g r checked rule)) })

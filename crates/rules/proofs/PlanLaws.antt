@@ -1,8 +1,8 @@
 -- The plan nodes above, in a table: how its words are filled and read.
-use mathlib.Core.Path.{_≡_, refl, sym, ap, ap₂, _∙_, subst}
-use mathlib.Core.Bool.{Bool, true, false, _||_, cond, false≢true}
-use mathlib.Core.List.{List, [], _∷_}
-use Prim.Native.Nat.{ℕ, zero, suc, _+_, _*_, _/_, _%_, _≤_, _<_}
+use mathlib.Core.Path.{_≡_, refl, sym, ap, _∙_, subst}
+use mathlib.Core.Bool.{Bool, true, false, _||_, false≢true}
+use mathlib.Core.List.{List}
+use Prim.Native.Nat.{ℕ, zero, suc, _+_, _*_, _%_, _≤_, _<_}
 use native.Mathlib.Omega.{arith}
 use native.Mathlib.Decide.{decLt}
 use lib.ListN.{length, getD, set, replicate, length-set, getD-replicate}
@@ -22,8 +22,8 @@ use Rattle.joins.proofs.PlanMasks.{joined-is, below-few, leaf-mask, join-both}
 use Rattle.joins.proofs.Touching.{open-none}
 use Rattle.joins.proofs.EdgeMaps.{edge-label-few, nodes-word-few}
 use Rattle.rules.specs.declared.plans.Parent.{Parent}
-use Rattle.rules.specs.Rules.{ParentOf, Childless, Above}
-use Rattle.rules.specs.Plans.{edgeWord, secondWord, joinWord, JoinAt, ParentAt, parentIn, PlanTable}
+use Rattle.rules.specs.Rules.{ParentOf, Childless}
+use Rattle.rules.specs.Plans.{edgeWord, secondWord, joinWord, ParentAt, parentIn, PlanTable}
 use Rattle.rules.specs.Filling.{ChildOf, Placed, Put, ToldTo}
 use Rattle.rules.proofs.Parents.{child-leaf, child-introduce, child-join, child-lower, once, parent-found, above-unknown, above-past}
 use Rattle.rules.proofs.Leading.{child-some}

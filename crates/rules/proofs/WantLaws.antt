@@ -10,11 +10,11 @@ use lib.Seq.{getD-set-same, getD-set-other}
 use lib.Dec.{eqb, ltb}
 use borrow.Author.Tests.{eq-eqb, ne-eqb, eqb-true, eqb-false, lt-ltb, le-ltb}
 use Rattle.hrg.specs.Counts.{hit, occurs}
-use Rattle.hrg.specs.Grammars.{Rule, Grammar, noRule, PlanNode, leaf, introduce, join, ruleOf, rightOf, planOf, planNode, edgeAt}
+use Rattle.hrg.specs.Grammars.{Rule, Grammar, noRule, PlanNode, leaf, introduce, join, rightOf, planOf, planNode, edgeAt}
 use Rattle.hrg.specs.WellFormed.{children}
-use Rattle.hrg.specs.ClosureRun.{guard, eachTo}
+use Rattle.hrg.specs.ClosureRun.{guard}
 use Rattle.hrg.proofs.Sums.{hit-self, none-left}
-use Rattle.hrg.proofs.Plans.{introduce-known, join-lower}
+use Rattle.hrg.proofs.Plans.{introduce-known}
 use Rattle.questions.specs.Layout.{ruleCount, ruleEdges, rulePlan, edgeLabel, planKind, planFirst, planSecond}
 use Rattle.questions.specs.Checking.{checkGrammar}
 use Rattle.questions.specs.Abstract.{grammarOf}
@@ -22,7 +22,7 @@ use Rattle.questions.proofs.WellFormedLent.{checked-grammar-ok}
 use Rattle.questions.proofs.WellFormedAccepted.{rules-length}
 use Rattle.joins.specs.Joins.{KnownNode}
 use Rattle.joins.proofs.Known.{plan-ok, plan-size, plan-few, rule-few}
-use Rattle.joins.proofs.PlanMasks.{node-is, introduced-is, joined-is}
+use Rattle.joins.proofs.PlanMasks.{introduced-is, joined-is}
 use Rattle.joins.proofs.EdgeMaps.{edge-label}
 use Rattle.rules.specs.declared.Place.{Place}
 use Rattle.rules.specs.Rules.{Above}

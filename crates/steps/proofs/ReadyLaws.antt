@@ -14,13 +14,19 @@ use Rattle.rules.specs.Rules.{Into}
 use Rattle.rules.specs.declared.Filled.{Filled}
 use Rattle.joins.proofs.Openness.{spans-left, spans-right}
 use Rattle.agenda.specs.declared.Record.{Record}
+use Rattle.agenda.specs.declared.Found.{Found}
+use Rattle.agenda.specs.declared.Found.the-variants.{At, Nowhere}
+use Rattle.agenda.specs.Steps.{leastWaiting}
 use Rattle.records.specs.Words.{Fits, ofWords, capacity, itemCount, fieldAt, recordAt, recordsAt, chartOf, addedTo, markedAt, grownBy}
-use Rattle.records.proofs.WordLaws.{eight-words, length-records, record-in, mark-some, item-fits, handled-yes}
+use Rattle.records.proofs.WordLaws.{eight-words, length-records, record-in, mark-some, item-fits, handled-yes, Below, one, least-below}
 use Rattle.records.proofs.Written.{handle-written, capacity-written, fits-written}
 use Rattle.records.proofs.Rewritten.{handledIn, grown-handled}
 use Rattle.records.proofs.Grown.{Whole, holds-own, grown-one, grown-fits, grown-capacity, grown-longer, grown-record}
 use Rattle.index.specs.Index.{Indexed, nearOf, Spanned, NearKept}
 use Rattle.index.proofs.NearLaws.{spanned-kept}
+use Rattle.index.proofs.AddLaws.{handled-beside, handled-spanned}
+use Rattle.ranking.specs.Ranking.{takenFrom}
+use Rattle.steps.specs.Runs.{markedBy}
 use Rattle.steps.specs.Ready.{Ready, Handled}
 
 module _ (g h wants pivots w ix : List ℕ) (R : Ready g h wants pivots w ix) (v jx : List ℕ) (I : Indexed wants pivots jx (chartOf v .records)) (S : Spanned g h jx (chartOf v .records)) where
@@ -48,7 +54,7 @@ module _ (g h wants pivots w ix : List ℕ) (R : Ready g h wants pivots w ix) (v
   into-ready l before after z answer = words-ready after
 
   -- a record is handled
-  pub handled-ready : (j : ℕ) → j < itemCount w → v ≡ markedAt w j → Ready g h wants pivots v jx
+  handled-ready : (j : ℕ) → j < itemCount w → v ≡ markedAt w j → Ready g h wants pivots v jx
   handled-ready j l p =
       let is = p ∙ handle-written w j (R .fits) l in
       let held = grown-handled w (chartOf w) (holds-own w (R .fits)) j .holds in
@@ -125,7 +131,19 @@ module _ (g h w v : List ℕ) (j near : ℕ) (xs : List Record) (f : Fits w) (e 
     spans = subst (λ (y : Record). Spans g h (y .edges) near) (sym stays-record) (D .spans);
   }
 
--- the ranking is made anew
-pub next-ready : (g h wants pivots w ix new : List ℕ) → Ready g h wants pivots w ix → (Indexed wants pivots ix (chartOf w .records) → Indexed wants pivots new (chartOf w .records)) → NearKept ix new
-    → Ready g h wants pivots w new
-next-ready g h wants pivots w ix new R f k = record { fits = R .fits; small = R .small; indexed = f (R .indexed); spanned = spanned-kept g h ix new (chartOf w .records) k (R .spanned) }
+-- a record is taken, or none: then the ranking may be made anew
+module _ (g h wants pivots w ix : List ℕ) (R : Ready g h wants pivots w ix) (new : List ℕ) (k : NearKept ix new) where
+  abbrev rs : List Record
+  rs = chartOf w .records
+
+  ready-by : (v : List ℕ) (f : Found) → Below (length rs) f → v ≡ markedBy w f → Indexed wants pivots new (takenFrom rs f) → Ready g h wants pivots v new
+  unfolding chartOf
+  ready-by v Nowhere b q I =
+      subst (λ (u : List ℕ). Ready g h wants pivots u new) (sym q) (record { fits = R .fits; small = R .small; indexed = I; spanned = spanned-kept g h ix new rs k (R .spanned) })
+  ready-by v (At j) (one b) q I =
+      let l : j < itemCount w = omega (arith, length-records w (itemCount w)) in
+      handled-ready g h wants pivots w ix R v new (handled-beside w v j (R .fits) l q wants pivots new I) (handled-spanned w v j (R .fits) l q g h ix new k (R .spanned)) j l q
+
+  pub taken-ready : (v : List ℕ) (t f : Found) → t ≡ f → t ≡ leastWaiting rs (length rs) → v ≡ markedBy w f
+      → (Indexed wants pivots ix rs → Indexed wants pivots new (takenFrom rs t)) → Ready g h wants pivots v new
+  taken-ready v t f e p q i = ready-by v f (subst (Below (length rs)) (sym p ∙ e) (least-below rs (length rs))) q (subst (λ (o : Found). Indexed wants pivots new (takenFrom rs o)) e (i (R .indexed)))

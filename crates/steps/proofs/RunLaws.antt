@@ -1,7 +1,7 @@
 -- The run on words: each turn is a step of the model, and where none is left the rest changes nothing.
 use Prim.Native.Nat.{ℕ, zero, suc, _+_, _-_, _≤_, _<_}
 use mathlib.Core.Path.{_≡_, refl, sym, ap, _∙_, subst}
-use mathlib.Core.Bool.{Bool, true, false, cond}
+use mathlib.Core.Bool.{Bool, true, false, not, cond}
 use mathlib.Core.List.{List, [], _∷_}
 use native.Mathlib.Omega.{arith}
 use lib.Dec.{eqb}
@@ -15,12 +15,12 @@ use Rattle.agenda.specs.Consequences.{consequences, leafRecords}
 use Rattle.agenda.specs.Steps.{Chart, addedAll, leastWaiting, handledAt, stepWith, stepChart, runChart, startChart}
 use Rattle.agenda.proofs.Adding.{cond-by}
 use Rattle.agenda.proofs.Runs.{again, run-none, run-more, run-split, marked-run, idle-run}
-use Rattle.records.specs.Words.{Fits, capacity, itemCount, chartOf, allWords, written, grownBy}
+use Rattle.records.specs.Words.{Fits, capacity, itemCount, chartOf, allWords, written, markedAt, grownBy}
 use Rattle.records.proofs.WordLaws.{length-records, Below, none, one, least-below}
 use Rattle.records.proofs.Written.{Holds, chart-written, chart-of-written, capacity-written, fits-written, written-over}
 use Rattle.records.proofs.Rewritten.{Grown, handledIn, grown-handled}
 use Rattle.records.proofs.Grown.{Whole, whole-items, holds-own, grown-all}
-use Rattle.steps.specs.Runs.{nextIn}
+use Rattle.steps.specs.Runs.{nextIn, isSome, markedBy}
 use Rattle.steps.proofs.StepLaws.{consequences-whole}
 
 -- ---- the record that a step takes
@@ -29,9 +29,9 @@ module _ (w : List ℕ) (m : ℕ) (is : m ≡ getD w 1 0) where
   unfolding nextIn chartOf
   next-marked h = rw (ne-eqb (getD w 1 0) 0 (λ q. h (is ∙ q))) refl
 
-  pub next-least : (f : Found) → m ≡ 0 → f ≡ leastWaiting (chartOf w .records) (length (chartOf w .records)) → f ≡ nextIn (chartOf w)
+  pub next-taken : (t f : Found) → m ≡ 0 → t ≡ f → t ≡ leastWaiting (chartOf w .records) (length (chartOf w .records)) → f ≡ nextIn (chartOf w)
   unfolding nextIn chartOf
-  next-least f z p = rw (eq-eqb (getD w 1 0) 0 (sym is ∙ z)) p
+  next-taken t f z e p = rw (eq-eqb (getD w 1 0) 0 (sym is ∙ z)) (sym e ∙ p)
 
 below-at : {n j : ℕ} → Below n (At j) → j < n
 below-at (one h) = h
@@ -43,6 +43,36 @@ next-below c = cond-by (Below (length (c .records))) (eqb (c .mark) 0) (λ t. le
 pub next-known : (w : List ℕ) (j : ℕ) (f : Found) → f ≡ At j → f ≡ nextIn (chartOf w) → j < itemCount w
 unfolding chartOf
 next-known w j f t q = let l = below-at (subst (Below (length (chartOf w .records))) (sym q ∙ t) (next-below (chartOf w))) in omega (arith, length-records w (itemCount w))
+
+nowhere : (f : Found) → not (isSome f) ≡ true → f ≡ Nowhere
+nowhere Nowhere e = refl
+nowhere (At j) e = absurd (let z : _≡_ {A = ℕ} 0 1 = cc in omega arith)
+
+-- ---- the record that was taken
+pub step-marked : (w v : List ℕ) (t : Found) (j : ℕ) → t ≡ At j → v ≡ markedBy w t → v ≡ markedAt w j
+step-marked w v t j e p = p ∙ ap (markedBy w) e
+
+-- a step, with the record it takes or with none
+module _ (G : Grammar) (H : Graph) (w v : List ℕ) (t : Found) (q : t ≡ nextIn (chartOf w)) where
+  abbrev Stepped : Bool → Type 0
+  Stepped b = (b ≡ isSome (nextIn (chartOf w))) × (v ≡ written w (stepWith G H (capacity w) (chartOf w) (nextIn (chartOf w))))
+
+  stepped-by : (f : Found) → t ≡ f → v ≡ written w (stepWith G H (capacity w) (chartOf w) f) → Stepped (isSome f)
+  stepped-by f e p = let n = sym e ∙ q in (ap isSome n, p ∙ ap (λ (o : Found). written w (stepWith G H (capacity w) (chartOf w) o)) n)
+
+  pub step-some : (j : ℕ) → t ≡ At j → v ≡ written w (handledAt G H (capacity w) j (chartOf w)) → Stepped true
+  step-some j = stepped-by (At j)
+
+  pub step-none : Fits w → t ≡ Nowhere → v ≡ markedBy w t → Stepped false
+  step-none o e p = stepped-by Nowhere e (p ∙ ap (markedBy w) e ∙ chart-written w o)
+
+-- with none it leaves the words as they are, and the next step takes none either
+pub step-idle : (G : Grammar) (H : Graph) (w v : List ℕ) → Fits w → (b : Bool) → not b ≡ true → b ≡ isSome (nextIn (chartOf w))
+    → v ≡ written w (stepWith G H (capacity w) (chartOf w) (nextIn (chartOf w))) → nextIn (chartOf v) ≡ Nowhere
+step-idle G H w v o b e p made =
+    let n : nextIn (chartOf w) ≡ Nowhere = nowhere (nextIn (chartOf w)) (ap not (sym p) ∙ e) in
+    let same : v ≡ w = made ∙ ap (λ (f : Found). written w (stepWith G H (capacity w) (chartOf w) f)) n ∙ sym (chart-written w o) in
+    ap (λ (u : List ℕ). nextIn (chartOf u)) same ∙ n
 
 -- ---- start
 abbrev emptyChart : Chart
@@ -83,13 +113,13 @@ module _ (w : List ℕ) (h : 2 ≤ length w) where
 
 -- ---- steps
 module _ (G : Grammar) (H : Graph) where
-  next-again : (cap j : ℕ) (d : Chart) → At j ≡ nextIn d → again G H cap d ≡ handledAt G H cap j d
+  next-again : (cap : ℕ) (d : Chart) → again G H cap d ≡ stepWith G H cap d (nextIn d)
   unfolding nextIn stepChart
-  next-again cap j d q = go (eqb (d .mark) 0) q
+  next-again cap d = go (eqb (d .mark) 0) (leastWaiting (d .records) (length (d .records)))
     where
-      go : (b : Bool) → At j ≡ cond b (leastWaiting (d .records) (length (d .records))) Nowhere → cond b (stepWith G H cap d (leastWaiting (d .records) (length (d .records)))) d ≡ handledAt G H cap j d
-      go true e = ap (stepWith G H cap d) (sym e)
-      go false e = absurd (let z : _≡_ {A = ℕ} 0 1 = cc in omega arith)
+      go : (b : Bool) (f : Found) → cond b (stepWith G H cap d f) d ≡ stepWith G H cap d (cond b f Nowhere)
+      go true f = refl
+      go false f = refl
 
   next-none : (cap k : ℕ) (d : Chart) → Nowhere ≡ nextIn d → runChart G H cap k d ≡ d
   unfolding nextIn
@@ -148,24 +178,26 @@ module _ (G : Grammar) (H : Graph) where
       capacity-is : capacity v ≡ capacity w
       capacity-is = ap capacity (r .is) ∙ capacity-written w d (r .holds)
 
-      pub ran-step : (m j : ℕ) (f : Found) (u : List ℕ) → m ≡ suc k → f ≡ At j → f ≡ nextIn (chartOf v) → u ≡ written v (handledAt G H (capacity v) j (chartOf v)) → Ran w m u
-      ran-step m j f u q t a p =
-          let e : runChart G H (capacity w) m (chartOf w) ≡ handledAt G H (capacity w) j d =
-          ap (λ n. runChart G H (capacity w) n (chartOf w)) q ∙ run-more G H (capacity w) k (chartOf w) ∙ next-again (capacity w) j d (sym t ∙ a ∙ ap nextIn chart-is) in
-          let g = handled-grown w d j (r .holds) in
+      pub ran-step : (m : ℕ) (u : List ℕ) → m ≡ suc k → u ≡ written v (stepWith G H (capacity v) (chartOf v) (nextIn (chartOf v))) → Ran w m u
+      ran-step m u q p =
+          let e : runChart G H (capacity w) m (chartOf w) ≡ stepWith G H (capacity w) d (nextIn d) =
+          ap (λ n. runChart G H (capacity w) n (chartOf w)) q ∙ run-more G H (capacity w) k (chartOf w) ∙ next-again (capacity w) d in
+          let g = step-grown w d (r .holds) (nextIn d) in
           record {
             is =
-                p ∙ ap (λ n. written v (handledAt G H n j (chartOf v))) capacity-is ∙ ap (λ (c : Chart). written v (handledAt G H (capacity w) j c)) chart-is
-                ∙ ap (λ (t : List ℕ). written t (handledAt G H (capacity w) j d)) (r .is) ∙ written-over w d (r .holds) (handledAt G H (capacity w) j d) (g .longer)
+                p ∙ ap (λ n. written v (stepWith G H n (chartOf v) (nextIn (chartOf v)))) capacity-is ∙ ap (λ (c : Chart). written v (stepWith G H (capacity w) c (nextIn c))) chart-is
+                ∙ ap (λ (t : List ℕ). written t (stepWith G H (capacity w) d (nextIn d))) (r .is) ∙ written-over w d (r .holds) (stepWith G H (capacity w) d (nextIn d)) (g .longer)
                 ∙ ap (written w) (sym e);
             holds = subst (Holds w) (sym e) (g .holds);
           }
 
-      pub ran-idle : (n : ℕ) (f : Found) → k ≤ n → f ≡ Nowhere → f ≡ nextIn (chartOf v) → v ≡ written w (runChart G H (capacity w) n (chartOf w))
-      ran-idle n f l t a =
+      pub ran-idle : (n : ℕ) (t : Bool) (u : List ℕ) → k ≤ n → not t ≡ true → t ≡ isSome (nextIn (chartOf v)) → u ≡ written v (stepWith G H (capacity v) (chartOf v) (nextIn (chartOf v)))
+          → u ≡ written w (runChart G H (capacity w) n (chartOf w))
+      ran-idle n t u l e a p =
+          let none = nowhere (nextIn (chartOf v)) (ap not (sym a) ∙ e) in
           let q : n ≡ k + (n - k) = omega arith in
-          r .is
-          ∙ ap (written w) (sym (ap (λ i. runChart G H (capacity w) i (chartOf w)) q ∙ run-split G H (capacity w) k (n - k) (chartOf w) ∙ next-none (capacity w) (n - k) d (sym t ∙ a ∙ ap nextIn chart-is)))
+          p ∙ ap (λ (f : Found). written v (stepWith G H (capacity v) (chartOf v) f)) none ∙ sym (chart-written v ran-fits) ∙ r .is
+          ∙ ap (written w) (sym (ap (λ i. runChart G H (capacity w) i (chartOf w)) q ∙ run-split G H (capacity w) k (n - k) (chartOf w) ∙ next-none (capacity w) (n - k) d (sym none ∙ ap nextIn chart-is)))
 
       pub ran-all : (n : ℕ) → k ≡ n → v ≡ written w (runChart G H (capacity w) n (chartOf w))
       ran-all n q = r .is ∙ ap (λ i. written w (runChart G H (capacity w) i (chartOf w))) q

@@ -36,9 +36,6 @@ module _ (w : List ℕ) (o : Fits w) (f : ℕ → List Record) (e : (k : ℕ) �
   unfolding gather
   gathered-none = record { is = sym (grown-none w o) }
 
-  pub gathered-fits : (v : List ℕ) (i : ℕ) → Gathered w f v i → Fits v
-  gathered-fits v i g = subst Fits (sym (g .is)) (grown-fits w o (gather i f) (whole-gather i f e))
-
   gather-next : (i : ℕ) → gather (suc i) f ≡ gather i f ++ f i
   unfolding gather
   gather-next i = refl

@@ -107,24 +107,8 @@ fn add_candidate(
         return;
     }
     let at = (2 + 16 * j) as usize;
-    let mut out = [
-        0,
-        0,
-        0,
-        0,
-        chart[at + 4],
-        0,
-        64,
-        64,
-        64,
-        64,
-        64,
-        64,
-        64,
-        64,
-        j,
-        e,
-    ];
+    // The rule puts every word of the map before it is read: they are 0, here and in add_pair, so that wide stores can clear them.
+    let mut out = [0, 0, 0, 0, chart[at + 4], 0, 0, 0, 0, 0, 0, 0, 0, 0, j, e];
     let made = rules::terminal_into(g, h, plans, graph, &chart[at..at + 16], e, near, &mut out);
     if !made.found {
         return;
@@ -201,14 +185,14 @@ fn add_pair(
         0,
         plus(chart[a + 4], chart[b + 4]),
         0,
-        64,
-        64,
-        64,
-        64,
-        64,
-        64,
-        64,
-        64,
+        0,
+        0,
+        0,
+        0,
+        0,
+        0,
+        0,
+        0,
         j,
         k,
     ];

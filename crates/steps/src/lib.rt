@@ -2,16 +2,17 @@
 ghost use mathlib.Core.Path.{_≡_};
 ghost use mathlib.Core.Bool.{true};
 ghost use mathlib.Core.List.{List};
-ghost use Prim.Native.Nat.{ℕ, _≤_, _<_};
+ghost use Prim.Native.Nat.{ℕ, _≤_};
 ghost use lib.ListN.{length};
-ghost use Rattle.agenda.specs.Steps.{startChart, handledAt, runChart};
+ghost use Rattle.agenda.specs.declared.Found.the-variants.{Nowhere};
+ghost use Rattle.agenda.specs.Steps.{startChart, stepWith, runChart};
 ghost use Rattle.questions.specs.Checking.{checkGrammar};
 ghost use Rattle.questions.specs.Abstract.{grammarOf, graphOf};
 ghost use Rattle.joins.specs.Joins.{Accepted};
-ghost use Rattle.records.specs.Words.{Fits, capacity, itemCount, chartOf, written};
-ghost use Rattle.steps.specs.Runs.{nextIn};
+ghost use Rattle.records.specs.Words.{Fits, capacity, chartOf, written};
+ghost use Rattle.steps.specs.Runs.{nextIn, isSome, markedBy};
 ghost use Rattle.ranking.specs.Ranking.{Ranked};
-ghost use Rattle.index.specs.Index.{indexWords, ranksOf, Indexed, NearKept};
+ghost use Rattle.index.specs.Index.{indexWords, ranksOf};
 ghost use Rattle.steps.specs.Ready.{Tables, Ready};
 use agenda::Found;
 
@@ -28,18 +29,24 @@ pub fn restart(g: &[u64], chart: &mut [u64])
     leaves::add_leaves(g, chart);
 }
 
-// The record that the next step takes: none where nothing waits or the chart is marked.
-fn next(chart: &[u64], index: &mut [u32]) -> Found
+// The record that the next step takes becomes handled: none where nothing waits or the chart is marked.
+fn take(chart: &mut [u64], index: &mut [u32]) -> Found
     requires { ⌜ (length (now index) ≡ indexWords) × Ranked (ranksOf (now index)) (chartOf (now chart) .records) × (length (chartOf (now chart) .records) ≤ 4096) ⌝ }
-    ensures { λ r. ⌜ (r ≡ nextIn (chartOf (now (chart .entry)))) × ((wants pivots : List ℕ) → Indexed wants pivots (now (index .entry)) (chartOf (now (chart .entry)) .records) → Indexed wants pivots (now (index .exit)) (chartOf (now (chart .entry)) .records)) × NearKept (now (index .entry)) (now (index .exit)) ⌝ }
+    ensures { λ r. ⌜ (r ≡ nextIn (chartOf (now (chart .entry)))) × (now (chart .exit) ≡ markedBy (now (chart .entry)) r) × ((g h wants pivots : List ℕ) → Ready g h wants pivots (now (chart .entry)) (now (index .entry)) → Ready g h wants pivots (now (chart .exit)) (now (index .exit))) ⌝ }
 {
     if records::mark_of(chart) != 0 {
         return Found::Nowhere;
     }
-    index::next(chart, index)
+    match index::take(chart, index) {
+        Found::Nowhere => Found::Nowhere,
+        Found::At(j) => {
+            records::mark_handled(chart, j);
+            Found::At(j)
+        }
+    }
 }
 
-// One step: the record at place j is handled, and what it makes with graph edges and handled records is added.
+// One step, if one is left: a record is handled, and what it makes with graph edges and handled records is added.
 fn step(
     g: &[u64],
     h: &[u64],
@@ -49,20 +56,24 @@ fn step(
     graph: &[u64; 577],
     chart: &mut [u64],
     index: &mut [u32],
-    j: u64,
-)
-    requires { ⌜ Tables (now g) (now h) (now wants) (now plans) (now pivots) (now graph) × Ready (now g) (now h) (now wants) (now pivots) (now chart) (now index) × (j < itemCount (now chart)) ⌝ }
-    ensures { λ r. ⌜ (now (chart .exit) ≡ written (now (chart .entry)) (handledAt (grammarOf (now (g .entry))) (graphOf (now (g .entry)) (now (h .entry))) (capacity (now (chart .entry))) j (chartOf (now (chart .entry))))) × Ready (now (g .entry)) (now (h .entry)) (now (wants .entry)) (now (pivots .entry)) (now (chart .exit)) (now (index .exit)) ⌝ }
+) -> bool
+    requires { ⌜ Tables (now g) (now h) (now wants) (now plans) (now pivots) (now graph) × Ready (now g) (now h) (now wants) (now pivots) (now chart) (now index) ⌝ }
+    ensures { λ r. ⌜ (r ≡ isSome (nextIn (chartOf (now (chart .entry))))) × (now (chart .exit) ≡ written (now (chart .entry)) (stepWith (grammarOf (now (g .entry))) (graphOf (now (g .entry)) (now (h .entry))) (capacity (now (chart .entry))) (chartOf (now (chart .entry))) (nextIn (chartOf (now (chart .entry)))))) × Ready (now (g .entry)) (now (h .entry)) (now (wants .entry)) (now (pivots .entry)) (now (chart .exit)) (now (index .exit)) ⌝ }
 {
-    index::handle(chart, index, j);
-    let n = records::item_count(chart);
-    let near = index::near(index, j);
-    consequences::add_root(g, h, wants, pivots, chart, index, j, near);
-    consequences::add_terminals(g, h, wants, plans, pivots, graph, chart, index, j, near);
-    consequences::add_partners(g, h, wants, plans, pivots, graph, chart, index, j, n, near);
+    match take(chart, index) {
+        Found::Nowhere => false,
+        Found::At(j) => {
+            let n = records::item_count(chart);
+            let near = index::near(index, j);
+            consequences::add_root(g, h, wants, pivots, chart, index, j, near);
+            consequences::add_terminals(g, h, wants, plans, pivots, graph, chart, index, j, near);
+            consequences::add_partners(g, h, wants, plans, pivots, graph, chart, index, j, n, near);
+            true
+        }
+    }
 }
 
-// So many steps, or as many as are left, with an index of the chart's records.
+// So many steps, or as many as are left, with an index of the chart's records; true only where none is left.
 fn advance_by(
     g: &[u64],
     h: &[u64],
@@ -73,24 +84,24 @@ fn advance_by(
     chart: &mut [u64],
     index: &mut [u32],
     steps: u64,
-)
+) -> bool
     requires { ⌜ Tables (now g) (now h) (now wants) (now plans) (now pivots) (now graph) × Ready (now g) (now h) (now wants) (now pivots) (now chart) (now index) ⌝ }
-    ensures { λ r. ⌜ now (chart .exit) ≡ written (now (chart .entry)) (runChart (grammarOf (now (g .entry))) (graphOf (now (g .entry)) (now (h .entry))) (capacity (now (chart .entry))) steps (chartOf (now (chart .entry)))) ⌝ }
+    ensures { λ r. ⌜ (now (chart .exit) ≡ written (now (chart .entry)) (runChart (grammarOf (now (g .entry))) (graphOf (now (g .entry)) (now (h .entry))) (capacity (now (chart .entry))) steps (chartOf (now (chart .entry))))) × (r ≡ true → nextIn (chartOf (now (chart .exit))) ≡ Nowhere) ⌝ }
 {
     let mut i: u64 = 0;
     while i < steps {
-        match next(chart, index) {
-            Found::Nowhere => return,
-            Found::At(j) => step(g, h, wants, plans, pivots, graph, chart, index, j),
+        if !step(g, h, wants, plans, pivots, graph, chart, index) {
+            return true;
         }
         i += 1;
     }
+    false
 }
 
-// So many steps, or as many as are left. What hangs on the tables alone and the index are made once for all of them.
-pub fn advance(g: &[u64], h: &[u64], chart: &mut [u64], steps: u64)
+// So many steps, or as many as are left; true only where none is left. What hangs on the tables alone and the index are made once for all of them.
+pub fn advance(g: &[u64], h: &[u64], chart: &mut [u64], steps: u64) -> bool
     requires { ⌜ Accepted (now g) (now h) × Fits (now chart) × (capacity (now chart) ≤ 4096) ⌝ }
-    ensures { λ r. ⌜ now (chart .exit) ≡ written (now (chart .entry)) (runChart (grammarOf (now (g .entry))) (graphOf (now (g .entry)) (now (h .entry))) (capacity (now (chart .entry))) steps (chartOf (now (chart .entry)))) ⌝ }
+    ensures { λ r. ⌜ (now (chart .exit) ≡ written (now (chart .entry)) (runChart (grammarOf (now (g .entry))) (graphOf (now (g .entry)) (now (h .entry))) (capacity (now (chart .entry))) steps (chartOf (now (chart .entry))))) × (r ≡ true → nextIn (chartOf (now (chart .exit))) ≡ Nowhere) ⌝ }
 {
     let mut plans = [16u64; 2048];
     rules::plans::fill(g, &mut plans);
@@ -112,5 +123,5 @@ pub fn advance(g: &[u64], h: &[u64], chart: &mut [u64], steps: u64)
         chart,
         &mut index,
         steps,
-    );
+    )
 }

@@ -30,7 +30,8 @@ use Rattle.joins.proofs.Known.{rule-ok, rule-few, right-edges, plan-size, plan-
 use Rattle.joins.proofs.PlanMasks.{alone}
 use Rattle.joins.proofs.MapLaws.{getD-any, every-true}
 use Rattle.agenda.specs.declared.Record.{Record}
-use Rattle.records.specs.Words.{capacity, fieldAt, blockAt, ofWords, recordAt}
+use Rattle.agenda.specs.Steps.{handledCount}
+use Rattle.records.specs.Words.{capacity, itemCount, fieldAt, blockAt, ofWords, recordAt, recordsAt}
 use Rattle.validity.specs.Checking.{knownEdges, knownNode, fourIn, knownNodes, inGraph, knownSecond, knownPartners, knownActive, knownPassive, knownRecord, knownChart}
 
 pub getD-past : (w : List ℕ) → length w ≡ 0 → 0 ≡ getD w 0 0
@@ -468,3 +469,12 @@ module _ (g h w : List ℕ) (n : ℕ) (e : n ≡ getD w 0 0) where
 
     pub chart-all : (j : ℕ) → n ≤ j → Passed (recordTest g h n w) j → true ≡ knownChart (grammarOf g) (graphOf g h) w
     chart-all j i p = passed-all n j (recordTest g h n w) i p ∙ sym chart-rest
+
+-- the records passed in the end are all items that a chart has which holds as many as it names
+module _ (w : List ℕ) (n cap j : ℕ) (e : n ≡ getD w 0 0) (c : cap ≡ capacity w) (l : n ≤ cap) (few : j ≤ n) (all : n ≤ j) where
+  all-items : j ≡ itemCount w
+  unfolding itemCount
+  all-items = omega arith
+
+  pub count-all : (d : ℕ) → d ≡ handledCount (recordsAt w j) → d ≡ handledCount (recordsAt w (itemCount w))
+  count-all d t = t ∙ ap (λ k. handledCount (recordsAt w k)) all-items

@@ -9,7 +9,8 @@ ghost use Rattle.hrg.specs.Grammars.{planOf, planNode};
 ghost use Rattle.questions.specs.Layout.{graphNodes, graphEdges};
 ghost use Rattle.questions.specs.Abstract.{grammarOf, graphOf};
 ghost use Rattle.joins.specs.Joins.{KnownNode, KnownEdge, Accepted};
-ghost use Rattle.records.specs.Words.{recordAt};
+ghost use Rattle.agenda.specs.Steps.{handledCount};
+ghost use Rattle.records.specs.Words.{recordAt, recordsAt, itemCount};
 ghost use Rattle.validity.specs.Checking.{holds, knownNode, fourIn, inGraph, knownSecond, knownPartners, knownActive, knownPassive, knownRecord, knownChart};
 ghost use Rattle.validity.specs.Sizes.{Sized};
 use agenda::Record;
@@ -21,6 +22,12 @@ struct Sizes {
     nodes: u64,
     edges: u64,
     all: u64,
+}
+
+// What question 8 says of a chart's items; of a known chart, how many of them are handled.
+pub struct Tested {
+    pub known: bool,
+    pub handled: u64,
 }
 
 // Does the chart hold 1 to 4,096 items?
@@ -244,21 +251,35 @@ fn number_of(chart: &[u64]) -> u64
 }
 
 // Does each item name a rule, plan node, symbol, graph nodes, edges and partner items that exist, with no more items than the chart holds?
-pub fn known(g: &[u64], h: &[u64], chart: &[u64]) -> bool
+// The handled ones are counted in the same walk, so that whoever asks how the chart stands needs no other.
+pub fn known(g: &[u64], h: &[u64], chart: &[u64]) -> Tested
     requires { ⌜ Accepted (now g) (now h) ⌝ }
-    ensures { λ r. ⌜ r ≡ knownChart (grammarOf (now (g .entry))) (graphOf (now (g .entry)) (now (h .entry))) (now (chart .entry)) ⌝ }
+    ensures { λ t. ⌜ (t .known ≡ knownChart (grammarOf (now (g .entry))) (graphOf (now (g .entry)) (now (h .entry))) (now (chart .entry))) × (t .known ≡ true → t .handled ≡ handledCount (recordsAt (now (chart .entry)) (itemCount (now (chart .entry))))) ⌝ }
 {
     let n = number_of(chart);
     if records::capacity_of(chart) < n {
-        return false;
+        return Tested {
+            known: false,
+            handled: 0,
+        };
     }
     let s = sizes_of(g, h);
+    let mut handled: u64 = 0;
     let mut j: u64 = 0;
     while j < n {
         if !known_item(g, h, s, n, chart, j) {
-            return false;
+            return Tested {
+                known: false,
+                handled: 0,
+            };
+        }
+        if chart[(2 + 16 * j + 5) as usize] != 0 {
+            handled += 1;
         }
         j += 1;
     }
-    true
+    Tested {
+        known: true,
+        handled,
+    }
 }

@@ -36,43 +36,43 @@ add-at c =
     let n = c .before .before .item-count in
     omega (arith, item-fits (s .chart .now) (l .j) (omega (arith, c .loop-test .taken, n .ensures)))
 
-add-bucket : tie.Need-add-bucket Inv-loop μ-loop
-add-bucket c =
+add-hash : tie.Need-add-hash Inv-loop μ-loop
+add-hash c =
     let s = c .before .before .before .before .before .args in
     let l = c .before .loop in
     let n = c .before .before .item-count in
     omega (arith, item-fits (s .chart .now) (l .j) (omega (arith, c .loop-test .taken, n .ensures)))
 
-mul-bucket : tie.Need-mul-bucket Inv-loop μ-loop
-mul-bucket c =
+mul-hash : tie.Need-mul-hash Inv-loop μ-loop
+mul-hash c =
     let s = c .before .before .before .before .before .args in
     let l = c .before .loop in
     let n = c .before .before .item-count in
     omega (arith, item-fits (s .chart .now) (l .j) (omega (arith, c .loop-test .taken, n .ensures)))
 
-sub-bucket : tie.Need-sub-bucket Inv-loop μ-loop
-sub-bucket c =
+sub-hash : tie.Need-sub-hash Inv-loop μ-loop
+sub-hash c =
     let s = c .before .before .before .before .before .args in
     let l = c .before .loop in
     let n = c .before .before .item-count in
     omega (arith, item-fits (s .chart .now) (l .j) (omega (arith, c .loop-test .taken, n .ensures)))
 
-part-bucket-start : tie.Need-part-bucket-start Inv-loop μ-loop
-part-bucket-start c =
+part-hash-start : tie.Need-part-hash-start Inv-loop μ-loop
+part-hash-start c =
     let s = c .before .before .before .before .before .args in
     let l = c .before .loop in
     let n = c .before .before .item-count in
     omega (arith, item-fits (s .chart .now) (l .j) (omega (arith, c .loop-test .taken, n .ensures)))
 
-part-bucket-end : tie.Need-part-bucket-end Inv-loop μ-loop
-part-bucket-end c =
+part-hash-end : tie.Need-part-hash-end Inv-loop μ-loop
+part-hash-end c =
     let s = c .before .before .before .before .before .args in
     let l = c .before .loop in
     let n = c .before .before .item-count in
     omega (arith, item-fits (s .chart .now) (l .j) (omega (arith, c .loop-test .taken, n .ensures)))
 
-bucket-requires : tie.Need-bucket-requires Inv-loop μ-loop
-bucket-requires c κs =
+hash-requires : tie.Need-hash-requires Inv-loop μ-loop
+hash-requires c κs =
     let s = c .before .before .before .before .before .before .args in
     let l = c .before .before .loop in
     let n = c .before .before .before .item-count in
@@ -82,8 +82,8 @@ link-requires : tie.Need-link-requires Inv-loop μ-loop
 link-requires c κs =
     let l = c .before .before .before .before .loop in
     let n = c .before .before .before .before .before .item-count in
-    let b = c .before .bucket in
-    (l .inv .1 .words, omega (arith, c .before .before .before .loop-test .taken, c .before .before .before .before .before .before .before .before .pre .1, n .ensures), b .ensures .1)
+    let h = c .before .hash in
+    (l .inv .1 .words, omega (arith, c .before .before .before .loop-test .taken, c .before .before .before .before .before .before .before .before .pre .1, n .ensures), h .ensures .1)
 
 add-j : tie.Need-add-j Inv-loop μ-loop
 add-j c = omega arith
@@ -96,8 +96,8 @@ loop-again c =
     let s = c .before .before .before .before .before .before .before .before .before .before .before .args in
     let l = c .before .before .before .before .before .before .before .loop in
     let n = c .before .before .before .before .before .before .before .before .item-count in
-    let b = c .before .before .before .before .bucket in
-    (omega arith, chained-part (s .chart .now) (l .links) _ (n .result) (l .j) (b .result) (2 + 16 * l .j) (2 + 16 * l .j + 16 - (2 + 16 * l .j)) (l .inv .1) (n .ensures) (c .before .before .before .before .before .before .loop-test .taken) (omega (arith, c .before .before .before .before .before .before .before .before .before .before .before .pre .1, n .ensures)) refl (omega arith) (b .ensures .0) (c .before .before .link .ensures))
+    let h = c .before .before .before .before .hash in
+    (omega arith, chained-part (s .chart .now) (l .links) _ (n .result) (l .j) (h .result) (2 + 16 * l .j) (2 + 16 * l .j + 16 - (2 + 16 * l .j)) (l .inv .1) (n .ensures) (c .before .before .before .before .before .before .loop-test .taken) (omega (arith, c .before .before .before .before .before .before .before .before .before .before .before .pre .1, n .ensures)) refl (omega arith) (h .ensures .0) (c .before .before .link .ensures))
 
 same-length : tie.Need-same-length Inv-loop μ-loop
 same-length c = omega arith
@@ -119,12 +119,12 @@ build-spec =
     loop-holds
     mul-at
     add-at
-    add-bucket
-    mul-bucket
-    sub-bucket
-    part-bucket-start
-    part-bucket-end
-    bucket-requires
+    add-hash
+    mul-hash
+    sub-hash
+    part-hash-start
+    part-hash-end
+    hash-requires
     link-requires
     add-j
     loop-less

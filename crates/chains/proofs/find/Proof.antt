@@ -1,11 +1,12 @@
--- From the last record of the bucket back along its chain.
+-- From the last record of the bucket back along its chain: a record is passed over by its tag, or looked at.
 use native.Mathlib.Omega.{arith}
-use Prim.Native.Nat.{ℕ}
+use Prim.Native.Nat.{ℕ, _%_}
 use mir.Syntax.{w32, w64}
 use mir.Val.{Fits}
 use mathlib.Core.Path.{refl}
+use mathlib.Core.Logic.{⊎-elim}
 use Rattle.records.specs.Words.{ofWords, chartOf}
-use Rattle.chains.proofs.ChainLaws.{OnChain, chain-start, chain-hit, chain-next, chain-less, chain-end, inside, same-in}
+use Rattle.chains.proofs.ChainLaws.{Leads, chain-start, chain-some, chain-skip, chain-hit, chain-next, chain-less, chain-end, inside, same-in}
 use Rattle.chains.proofs.find.Statement.{statement}
 use Rattle.chains.proofs.find.Tie as tie
 
@@ -14,13 +15,13 @@ widened : (n : ℕ) → Fits w32 n → Fits w64 n
 widened n h = omega (arith, h)
 
 abbrev Inv-loop : tie.InvT-loop
-Inv-loop chart links x b i₀ i = OnChain (ofWords x) (chartOf chart .records) i
+Inv-loop chart links x h tag i₀ i = Leads (ofWords x) (chartOf chart .records) i
 
 abbrev μ-loop : tie.MeasureT-loop
-μ-loop chart links x b i₀ i = i
+μ-loop chart links x h tag i₀ i = i % 8192
 
 mul-i : tie.Need-mul-i Inv-loop μ-loop
-mul-i c = omega arith
+mul-i c = omega (arith, c .before .before .before .pre .3)
 
 shared-slice-read-i : tie.Need-shared-slice-read-i Inv-loop μ-loop
 shared-slice-read-i c = omega (arith, c .before .before .before .before .pre .3, c .before .before .before .before .pre .0 .words)
@@ -31,27 +32,28 @@ cast-i c = widened _ (c .shared-slice-known4 .given _)
 loop-holds : tie.Need-loop-holds Inv-loop μ-loop
 loop-holds c =
     let s = c .before .before .before .before .args in
-    chain-start (ofWords (s .x .now)) _ (s .links .now) (c .before .before .before .before .pre .0) (s .b) _ (c .before .before .before .before .pre .2) refl
+    chain-start (ofWords (s .x .now)) _ (s .links .now) (c .before .before .before .before .pre .0) (s .h) _ (c .before .before .before .before .pre .2) refl
 
 sub-same-words : tie.Need-sub-same-words Inv-loop μ-loop
-sub-same-words c = omega arith
+sub-same-words c = let l = c .before .before .loop in omega (arith, chain-some _ _ (l .i) (l .inv) (c .before .loop-test .taken))
 
 same-words-requires : tie.Need-same-words-requires Inv-loop μ-loop
 same-words-requires c κs =
-    let s = c .before .before .before .before .before .before .args in
-    let l = c .before .loop in
-    (inside (s .chart .now) (l .i) (l .inv .low) (c .loop-test .taken), c .before .before .before .before .before .before .pre .1)
+    let s = c .before .before .before .before .before .before .before .args in
+    let l = c .before .before .loop in
+    (inside (s .chart .now) (l .i % 8192) (l .inv .at .low) (chain-some _ _ (l .i) (l .inv) (c .before .loop-test .taken)), c .before .before .before .before .before .before .before .pre .1)
 
-sub-t13 : tie.Need-sub-t13 Inv-loop μ-loop
-sub-t13 c = omega arith
+sub-t17 : tie.Need-sub-t17 Inv-loop μ-loop
+sub-t17 c = let l = c .before .before .before .before .loop in omega (arith, chain-some _ _ (l .i) (l .inv) (c .before .before .before .loop-test .taken))
 
 returns : tie.Need-returns Inv-loop μ-loop
 returns c =
-    let s = c .before .before .before .before .before .before .before .before .args in
-    let l = c .before .before .before .loop in
+    let s = c .before .before .before .before .before .before .before .before .before .args in
+    let l = c .before .before .before .before .loop in
     let t = c .before .same-words in
-    let here = same-in (ofWords (s .x .now)) (s .chart .now) _ _ (omega arith) (t .ensures) in
-    chain-hit (ofWords (s .x .now)) _ (s .links .now) (c .before .before .before .before .before .before .before .before .pre .0) (l .i) (l .inv) (c .before .before .loop-test .taken) (t .result) here (c .if1 .taken)
+    let some = chain-some _ _ (l .i) (l .inv) (c .before .before .before .loop-test .taken) in
+    let low = l .inv .at .low in
+    chain-hit (ofWords (s .x .now)) _ (l .i) (l .inv) (c .before .before .before .loop-test .taken) (same-in (ofWords (s .x .now)) (s .chart .now) _ (t .result) _ (omega (arith, some, low)) (t .ensures) (c .if2 .taken))
 
 add-i : tie.Need-add-i Inv-loop μ-loop
 add-i c = omega arith
@@ -60,26 +62,40 @@ mul-i-2 : tie.Need-mul-i-2 Inv-loop μ-loop
 mul-i-2 c = omega arith
 
 shared-slice-read-i-2 : tie.Need-shared-slice-read-i-2 Inv-loop μ-loop
-shared-slice-read-i-2 c = omega arith
+shared-slice-read-i-2 c =
+    let l = c .before .before .before .loop in
+    omega (arith, c .before .before .before .before .before .before .before .before .pre .0 .words, c .before .before .before .before .before .before .before .before .pre .0 .few, l .inv .at .low)
 
 cast-i-2 : tie.Need-cast-i-2 Inv-loop μ-loop
 cast-i-2 c = widened _ (c .shared-slice-known5 .given _)
 
 loop-less : tie.Need-loop-less Inv-loop μ-loop
 loop-less c =
-    let s = c .before .before .before .before .before .before .before .before .before .args in
-    let l = c .before .before .before .before .loop in
-    let t = c .before .before .same-words in
-    let here = same-in (ofWords (s .x .now)) (s .chart .now) _ _ (omega arith) (t .ensures) in
-    chain-less (ofWords (s .x .now)) _ (s .links .now) (c .before .before .before .before .before .before .before .before .before .pre .0) (l .i) (l .inv) (c .before .before .before .loop-test .taken) (t .result) here (c .before .if1 .left) _ refl
+    let s = c .before .before .before .before .before .before .before .before .args in
+    let l = c .before .before .before .loop in
+    let x = ofWords (s .x .now) in
+    let n = c .before .before .loop-test .taken in
+    let some = chain-some _ _ (l .i) (l .inv) n in
+    let low = l .inv .at .low in
+    let missed = ⊎-elim
+    (λ w. same-in x (s .chart .now) _ (w .1 .result) _ (omega (arith, some, low)) (w .1 .ensures) (w .2 .left))
+    (λ w. chain-skip x _ (l .i) (l .inv) n (s .h) (c .before .before .before .before .before .before .before .before .pre .2) (w .left))
+    (c .before .if1 .came) in
+    chain-less x _ (l .i) (l .inv) n (s .links .now) (c .before .before .before .before .before .before .before .before .pre .0) missed _ refl
 
 loop-again : tie.Need-loop-again Inv-loop μ-loop
 loop-again c =
-    let s = c .before .before .before .before .before .before .before .before .before .args in
-    let l = c .before .before .before .before .loop in
-    let t = c .before .before .same-words in
-    let here = same-in (ofWords (s .x .now)) (s .chart .now) _ _ (omega arith) (t .ensures) in
-    chain-next (ofWords (s .x .now)) _ (s .links .now) (c .before .before .before .before .before .before .before .before .before .pre .0) (l .i) (l .inv) (c .before .before .before .loop-test .taken) (t .result) here (c .before .if1 .left) _ refl
+    let s = c .before .before .before .before .before .before .before .before .args in
+    let l = c .before .before .before .loop in
+    let x = ofWords (s .x .now) in
+    let n = c .before .before .loop-test .taken in
+    let some = chain-some _ _ (l .i) (l .inv) n in
+    let low = l .inv .at .low in
+    let missed = ⊎-elim
+    (λ w. same-in x (s .chart .now) _ (w .1 .result) _ (omega (arith, some, low)) (w .1 .ensures) (w .2 .left))
+    (λ w. chain-skip x _ (l .i) (l .inv) n (s .h) (c .before .before .before .before .before .before .before .before .pre .2) (w .left))
+    (c .before .if1 .came) in
+    chain-next x _ (l .i) (l .inv) n (s .links .now) (c .before .before .before .before .before .before .before .before .pre .0) missed _ refl
 
 returns-2 : tie.Need-returns-2 Inv-loop μ-loop
 returns-2 c =
@@ -99,7 +115,7 @@ find-spec =
     loop-holds
     sub-same-words
     same-words-requires
-    sub-t13
+    sub-t17
     returns
     add-i
     mul-i-2

@@ -25,11 +25,17 @@ slice-write-links c = search needs
 add-links-2 : tie.Need-add-links-2
 add-links-2 c = search needs
 
-cast-links : tie.Need-cast-links
-cast-links c = omega arith
-
 mul-links-3 : tie.Need-mul-links-3
 mul-links-3 c = search needs
+
+add-links-3 : tie.Need-add-links-3
+add-links-3 c = search needs
+
+cast-links : tie.Need-cast-links
+cast-links c = search needs
+
+mul-links-4 : tie.Need-mul-links-4
+mul-links-4 c = search needs
 
 slice-write-links-2 : tie.Need-slice-write-links-2
 slice-write-links-2 c = simp length-set (omega arith)
@@ -51,8 +57,10 @@ link-spec =
     mul-links-2
     slice-write-links
     add-links-2
-    cast-links
     mul-links-3
+    add-links-3
+    cast-links
+    mul-links-4
     slice-write-links-2
     same-length
     returns)

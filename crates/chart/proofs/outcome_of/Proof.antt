@@ -13,14 +13,11 @@ returns c = outcome-small (c .before .before .before .args .chart .now) _ (c .be
 item-count-requires : tie.Need-item-count-requires
 item-count-requires c κs = search needs
 
-handled-steps-requires : tie.Need-handled-steps-requires
-handled-steps-requires c κs = search needs
-
 returns-2 : tie.Need-returns-2
-returns-2 c = outcome-done (c .before .before .before .before .before .before .args .chart .now) _ (c .before .before .before .before .mark-of .ensures) _ _ (c .before .before .before .if1 .left) (c .before .before .item-count .ensures) (c .before .handled-steps .ensures) (c .if2 .taken)
+returns-2 c = outcome-done (c .before .before .before .before .before .args .chart .now) _ (c .before .before .before .mark-of .ensures) _ _ (c .before .before .if1 .left) (c .before .item-count .ensures) (c .before .before .before .before .before .pre) (c .if2 .taken)
 
 returns-3 : tie.Need-returns-3
-returns-3 c = outcome-waits (c .before .before .before .before .before .before .args .chart .now) _ (c .before .before .before .before .mark-of .ensures) _ _ (c .before .before .before .if1 .left) (c .before .before .item-count .ensures) (c .before .handled-steps .ensures) (c .if2 .left)
+returns-3 c = outcome-waits (c .before .before .before .before .before .args .chart .now) _ (c .before .before .before .mark-of .ensures) _ _ (c .before .before .if1 .left) (c .before .item-count .ensures) (c .before .before .before .before .before .pre) (c .if2 .left)
 
 pub outcome-of-spec : {M : Type 1} → statement M
 outcome-of-spec =
@@ -29,6 +26,5 @@ outcome-of-spec =
     mark-of-requires
     returns
     item-count-requires
-    handled-steps-requires
     returns-2
     returns-3)

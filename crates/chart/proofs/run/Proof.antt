@@ -28,24 +28,24 @@ same-length-2 c = refl
 
 returns-2 : tie.Need-returns-2
 returns-2 c =
-    let s = c .before .before .before .before .before .before .before .before .before .args in
-    run-unknown (s .grammar .now) (s .graph .now) (s .chart .now) (s .steps) _ (c .before .before .before .before .is-fit .ensures) (not-false _ (c .before .before .before .if1 .left)) _ (c .before .known .ensures) (not-true _ (c .if2 .taken))
+    let s = c .before .before .before .before .before .before .before .before .before .before .args in
+    run-unknown (s .grammar .now) (s .graph .now) (s .chart .now) (s .steps) _ (c .before .before .before .before .before .is-fit .ensures) (not-false _ (c .before .before .before .before .if1 .left)) _ (c .before .before .known .ensures .0) (not-true _ (c .if2 .taken))
 
 advance-requires : tie.Need-advance-requires
 advance-requires c κs =
-    let s = c .before .before .before .before .before .before .before .before .before .before .args in
-    (fit-accepted (s .grammar .now) (s .graph .now) (s .chart .now) _ (c .before .before .before .before .before .is-fit .ensures) (not-false _ (c .before .before .before .before .if1 .left)), fit-known (s .grammar .now) (s .graph .now) (s .chart .now) _ (c .before .before .before .before .before .is-fit .ensures) (not-false _ (c .before .before .before .before .if1 .left)) _ (c .before .before .known .ensures) (not-false _ (c .before .if2 .left)), fit-small (s .grammar .now) (s .graph .now) (s .chart .now) _ (c .before .before .before .before .before .is-fit .ensures) (not-false _ (c .before .before .before .before .if1 .left)))
+    let s = c .before .before .before .before .before .before .before .before .before .before .before .args in
+    (fit-accepted (s .grammar .now) (s .graph .now) (s .chart .now) _ (c .before .before .before .before .before .before .is-fit .ensures) (not-false _ (c .before .before .before .before .before .if1 .left)), fit-known (s .grammar .now) (s .graph .now) (s .chart .now) _ (c .before .before .before .before .before .before .is-fit .ensures) (not-false _ (c .before .before .before .before .before .if1 .left)) _ (c .before .before .before .known .ensures .0) (not-false _ (c .before .if2 .left)), fit-small (s .grammar .now) (s .graph .now) (s .chart .now) _ (c .before .before .before .before .before .before .is-fit .ensures) (not-false _ (c .before .before .before .before .before .if1 .left)))
 
-outcome-of-requires : tie.Need-outcome-of-requires
-outcome-of-requires c κs = search needs
+outcome-after-requires : tie.Need-outcome-after-requires
+outcome-after-requires c κs = c .before .before .before .advance .ensures .1
 
 same-length-3 : tie.Need-same-length-3
 same-length-3 c = c .before .before .before .before .advance .kept .1 .1 .0
 
 returns-3 : tie.Need-returns-3
 returns-3 c =
-    let s = c .before .before .before .before .before .before .before .before .before .before .before .before .before .before .before .args in
-    run-ran (s .grammar .now) (s .graph .now) (s .chart .now) (s .steps) _ (c .before .before .before .before .before .before .before .before .before .before .is-fit .ensures) (not-false _ (c .before .before .before .before .before .before .before .before .before .if1 .left)) _ (c .before .before .before .before .before .before .before .known .ensures) _ _ (not-false _ (c .before .before .before .before .before .before .if2 .left)) (c .before .before .before .before .advance .ensures) (c .outcome-of .ensures)
+    let s = c .before .before .before .before .before .before .before .before .before .before .before .before .before .before .before .before .args in
+    run-ran (s .grammar .now) (s .graph .now) (s .chart .now) (s .steps) _ (c .before .before .before .before .before .before .before .before .before .before .before .is-fit .ensures) (not-false _ (c .before .before .before .before .before .before .before .before .before .before .if1 .left)) _ (c .before .before .before .before .before .before .before .before .known .ensures .0) _ _ (not-false _ (c .before .before .before .before .before .before .if2 .left)) (c .before .before .before .before .advance .ensures .0) (c .outcome-after .ensures)
 
 pub run-spec : {M : Type 1} → statement M
 run-spec =
@@ -58,6 +58,6 @@ run-spec =
     same-length-2
     returns-2
     advance-requires
-    outcome-of-requires
+    outcome-after-requires
     same-length-3
     returns-3)

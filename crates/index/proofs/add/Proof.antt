@@ -23,8 +23,8 @@ returns c =
     let s = c .before .before .before .before .before .before .args in
     (add-marked (s .chart .now) (ofWords (s .x .now)) _ (c .before .mark-of .ensures) (c .if1 .taken), c .before .before .before .before .before .before .pre .0, λ g h S u. S)
 
-bucket-requires : tie.Need-bucket-requires
-bucket-requires c κs = search needs
+hash-requires : tie.Need-hash-requires
+hash-requires c κs = search needs
 
 sub-find : tie.Need-sub-find
 sub-find c = search needs
@@ -36,7 +36,7 @@ part-find-end : tie.Need-part-find-end
 part-find-end c = search needs
 
 find-requires : tie.Need-find-requires
-find-requires c κs = (c .before .before .before .before .before .before .before .before .before .before .pre .0 .chained, c .before .before .before .before .before .before .before .before .before .before .pre .3, c .before .before .before .bucket .ensures .0, c .before .before .before .bucket .ensures .1)
+find-requires c κs = (c .before .before .before .before .before .before .before .before .before .before .pre .0 .chained, c .before .before .before .before .before .before .before .before .before .before .pre .3, c .before .before .before .hash .ensures .0, c .before .before .before .hash .ensures .1)
 
 enum-known-j : tie.Need-enum-known-j
 enum-known-j c = search needs
@@ -51,7 +51,7 @@ enum-told : tie.Need-enum-told
 enum-told c = search needs
 
 behind-requires : tie.Need-behind-requires
-behind-requires c κs = (c .before .before .before .before .before .before .before .before .before .before .before .before .before .before .before .pre .0, c .before .before .before .before .before .before .before .before .before .before .before .before .before .before .before .pre .2, c .before .before .before .before .before .before .before .before .before .before .before .before .before .before .before .pre .3, c .before .before .before .before .before .before .before .before .bucket .ensures .0, c .before .before .before .before .before .before .before .before .bucket .ensures .1)
+behind-requires c κs = (c .before .before .before .before .before .before .before .before .before .before .before .before .before .before .before .pre .0, c .before .before .before .before .before .before .before .before .before .before .before .before .before .before .before .pre .2, c .before .before .before .before .before .before .before .before .before .before .before .before .before .before .before .pre .3, c .before .before .before .before .before .before .before .before .hash .ensures .0, c .before .before .before .before .before .before .before .before .hash .ensures .1)
 
 same-length-2 : tie.Need-same-length-2
 same-length-2 c = search needs
@@ -84,7 +84,7 @@ add-spec =
     mark-of-requires
     same-length
     returns
-    bucket-requires
+    hash-requires
     sub-find
     part-find-start
     part-find-end

@@ -6,7 +6,7 @@ use lib.ListN.{take}
 use borrow.Author.Needs.{needs}
 use Rattle.questions.specs.Layout.{rankAt, edgeLabel, edgeNode}
 use Rattle.joins.specs.Joins.{edgeNodes, octal}
-use Rattle.joins.proofs.EdgeMaps.{MapFrom, edge-node-few, word-rank, digits-from, digits-last, attach-none, attach-next, attach-done}
+use Rattle.joins.proofs.EdgeMaps.{MapFrom, word-rank, digits-from, digits-last, attach-none, attach-next, attach-done}
 use Rattle.joins.proofs.attach_by.Statement.{statement}
 use Rattle.joins.proofs.attach_by.Tie as tie
 

@@ -2,7 +2,6 @@
 use native.Mathlib.Omega.{arith}
 use mathlib.Core.Path.{_≡_, ap, _∙_}
 use Prim.Native.Nat.{_-_, _≤_}
-use borrow.Author.Needs.{needs}
 use Rattle.questions.specs.Layout.{rankAt, edgeLabel, edgeNode}
 use Rattle.joins.specs.Joins.{octal}
 use Rattle.joins.proofs.Known.{grammar-long, rule-few, edges-few}

@@ -11,10 +11,10 @@ use Rattle.lines.proofs.write_fields.Statement.{statement}
 use Rattle.lines.proofs.write_fields.Tie as tie
 
 abbrev Inv-loop : tie.InvT-loop
-Inv-loop out₀ at count fields p₀ k₀ out p k = (k ≤ count) × (p ≡ at + 4 * k) × (length out ≡ length out₀) × (out ≡ sets out₀ at (fieldsText (take k fields)))
+Inv-loop out₀ at fields count p₀ k₀ out p k = (k ≤ count) × (p ≡ at + 4 * k) × (length out ≡ length out₀) × (out ≡ sets out₀ at (fieldsText (take k fields)))
 
 abbrev μ-loop : tie.MeasureT-loop
-μ-loop out₀ at count fields p₀ k₀ out p k = count - k
+μ-loop out₀ at fields count p₀ k₀ out p k = count - k
 
 loop-holds : tie.Need-loop-holds Inv-loop μ-loop
 unfolding fieldsText
@@ -23,8 +23,8 @@ loop-holds c = (search needs, omega arith, refl, refl)
 mul-write-field : tie.Need-mul-write-field Inv-loop μ-loop
 mul-write-field c = search needs
 
-array-read-write-field : tie.Need-array-read-write-field Inv-loop μ-loop
-array-read-write-field c = search needs
+shared-slice-read-write-field : tie.Need-shared-slice-read-write-field Inv-loop μ-loop
+shared-slice-read-write-field c = search needs
 
 write-field-requires : tie.Need-write-field-requires Inv-loop μ-loop
 write-field-requires c κs = search needs
@@ -36,19 +36,19 @@ loop-less : tie.Need-loop-less Inv-loop μ-loop
 loop-less c = search needs
 
 loop-again : tie.Need-loop-again Inv-loop μ-loop
-loop-again c = let a = c .before .before .before .before .before .before .before .args in
-    let l = c .before .before .before .before .before .loop in (
+loop-again c = let a = c .before .before .before .before .before .before .before .before .before .args in
+    let l = c .before .before .before .before .before .before .loop in (
       search needs,
       omega arith,
       c .before .before .write-field .kept .0 ∙ l .inv .2,
-      c .before .before .write-field .ensures .1 ∙ rw (l .inv .3, l .inv .1) (fields-next (a .out .now) (a .at) (a .t3) (l .k) (omega arith)),
+      c .before .before .write-field .ensures .1 ∙ rw (l .inv .3, l .inv .1) (fields-next (a .out .now) (a .at) (a .fields .now) (l .k) (omega arith)),
     )
 
 same-length : tie.Need-same-length Inv-loop μ-loop
 same-length c = search needs
 
 returns : tie.Need-returns Inv-loop μ-loop
-returns c = let end : c .before .loop .k ≡ c .before .before .before .args .count = omega arith in
+returns c = let end : c .before .loop .k ≡ c .before .before .before .before .args .count = omega arith in
     (omega arith, c .before .loop .inv .3 ∙ rw end)
 
 pub write-fields-spec : {M : Type 1} → statement M
@@ -59,7 +59,7 @@ write-fields-spec =
     μ-loop
     loop-holds
     mul-write-field
-    array-read-write-field
+    shared-slice-read-write-field
     write-field-requires
     add-k
     loop-less

@@ -1,5 +1,6 @@
--- What the records tell, as the words are made anew.
-use Rattle.ranking.proofs.LeastLaws.{least-told, few}
+-- What the records tell leaves the words that are made anew.
+use Rattle.records.specs.Words.{chartOf}
+use Rattle.ranking.proofs.LeastLaws.{least-told, few, told-small, taken-told}
 use borrow.Author.Needs.{needs}
 use Rattle.ranking.proofs.again.Statement.{statement}
 use Rattle.ranking.proofs.again.Tie as tie
@@ -22,6 +23,11 @@ field-requires c κs = search needs
 renew-requires : tie.Need-renew-requires
 renew-requires c κs = (c .before .before .before .before .before .before .before .before .before .pre .0 .size, few (c .before .before .before .before .before .before .before .before .before .args .chart .now) (c .before .before .before .before .before .before .before .before .before .pre .1))
 
+remove-requires : tie.Need-remove-requires
+remove-requires c κs =
+    let told = least-told (c .before .before .before .before .before .before .before .before .before .before .before .before .before .args .chart .now) (c .before .before .before .before .before .before .before .before .before .before .item-count .result) _ _ (c .before .before .before .before .before .before .before .found .given .1) (c .before .before .before .before .before .before .before .before .before .before .item-count .ensures) (c .before .before .before .before .before .before .before .before .before .least .ensures) in
+    (c .before .before .before .renew .ensures .size, told-small (c .before .before .before .before .before .before .before .before .before .before .before .before .before .args .chart .now) _ (c .before .before .before .before .before .before .before .before .before .before .before .before .before .pre .1) told)
+
 returns : tie.Need-returns
 returns c = (least-told (c .before .before .before .before .before .before .args .chart .now) (c .before .before .before .item-count .result) _ _ (c .enum-told .given .1) (c .before .before .before .item-count .ensures) (c .before .before .least .ensures), c .before .before .before .before .before .before .pre .0)
 
@@ -29,7 +35,10 @@ same-length : tie.Need-same-length
 same-length c = search needs
 
 returns-2 : tie.Need-returns-2
-returns-2 c = (least-told (c .before .before .before .before .before .before .before .before .before .before .before .before .args .chart .now) (c .before .before .before .before .before .before .before .before .before .item-count .result) _ _ (c .before .before .before .before .before .before .found .given .1) (c .before .before .before .before .before .before .before .before .before .item-count .ensures) (c .before .before .before .before .before .before .before .before .least .ensures), c .before .before .renew .ensures)
+returns-2 c =
+    let w = c .before .before .before .before .before .before .before .before .before .before .before .before .before .before .before .before .args .chart .now in
+    let told = least-told w (c .before .before .before .before .before .before .before .before .before .before .before .before .before .item-count .result) _ _ (c .before .before .before .before .before .before .before .before .before .before .found .given .1) (c .before .before .before .before .before .before .before .before .before .before .before .before .before .item-count .ensures) (c .before .before .before .before .before .before .before .before .before .before .before .before .least .ensures) in
+    (told, taken-told w _ (c .before .before .before .before .before .before .before .before .before .before .before .before .before .before .before .before .pre .1) told (c .before .before .before .before .before .before .before .before .field .result) _ (c .before .before .before .before .before .before .before .before .field .ensures) (c .before .before .remove .ensures (chartOf w .records) _ (c .before .before .before .before .before .before .renew .ensures)))
 
 pub again-spec : {M : Type 1} → statement M
 again-spec =
@@ -41,6 +50,7 @@ again-spec =
     enum-known-found
     field-requires
     renew-requires
+    remove-requires
     returns
     same-length
     returns-2)

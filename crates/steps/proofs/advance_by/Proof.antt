@@ -2,12 +2,11 @@
 use native.Mathlib.Omega.{arith}
 use Prim.Native.Nat.{_-_, _≤_}
 use mathlib.Core.Path.{_≡_, refl, _∙_}
+use mathlib.Core.Bool.{false≢true}
 use lib.ListN.{length}
-use borrow.Author.Needs.{needs}
 use Rattle.questions.specs.Abstract.{grammarOf, graphOf}
 use Rattle.steps.specs.Ready.{Ready}
-use Rattle.steps.proofs.ReadyLaws.{records-small, next-ready}
-use Rattle.steps.proofs.RunLaws.{Ran, ran-none, next-known, ran-step, ran-idle, ran-all}
+use Rattle.steps.proofs.RunLaws.{Ran, ran-none, ran-step, ran-idle, ran-all, step-idle}
 use Rattle.steps.proofs.advance_by.Statement.{statement}
 use Rattle.steps.proofs.advance_by.Tie as tie
 
@@ -24,46 +23,34 @@ loop-holds c =
     let H = graphOf (s .g .now) (s .h .now) in
     (omega arith, refl, ran-none G H (s .chart .now) (c .before .before .before .before .pre .1 .fits), refl, c .before .before .before .before .pre .1)
 
-next-requires : tie.Need-next-requires Inv-loop μ-loop
-next-requires c κs = (c .before .before .before .loop .inv .4 .indexed .size, c .before .before .before .loop .inv .4 .indexed .ranked, records-small _ (c .before .before .before .loop .inv .4 .small))
-
-enum-told : tie.Need-enum-told Inv-loop μ-loop
-enum-told c = search needs
+step-requires : tie.Need-step-requires Inv-loop μ-loop
+step-requires c κs = (c .before .before .before .before .before .before .before .before .pre .0, c .before .before .before .loop .inv .4)
 
 same-length : tie.Need-same-length Inv-loop μ-loop
-same-length c = c .before .before .before .before .before .before .before .before .loop .inv .1
+same-length c = c .before .before .before .before .before .step .kept .1 .1 .1 .1 .1 .1 .0 ∙ c .before .before .before .before .before .before .before .before .before .loop .inv .1
 
 same-length-2 : tie.Need-same-length-2 Inv-loop μ-loop
-same-length-2 c = let k = c .before .before .before .before .next .kept in omega (arith, c .before .before .before .before .before .before .before .before .loop .inv .3)
+same-length-2 c = c .before .before .before .before .before .step .kept .1 .1 .1 .1 .1 .1 .1 .0 ∙ c .before .before .before .before .before .before .before .before .before .loop .inv .3
 
 returns : tie.Need-returns Inv-loop μ-loop
 returns c =
-    let s = c .before .before .before .before .before .before .before .before .before .before .before .before .before .args in
+    let s = c .before .before .before .before .before .before .before .before .before .before .before .before .before .before .args in
     let G = grammarOf (s .g .now) in
     let H = graphOf (s .g .now) (s .h .now) in
-    ran-idle G H (s .chart .now) (c .before .before .before .before .before .before .before .before .loop .i) (c .before .before .before .before .before .before .before .before .loop .chart) (c .before .before .before .before .before .before .before .before .loop .inv .2) (s .steps) (c .before .before .before .before .next .result) (c .before .before .before .before .before .before .before .before .loop .inv .0) (c .enum-told .given .1) (c .before .before .before .before .next .ensures .0)
-
-enum-known-j : tie.Need-enum-known-j Inv-loop μ-loop
-enum-known-j c = search needs
-
-step-requires : tie.Need-step-requires Inv-loop μ-loop
-step-requires c κs =
-    let s = c .before .before .before .before .before .before .before .before .before .before .before .before .before .before .before .before .args in
-    let l = c .before .before .before .before .before .before .before .before .before .before .before .loop in
-    (c .before .before .before .before .before .before .before .before .before .before .before .before .before .before .before .before .pre .0, next-ready (s .g .now) (s .h .now) (s .wants .now) (s .pivots .now) (l .chart) (l .index) (c .before .before .before .before .before .before .before .next .last .1 .0) (l .inv .4) (c .before .before .before .before .before .before .before .next .ensures .1 (s .wants .now) (s .pivots .now)) (c .before .before .before .before .before .before .before .next .ensures .2), next-known (c .before .before .before .before .before .before .before .before .before .before .before .loop .chart) _ (c .before .before .before .before .before .before .before .next .result) (c .before .before .before .j .given .1) (c .before .before .before .before .before .before .before .next .ensures .0))
+    (ran-idle G H (s .chart .now) (c .before .before .before .before .before .before .before .before .before .loop .i) (c .before .before .before .before .before .before .before .before .before .loop .chart) (c .before .before .before .before .before .before .before .before .before .loop .inv .2) (s .steps) (c .before .before .before .before .before .step .result) _ (c .before .before .before .before .before .before .before .before .before .loop .inv .0) (c .if1 .taken) (c .before .before .before .before .before .step .ensures .0) (c .before .before .before .before .before .step .ensures .1), λ e. step-idle G H (c .before .before .before .before .before .before .before .before .before .loop .chart) _ (c .before .before .before .before .before .before .before .before .before .loop .inv .4 .fits) (c .before .before .before .before .before .step .result) (c .if1 .taken) (c .before .before .before .before .before .step .ensures .0) (c .before .before .before .before .before .step .ensures .1))
 
 add-i : tie.Need-add-i Inv-loop μ-loop
-add-i c = omega (arith, c .before .before .before .before .before .before .before .before .before .before .before .before .before .before .before .loop-test .taken)
+add-i c = omega (arith, c .before .before .before .before .before .before .before .before .loop-test .taken, c .before .before .before .before .before .before .before .before .before .before .before .before .before .before .fits .steps)
 
 loop-less : tie.Need-loop-less Inv-loop μ-loop
-loop-less c = omega (arith, c .before .before .before .before .before .before .before .before .before .before .before .before .before .before .before .loop-test .taken)
+loop-less c = omega (arith, c .before .before .before .before .before .before .before .before .loop-test .taken)
 
 loop-again : tie.Need-loop-again Inv-loop μ-loop
 loop-again c =
-    let s = c .before .before .before .before .before .before .before .before .before .before .before .before .before .before .before .before .before .before .before .before .before .args in
+    let s = c .before .before .before .before .before .before .before .before .before .before .before .before .before .before .args in
     let G = grammarOf (s .g .now) in
     let H = graphOf (s .g .now) (s .h .now) in
-    (omega (arith, c .before .before .before .before .before .before .before .before .before .before .before .before .before .before .before .loop-test .taken), c .before .before .before .before .step .kept .1 .1 .1 .1 .1 .1 .0 ∙ c .before .before .before .before .before .before .before .before .before .before .before .before .before .before .before .before .loop .inv .1, ran-step G H (s .chart .now) (c .before .before .before .before .before .before .before .before .before .before .before .before .before .before .before .before .loop .i) (c .before .before .before .before .before .before .before .before .before .before .before .before .before .before .before .before .loop .chart) (c .before .before .before .before .before .before .before .before .before .before .before .before .before .before .before .before .loop .inv .2) _ _ (c .before .before .before .before .before .before .before .before .before .before .before .before .next .result) _ (omega arith) (c .before .before .before .before .before .before .before .before .j .given .1) (c .before .before .before .before .before .before .before .before .before .before .before .before .next .ensures .0) (c .before .before .before .before .step .ensures .0), (let k = c .before .before .before .before .before .before .before .before .before .before .before .before .next .kept in let m = c .before .before .before .before .step .kept .1 .1 .1 .1 .1 .1 .1 .0 in omega (arith, c .before .before .before .before .before .before .before .before .before .before .before .before .before .before .before .before .loop .inv .3)), c .before .before .before .before .step .ensures .1)
+    (omega (arith, c .before .before .before .before .before .before .before .before .loop-test .taken), c .before .before .before .before .before .step .kept .1 .1 .1 .1 .1 .1 .0 ∙ c .before .before .before .before .before .before .before .before .before .loop .inv .1, ran-step G H (s .chart .now) (c .before .before .before .before .before .before .before .before .before .loop .i) (c .before .before .before .before .before .before .before .before .before .loop .chart) (c .before .before .before .before .before .before .before .before .before .loop .inv .2) _ _ (omega arith) (c .before .before .before .before .before .step .ensures .1), c .before .before .before .before .before .step .kept .1 .1 .1 .1 .1 .1 .1 .0 ∙ c .before .before .before .before .before .before .before .before .before .loop .inv .3, c .before .before .before .before .before .step .ensures .2)
 
 same-length-3 : tie.Need-same-length-3 Inv-loop μ-loop
 same-length-3 c = c .before .loop .inv .1
@@ -76,7 +63,7 @@ returns-2 c =
     let s = c .before .before .before .before .before .before .args in
     let G = grammarOf (s .g .now) in
     let H = graphOf (s .g .now) (s .h .now) in
-    ran-all G H (s .chart .now) (c .before .loop .i) (c .before .loop .chart) (c .before .loop .inv .2) (s .steps) (omega (arith, c .loop-test .left, c .before .loop .inv .0))
+    (ran-all G H (s .chart .now) (c .before .loop .i) (c .before .loop .chart) (c .before .loop .inv .2) (s .steps) (omega (arith, c .loop-test .left, c .before .loop .inv .0)), λ e. absurd (false≢true e))
 
 pub advance-by-spec : {M : Type 1} → statement M
 advance-by-spec =
@@ -85,13 +72,10 @@ advance-by-spec =
     Inv-loop
     μ-loop
     loop-holds
-    next-requires
-    enum-told
+    step-requires
     same-length
     same-length-2
     returns
-    enum-known-j
-    step-requires
     add-i
     loop-less
     loop-again

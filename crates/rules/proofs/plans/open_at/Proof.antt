@@ -1,5 +1,4 @@
 -- The first child of a plan node is told of it; nothing lies below a leaf.
-use native.Mathlib.Omega.{arith}
 use borrow.Author.Needs.{needs}
 use Rattle.rules.proofs.PlanLaws.{open-leaf, open-above}
 use Rattle.rules.proofs.plans.open_at.Statement.{statement}

@@ -2,7 +2,7 @@
 use native.Mathlib.Omega.{arith}
 use borrow.Author.Needs.{needs}
 use Rattle.joins.proofs.Known.{rule-few}
-use Rattle.joins.proofs.PlanMasks.{below-few, introduce-first, join-both}
+use Rattle.joins.proofs.PlanMasks.{below-few, join-both}
 use Rattle.rules.proofs.PlanLaws.{put-leaf, first-few, put-introduce, put-join}
 use Rattle.rules.proofs.plans.put_children.Statement.{statement}
 use Rattle.rules.proofs.plans.put_children.Tie as tie

@@ -2,7 +2,6 @@
 use native.Mathlib.Omega.{arith}
 use borrow.Author.Needs.{needs}
 use Rattle.joins.proofs.EdgeMaps.{edge-label-few, nodes-word-few}
-use Rattle.joins.proofs.PlanMasks.{join-both, below-few}
 use Rattle.rules.proofs.PlanLaws.{edge-there, edge-asked, child-asked}
 use Rattle.rules.proofs.plans.second_word.Statement.{statement}
 use Rattle.rules.proofs.plans.second_word.Tie as tie

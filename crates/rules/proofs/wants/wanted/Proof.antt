@@ -1,5 +1,4 @@
 -- One test of the definition after the other.
-use native.Mathlib.Omega.{arith}
 use borrow.Author.Needs.{needs}
 use Rattle.rules.proofs.WantLaws.{by-none, by-edge, by-child}
 use Rattle.rules.proofs.wants.wanted.Statement.{statement}

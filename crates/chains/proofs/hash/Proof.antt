@@ -3,9 +3,9 @@ use native.Mathlib.Omega.{arith}
 use mathlib.Core.Path.{refl}
 use borrow.Author.Needs.{needs}
 use Rattle.records.specs.Words.{ofWords}
-use Rattle.chains.specs.Chains.{mixed, bucketOf}
-use Rattle.chains.proofs.bucket.Statement.{statement}
-use Rattle.chains.proofs.bucket.Tie as tie
+use Rattle.chains.specs.Chains.{mixed, hashOf}
+use Rattle.chains.proofs.hash.Statement.{statement}
+use Rattle.chains.proofs.hash.Tie as tie
 
 shared-slice-read-edges : tie.Need-shared-slice-read-edges
 shared-slice-read-edges c = search needs
@@ -65,11 +65,11 @@ add-mix-2 : tie.Need-add-mix-2
 add-mix-2 c = omega (arith, c .before .before .before .before .before .shared-slice-known .given 3)
 
 returns : tie.Need-returns
-unfolding bucketOf mixed ofWords
+unfolding hashOf mixed ofWords
 returns c = (refl, omega arith)
 
-pub bucket-spec : {M : Type 1} → statement M
-bucket-spec =
+pub hash-spec : {M : Type 1} → statement M
+hash-spec =
     tie.close
     (tie.spec
     shared-slice-read-edges

@@ -1,0 +1,34 @@
+-- What the ranking tells leaves it.
+use Rattle.records.specs.Words.{chartOf}
+use Rattle.index.proofs.IndexLaws.{taken-by}
+use Rattle.index.proofs.NearLaws.{near-put}
+use native.Mathlib.Omega.{arith}
+use borrow.Author.Needs.{needs}
+use Rattle.index.proofs.take.Statement.{statement}
+use Rattle.index.proofs.take.Tie as tie
+
+sub-take : tie.Need-sub-take
+sub-take c = search needs
+
+part-take-start : tie.Need-part-take-start
+part-take-start c = search needs
+
+part-take-end : tie.Need-part-take-end
+part-take-end c = search needs
+
+take-requires : tie.Need-take-requires
+take-requires c κs = (c .before .before .before .pre .1, c .before .before .before .pre .2)
+
+same-length : tie.Need-same-length
+same-length c = search needs
+
+returns : tie.Need-returns
+returns c =
+    let t = c .before .before .take in
+    let d = t .kept in
+    (t .ensures .0, λ wants pivots I. taken-by wants pivots (c .before .before .before .before .before .before .args .index .now) (t .last .1 .0) (chartOf (c .before .before .before .before .before .before .args .chart .now) .records) _ (t .ensures .0) (t .ensures .1) I, near-put 12288 4230 (c .before .before .before .before .before .before .args .index .now) (t .last .1 .0) (c .before .before .before .before .before .before .pre .0) (omega arith) (omega arith))
+
+pub take-spec : {M : Type 1} → statement M
+take-spec =
+    tie.close
+    (tie.spec sub-take part-take-start part-take-end take-requires same-length returns)

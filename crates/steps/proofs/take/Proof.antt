@@ -1,0 +1,72 @@
+-- A law for each way.
+use mathlib.Core.Path.{refl}
+use borrow.Author.Needs.{needs}
+use Rattle.steps.proofs.ReadyLaws.{taken-ready}
+use Rattle.steps.proofs.RunLaws.{next-marked, next-taken}
+use Rattle.steps.proofs.take.Statement.{statement}
+use Rattle.steps.proofs.take.Tie as tie
+
+mark-of-requires : tie.Need-mark-of-requires
+mark-of-requires c κs = search needs
+
+same-length : tie.Need-same-length
+same-length c = search needs
+
+returns : tie.Need-returns
+returns c = (next-marked (c .before .before .before .before .before .args .chart .now) _ (c .before .mark-of .ensures) (c .if1 .taken), refl, λ g h wants pivots R. R)
+
+take-requires : tie.Need-take-requires
+take-requires c κs = search needs
+
+enum-told : tie.Need-enum-told
+enum-told c = search needs
+
+enum-known-j : tie.Need-enum-known-j
+enum-known-j c = search needs
+
+mark-handled-requires : tie.Need-mark-handled-requires
+mark-handled-requires c κs = search needs
+
+same-length-2 : tie.Need-same-length-2
+same-length-2 c = search needs
+
+same-length-3 : tie.Need-same-length-3
+same-length-3 c = search needs
+
+returns-2 : tie.Need-returns-2
+returns-2 c =
+    let s = c .before .before .before .before .before .before .before .before .before .before .before .before .args in
+    let t = c .before .before .before .before .take in
+    let e = c .enum-told .given .1 in
+    (next-taken (s .chart .now) _ (c .before .before .before .before .before .before .before .before .mark-of .ensures) (t .result) _ (c .before .before .before .before .before .before .before .if1 .left) e (t .ensures .0), refl, λ g h wants pivots R. taken-ready g h wants pivots (s .chart .now) (s .index .now) R (t .last .1 .0) (t .ensures .2) _ (t .result) _ e (t .ensures .0) refl (t .ensures .1 wants pivots))
+
+same-length-4 : tie.Need-same-length-4
+same-length-4 c = search needs
+
+same-length-5 : tie.Need-same-length-5
+same-length-5 c = search needs
+
+returns-3 : tie.Need-returns-3
+returns-3 c =
+    let s = c .before .before .before .before .before .before .before .before .before .before .before .before .before .before .before .before .before .args in
+    let t = c .before .before .before .before .before .before .before .before .before .take in
+    let e = c .before .before .before .before .before .j .given .1 in
+    (next-taken (s .chart .now) _ (c .before .before .before .before .before .before .before .before .before .before .before .before .before .mark-of .ensures) (t .result) _ (c .before .before .before .before .before .before .before .before .before .before .before .before .if1 .left) e (t .ensures .0), c .before .before .mark-handled .ensures, λ g h wants pivots R. taken-ready g h wants pivots (s .chart .now) (s .index .now) R (t .last .1 .0) (t .ensures .2) _ (t .result) _ e (t .ensures .0) (c .before .before .mark-handled .ensures) (t .ensures .1 wants pivots))
+
+pub take-spec : {M : Type 1} → statement M
+take-spec =
+    tie.close
+    (tie.spec
+    mark-of-requires
+    same-length
+    returns
+    take-requires
+    enum-told
+    enum-known-j
+    mark-handled-requires
+    same-length-2
+    same-length-3
+    returns-2
+    same-length-4
+    same-length-5
+    returns-3)
