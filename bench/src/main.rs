@@ -15,7 +15,7 @@ use measure::Effort;
 use sides::Lent;
 use std::process::ExitCode;
 
-/// The work is done on a thread of this stack: the deepest replay of the proved side needs about half of it.
+/// The work is done on a thread of this stack: the deepest replay of the proved side needs about a third of it.
 const STACK_BYTES: usize = 8 << 20;
 
 const USAGE: &str = "usage: bench/run [--quick | --markdown] [--phases] [--kind KIND]

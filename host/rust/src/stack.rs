@@ -3,7 +3,7 @@
 use std::panic::resume_unwind;
 use std::thread;
 
-/// Stack that is enough for every call: the replay of 4,096 applications, each under the one before, takes about half of it.
+/// Stack that is enough for every call: the replay of 4,096 applications, each under the one before, takes about a third of it.
 ///
 /// A thread of Rust has 2 MiB unless its builder says more, and so has a test. [`Graph::replay`](crate::Graph::replay),
 /// [`Chart::write`](crate::Chart::write), [`Chart::derivation`](crate::Chart::derivation), [`Chart::fill`](crate::Chart::fill),
