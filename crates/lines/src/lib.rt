@@ -226,7 +226,7 @@ pub fn number(line: &[u8], k: usize) -> u64
 // The numbers of a line's fields in the first places of `row`, and how many they are.
 pub fn read_row(line: &[u8], row: &mut [u64]) -> usize
     requires { ⌜ fieldCount (now line) ≤ length (now row) ⌝ }
-    ensures { λ r. ⌜ (r ≡ fieldCount (now (line .entry))) × (take r (now (row .exit)) ≡ fieldsOf (now (line .entry))) ⌝ }
+    ensures { λ r. ⌜ (r ≡ fieldCount (now (line .entry))) × (take r (now (row .exit)) ≡ fieldsOf (now (line .entry))) × (drop r (now (row .exit)) ≡ drop r (now (row .entry))) ⌝ }
 {
     let count = field_count(line);
     let mut k = 0;

@@ -1,6 +1,6 @@
 // Question 8 for a lent chart: how many items it holds, and whether each of its items names what exists.
 ghost use mathlib.Core.Path.{_≡_};
-ghost use mathlib.Core.Bool.{true, _&&_, cond};
+ghost use mathlib.Core.Bool.{true, false, _&&_, cond};
 ghost use Prim.Native.Nat.{_+_, _*_, _≤_};
 ghost use lib.ListN.{length, getD};
 ghost use lib.Dec.{eqb};
@@ -254,7 +254,7 @@ fn number_of(chart: &[u64]) -> u64
 // The handled ones are counted in the same walk, so that whoever asks how the chart stands needs no other.
 pub fn known(g: &[u64], h: &[u64], chart: &[u64]) -> Tested
     requires { ⌜ Accepted (now g) (now h) ⌝ }
-    ensures { λ t. ⌜ (t .known ≡ knownChart (grammarOf (now (g .entry))) (graphOf (now (g .entry)) (now (h .entry))) (now (chart .entry))) × (t .known ≡ true → t .handled ≡ handledCount (recordsAt (now (chart .entry)) (itemCount (now (chart .entry))))) ⌝ }
+    ensures { λ t. ⌜ (t .known ≡ knownChart (grammarOf (now (g .entry))) (graphOf (now (g .entry)) (now (h .entry))) (now (chart .entry))) × (t .known ≡ true → t .handled ≡ handledCount (recordsAt (now (chart .entry)) (itemCount (now (chart .entry))))) × (t .known ≡ false → t .handled ≡ 0) ⌝ }
 {
     let n = number_of(chart);
     if records::capacity_of(chart) < n {

@@ -2,7 +2,7 @@
 use native.Mathlib.Omega.{arith}
 use borrow.Author.Needs.{needs}
 use Prim.Native.Nat.{_-_, _≤_}
-use mathlib.Core.Path.{_≡_, refl, _∙_}
+use mathlib.Core.Path.{_≡_, refl, _∙_, sym}
 use mathlib.Core.Bool.{false≢true}
 use mathlib.Core.Logic.{⊎-elim}
 use borrow.Author.Tests.{not-true, not-false}
@@ -26,7 +26,7 @@ capacity-of-requires : tie.Need-capacity-of-requires Inv-loop μ-loop
 capacity-of-requires c κs = search needs
 
 returns : tie.Need-returns Inv-loop μ-loop
-returns c = (chart-over _ _ _ _ (c .before .before .number-of .ensures) _ (c .before .capacity-of .ensures) (c .if1 .taken), λ e. absurd (false≢true e))
+returns c = (chart-over _ _ _ _ (c .before .before .number-of .ensures) _ (c .before .capacity-of .ensures) (c .if1 .taken), λ e. absurd (false≢true e), λ e. refl)
 
 sizes-of-requires : tie.Need-sizes-of-requires Inv-loop μ-loop
 sizes-of-requires c κs = search needs
@@ -38,7 +38,7 @@ known-item-requires : tie.Need-known-item-requires Inv-loop μ-loop
 known-item-requires c κs = (c .before .before .sizes-of .ensures, place-fits _ _ (below-capacity _ _ _ _ (c .before .before .before .before .capacity-of .ensures) (c .before .before .before .if1 .left) (c .loop-test .taken)))
 
 returns-2 : tie.Need-returns-2 Inv-loop μ-loop
-returns-2 c = (chart-not _ _ _ _ (c .before .before .before .before .before .before .before .number-of .ensures) _ (c .before .before .before .before .before .before .capacity-of .ensures) (c .before .before .before .before .before .if1 .left) _ _ _ (c .before .before .loop-test .taken) refl (c .before .known-item .ensures) (not-true _ (c .if2 .taken)), λ e. absurd (false≢true e))
+returns-2 c = (chart-not _ _ _ _ (c .before .before .before .before .before .before .before .number-of .ensures) _ (c .before .before .before .before .before .before .capacity-of .ensures) (c .before .before .before .before .before .if1 .left) _ _ _ (c .before .before .loop-test .taken) refl (c .before .known-item .ensures) (not-true _ (c .if2 .taken)), λ e. absurd (false≢true e), λ e. refl)
 
 mul-if3 : tie.Need-mul-if3 Inv-loop μ-loop
 mul-if3 c = omega (arith, place-fits (c .before .before .before .before .before .before .before .before .before .before .before .args .chart .now) (c .before .before .before .loop .j) (below-capacity _ _ _ _ (c .before .before .before .before .before .before .capacity-of .ensures) (c .before .before .before .before .before .if1 .left) (c .before .before .loop-test .taken)))
@@ -78,7 +78,7 @@ loop-again c =
 returns-3 : tie.Need-returns-3 Inv-loop μ-loop
 returns-3 c =
     let l = c .before .loop .inv in
-    (chart-all _ _ _ _ (c .before .before .before .before .before .number-of .ensures) _ (c .before .before .before .before .capacity-of .ensures) (c .before .before .before .if1 .left) _ (c .loop-test .left) (l .2), λ e. count-all _ _ _ _ (c .before .before .before .before .before .number-of .ensures) (c .before .before .before .before .capacity-of .ensures) (c .before .before .before .if1 .left) (l .0) (c .loop-test .left) _ (l .3))
+    (chart-all _ _ _ _ (c .before .before .before .before .before .number-of .ensures) _ (c .before .before .before .before .capacity-of .ensures) (c .before .before .before .if1 .left) _ (c .loop-test .left) (l .2), λ e. count-all _ _ _ _ (c .before .before .before .before .before .number-of .ensures) (c .before .before .before .before .capacity-of .ensures) (c .before .before .before .if1 .left) (l .0) (c .loop-test .left) _ (l .3), λ e. absurd (false≢true (sym e)))
 
 pub known-spec : {M : Type 1} → statement M
 known-spec = tie.close (tie.spec Inv-loop μ-loop number-of-requires capacity-of-requires returns sizes-of-requires loop-holds known-item-requires returns-2 mul-if3 add-if3 add-if3-2 mul-if3-2 shared-slice-read-if3 add-handled add-j loop-less loop-again returns-3)
