@@ -1,13 +1,15 @@
 -- What is found on a chain is what a search through all records finds, and how chains are kept as records come.
-use Prim.Native.Nat.{ℕ, zero, suc, _+_, _-_, _*_, _/_, _%_, _≤_, _<_}
+use Prim.Native.Nat.{ℕ, zero, suc, _+_, _-_, _*_, _/_, _%_, _^_, _≤_, _<_}
 use mathlib.Core.Path.{_≡_, refl, sym, ap, ap₂, _∙_, subst}
 use mathlib.Core.Logic.{_≢_}
 use mathlib.Core.List.{List, [], _∷_, _++_}
-use mathlib.Core.Bool.{Bool, true, false, cond}
+use mathlib.Core.Bool.{Bool, true, false, _||_, cond, true≢false}
 use native.Mathlib.Omega.{arith}
 use native.Mathlib.Decide.{decLt}
 use native.Mathlib.Numerals.{add-one}
+use lib.Bits.{bitAnd, and-block, and-zero-r}
 use lib.Dec.{eqb}
+use lib.Pow.{pow-lt}
 use lib.ListN.{length, length-append, getD, set, take, drop, length-set, List·getD-append}
 use lib.Seq.{getD-set-same, getD-set-other, getD-at}
 use borrow.Author.Tests.{eq-eqb, ne-eqb, eqb-true, eqb-false}
@@ -20,21 +22,23 @@ use Rattle.agenda.proofs.Records.{same-bare}
 use Rattle.agenda.proofs.Adding.{cond-by}
 use Rattle.records.specs.Words.{itemCount, ofWords, recordAt, recordsAt, chartOf}
 use Rattle.records.proofs.WordLaws.{length-records, record-in, item-fits, part-record-at}
-use Rattle.chains.specs.Chains.{mixed, hashOf, bucketOf, tagOf, lastIn, linkOf, Chained, linked, Cleared}
+use Rattle.masks.specs.Masks.{bit, member, disjoint, _∪_, single}
+use Rattle.masks.specs.Laws.{member-false, member-union, member-single, false-member, bit-single-self, disjoint-sum, disjoint-holds}
+use Rattle.chains.specs.Chains.{mixed, hashOf, bucketOf, bitOf, lastIn, bitsIn, linkOf, Chained, linked, Cleared}
 
 -- ---- hashes
 pub bucket-below : (x : Record) → bucketOf x < 8192
 unfolding bucketOf hashOf
 bucket-below x = omega arith
 
--- the hash makes the bucket and the tag
+-- the hash makes the bucket and the bit
 bucket-by : (x y : Record) → hashOf x ≡ hashOf y → bucketOf x ≡ bucketOf y
 unfolding bucketOf
 bucket-by x y e = ap (λ h. h / 524288) e
 
-tag-by : (x y : Record) → hashOf x ≡ hashOf y → tagOf x ≡ tagOf y
-unfolding tagOf
-tag-by x y e = ap (λ h. h % 524288) e
+bit-by : (x y : Record) → hashOf x ≡ hashOf y → bitOf x ≡ bitOf y
+unfolding bitOf
+bit-by x y e = ap (λ h. h / 32768 % 16) e
 
 -- records of the same item have one hash
 same-hash : (x y : Record) → sameRecord x y ≡ true → hashOf x ≡ hashOf y
@@ -57,8 +61,8 @@ other-hash x y false e h = e
 other-bucket : (x y : Record) → (bucketOf y ≡ bucketOf x → ⊥) → sameRecord x y ≡ false
 other-bucket x y h = other-hash x y (sameRecord x y) refl (λ e. h (bucket-by y x (sym e)))
 
-other-tag : (x y : Record) → (tagOf y ≡ tagOf x → ⊥) → sameRecord x y ≡ false
-other-tag x y h = other-hash x y (sameRecord x y) refl (λ e. h (tag-by y x (sym e)))
+other-bit : (x y : Record) → (bitOf y ≡ bitOf x → ⊥) → sameRecord x y ≡ false
+other-bit x y h = other-hash x y (sameRecord x y) refl (λ e. h (bit-by y x (sym e)))
 
 -- ---- the last record of a bucket
 module _ (b : ℕ) (rs : List Record) where
@@ -100,26 +104,91 @@ last-cong b rs ss zero h = refl
 last-cong b rs ss (suc n) h =
     ap₂ (λ (i m : ℕ). cond (eqb i b) (n + 1) m) (bucket-by (recordIn rs n) (recordIn ss n) (h n (omega arith))) (last-cong b rs ss n (λ k l. h k (omega arith)))
 
+-- ---- the set of the bits of a bucket
+module _ (b : ℕ) (rs : List Record) where
+  bits-own : (n : ℕ) → bucketOf (recordIn rs n) ≡ b → bitsIn b rs (suc n) ≡ bitsIn b rs n ∪ single (bitOf (recordIn rs n))
+  unfolding bitsIn
+  bits-own n e = rw (eq-eqb (bucketOf (recordIn rs n)) b e)
+
+  bits-other : (n : ℕ) → (bucketOf (recordIn rs n) ≡ b → ⊥) → bitsIn b rs (suc n) ≡ bitsIn b rs n
+  unfolding bitsIn
+  bits-other n h = rw (ne-eqb (bucketOf (recordIn rs n)) b h)
+
+  -- it is the one of the last record of the bucket and those before
+  bits-last : (n : ℕ) → bitsIn b rs (lastIn b rs n) ≡ bitsIn b rs n
+  unfolding lastIn
+  bits-last zero = refl
+  bits-last (suc n) =
+      cond-by (λ k. bitsIn b rs k ≡ bitsIn b rs (suc n)) (eqb (bucketOf (recordIn rs n)) b)
+      (λ t. ap (bitsIn b rs) (add-one n))
+      (λ t. bits-last n ∙ sym (bits-other n (eqb-false _ _ t)))
+
+bits-cong : (b : ℕ) (rs ss : List Record) (n : ℕ) → ((k : ℕ) → k < n → hashOf (recordIn rs k) ≡ hashOf (recordIn ss k)) → bitsIn b rs n ≡ bitsIn b ss n
+unfolding bitsIn
+bits-cong b rs ss zero h = refl
+bits-cong b rs ss (suc n) h =
+    let t = ap (λ i. eqb i b) (bucket-by (recordIn rs n) (recordIn ss n) (h n (omega arith))) in
+    let m = bits-cong b rs ss n (λ k l. h k (omega arith)) in
+    let e = bit-by (recordIn rs n) (recordIn ss n) (h n (omega arith)) in
+    cc
+
 -- ---- the word that leads to a record
-module _ (rs : List Record) where
-  link-more : (k : ℕ) → linkOf rs (k + 1) ≡ k + 1 + 8192 * tagOf (recordIn rs k)
+module _ (b : ℕ) (rs : List Record) where
+  link-place : (n : ℕ) → n < 8192 → linkOf b rs n % 8192 ≡ lastIn b rs n
   unfolding linkOf
-  link-more k = ap (linkOf rs) (add-one k)
+  link-place n h = omega (arith, last-below b rs n)
 
-  link-place : (i : ℕ) → i < 8192 → linkOf rs i % 8192 ≡ i
+  link-bits : (n : ℕ) → n < 8192 → linkOf b rs n / 8192 ≡ bitsIn b rs n
   unfolding linkOf
-  link-place zero h = refl
-  link-place (suc k) h = omega arith
+  link-bits n h = omega (arith, last-below b rs n)
 
-link-cong : (rs ss : List Record) (i n : ℕ) → i ≤ n → ((k : ℕ) → k < n → hashOf (recordIn rs k) ≡ hashOf (recordIn ss k)) → linkOf rs i ≡ linkOf ss i
+  link-last : (n : ℕ) → linkOf b rs (lastIn b rs n) ≡ linkOf b rs n
+  unfolding linkOf
+  link-last n = ap₂ (λ (i m : ℕ). i + 8192 * m) (last-last b rs n) (bits-last b rs n)
+
+  link-own : (n : ℕ) → n < 8192 → bucketOf (recordIn rs n) ≡ b → linkOf b rs (suc n) ≡ n + 1 + 8192 * (linkOf b rs n / 8192 ∪ single (bitOf (recordIn rs n)))
+  unfolding linkOf
+  link-own n l e =
+      ap₂ (λ (i m : ℕ). i + 8192 * m) (last-own b rs n e) (bits-own b rs n e ∙ ap (λ m. m ∪ single (bitOf (recordIn rs n))) (sym (link-bits n l)))
+
+  link-other : (n : ℕ) → (bucketOf (recordIn rs n) ≡ b → ⊥) → linkOf b rs (suc n) ≡ linkOf b rs n
+  unfolding linkOf
+  link-other n h = ap₂ (λ (i m : ℕ). i + 8192 * m) (last-other b rs n h) (bits-other b rs n h)
+
+link-cong : (b : ℕ) (rs ss : List Record) (n : ℕ) → ((k : ℕ) → k < n → hashOf (recordIn rs k) ≡ hashOf (recordIn ss k)) → linkOf b rs n ≡ linkOf b ss n
 unfolding linkOf
-link-cong rs ss zero n l h = refl
-link-cong rs ss (suc k) n l h = ap (λ t. k + 1 + 8192 * t) (tag-by (recordIn rs k) (recordIn ss k) (h k (omega arith)))
+link-cong b rs ss n h = ap₂ (λ (i m : ℕ). i + 8192 * m) (last-cong b rs ss n h) (bits-cong b rs ss n h)
 
--- the word of the last of the first n records of a bucket
-word-cong : (b : ℕ) (rs ss : List Record) (n : ℕ) → ((k : ℕ) → k < n → hashOf (recordIn rs k) ≡ hashOf (recordIn ss k)) → linkOf rs (lastIn b rs n) ≡ linkOf ss (lastIn b ss n)
-word-cong b rs ss n h =
-    link-cong rs ss (lastIn b rs n) n (last-below b rs n) h ∙ ap (linkOf ss) (last-cong b rs ss n h)
+-- ---- a word against one bit above the place
+module _ (i e m : ℕ) (l : e < 16) (q : m ≡ 8192 * 2 ^ e % 2 ^ 64) where
+  tested : bitAnd i m ≡ bitAnd (i / 8192) (single e) * 8192
+  unfolding single
+  tested =
+      let s : m ≡ 2 ^ e * 2 ^ 13 + 0 = omega (arith, pow-lt l) in
+      let r : i ≡ i / 8192 * 2 ^ 13 + i % 8192 = omega arith in
+      ap₂ bitAnd r s ∙ and-block 13 (i / 8192) (2 ^ e) (i % 8192) 0 (omega arith) (omega arith)
+      ∙ omega (arith, and-zero-r (i % 8192))
+
+  pub bit-none : bitAnd i m ≡ 0 → bit (i / 8192) e ≡ 0
+  unfolding disjoint
+  bit-none h =
+      let z : bitAnd (i / 8192) (single e) ≡ 0 = omega (arith, tested) in
+      let d = disjoint-sum (i / 8192) (single e) (disjoint-holds (i / 8192) (single e) (rw z tt)) e in
+      omega (arith, bit-single-self e)
+
+-- a word that has a bit is not 0
+pub bit-some : (i m : ℕ) → (bitAnd i m ≡ 0 → ⊥) → i ≡ 0 → ⊥
+bit-some i m h z = h (ap (λ k. bitAnd k m) z)
+
+-- a number that is not in a set with one member more
+not-added : (m g e : ℕ) → bit (m ∪ single g) e ≡ 0 → (bit m e ≡ 0) × (g ≡ e → ⊥)
+not-added m g e h =
+    go (member m e) (eqb e g) refl refl (ap (λ t. member m e || t) (sym (member-single g e)) ∙ sym (member-union m (single g) e) ∙ false-member _ e h)
+  where
+    go : (s t : Bool) → member m e ≡ s → eqb e g ≡ t → (s || t) ≡ false → (bit m e ≡ 0) × (g ≡ e → ⊥)
+    go true t p q r = absurd (true≢false r)
+    go false true p q r = absurd (true≢false r)
+    go false false p q r = (member-false m e p, λ z. eqb-false _ _ q (sym z))
 
 -- ---- the search
 module _ (x : Record) (rs : List Record) where
@@ -136,6 +205,20 @@ module _ (x : Record) (rs : List Record) where
       (λ t. ap (lastSame x rs) (add-one n))
       (λ t. same-on-chain n ∙ sym (search-turn n false (other-bucket x (recordIn rs n) (eqb-false _ _ t))))
 
+  -- where the bit of x is missing no record is of its item
+  none-on-chain : (n : ℕ) → bit (bitsIn (bucketOf x) rs n) (bitOf x) ≡ 0 → lastSame x rs n ≡ Nowhere
+  unfolding lastSame
+  none-on-chain zero h = refl
+  none-on-chain (suc n) h = go (none-on-chain n) (eqb (bucketOf (recordIn rs n)) (bucketOf x)) refl
+    where
+      go : (bit (bitsIn (bucketOf x) rs n) (bitOf x) ≡ 0 → lastSame x rs n ≡ Nowhere) → (t : Bool) → eqb (bucketOf (recordIn rs n)) (bucketOf x) ≡ t → lastSame x rs (suc n) ≡ Nowhere
+      go back true p =
+          let d = not-added (bitsIn (bucketOf x) rs n) (bitOf (recordIn rs n)) (bitOf x) (ap (λ m. bit m (bitOf x)) (sym (bits-own (bucketOf x) rs n (eqb-true _ _ p))) ∙ h) in
+          search-turn n false (other-bit x (recordIn rs n) (d .1)) ∙ back (d .0)
+      go back false p =
+          let d = eqb-false _ _ p in
+          search-turn n false (other-bucket x (recordIn rs n) d) ∙ back (ap (λ m. bit m (bitOf x)) (sym (bits-other (bucketOf x) rs n d)) ∙ h)
+
 -- n is 0 or the place + 1 of a record on the chain of x, and what is found from there on is what is found at all
 pub record OnChain (x : Record) (rs : List Record) (n : ℕ) : Type 0 where
   pub low : n ≤ length rs
@@ -145,19 +228,19 @@ pub record OnChain (x : Record) (rs : List Record) (n : ℕ) : Type 0 where
 -- .. and i is the word that leads there
 pub record Leads (x : Record) (rs : List Record) (i : ℕ) : Type 0 where
   pub at : OnChain x rs (i % 8192)
-  pub word : i ≡ linkOf rs (i % 8192)
+  pub word : i ≡ linkOf (bucketOf x) rs (i % 8192)
 
 -- from what is found of the first n
-leads : (x : Record) (rs : List Record) (n i : ℕ) → length rs ≤ 4096 → n ≤ length rs → lastSame x rs n ≡ lastSame x rs (length rs) → i ≡ linkOf rs (lastIn (bucketOf x) rs n) → Leads x rs i
+leads : (x : Record) (rs : List Record) (n i : ℕ) → length rs ≤ 4096 → n ≤ length rs → lastSame x rs n ≡ lastSame x rs (length rs) → i ≡ linkOf (bucketOf x) rs n → Leads x rs i
 leads x rs n i f h e p =
-    let q : i % 8192 ≡ lastIn (bucketOf x) rs n = ap (λ k. k % 8192) p ∙ link-place rs (lastIn (bucketOf x) rs n) (omega (arith, last-below (bucketOf x) rs n)) in
+    let q : i % 8192 ≡ lastIn (bucketOf x) rs n = ap (λ k. k % 8192) p ∙ link-place (bucketOf x) rs n (omega arith) in
     record {
       at = subst (OnChain x rs) (sym q) (record {
         low = omega (arith, last-below (bucketOf x) rs n);
         own = sym (last-last (bucketOf x) rs n);
         found = same-on-chain x rs n ∙ e;
       });
-      word = p ∙ ap (linkOf rs) (sym q);
+      word = p ∙ sym (link-last (bucketOf x) rs n) ∙ ap (linkOf (bucketOf x) rs) (sym q);
     }
 
 pub chain-start : (x : Record) (rs : List Record) (links : List ℕ) → Chained links rs → (h i : ℕ) → h ≡ hashOf x → i ≡ getD links (h / 524288) 0 → Leads x rs i
@@ -167,21 +250,11 @@ chain-start x rs links c h i e p =
 
 module _ (x : Record) (rs : List Record) (i : ℕ) (o : Leads x rs i) (n : i ≡ 0 → ⊥) where
   pub chain-some : i % 8192 ≡ 0 → ⊥
-  unfolding linkOf
-  chain-some e = n (o .word ∙ ap (linkOf rs) e)
+  unfolding linkOf lastIn bitsIn
+  chain-some e = n (o .word ∙ ap (linkOf (bucketOf x) rs) e)
 
   place : i % 8192 ≡ i % 8192 - 1 + 1
   place = omega (arith, chain-some)
-
-  kept-tag : i / 8192 ≡ tagOf (recordIn rs (i % 8192 - 1))
-  kept-tag =
-      let q : i ≡ i % 8192 - 1 + 1 + 8192 * tagOf (recordIn rs (i % 8192 - 1)) = o .word ∙ ap (linkOf rs) place ∙ link-more rs (i % 8192 - 1) in
-      omega (arith, q, place)
-
-  -- a record with another tag is of another item
-  pub chain-skip : (h : ℕ) → h ≡ hashOf x → (i / 8192 ≡ h % 524288 → ⊥) → sameRecord x (recordIn rs (i % 8192 - 1)) ≡ false
-  unfolding tagOf
-  chain-skip h e d = other-tag x (recordIn rs (i % 8192 - 1)) (λ z. d (kept-tag ∙ z ∙ ap (λ k. k % 524288) (sym e)))
 
   turn : (t : Bool) → sameRecord x (recordIn rs (i % 8192 - 1)) ≡ t → lastSame x rs (i % 8192) ≡ cond t (At (i % 8192 - 1)) (lastSame x rs (i % 8192 - 1))
   turn t e = ap (lastSame x rs) (place ∙ add-one (i % 8192 - 1)) ∙ search-turn x rs (i % 8192 - 1) t e
@@ -190,12 +263,12 @@ module _ (x : Record) (rs : List Record) (i : ℕ) (o : Leads x rs i) (n : i ≡
   chain-hit e = sym (turn true e) ∙ o .at .found
 
   module _ (links : List ℕ) (c : Chained links rs) (e : sameRecord x (recordIn rs (i % 8192 - 1)) ≡ false) (m : ℕ) (p : m ≡ getD links (8191 + i % 8192) 0) where
-    back : m ≡ linkOf rs (lastIn (bucketOf x) rs (i % 8192 - 1))
+    back : m ≡ linkOf (bucketOf x) rs (i % 8192 - 1)
     back =
         let q : 8191 + i % 8192 ≡ 8192 + (i % 8192 - 1) = omega (arith, place) in
         let l = o .at .low in
         p ∙ ap (λ k. getD links k 0) q ∙ c .previous (i % 8192 - 1) (omega (arith, place))
-        ∙ ap (λ b. linkOf rs (lastIn b rs (i % 8192 - 1))) (own-bucket (bucketOf x) rs (i % 8192) (i % 8192 - 1) place (o .at .own))
+        ∙ ap (λ b. linkOf b rs (i % 8192 - 1)) (own-bucket (bucketOf x) rs (i % 8192) (i % 8192 - 1) place (o .at .own))
 
     pub chain-next : Leads x rs m
     chain-next = let l = o .at .low in leads x rs (i % 8192 - 1) m (c .few) (omega arith) (sym (turn false e) ∙ o .at .found) back
@@ -205,11 +278,14 @@ module _ (x : Record) (rs : List Record) (i : ℕ) (o : Leads x rs i) (n : i ≡
         let l = o .at .low in
         let f = c .few in
         let b = last-below (bucketOf x) rs (i % 8192 - 1) in
-        omega (arith, place, ap (λ k. k % 8192) back, link-place rs (lastIn (bucketOf x) rs (i % 8192 - 1)) (omega (arith, b)))
+        omega (arith, place, ap (λ k. k % 8192) back, link-place (bucketOf x) rs (i % 8192 - 1) (omega arith))
 
-pub chain-end : (x : Record) (rs : List Record) (i : ℕ) → Leads x rs i → i ≡ 0 → Nowhere ≡ lastSame x rs (length rs)
-unfolding lastSame
-chain-end x rs i o e = ap (λ k. lastSame x rs (k % 8192)) (sym e) ∙ o .at .found
+-- the set has not the bit of x, so none of its item is left
+pub chain-end : (x : Record) (rs : List Record) (i h : ℕ) → Leads x rs i → h ≡ hashOf x → bit (i / 8192) (h / 32768 % 16) ≡ 0 → Nowhere ≡ lastSame x rs (length rs)
+unfolding bitOf
+chain-end x rs i h o e z =
+    let q : i / 8192 ≡ bitsIn (bucketOf x) rs (i % 8192) = ap (λ k. k / 8192) (o .word) ∙ link-bits (bucketOf x) rs (i % 8192) (omega arith) in
+    sym (none-on-chain x rs (i % 8192) (ap₂ bit (sym q) (ap (λ k. k / 32768 % 16) (sym e)) ∙ z)) ∙ o .at .found
 
 -- the records of words
 pub counted : (w : List ℕ) → length (chartOf w .records) ≡ itemCount w
@@ -235,11 +311,11 @@ chained-kept : (links : List ℕ) (rs ss : List Record) → Chained links rs →
 chained-kept links rs ss c e h = record {
   words = c .words;
   few = let l = c .few in omega arith;
-  last = λ b l. c .last b l ∙ word-cong b rs ss (length rs) h ∙ ap (λ n. linkOf ss (lastIn b ss n)) e;
+  last = λ b l. c .last b l ∙ link-cong b rs ss (length rs) h ∙ ap (linkOf b ss) e;
   previous = λ j l.
       c .previous j (omega arith)
-      ∙ ap (λ b. linkOf rs (lastIn b rs j)) (bucket-by (recordIn rs j) (recordIn ss j) (h j (omega arith)))
-      ∙ word-cong (bucketOf (recordIn ss j)) rs ss j (λ k m. h k (omega arith));
+      ∙ ap (λ b. linkOf b rs j) (bucket-by (recordIn rs j) (recordIn ss j) (h j (omega arith)))
+      ∙ link-cong (bucketOf (recordIn ss j)) rs ss j (λ k m. h k (omega arith));
 }
 
 -- where a record is replaced by one of its hash
@@ -274,8 +350,8 @@ module _ (rs : List Record) (x : Record) where
   longer : length (rs ++ (x ∷ [])) ≡ suc (length rs)
   longer = length-append rs (x ∷ []) ∙ add-one (length rs)
 
-  same-word : (b n : ℕ) → n ≤ length rs → linkOf rs (lastIn b rs n) ≡ linkOf (rs ++ (x ∷ [])) (lastIn b (rs ++ (x ∷ [])) n)
-  same-word b n h = word-cong b rs (rs ++ (x ∷ [])) n (λ k l. ap hashOf (in-front k (omega arith)))
+  same-word : (b n : ℕ) → n ≤ length rs → linkOf b rs n ≡ linkOf b (rs ++ (x ∷ [])) n
+  same-word b n h = link-cong b rs (rs ++ (x ∷ [])) n (λ k l. ap hashOf (in-front k (omega arith)))
 
 -- two words that are set, one after the other
 module _ (l : List ℕ) (i a j d : ℕ) where
@@ -300,16 +376,18 @@ module _ (links : List ℕ) (rs : List Record) (x : Record) (h : ℕ) (c : Chain
   unfolding bucketOf
   own = ap bucketOf (at-end rs x) ∙ ap (λ k. k / 524288) (sym e)
 
-  own-link : length rs + 1 + 8192 * (h % 524288) ≡ linkOf (rs ++ (x ∷ [])) (length rs + 1)
-  unfolding tagOf
+  own-link : length rs + 1 + 8192 * (getD links (h / 524288) 0 / 8192 ∪ single (h / 32768 % 16)) ≡ linkOf (h / 524288) (rs ++ (x ∷ [])) (suc (length rs))
+  unfolding bitOf
   own-link =
-      ap (λ k. length rs + 1 + 8192 * (k % 524288)) (e ∙ ap hashOf (sym (at-end rs x)))
-      ∙ sym (link-more (rs ++ (x ∷ [])) (length rs))
+      ap₂ (λ (k m : ℕ). length rs + 1 + 8192 * (k / 8192 ∪ single (m / 32768 % 16)))
+      (c .last (h / 524288) small ∙ same-word rs x (h / 524288) (length rs) (omega arith))
+      (e ∙ ap hashOf (sym (at-end rs x)))
+      ∙ sym (link-own (h / 524288) (rs ++ (x ∷ [])) (length rs) (omega arith) own)
 
   wide : length links ≡ 12288
   wide = c .words
 
-  own-word : getD (linked links (length rs) h) (h / 524288) 0 ≡ length rs + 1 + 8192 * (h % 524288)
+  own-word : getD (linked links (length rs) h) (h / 524288) 0 ≡ length rs + 1 + 8192 * (getD links (h / 524288) 0 / 8192 ∪ single (h / 32768 % 16))
   unfolding linked
   own-word = twice-second links (8192 + length rs) _ (h / 524288) _ (omega (arith, wide, small))
 
@@ -321,32 +399,32 @@ module _ (links : List ℕ) (rs : List Record) (x : Record) (h : ℕ) (c : Chain
   unfolding linked
   other-word k p q = twice-other links (8192 + length rs) _ (h / 524288) _ k p q
 
-  last-more : (d : ℕ) → d < 8192 → getD (linked links (length rs) h) d 0 ≡ linkOf (rs ++ (x ∷ [])) (lastIn d (rs ++ (x ∷ [])) (suc (length rs)))
+  last-more : (d : ℕ) → d < 8192 → getD (linked links (length rs) h) d 0 ≡ linkOf d (rs ++ (x ∷ [])) (suc (length rs))
   last-more d l = go (eqb (h / 524288) d) refl
     where
-      go : (t : Bool) → eqb (h / 524288) d ≡ t → getD (linked links (length rs) h) d 0 ≡ linkOf (rs ++ (x ∷ [])) (lastIn d (rs ++ (x ∷ [])) (suc (length rs)))
+      go : (t : Bool) → eqb (h / 524288) d ≡ t → getD (linked links (length rs) h) d 0 ≡ linkOf d (rs ++ (x ∷ [])) (suc (length rs))
       go true p =
           let q : h / 524288 ≡ d = eqb-true _ _ p in
           ap (λ k. getD (linked links (length rs) h) k 0) (sym q) ∙ own-word ∙ own-link
-          ∙ ap (linkOf (rs ++ (x ∷ []))) (sym (last-own d (rs ++ (x ∷ [])) (length rs) (own ∙ q)))
+          ∙ ap (λ k. linkOf k (rs ++ (x ∷ [])) (suc (length rs))) q
       go false p =
           let q : h / 524288 ≡ d → ⊥ = eqb-false _ _ p in
           other-word d (λ z. omega arith) (λ z. q (sym z)) ∙ c .last d l ∙ same-word rs x d (length rs) (omega arith)
-          ∙ ap (linkOf (rs ++ (x ∷ []))) (sym (last-other d (rs ++ (x ∷ [])) (length rs) (λ z. q (sym own ∙ z))))
+          ∙ sym (link-other d (rs ++ (x ∷ [])) (length rs) (λ z. q (sym own ∙ z)))
 
-  previous-more : (j : ℕ) → j ≤ length rs → getD (linked links (length rs) h) (8192 + j) 0 ≡ linkOf (rs ++ (x ∷ [])) (lastIn (bucketOf (recordIn (rs ++ (x ∷ [])) j)) (rs ++ (x ∷ [])) j)
+  previous-more : (j : ℕ) → j ≤ length rs → getD (linked links (length rs) h) (8192 + j) 0 ≡ linkOf (bucketOf (recordIn (rs ++ (x ∷ [])) j)) (rs ++ (x ∷ [])) j
   previous-more j l = go (decLt j (length rs))
     where
-      go : Dec (j < length rs) → getD (linked links (length rs) h) (8192 + j) 0 ≡ linkOf (rs ++ (x ∷ [])) (lastIn (bucketOf (recordIn (rs ++ (x ∷ [])) j)) (rs ++ (x ∷ [])) j)
+      go : Dec (j < length rs) → getD (linked links (length rs) h) (8192 + j) 0 ≡ linkOf (bucketOf (recordIn (rs ++ (x ∷ [])) j)) (rs ++ (x ∷ [])) j
       go (yes d) =
           other-word (8192 + j) (λ z. omega arith) (λ z. omega (arith, small)) ∙ c .previous j d
-          ∙ ap (λ y. linkOf rs (lastIn (bucketOf y) rs j)) (in-front rs x j d) ∙ same-word rs x _ j l
+          ∙ ap (λ y. linkOf (bucketOf y) rs j) (in-front rs x j d) ∙ same-word rs x _ j l
       go (no d) =
           let z : j ≡ length rs = omega arith in
           ap (λ k. getD (linked links (length rs) h) (8192 + k) 0) z ∙ new-word ∙ c .last (h / 524288) small
           ∙ same-word rs x (h / 524288) (length rs) (omega arith)
-          ∙ ap (λ d. linkOf (rs ++ (x ∷ [])) (lastIn d (rs ++ (x ∷ [])) (length rs))) (sym own)
-          ∙ ap (λ k. linkOf (rs ++ (x ∷ [])) (lastIn (bucketOf (recordIn (rs ++ (x ∷ [])) k)) (rs ++ (x ∷ [])) k)) (sym z)
+          ∙ ap (λ d. linkOf d (rs ++ (x ∷ [])) (length rs)) (sym own)
+          ∙ ap (λ k. linkOf (bucketOf (recordIn (rs ++ (x ∷ [])) k)) (rs ++ (x ∷ [])) k) (sym z)
 
   length-linked : length (linked links (length rs) h) ≡ 12288
   unfolding linked
@@ -357,13 +435,13 @@ module _ (links : List ℕ) (rs : List Record) (x : Record) (h : ℕ) (c : Chain
   chained-more = record {
     words = length-linked;
     few = omega (arith, longer rs x);
-    last = λ d l. last-more d l ∙ ap (λ n. linkOf (rs ++ (x ∷ [])) (lastIn d (rs ++ (x ∷ [])) n)) (sym (longer rs x));
+    last = λ d l. last-more d l ∙ ap (linkOf d (rs ++ (x ∷ []))) (sym (longer rs x));
     previous = λ j l. previous-more j (omega (arith, longer rs x));
   }
 
 -- ---- chains made anew
 pub chained-none : (links : List ℕ) → Cleared links → Chained links []
-unfolding lastIn linkOf
+unfolding linkOf lastIn bitsIn
 chained-none links c = record {
   words = c .words;
   few = omega arith;

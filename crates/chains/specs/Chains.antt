@@ -5,17 +5,18 @@ use Prim.Native.Nat.{ℕ, zero, suc, _+_, _*_, _/_, _%_, _≤_, _<_}
 use mathlib.Core.Path.{_≡_}
 use lib.Dec.{eqb}
 use lib.ListN.{length, getD, set}
+use Rattle.masks.specs.Masks.{_∪_, single}
 use Rattle.agenda.specs.declared.Record.{Record}
 use Rattle.agenda.specs.Consequences.{recordIn}
 
--- The words that make two records the same item, mixed. Six bits of each of the small ones stand side by side in one number, so that one product mixes them; the sum of words below 2^64 stays below 2^63.
+-- The rule or symbol, the plan node and the edges of a record, mixed; its map is left out, since it is known last. Six bits of each of the small ones stand side by side in one number, so that one product mixes them; the sum of words below 2^64 stays below 2^63.
 unfoldable pub mixed : Record → ℕ
 mixed x =
     x .edges % 4294967296 * 191825777
     + x .edges / 4294967296 * 139261425
-    + (x .of % 64 + x .plan % 64 * 64 + getD (x .nodes) 0 0 % 64 * 4096 + getD (x .nodes) 1 0 % 64 * 262144 + getD (x .nodes) 2 0 % 64 * 16777216) * 2507321997
+    + (x .of % 64 + x .plan % 64 * 64) * 2507321997
 
--- its lower 32 bits, of which a bucket and a tag are made
+-- its lower 32 bits, of which a bucket and a bit are made
 unfoldable pub hashOf : Record → ℕ
 unfolding mixed
 hashOf x = mixed x % 4294967296
@@ -25,10 +26,10 @@ unfoldable pub bucketOf : Record → ℕ
 unfolding hashOf
 bucketOf x = hashOf x / 524288
 
--- the other bits, which tell most records of a bucket apart
-unfoldable pub tagOf : Record → ℕ
+-- the four bits below them, as the number of one bit of sixteen, by which most records of a bucket differ
+unfoldable pub bitOf : Record → ℕ
 unfolding hashOf
-tagOf x = hashOf x % 524288
+bitOf x = hashOf x / 32768 % 16
 
 -- the place + 1 of the last of the first n records that is of bucket b, 0 for none
 unfoldable pub lastIn : ℕ → List Record → ℕ → ℕ
@@ -36,22 +37,27 @@ unfolding bucketOf
 lastIn b rs zero = 0
 lastIn b rs (suc n) = cond (eqb (bucketOf (recordIn rs n)) b) (n + 1) (lastIn b rs n)
 
--- the word that leads to a record, by its place + 1: that number and the tag above it, 0 for none
-unfoldable pub linkOf : List Record → ℕ → ℕ
-unfolding tagOf
-linkOf rs zero = 0
-linkOf rs (suc k) = k + 1 + 8192 * tagOf (recordIn rs k)
+-- the set of the bits of those of the first n records that are of bucket b
+unfoldable pub bitsIn : ℕ → List Record → ℕ → ℕ
+unfolding bucketOf bitOf
+bitsIn b rs zero = 0
+bitsIn b rs (suc n) = cond (eqb (bucketOf (recordIn rs n)) b) (bitsIn b rs n ∪ single (bitOf (recordIn rs n))) (bitsIn b rs n)
+
+-- the word that leads to the last of the first n records that is of bucket b: its place + 1, and above that the set of the bits from there back, 0 for none
+unfoldable pub linkOf : ℕ → List Record → ℕ → ℕ
+unfolding lastIn bitsIn
+linkOf b rs n = lastIn b rs n + 8192 * bitsIn b rs n
 
 -- words that chain the records: 8,192 buckets with the word of their last record, and for each record that of the one before it of the same bucket
 pub record Chained (links : List ℕ) (rs : List Record) : Type 0 where
   pub words : length links ≡ 12288
   pub few : length rs ≤ 4096
-  pub last : (b : ℕ) → b < 8192 → getD links b 0 ≡ linkOf rs (lastIn b rs (length rs))
-  pub previous : (j : ℕ) → j < length rs → getD links (8192 + j) 0 ≡ linkOf rs (lastIn (bucketOf (recordIn rs j)) rs j)
+  pub last : (b : ℕ) → b < 8192 → getD links b 0 ≡ linkOf b rs (length rs)
+  pub previous : (j : ℕ) → j < length rs → getD links (8192 + j) 0 ≡ linkOf (bucketOf (recordIn rs j)) rs j
 
 -- the links with record j, whose hash is h, behind the last one of its bucket
 unfoldable pub linked : List ℕ → ℕ → ℕ → List ℕ
-linked links j h = set (set links (8192 + j) (getD links (h / 524288) 0)) (h / 524288) (j + 1 + 8192 * (h % 524288))
+linked links j h = set (set links (8192 + j) (getD links (h / 524288) 0)) (h / 524288) (j + 1 + 8192 * (getD links (h / 524288) 0 / 8192 ∪ single (h / 32768 % 16)))
 
 -- words with no record in a bucket
 pub record Cleared (links : List ℕ) : Type 0 where

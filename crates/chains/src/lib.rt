@@ -7,48 +7,43 @@ ghost use Rattle.records.specs.Words.{ofWords, itemCount, chartOf};
 ghost use Rattle.chains.specs.Chains.{hashOf, Chained, linked, Cleared};
 use agenda::Found;
 
-// The hash of a record, by those of its sixteen words that make two records the same item.
+// The hash of a record, by its rule or symbol, its plan node and its edges: these are known before its map is.
 pub fn hash(x: &[u64]) -> u64
     requires { ⌜ length (now x) ≡ 16 ⌝ }
     ensures { λ r. ⌜ (r ≡ hashOf (ofWords (now (x .entry)))) × (r < 4294967296) ⌝ }
 {
     let edges = x[3];
-    let small = x[1] % 64
-        + x[2] % 64 * 64
-        + x[6] % 64 * 4096
-        + x[7] % 64 * 262144
-        + x[8] % 64 * 16777216;
+    let small = x[1] % 64 + x[2] % 64 * 64;
     let mix = edges % 4294967296 * 191825777 + edges / 4294967296 * 139261425 + small * 2507321997;
     mix % 4294967296
 }
 
-// The last record that is of the same item as that of the sixteen words, whose hash is h: only those of its bucket are looked at, from the last one back, and in the chart only those of its tag.
+// The last record that is of the same item as that of the sixteen words, whose hash is h: only those of its bucket are looked at, from the last one back, as long as its bit is in the set of those that are left.
 pub fn find(chart: &[u64], links: &[u32], x: &[u64], h: u64) -> Found
     requires { ⌜ Chained (now links) (chartOf (now chart) .records) × (length (now x) ≡ 16) × (h ≡ hashOf (ofWords (now x))) × (h < 4294967296) ⌝ }
     ensures { λ r. ⌜ r ≡ lastSame (ofWords (now (x .entry))) (chartOf (now (chart .entry)) .records) (length (chartOf (now (chart .entry)) .records)) ⌝ }
 {
-    let tag = h % 524288;
+    let bit = 8192u64 << (h / 32768 % 16);
     let mut i = links[(h / 524288) as usize] as u64;
-    while i != 0 {
+    while i & bit != 0 {
         let k = i % 8192;
-        if i / 8192 == tag {
-            if records::same_words(chart, k - 1, x) {
-                return Found::At(k - 1);
-            }
+        if records::same_words(chart, k - 1, x) {
+            return Found::At(k - 1);
         }
         i = links[(8191 + k) as usize] as u64;
     }
     Found::Nowhere
 }
 
-// Record j, the last one, whose hash is h, joins its bucket.
+// Record j, the last one, whose hash is h, joins its bucket, and its bit the set beside the place.
 pub fn link(links: &mut [u32], j: u64, h: u64)
     requires { ⌜ (length (now links) ≡ 12288) × (j < 4096) × (h < 4294967296) ⌝ }
     ensures { λ r. ⌜ now (links .exit) ≡ linked (now (links .entry)) j h ⌝ }
 {
     let b = (h / 524288) as usize;
-    links[(8192 + j) as usize] = links[b];
-    links[b] = (j + 1 + 8192 * (h % 524288)) as u32;
+    let old = links[b];
+    links[(8192 + j) as usize] = old;
+    links[b] = (j + 1 + 8192 * (old as u64 / 8192 | 1u64 << (h / 32768 % 16))) as u32;
 }
 
 // The records of a chart, chained one after another: the buckets are empty before.

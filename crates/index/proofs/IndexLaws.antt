@@ -50,8 +50,8 @@ links-empty ix e = let l = e .size in record {
 
 lists-empty : (ix : List ℕ) → Empty ix → Unlisted (listsOf ix)
 lists-empty ix e = let l = e .size in record {
-  size = length-part 16518 24578 ix (omega arith);
-  empty = λ i h. part-zeros 16518 24578 ix (omega arith) (e .zeros) i;
+  size = length-part 16519 24578 ix (omega arith);
+  empty = λ i h. part-zeros 16519 24578 ix (omega arith) (e .zeros) i;
 }
 
 -- ---- a part is made anew
@@ -63,49 +63,49 @@ module _ (ix new : List ℕ) (s : length ix ≡ indexWords) (e : length new ≡ 
   links-new = put-same 0 12288 ix new (omega arith) e
 
   pub links-ranks : ranksOf (put 0 12288 ix new) ≡ ranksOf ix
-  links-ranks = put-behind 0 12288 ix new (omega arith) e 12288 4230 (omega arith)
+  links-ranks = put-behind 0 12288 ix new (omega arith) e 12288 4231 (omega arith)
 
   links-lists : listsOf (put 0 12288 ix new) ≡ listsOf ix
-  links-lists = put-behind 0 12288 ix new (omega arith) e 16518 24578 (omega arith)
+  links-lists = put-behind 0 12288 ix new (omega arith) e 16519 24578 (omega arith)
 
   links-mark : markOf (put 0 12288 ix new) ≡ markOf ix
-  links-mark = word-behind 0 12288 ix new (omega arith) e 41096 (omega arith)
+  links-mark = word-behind 0 12288 ix new (omega arith) e 41097 (omega arith)
 
-module _ (ix new : List ℕ) (s : length ix ≡ indexWords) (e : length new ≡ 4230) where
-  pub ranks-size : length (put 12288 4230 ix new) ≡ indexWords
-  ranks-size = length-put 12288 4230 ix new (omega arith) e ∙ s
+module _ (ix new : List ℕ) (s : length ix ≡ indexWords) (e : length new ≡ 4231) where
+  pub ranks-size : length (put 12288 4231 ix new) ≡ indexWords
+  ranks-size = length-put 12288 4231 ix new (omega arith) e ∙ s
 
-  pub ranks-new : ranksOf (put 12288 4230 ix new) ≡ new
-  ranks-new = put-same 12288 4230 ix new (omega arith) e
+  pub ranks-new : ranksOf (put 12288 4231 ix new) ≡ new
+  ranks-new = put-same 12288 4231 ix new (omega arith) e
 
-  pub ranks-links : linksOf (put 12288 4230 ix new) ≡ linksOf ix
-  ranks-links = put-before 12288 4230 ix new (omega arith) e 0 12288 (omega arith)
+  pub ranks-links : linksOf (put 12288 4231 ix new) ≡ linksOf ix
+  ranks-links = put-before 12288 4231 ix new (omega arith) e 0 12288 (omega arith)
 
-  ranks-lists : listsOf (put 12288 4230 ix new) ≡ listsOf ix
-  ranks-lists = put-behind 12288 4230 ix new (omega arith) e 16518 24578 (omega arith)
+  ranks-lists : listsOf (put 12288 4231 ix new) ≡ listsOf ix
+  ranks-lists = put-behind 12288 4231 ix new (omega arith) e 16519 24578 (omega arith)
 
-  ranks-mark : markOf (put 12288 4230 ix new) ≡ markOf ix
-  ranks-mark = word-behind 12288 4230 ix new (omega arith) e 41096 (omega arith)
+  ranks-mark : markOf (put 12288 4231 ix new) ≡ markOf ix
+  ranks-mark = word-behind 12288 4231 ix new (omega arith) e 41097 (omega arith)
 
 module _ (ix new : List ℕ) (s : length ix ≡ indexWords) (e : length new ≡ 24578) where
-  lists-size : length (put 16518 24578 ix new) ≡ indexWords
-  lists-size = length-put 16518 24578 ix new (omega arith) e ∙ s
+  lists-size : length (put 16519 24578 ix new) ≡ indexWords
+  lists-size = length-put 16519 24578 ix new (omega arith) e ∙ s
 
-  lists-new : listsOf (put 16518 24578 ix new) ≡ new
-  lists-new = put-same 16518 24578 ix new (omega arith) e
+  lists-new : listsOf (put 16519 24578 ix new) ≡ new
+  lists-new = put-same 16519 24578 ix new (omega arith) e
 
-  lists-links : linksOf (put 16518 24578 ix new) ≡ linksOf ix
-  lists-links = put-before 16518 24578 ix new (omega arith) e 0 12288 (omega arith)
+  lists-links : linksOf (put 16519 24578 ix new) ≡ linksOf ix
+  lists-links = put-before 16519 24578 ix new (omega arith) e 0 12288 (omega arith)
 
-  lists-ranks : ranksOf (put 16518 24578 ix new) ≡ ranksOf ix
-  lists-ranks = put-before 16518 24578 ix new (omega arith) e 12288 4230 (omega arith)
+  lists-ranks : ranksOf (put 16519 24578 ix new) ≡ ranksOf ix
+  lists-ranks = put-before 16519 24578 ix new (omega arith) e 12288 4231 (omega arith)
 
-  lists-mark : markOf (put 16518 24578 ix new) ≡ markOf ix
-  lists-mark = word-behind 16518 24578 ix new (omega arith) e 41096 (omega arith)
+  lists-mark : markOf (put 16519 24578 ix new) ≡ markOf ix
+  lists-mark = word-behind 16519 24578 ix new (omega arith) e 41097 (omega arith)
 
 -- the links and the ranking one after the other
-pub length-both : (ix listed links ranks : List ℕ) → length ix ≡ indexWords → length listed ≡ length ix → length links ≡ 12288 → length ranks ≡ 4230
-    → length (put 12288 4230 (put 0 12288 listed links) ranks) ≡ length ix
+pub length-both : (ix listed links ranks : List ℕ) → length ix ≡ indexWords → length listed ≡ length ix → length links ≡ 12288 → length ranks ≡ 4231
+    → length (put 12288 4231 (put 0 12288 listed links) ranks) ≡ length ix
 length-both ix listed links ranks s e p q = ranks-size (put 0 12288 listed links) ranks (links-size listed links (e ∙ s) p) q ∙ sym s
 
 -- ---- the lists and the mark
@@ -127,9 +127,9 @@ module _ (wants pivots : List ℕ) where
   keyed-links ix new rs e K = let s = K .size in
       keyed-same ix (put 0 12288 ix new) rs (links-size ix new s e) (links-lists ix new s e) (links-mark ix new s e) K
 
-  keyed-ranks : (ix new : List ℕ) (rs : List Record) → length new ≡ 4230 → Keyed wants pivots ix rs → Keyed wants pivots (put 12288 4230 ix new) rs
+  keyed-ranks : (ix new : List ℕ) (rs : List Record) → length new ≡ 4231 → Keyed wants pivots ix rs → Keyed wants pivots (put 12288 4231 ix new) rs
   keyed-ranks ix new rs e K = let s = K .size in
-      keyed-same ix (put 12288 4230 ix new) rs (ranks-size ix new s e) (ranks-lists ix new s e) (ranks-mark ix new s e) K
+      keyed-same ix (put 12288 4231 ix new) rs (ranks-size ix new s e) (ranks-lists ix new s e) (ranks-mark ix new s e) K
 
   keyed-of : (ix : List ℕ) (rs : List Record) → Indexed wants pivots ix rs → Keyed wants pivots ix rs
   keyed-of ix rs I = record { size = I .size; listed = I .listed; regular = I .regular }
@@ -144,18 +144,18 @@ module _ (wants pivots : List ℕ) where
   keys-within x ks e i h = rw e (keys-few wants pivots x i)
 
   module _ (ix new ks : List ℕ) (n : ℕ) (x : Record) (t : Bool) (e : ks ≡ keysOf wants pivots x) (q : new ≡ enteredAll (listsOf ix) (5 * n) ks) (r : t ≡ regularOf pivots x) where
-    new-is : put 16518 24578 ix new ≡ withKeys ix n (keysOf wants pivots x)
-    new-is = ap (put 16518 24578 ix) (q ∙ ap (enteredAll (listsOf ix) (5 * n)) e)
+    new-is : put 16519 24578 ix new ≡ withKeys ix n (keysOf wants pivots x)
+    new-is = ap (put 16519 24578 ix) (q ∙ ap (enteredAll (listsOf ix) (5 * n)) e)
 
-    pub list-regular : t ≡ true → put 16518 24578 ix new ≡ listedWith wants pivots ix n x
+    pub list-regular : t ≡ true → put 16519 24578 ix new ≡ listedWith wants pivots ix n x
     unfolding listedWith
-    list-regular p = new-is ∙ sym (ap (λ b. cond b (withKeys ix n (keysOf wants pivots x)) (set (withKeys ix n (keysOf wants pivots x)) 41096 1)) (sym r ∙ p))
+    list-regular p = new-is ∙ sym (ap (λ b. cond b (withKeys ix n (keysOf wants pivots x)) (set (withKeys ix n (keysOf wants pivots x)) 41097 1)) (sym r ∙ p))
 
-    pub list-irregular : t ≡ false → set (put 16518 24578 ix new) 41096 1 ≡ listedWith wants pivots ix n x
+    pub list-irregular : t ≡ false → set (put 16519 24578 ix new) 41097 1 ≡ listedWith wants pivots ix n x
     unfolding listedWith
     list-irregular p =
-        ap (λ (v : List ℕ). set v 41096 1) new-is
-        ∙ sym (ap (λ b. cond b (withKeys ix n (keysOf wants pivots x)) (set (withKeys ix n (keysOf wants pivots x)) 41096 1)) (sym r ∙ p))
+        ap (λ (v : List ℕ). set v 41097 1) new-is
+        ∙ sym (ap (λ b. cond b (withKeys ix n (keysOf wants pivots x)) (set (withKeys ix n (keysOf wants pivots x)) 41097 1)) (sym r ∙ p))
 
   -- ---- one record more
   regular-more : (rs : List Record) (x : Record) → regularOf pivots x ≡ true → Regular rs → Regular (rs ++ (x ∷ []))
@@ -176,17 +176,17 @@ module _ (wants pivots : List ℕ) where
         (keys-five wants pivots x))
 
     abbrev lists : List ℕ
-    lists = put 16518 24578 ix new
+    lists = put 16519 24578 ix new
 
     -- the lists without the mark
     lists-kept : Kept ix lists
     lists-kept = record { links = lists-links ix new (K .size) (more-listed .size); ranks = lists-ranks ix new (K .size) (more-listed .size) }
 
-    set-kept : Kept lists (set lists 41096 1)
-    set-kept = record { links = part-set 0 12288 41096 1 lists (omega arith); ranks = part-set 12288 4230 41096 1 lists (omega arith) }
+    set-kept : Kept lists (set lists 41097 1)
+    set-kept = record { links = part-set 0 12288 41097 1 lists (omega arith); ranks = part-set 12288 4231 41097 1 lists (omega arith) }
 
-    marked : getD (set lists 41096 1) 41096 0 ≡ 1
-    marked = getD-set-same lists 41096 1 0 (omega (arith, lists-size ix new (K .size) (more-listed .size)))
+    marked : getD (set lists 41097 1) 41097 0 ≡ 1
+    marked = getD-set-same lists 41097 1 0 (omega (arith, lists-size ix new (K .size) (more-listed .size)))
 
     abbrev Both : List ℕ → Type 0
     Both v = Keyed wants pivots v (rs ++ (x ∷ [])) × Kept ix v
@@ -201,21 +201,21 @@ module _ (wants pivots : List ℕ) where
       lists-kept,
     )
 
-    irregular-both : Both (set lists 41096 1)
+    irregular-both : Both (set lists 41097 1)
     irregular-both = (
       record {
-        size = length-set lists 41096 1 ∙ lists-size ix new (K .size) (more-listed .size);
-        listed = rw (part-set 16518 24578 41096 1 lists (omega arith), lists-new ix new (K .size) (more-listed .size)) more-listed;
+        size = length-set lists 41097 1 ∙ lists-size ix new (K .size) (more-listed .size);
+        listed = rw (part-set 16519 24578 41097 1 lists (omega arith), lists-new ix new (K .size) (more-listed .size)) more-listed;
         regular = λ z. absurd (omega (arith, marked));
       },
-      kept-on ix lists (set lists 41096 1) lists-kept set-kept,
+      kept-on ix lists (set lists 41097 1) lists-kept set-kept,
     )
 
     pub keyed-more : Both (listedWith wants pivots ix n x)
     unfolding listedWith
     keyed-more = go (regularOf pivots x) refl
       where
-        go : (t : Bool) → regularOf pivots x ≡ t → Both (cond t lists (set lists 41096 1))
+        go : (t : Bool) → regularOf pivots x ≡ t → Both (cond t lists (set lists 41097 1))
         go true p = regular-both p
         go false p = irregular-both
 
@@ -225,11 +225,11 @@ module _ (wants pivots : List ℕ) where
     near-more = go (regularOf pivots x)
       where
         kept : NearKept ix lists
-        kept = near-put 16518 24578 ix new (K .size) (more-listed .size) (omega arith)
+        kept = near-put 16519 24578 ix new (K .size) (more-listed .size) (omega arith)
 
-        go : (t : Bool) → NearKept ix (cond t lists (set lists 41096 1))
+        go : (t : Bool) → NearKept ix (cond t lists (set lists 41097 1))
         go true = kept
-        go false = near-on ix lists (set lists 41096 1) kept (near-marked lists 1)
+        go false = near-on ix lists (set lists 41097 1) kept (near-marked lists 1)
 
   -- the first records of words, one more of them
   pub keyed-next : (w ix next : List ℕ) (j : ℕ) (x : Record) → Keyed wants pivots ix (recordsAt w j) → j < 4096 → x ≡ recordAt w j → next ≡ listedWith wants pivots ix j x
@@ -253,12 +253,12 @@ module _ (wants pivots : List ℕ) where
   indexed-by ix rs K c r = record { size = K .size; chained = c; ranked = r; listed = K .listed; regular = K .regular }
 
   -- the ranking, beside the other parts of the same records
-  indexed-ranks : (ix new : List ℕ) (rs : List Record) → Keyed wants pivots ix rs → Chained (linksOf ix) rs → Ranked new rs → Indexed wants pivots (put 12288 4230 ix new) rs
+  indexed-ranks : (ix new : List ℕ) (rs : List Record) → Keyed wants pivots ix rs → Chained (linksOf ix) rs → Ranked new rs → Indexed wants pivots (put 12288 4231 ix new) rs
   indexed-ranks ix new rs K c r =
-      indexed-by (put 12288 4230 ix new) rs (keyed-ranks ix new rs (r .size) K) (rw (ranks-links ix new (K .size) (r .size)) c) (rw (ranks-new ix new (K .size) (r .size)) r)
+      indexed-by (put 12288 4231 ix new) rs (keyed-ranks ix new rs (r .size) K) (rw (ranks-links ix new (K .size) (r .size)) c) (rw (ranks-new ix new (K .size) (r .size)) r)
 
   -- .. and the chains
-  indexed-both : (ix links ranks : List ℕ) (rs : List Record) → Keyed wants pivots ix rs → Chained links rs → Ranked ranks rs → Indexed wants pivots (put 12288 4230 (put 0 12288 ix links) ranks) rs
+  indexed-both : (ix links ranks : List ℕ) (rs : List Record) → Keyed wants pivots ix rs → Chained links rs → Ranked ranks rs → Indexed wants pivots (put 12288 4231 (put 0 12288 ix links) ranks) rs
   indexed-both ix links ranks rs K c r =
       indexed-ranks (put 0 12288 ix links) ranks rs (keyed-links ix links rs (c .words) K) (rw (links-new ix links (K .size) (c .words)) c) r
 
@@ -268,13 +268,13 @@ module _ (ix links : List ℕ) (rs : List Record) (e : Empty ix) (c : Chained li
     mid-size : length (put 0 12288 ix links) ≡ indexWords
     mid-size = links-size ix links (e .size) (c .words)
 
-    pub both-size : length (put 12288 4230 (put 0 12288 ix links) ranks) ≡ indexWords
+    pub both-size : length (put 12288 4231 (put 0 12288 ix links) ranks) ≡ indexWords
     both-size = ranks-size (put 0 12288 ix links) ranks mid-size (r .size)
 
-    pub unlisted-beside : Unlisted (listsOf (put 12288 4230 (put 0 12288 ix links) ranks))
+    pub unlisted-beside : Unlisted (listsOf (put 12288 4231 (put 0 12288 ix links) ranks))
     unlisted-beside = rw (ranks-lists (put 0 12288 ix links) ranks mid-size (r .size), links-lists ix links (e .size) (c .words)) (lists-empty ix e)
 
-    pub built : (wants pivots new : List ℕ) → Keyed wants pivots new rs → Kept (put 12288 4230 (put 0 12288 ix links) ranks) new → Indexed wants pivots new rs
+    pub built : (wants pivots new : List ℕ) → Keyed wants pivots new rs → Kept (put 12288 4231 (put 0 12288 ix links) ranks) new → Indexed wants pivots new rs
     built wants pivots new K k =
         indexed-by wants pivots new rs K
         (rw (k .links, ranks-links (put 0 12288 ix links) ranks mid-size (r .size), links-new ix links (e .size) (c .words)) c)
@@ -301,19 +301,19 @@ module _ (wants pivots ix listed links ranks : List ℕ) (n h : ℕ) (x : Record
 
   pub entered : listed ≡ listedWith wants pivots ix n x → h ≡ hashOf x → links ≡ linked (linksOf listed) n h
       → (Ranked (ranksOf (put 0 12288 listed links)) rs → orderAt rs n ≡ 0 → Replaces n (orderOf (eqb (x .handled) 0) n (x .count)) rs (rs ++ (x ∷ [])) → Ranked ranks (rs ++ (x ∷ [])))
-      → Indexed wants pivots (put 12288 4230 (put 0 12288 listed links) ranks) (rs ++ (x ∷ []))
+      → Indexed wants pivots (put 12288 4231 (put 0 12288 listed links) ranks) (rs ++ (x ∷ []))
   entered o p q r =
       let K = keyed o in
       let c = longer (K .1) p q in
       indexed-both wants pivots listed links ranks (rs ++ (x ∷ [])) (K .0) c (r (rw (links-ranks listed links (K .0 .size) (c .words), K .1 .ranks) (I .ranked)) (order-past rs n (omega arith)) order)
 
-  pub entered-near : listed ≡ listedWith wants pivots ix n x → length links ≡ 12288 → length ranks ≡ 4230 → NearKept ix (put 12288 4230 (put 0 12288 listed links) ranks)
+  pub entered-near : listed ≡ listedWith wants pivots ix n x → length links ≡ 12288 → length ranks ≡ 4231 → NearKept ix (put 12288 4231 (put 0 12288 listed links) ranks)
   entered-near o p q =
       let s = keyed o .0 .size in
-      near-on ix listed (put 12288 4230 (put 0 12288 listed links) ranks)
+      near-on ix listed (put 12288 4231 (put 0 12288 listed links) ranks)
       (rw o (near-more wants pivots ix n x rs (keyed-of wants pivots ix rs I) e f))
-      (near-on listed (put 0 12288 listed links) (put 12288 4230 (put 0 12288 listed links) ranks) (near-put 0 12288 listed links s p (omega arith))
-      (near-put 12288 4230 (put 0 12288 listed links) ranks (links-size listed links s p) q (omega arith)))
+      (near-on listed (put 0 12288 listed links) (put 12288 4231 (put 0 12288 listed links) ranks) (near-put 0 12288 listed links s p (omega arith))
+      (near-put 12288 4231 (put 0 12288 listed links) ranks (links-size listed links s p) q (omega arith)))
 
 -- ---- a record that is improved or handled
 module _ (ix ranks : List ℕ) (j : ℕ) (wants pivots : List ℕ) (rs : List Record) (I : Indexed wants pivots ix rs) (l : j < length rs) where
@@ -331,23 +331,23 @@ module _ (ix ranks : List ℕ) (j : ℕ) (wants pivots : List ℕ) (rs : List Re
 
   pub recounted : (x : Record) (old n : ℕ) → isHandled (recordIn rs j) ≡ false → old ≡ recordIn rs j .count → n ≡ x .count
       → (Ranked (ranksOf ix) rs → orderAt rs j ≡ orderOf true j old → Replaces j (orderOf true j n) rs (set rs j (improved (recordIn rs j) x)) → Ranked ranks (set rs j (improved (recordIn rs j) x)))
-      → Indexed wants pivots (put 12288 4230 ix ranks) (set rs j (improved (recordIn rs j) x))
+      → Indexed wants pivots (put 12288 4231 ix ranks) (set rs j (improved (recordIn rs j) x))
   recounted x old n h o e f =
       let y = recordIn rs j in
       indexed-ranks wants pivots ix ranks (set rs j (improved y x)) (keyed-set (improved y x) (improved-keys wants pivots y x) (improved-regular pivots y x))
       (chained-improved (linksOf ix) rs j x (I .chained)) (f (I .ranked) (waiting-order rs j old l h o) (rw e (improved-order rs j x l h)))
 
   -- handled, with the ranking given for it
-  handled-by : Ranked ranks (set rs j (handledNow (recordIn rs j))) → Indexed wants pivots (put 12288 4230 ix ranks) (set rs j (handledNow (recordIn rs j)))
+  handled-by : Ranked ranks (set rs j (handledNow (recordIn rs j))) → Indexed wants pivots (put 12288 4231 ix ranks) (set rs j (handledNow (recordIn rs j)))
   handled-by r =
       let y = recordIn rs j in
       indexed-ranks wants pivots ix ranks (set rs j (handledNow y)) (keyed-set (handledNow y) (handled-keys wants pivots y) (handled-regular pivots y)) (chained-handled (linksOf ix) rs j (I .chained)) r
 
 -- ---- a record is taken, or none: then the ranking may be made anew
 pub taken-by : (wants pivots ix ranks : List ℕ) (rs : List Record) (f : Found) → f ≡ leastWaiting rs (length rs) → Ranked ranks (takenFrom rs f) → Indexed wants pivots ix rs
-    → Indexed wants pivots (put 12288 4230 ix ranks) (takenFrom rs f)
+    → Indexed wants pivots (put 12288 4231 ix ranks) (takenFrom rs f)
 taken-by wants pivots ix ranks rs f e r I = go f (rw e (least-below rs (length rs))) r
   where
-    go : (f : Found) → Below (length rs) f → Ranked ranks (takenFrom rs f) → Indexed wants pivots (put 12288 4230 ix ranks) (takenFrom rs f)
+    go : (f : Found) → Below (length rs) f → Ranked ranks (takenFrom rs f) → Indexed wants pivots (put 12288 4231 ix ranks) (takenFrom rs f)
     go Nowhere b r = indexed-ranks wants pivots ix ranks rs (keyed-of wants pivots ix rs I) (I .chained) r
     go (At j) (one l) r = handled-by ix ranks j wants pivots rs I l r

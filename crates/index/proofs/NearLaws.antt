@@ -29,46 +29,46 @@ pub near-on : (ix mid new : List ℕ) → NearKept ix mid → NearKept mid new �
 near-on ix mid new p q = record { words = λ i l. q .words i l ∙ p .words i l }
 
 -- a part in front of them is made anew
-pub near-put : (a k : ℕ) (ix new : List ℕ) → length ix ≡ indexWords → length new ≡ k → a + k ≤ 41097 → NearKept ix (put a k ix new)
+pub near-put : (a k : ℕ) (ix new : List ℕ) → length ix ≡ indexWords → length new ≡ k → a + k ≤ 41098 → NearKept ix (put a k ix new)
 near-put a k ix new s e h = record { words = λ i l. word-behind a k ix new (omega arith) e i (omega arith) }
 
 -- the mark is set
-pub near-marked : (ix : List ℕ) (v : ℕ) → NearKept ix (set ix 41096 v)
-near-marked ix v = record { words = λ i l. getD-set-other ix 41096 i v 0 (λ e. omega arith) }
+pub near-marked : (ix : List ℕ) (v : ℕ) → NearKept ix (set ix 41097 v)
+near-marked ix v = record { words = λ i l. getD-set-other ix 41097 i v 0 (λ e. omega arith) }
 
 near-word : (ix new : List ℕ) (j : ℕ) → NearKept ix new → nearOf new j ≡ nearOf ix j
-near-word ix new j k = ap₂ (λ a b. a + 4294967296 * b) (k .words (41097 + 2 * j) (omega arith)) (k .words (41098 + 2 * j) (omega arith))
+near-word ix new j k = ap₂ (λ a b. a + 4294967296 * b) (k .words (41098 + 2 * j) (omega arith)) (k .words (41099 + 2 * j) (omega arith))
 
 -- ---- a set is put
 module _ (ix : List ℕ) (j o : ℕ) where
   pub near-size : length (nearPut ix j o) ≡ length ix
   unfolding nearPut
-  near-size = length-set (set ix (41097 + 2 * j) (o % 4294967296)) (41098 + 2 * j) (o / 4294967296) ∙ length-set ix (41097 + 2 * j) (o % 4294967296)
+  near-size = length-set (set ix (41098 + 2 * j) (o % 4294967296)) (41099 + 2 * j) (o / 4294967296) ∙ length-set ix (41098 + 2 * j) (o % 4294967296)
 
-  near-part : (b m : ℕ) → b + m ≤ 41097 → part b m (nearPut ix j o) ≡ part b m ix
+  near-part : (b m : ℕ) → b + m ≤ 41098 → part b m (nearPut ix j o) ≡ part b m ix
   unfolding nearPut
   near-part b m l =
-      part-set b m (41098 + 2 * j) (o / 4294967296) (set ix (41097 + 2 * j) (o % 4294967296)) (omega arith) ∙ part-set b m (41097 + 2 * j) (o % 4294967296) ix (omega arith)
+      part-set b m (41099 + 2 * j) (o / 4294967296) (set ix (41098 + 2 * j) (o % 4294967296)) (omega arith) ∙ part-set b m (41098 + 2 * j) (o % 4294967296) ix (omega arith)
 
-  other-word : (i : ℕ) → (i ≡ 41097 + 2 * j → ⊥) → (i ≡ 41098 + 2 * j → ⊥) → getD (nearPut ix j o) i 0 ≡ getD ix i 0
+  other-word : (i : ℕ) → (i ≡ 41098 + 2 * j → ⊥) → (i ≡ 41099 + 2 * j → ⊥) → getD (nearPut ix j o) i 0 ≡ getD ix i 0
   unfolding nearPut
   other-word i p q =
-      getD-set-other (set ix (41097 + 2 * j) (o % 4294967296)) (41098 + 2 * j) i (o / 4294967296) 0 q ∙ getD-set-other ix (41097 + 2 * j) i (o % 4294967296) 0 p
+      getD-set-other (set ix (41098 + 2 * j) (o % 4294967296)) (41099 + 2 * j) i (o / 4294967296) 0 q ∙ getD-set-other ix (41098 + 2 * j) i (o % 4294967296) 0 p
 
   pub near-other : (k : ℕ) → (k ≡ j → ⊥) → nearOf (nearPut ix j o) k ≡ nearOf ix k
   near-other k n =
       ap₂ (λ a b. a + 4294967296 * b)
-      (other-word (41097 + 2 * k) (λ e. n (omega arith)) (λ e. n (omega arith)))
       (other-word (41098 + 2 * k) (λ e. n (omega arith)) (λ e. n (omega arith)))
+      (other-word (41099 + 2 * k) (λ e. n (omega arith)) (λ e. n (omega arith)))
 
   pub near-new : length ix ≡ indexWords → j < 4096 → nearOf (nearPut ix j o) j ≡ o
   unfolding nearPut
   near-new s l =
-      let low = set ix (41097 + 2 * j) (o % 4294967296) in
-      let a : getD (set low (41098 + 2 * j) (o / 4294967296)) (41097 + 2 * j) 0 ≡ o % 4294967296 =
-      getD-set-other low (41098 + 2 * j) (41097 + 2 * j) (o / 4294967296) 0 (λ e. omega arith) ∙ getD-set-same ix (41097 + 2 * j) (o % 4294967296) 0 (omega arith) in
-      let b : getD (set low (41098 + 2 * j) (o / 4294967296)) (41098 + 2 * j) 0 ≡ o / 4294967296 =
-      getD-set-same low (41098 + 2 * j) (o / 4294967296) 0 (omega (arith, length-set ix (41097 + 2 * j) (o % 4294967296))) in
+      let low = set ix (41098 + 2 * j) (o % 4294967296) in
+      let a : getD (set low (41099 + 2 * j) (o / 4294967296)) (41098 + 2 * j) 0 ≡ o % 4294967296 =
+      getD-set-other low (41099 + 2 * j) (41098 + 2 * j) (o / 4294967296) 0 (λ e. omega arith) ∙ getD-set-same ix (41098 + 2 * j) (o % 4294967296) 0 (omega arith) in
+      let b : getD (set low (41099 + 2 * j) (o / 4294967296)) (41099 + 2 * j) 0 ≡ o / 4294967296 =
+      getD-set-same low (41099 + 2 * j) (o / 4294967296) 0 (omega (arith, length-set ix (41098 + 2 * j) (o % 4294967296))) in
       let q : o % 4294967296 + 4294967296 * (o / 4294967296) ≡ o = omega arith in
       ap₂ (λ a b. a + 4294967296 * b) a b ∙ q
 
@@ -77,9 +77,9 @@ module _ (ix : List ℕ) (j o : ℕ) where
   indexed-near wants pivots rs I = record {
     size = near-size ∙ I .size;
     chained = rw (near-part 0 12288 (omega arith)) (I .chained);
-    ranked = rw (near-part 12288 4230 (omega arith)) (I .ranked);
-    listed = rw (near-part 16518 24578 (omega arith)) (I .listed);
-    regular = λ z. I .regular (sym (other-word 41096 (λ e. omega arith) (λ e. omega arith)) ∙ z);
+    ranked = rw (near-part 12288 4231 (omega arith)) (I .ranked);
+    listed = rw (near-part 16519 24578 (omega arith)) (I .listed);
+    regular = λ z. I .regular (sym (other-word 41097 (λ e. omega arith) (λ e. omega arith)) ∙ z);
   }
 
   pub indexed-put : (new wants pivots : List ℕ) (rs : List Record) → new ≡ nearPut ix j o → Indexed wants pivots ix rs → Indexed wants pivots new rs

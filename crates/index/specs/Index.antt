@@ -14,25 +14,25 @@ use Rattle.pivots.specs.Keys.{keysOf, regularOf}
 
 -- how many words there are
 abbrev pub indexWords : ℕ
-indexWords = 49289
+indexWords = 49290
 
 -- ---- the parts
 abbrev pub linksOf : List ℕ → List ℕ
 linksOf ix = take 12288 (drop 0 ix)
 
 abbrev pub ranksOf : List ℕ → List ℕ
-ranksOf ix = take 4230 (drop 12288 ix)
+ranksOf ix = take 4231 (drop 12288 ix)
 
 abbrev pub listsOf : List ℕ → List ℕ
-listsOf ix = take 24578 (drop 16518 ix)
+listsOf ix = take 24578 (drop 16519 ix)
 
 -- the word behind the lists, 0 where no record is irregular
 abbrev pub markOf : List ℕ → ℕ
-markOf ix = getD ix 41096 0
+markOf ix = getD ix 41097 0
 
 -- the set of graph nodes that stands beside record j, in two words behind the mark
 abbrev pub nearOf : List ℕ → ℕ → ℕ
-nearOf ix j = getD ix (41097 + 2 * j) 0 + 4294967296 * getD ix (41098 + 2 * j) 0
+nearOf ix j = getD ix (41098 + 2 * j) 0 + 4294967296 * getD ix (41099 + 2 * j) 0
 
 -- the keys of records, five of each: entry 5 * j + i is key i of record j
 unfoldable pub keysFor : List ℕ → List ℕ → List Record → List ℕ
@@ -66,13 +66,13 @@ pub record Kept (ix new : List ℕ) : Type 0 where
 
 -- record n, which is x, on the lists of its keys
 abbrev pub withKeys : List ℕ → ℕ → List ℕ → List ℕ
-withKeys ix n keys = take 16518 ix ++ (enteredAll (listsOf ix) (5 * n) keys ++ drop 24578 (drop 16518 ix))
+withKeys ix n keys = take 16519 ix ++ (enteredAll (listsOf ix) (5 * n) keys ++ drop 24578 (drop 16519 ix))
 
 -- .. and marked where it is irregular
 unfoldable pub listedWith : List ℕ → List ℕ → List ℕ → ℕ → Record → List ℕ
 unfolding enteredAll keysOf regularOf
 listedWith wants pivots ix n x =
-    cond (regularOf pivots x) (withKeys ix n (keysOf wants pivots x)) (set (withKeys ix n (keysOf wants pivots x)) 41096 1)
+    cond (regularOf pivots x) (withKeys ix n (keysOf wants pivots x)) (set (withKeys ix n (keysOf wants pivots x)) 41097 1)
 
 -- ---- the sets beside the records
 -- each holds the open graph nodes of its record's edges
@@ -81,8 +81,8 @@ pub record Spanned (g h ix : List ℕ) (rs : List Record) : Type 0 where
 
 -- the set o beside record j
 unfoldable pub nearPut : List ℕ → ℕ → ℕ → List ℕ
-nearPut ix j o = set (set ix (41097 + 2 * j) (o % 4294967296)) (41098 + 2 * j) (o / 4294967296)
+nearPut ix j o = set (set ix (41098 + 2 * j) (o % 4294967296)) (41099 + 2 * j) (o / 4294967296)
 
 -- the sets are as they were
 pub record NearKept (ix new : List ℕ) : Type 0 where
-  pub words : (i : ℕ) → 41097 ≤ i → getD new i 0 ≡ getD ix i 0
+  pub words : (i : ℕ) → 41098 ≤ i → getD new i 0 ≡ getD ix i 0

@@ -27,9 +27,9 @@ use agenda::Found;
 // where the links end and the ranking starts
 const RANKS: usize = 12288;
 // where the ranking ends and the lists start
-const LISTS: usize = 16518;
+const LISTS: usize = 16519;
 // where the lists end: the word that is not 0 once a record was irregular, and behind it the sets, two words each
-const MARK: usize = 41096;
+const MARK: usize = 41097;
 
 // Record n, one more than there are, is that of the words x: it comes on the lists of its keys.
 fn list(wants: &[u64; 1024], pivots: &[u64; 1088], index: &mut [u32], n: u64, x: &[u64])
@@ -64,8 +64,8 @@ pub fn near(index: &[u32], j: u64) -> u64
     requires { ⌜ (length (now index) ≡ indexWords) × (j < 4096) ⌝ }
     ensures { λ r. ⌜ r ≡ nearOf (now (index .entry)) j ⌝ }
 {
-    let low = index[(41097 + 2 * j) as usize] as u64;
-    let high = index[(41098 + 2 * j) as usize] as u64;
+    let low = index[(41098 + 2 * j) as usize] as u64;
+    let high = index[(41099 + 2 * j) as usize] as u64;
     low + 4294967296 * high
 }
 
@@ -74,8 +74,8 @@ fn put_near(index: &mut [u32], j: u64, o: u64)
     requires { ⌜ (length (now index) ≡ indexWords) × (j < 4096) ⌝ }
     ensures { λ r. ⌜ now (index .exit) ≡ nearPut (now (index .entry)) j o ⌝ }
 {
-    index[(41097 + 2 * j) as usize] = (o % 4294967296) as u32;
-    index[(41098 + 2 * j) as usize] = (o / 4294967296) as u32;
+    index[(41098 + 2 * j) as usize] = (o % 4294967296) as u32;
+    index[(41099 + 2 * j) as usize] = (o / 4294967296) as u32;
 }
 
 // A set that holds the open nodes of the edges m. A fresh chart has records without edges only, and those have none.
@@ -232,7 +232,7 @@ pub fn sought(chart: &[u64], index: &[u32], edges: u64, n: u64, c: u64) -> u64
 // Whether no record is irregular.
 pub fn regular(index: &[u32]) -> bool
     requires { ⌜ length (now index) ≡ indexWords ⌝ }
-    ensures { λ r. ⌜ r ≡ eqb (getD (now (index .entry)) 41096 0) 0 ⌝ }
+    ensures { λ r. ⌜ r ≡ eqb (getD (now (index .entry)) 41097 0) 0 ⌝ }
 {
     index[MARK] == 0
 }

@@ -333,7 +333,6 @@ module _ (g h : List ℕ) (r q m₁ m₂ : ℕ) (f k : List ℕ) (accepted : Acc
           spans = λ _. subst (λ i. Spans g h i (x .images)) u (covered-spans g h m (x .images) (openJoined size stays f k) accepted (sym bare ∙ p) (merges .images ok));
         }
 
--- an open rule node is one of the rule's nodes
 -- two maps that differ at a rule node where both have an image make nothing
 pub combine-differ : (H : Graph) (R : Rule) (r q m₁ m₂ : ℕ) (f k : List ℕ) (x : ℕ) → x < R .production .right .nodes → at f x < unplaced → at k x < unplaced → (at f x ≡ at k x → ⊥)
     → combine H R r q m₁ m₂ f k ≡ []

@@ -23,6 +23,7 @@ use Rattle.questions.proofs.WellFormedLent.{checked-grammar-ok}
 use Rattle.questions.proofs.WellFormedAccepted.{rule-is, edge-is}
 use Rattle.joins.specs.Joins.{KnownEdge, edgeNodes, octal, nodesWord, BareFrom}
 use Rattle.joins.proofs.Known.{rule-ok, right-nodes, right-edges, nodes-few}
+use Rattle.joins.proofs.PlanMasks.{set-next}
 
 -- ---- maps in eight places
 pub length-padded : (f : List ℕ) → length (padded f) ≡ 8
@@ -76,12 +77,8 @@ cleared-next n t f i h c = record {
   upto = omega arith;
   size = length-set f i 64 ∙ c .size;
   before = λ x l. getD-set-other f i x 64 unplaced (λ d. omega (arith, c .from)) ∙ c .before x l;
-  after = λ x a b. go x a b (decLt x i);
+  after = λ x a b. set-next (λ x v. n ≤ x → v ≡ unplaced) f i 64 unplaced (omega (arith, c .size)) (λ x d a. c .after x a d) (λ a. refl) x b a;
 }
-  where
-    go : (x : ℕ) → n ≤ x → x < i + 1 → Dec (x < i) → at (set f i 64) x ≡ unplaced
-    go x a b (yes d) = getD-set-other f i x 64 unplaced (λ s. omega arith) ∙ c .after x a d
-    go x a b (no d) = let s : x ≡ i = omega arith in rw s (getD-set-same f i 64 unplaced (omega (arith, c .size)))
 
 pub cleared-all : (n : ℕ) (t f : List ℕ) (i : ℕ) → length t ≡ 8 → 8 ≤ i → Cleared n t f i → f ≡ padded (take n t)
 cleared-all n t f i size h c = is-padded f (take n t) (c .size) (λ x l. go x l (decLt x n))

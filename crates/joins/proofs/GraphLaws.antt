@@ -25,7 +25,7 @@ use Rattle.joins.specs.declared.Sides.{Sides}
 use Rattle.joins.specs.Joins.{Accepted, NodesIn, someBoth, Boundary, OpenIn}
 use Rattle.joins.specs.Graphs.{nodesOf, onEdge, marksTo, marks, Indexed, EdgeSets, Group, Grouped, GraphTable, Touched}
 use Rattle.joins.proofs.Known.{graph-ok, graph-size, graph-nodes, graph-nodes-few, graph-edges-few}
-use Rattle.joins.proofs.PlanMasks.{member-none}
+use Rattle.joins.proofs.PlanMasks.{member-none, set-next}
 use Rattle.joins.proofs.Touching.{some-same, touches-some}
 
 -- ---- some of the numbers below a bound
@@ -122,16 +122,9 @@ pub sets-next : (g h sets : List ℕ) (e label rank on : ℕ) → e < graphEdges
     → NodesIn on (tabulate rank (λ k. graphNode h e k)) → SetsTo g h sets e → SetsTo g h (set sets e on) (e + 1)
 sets-next g h sets e label rank on known few a b nodes p = record {
   size = length-set sets e on ∙ p .size;
-  before = λ d l. go d l (decLt d e);
+  before = set-next (λ d m. NodesIn m (nodesOf g h d)) sets e on 0 (omega (arith, p .size)) (p .before) (rw (edge-nodes g h e known) (rw (b, a) at nodes));
   after = λ d l. getD-set-other sets e d on 0 (λ s. omega arith) ∙ p .after d (omega arith);
 }
-  where
-    here : NodesIn on (nodesOf g h e)
-    here = rw (edge-nodes g h e known) (rw (b, a) at nodes)
-
-    go : (d : ℕ) → d < e + 1 → Dec (d < e) → NodesIn (getD (set sets e on) d 0) (nodesOf g h d)
-    go d l (yes k) = rw (getD-set-other sets e d on 0 (λ q. omega arith)) (p .before d k)
-    go d l (no k) = let q : d ≡ e = omega arith in rw (q, getD-set-same sets e on 0 (omega (arith, p .size))) here
 
 pub sets-all : (g h sets : List ℕ) (n k : ℕ) → n ≡ graphEdges h → n ≤ k → SetsTo g h sets k → EdgeSets g h sets
 unfolding occurs
@@ -173,13 +166,9 @@ groups-none sets t size = record { size = size; before = λ j l. absurd (omega a
 pub groups-next : (sets t u : List ℕ) (i m : ℕ) → i < 256 → Group sets i m → GroupsTo sets t u i → GroupsTo sets t (set u i m) (i + 1)
 groups-next sets t u i m few here p = record {
   size = length-set u i m ∙ p .size;
-  before = λ j l. go j l (decLt j i);
+  before = set-next (Group sets) u i m 0 (omega (arith, p .size)) (p .before) here;
   after = λ j l. getD-set-other u i j m 0 (λ s. omega arith) ∙ p .after j l;
 }
-  where
-    go : (j : ℕ) → j < i + 1 → Dec (j < i) → Group sets j (getD (set u i m) j 0)
-    go j l (yes d) = rw (getD-set-other u i j m 0 (λ s. omega arith)) (p .before j d)
-    go j l (no d) = let q : j ≡ i = omega arith in rw (q, getD-set-same u i m 0 (omega (arith, p .size))) here
 
 pub groups-all : (h sets t u : List ℕ) (n i : ℕ) → n ≡ graphEdges h → 16 * ((n + 3) / 4) ≤ i → GroupsTo sets t u i → Grouped h sets t u
 groups-all h sets t u n i e l p = record { size = p .size; each = λ j d. p .before j (omega arith); after = p .after }

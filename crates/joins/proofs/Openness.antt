@@ -165,11 +165,11 @@ module _ (g h t : List ℕ) (accepted : Accepted g h) (table : GraphTable g h t)
       ∙ ap₂ _&&_ (meets m (λ e. member m e) small (λ e l. refl))
       (ap₂ _||_ (table .externals .members v few) (meets (2 ^ 64 - 1 - m) (λ e. not (member m e)) (omega arith) (λ e l. member-others m e small l)))
 
--- .. where a rule node is dropped
-pub lost-near : (t : List ℕ) (m v : ℕ) (stays here : Bool) → stays ≡ false → v < 64 → Found (getD t 256 0) v here
-    → (not (eqb (bitAnd (edgesOn t v) m) 0) && (here || not (eqb (bitAnd (edgesOn t v) (2 ^ 64 - 1 - m)) 0))) ≡ (not stays && openBy t m v)
+-- .. by the words that are read
+pub open-read : (t : List ℕ) (m v : ℕ) (here : Bool) → v < 64 → Found (getD t 256 0) v here
+    → (not (eqb (bitAnd (edgesOn t v) m) 0) && (here || not (eqb (bitAnd (edgesOn t v) (2 ^ 64 - 1 - m)) 0))) ≡ openBy t m v
 unfolding openBy
-lost-near t m v stays here p l found = rw (p, lt-ltb v 64 l, found .value)
+open-read t m v here l found = rw (lt-ltb v 64 l, found .value)
 
 pub open-few : (t : List ℕ) (m v : ℕ) → openBy t m v ≡ true → v < 64
 unfolding openBy

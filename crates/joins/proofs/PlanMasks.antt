@@ -25,6 +25,15 @@ use Rattle.joins.proofs.Known.{plan-ok, plan-few, edges-few, plan-node}
 pub member-none : (e : ℕ) → member 0 e ≡ false
 member-none e = false-member 0 e (bit-empty e)
 
+-- ---- one word more of a list
+-- what is known of the words before i of a list holds of one more, where that is stored
+pub set-next : (P : ℕ → ℕ → Type 0) (l : List ℕ) (i v d : ℕ) → i < length l → ((x : ℕ) → x < i → P x (getD l x d)) → P i v → (x : ℕ) → x < i + 1 → P x (getD (set l i v) x d)
+set-next P l i v d h before here x b = go (decLt x i)
+  where
+    go : Dec (x < i) → P x (getD (set l i v) x d)
+    go (yes a) = rw (getD-set-other l i x v d (λ e. omega arith)) (before x a)
+    go (no a) = let e : x ≡ i = omega arith in rw (e, getD-set-same l i v d h) here
+
 -- ---- a number in one of two lists
 pub some-sum : (a b : ℕ) → ltb 0 (a + b) ≡ (ltb 0 a || ltb 0 b)
 some-sum zero b = ap (λ k. ltb 0 k) (let e : 0 + b ≡ b = omega arith in e)
@@ -120,11 +129,7 @@ pub masks-none : (g ms : List ℕ) (r : ℕ) → MasksBelow g r 0 ms
 masks-none g ms r = record { each = λ p h. absurd (omega arith) }
 
 pub masks-more : (g ms : List ℕ) (r q m : ℕ) → q < length ms → MasksBelow g r q ms → EdgesBelow g r q m → MasksBelow g r (q + 1) (set ms q m)
-masks-more g ms r q m h before here = record { each = λ p l. go p l (decLt p q) }
-  where
-    go : (p : ℕ) → p < q + 1 → Dec (p < q) → EdgesBelow g r p (getD (set ms q m) p 0)
-    go p l (yes d) = rw (getD-set-other ms q p m 0 (λ e. omega arith)) (before .each p d)
-    go p l (no d) = let e : p ≡ q = omega arith in rw (e, getD-set-same ms q m 0 h) here
+masks-more g ms r q m h before here = record { each = set-next (EdgesBelow g r) ms q m 0 h (before .each) here }
 
 pub set-size : (ms : List ℕ) (q m n : ℕ) → length ms ≡ n → length (set ms q m) ≡ n
 set-size ms q m n h = length-set ms q m ∙ h

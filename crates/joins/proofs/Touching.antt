@@ -7,7 +7,7 @@ use native.Mathlib.Numerals.{add-one}
 use native.Mathlib.Omega.{arith}
 use lib.ListN.{length}
 use lib.Bits.{bitOr, bitAnd, and-shr, and-step}
-use lib.Dec.{ltb}
+use lib.Dec.{eqb, ltb}
 use Rattle.masks.specs.Masks.{bit, member, _∪_, Added}
 use Rattle.masks.specs.Laws.{member-union, member-true, member-false, true-member, false-member}
 use Rattle.hrg.specs.Counts.{hit, occurs, tabulate}
@@ -35,6 +35,19 @@ member-both a b e = go (member a e) (member b e) refl refl
     go true false x y = false-member (bitAnd a b) e (omega (arith, both, member-true a e x, member-false b e y))
     go false q x y = false-member (bitAnd a b) e (omega (arith, both, member-false a e x))
 
+-- ---- one node more
+-- the set n has the members of m, and v
+abbrev pub Gains : ℕ → ℕ → ℕ → Type 0
+Gains m v n = (x : ℕ) → x < 64 → member n x ≡ (member m x || eqb x v)
+
+pub nodes-more : (l k : List ℕ) (v m n : ℕ) → ((x : ℕ) → occurs x k ≡ occurs x l + hit x v) → Gains m v n → NodesIn m l → NodesIn n k
+nodes-more l k v m n more gains before = record {
+  members = λ x h.
+      gains x h
+      ∙ rw (before .members x h, ← some-hit x v, ← some-sum (occurs x l) (hit x v))
+      (ap (λ j. ltb 0 j) (sym (more x)));
+}
+
 -- ---- the words of a line, one by one
 occurs-last : (x n : ℕ) (f : ℕ → ℕ) → occurs x (tabulate (n + 1) f) ≡ occurs x (tabulate n f) + hit x (f n)
 occurs-last x n f = rw add-one (occurs-tabulate x (suc n) f ∙ sum-last n (λ i. hit x (f i)) ∙ ap (λ k. k + hit x (f n)) (sym (occurs-tabulate x n f)))
@@ -44,12 +57,7 @@ unfolding tabulate occurs
 listed-none f = record { members = λ x h. member-none x }
 
 pub listed-next : (f : ℕ → ℕ) (k w m n : ℕ) → w ≡ f k → Added m w n → NodesIn m (tabulate k f) → NodesIn n (tabulate (k + 1) f)
-listed-next f k w m n e added before = record {
-  members = λ x h.
-      added .members x h
-      ∙ rw (before .members x h, e, ← some-hit x (f k), ← some-sum (occurs x (tabulate k f)) (hit x (f k)))
-      (ap (λ j. ltb 0 j) (sym (occurs-last x k f)));
-}
+listed-next f k w m n e added before = nodes-more (tabulate k f) (tabulate (k + 1) f) w m n (λ x. rw e (occurs-last x k f)) (added .members) before
 
 pub listed-done : (f : ℕ → ℕ) (n k m : ℕ) → k ≤ n → n ≤ k → NodesIn m (tabulate k f) → NodesIn m (tabulate n f)
 listed-done f n k m a b here = let e : n ≡ k = omega arith in rw e here

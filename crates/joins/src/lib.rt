@@ -1,10 +1,10 @@
 // The leaves of the chart's step, over accepted tables: what lies below a plan node, open nodes, the map of an edge, and two maps joined.
 ghost use mathlib.Core.Path.{_≡_};
-ghost use mathlib.Core.Bool.{true, false, _&&_, not};
+ghost use mathlib.Core.Bool.{true, false};
 ghost use mathlib.Core.List.{List};
 ghost use Prim.Native.Nat.{ℕ, _+_, _*_, _≤_, _<_};
 ghost use lib.ListN.{length, take, replicate};
-ghost use Rattle.masks.specs.Masks.{member, single, _∪_};
+ghost use Rattle.masks.specs.Masks.{single, _∪_};
 ghost use Rattle.hrg.specs.Trees.{unplaced, padded};
 ghost use Rattle.hrg.specs.Counts.{tabulate};
 ghost use Rattle.hrg.specs.Grammars.{ruleOf};
@@ -238,30 +238,15 @@ pub fn attach(g: &[u64], r: u64, i: u64, l: &[u64], t: &mut [u64])
     attach_by(g, r, i, w, l, t);
 }
 
-// Whether graph node v is open in the edge set m, where a rule node with this image is dropped. The words of v at the four places have its edges.
-fn lost(graph: &[u64; 577], m: u64, stays: bool, v: u64) -> bool
-    ensures { λ x. ⌜ x ≡ (not stays && openBy (now (graph .entry)) m v) ⌝ }
+// Whether graph node v is open in the edge set m, so that a rule node with this image must not be dropped. The words of v at the four places have its edges.
+fn lost(graph: &[u64; 577], m: u64, v: u64) -> bool
+    requires { ⌜ v < 64 ⌝ }
+    ensures { λ x. ⌜ x ≡ openBy (now (graph .entry)) m v ⌝ }
 {
-    if stays {
-        return false;
-    }
-    if v >= 64 {
-        return false;
-    }
     let low = graph[(321 + v) as usize] | graph[(385 + v) as usize];
     let high = graph[(449 + v) as usize] | graph[(513 + v) as usize];
     let on = low | high;
     (on & m != 0) & (masks::has(graph[256], v) | (on & !m != 0))
-}
-
-// The set `on` where `here` holds, else none.
-fn when(here: bool, on: u64) -> u64
-    ensures { λ m. ⌜ ((x : ℕ) → member m x ≡ (here && member on x)) ⌝ }
-{
-    if here {
-        return on;
-    }
-    0
 }
 
 // Of two maps that are made one: whether they agree, are one-to-one together and drop no open graph node, the images of all nodes, and those of the open ones.
@@ -281,7 +266,7 @@ fn not_merged() -> Merged
     }
 }
 
-// Two maps of n rule nodes to `nodes` graph nodes as one without the closed nodes, in one pass: the rule nodes in `stays` are open. The set of an image is made once and serves each test; `rest` is halved each turn, so that its lowest bit says whether the node stays.
+// Two maps of n rule nodes to `nodes` graph nodes as one without the closed nodes, in one pass: the rule nodes in `stays` are open. The maps differ where the second has an image other than v, since the first, if it has one, has v. The set of an image is made once and serves each test; `rest` is halved each turn, so that its lowest bit says whether the node stays.
 // The second map is t's, and the joined one is put over it: places are written where they are read, so that nothing is copied. From n on it has no images, and keeps none.
 fn merge_maps(
     n: u64,
@@ -304,17 +289,20 @@ fn merge_maps(
         let a = f[i as usize];
         let b = t[i as usize];
         let v = maps::first_of(a, b);
-        let on = masks::with(0, v);
-        if ((a < 64) & (b < 64) & (a != b)) | (seen & on & known != 0) {
-            return not_merged();
-        }
         let here = rest % 2 == 1;
-        if lost(graph, m, here, v) {
-            return not_merged();
+        if v < 64 {
+            let on = 1u64 << v;
+            if ((b < 64) & (b != v)) | (seen & on & known != 0) {
+                return not_merged();
+            }
+            if here {
+                images |= on;
+            } else if lost(graph, m, v) {
+                return not_merged();
+            }
+            seen |= on;
         }
-        seen |= on;
         t[i as usize] = maps::kept(here, v);
-        images |= when(here, on);
         rest /= 2;
         i += 1;
     }

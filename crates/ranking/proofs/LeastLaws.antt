@@ -16,11 +16,13 @@ use Rattle.agenda.specs.Consequences.{recordIn}
 use Rattle.agenda.specs.Steps.{lesser, leastWaiting}
 use Rattle.records.specs.Words.{itemCount, fieldAt, recordsAt, chartOf}
 use Rattle.records.proofs.WordLaws.{length-records, record-in, count-of}
-use Rattle.queues.specs.Queues.{holds, Removed, Least}
+use Rattle.queues.specs.declared.Taken.{Taken}
+use Rattle.queues.specs.declared.Taken.the-variants.{Number, Nothing}
+use Rattle.queues.specs.Queues.{holds, Removed, Least, Left, Empty, LeastTaken}
 use Rattle.ranking.specs.Ranking.{orderOf, orderAt, setOf, Ranked, Replaces, takenFrom}
 use Rattle.ranking.proofs.Orders.{order-positive, order-handled, order-waits, order-some, handled-order}
 use Rattle.ranking.proofs.Parts.{put}
-use Rattle.ranking.proofs.SetLaws.{removed-set}
+use Rattle.ranking.proofs.SetLaws.{ranked-back, removed-set}
 
 module _ (rs : List Record) where
   abbrev Waits : ℕ → Type 0
@@ -78,22 +80,27 @@ module _ (rs : List Record) where
   chosen (suc n) h m = chosen-next n (leastWaiting rs n) (omega arith) (omega arith) (chosen n (omega arith) (omega arith))
 
   -- ---- by the set
-  module _ (w : List ℕ) (r : ℕ) (R : Ranked w rs) (z : getD w 0 0 ≡ 0) (m : length rs ≤ 4096) (L : Least (setOf w) r) (h : r < 131072) where
-    base : ℕ
-    base = getD w 1 0
+  -- no waiting record has a number below r where the set has none
+  none-below : (w : List ℕ) (r : ℕ) → Ranked w rs → getD w 0 0 < 2 → r ≤ 131072 → ((q : ℕ) → q < r → holds (setOf w) q ≡ false) → (j : ℕ) → j < 4096 → Waits j → orderAt rs j ≤ 4096 * getD w 1 0 + r → ⊥
+  none-below w r R z t n j l d b =
+      let s = order-some rs j d .1 in
+      let a = R .based z j d in
+      let p = orderAt rs j - 1 - 4096 * getD w 1 0 in
+      let at : p % 4096 ≡ j = omega arith in
+      let less : p < r = omega arith in
+      eqb-false (orderAt rs (p % 4096)) (4096 * getD w 1 0 + p + 1) (sym (R .held z p (omega arith)) ∙ n p less) (ap (orderAt rs) at ∙ omega arith)
 
+  -- .. so that none waits where an empty set holds every one
+  none-held : (w : List ℕ) → Ranked w rs → getD w 0 0 ≡ 0 → length rs ≤ 4096 → Empty (setOf w) → Nowhere ≡ leastWaiting rs (length rs)
+  none-held w R z m n = told (leastWaiting rs (length rs)) (chosen (length rs) (omega arith) m)
+    where
+      told : (f : Found) → Chosen (length rs) f → Nowhere ≡ f
+      told Nowhere (chosen-none a) = refl
+      told (At j) (chosen-at i a b c) = absurd (none-below w 131072 R (omega arith) (omega arith) n j (omega arith) b (R .whole z j))
+
+  module _ (w : List ℕ) (r : ℕ) (R : Ranked w rs) (z : getD w 0 0 < 2) (m : length rs ≤ 4096) (L : Least (setOf w) r) where
     order-least : orderAt rs (r % 4096) ≡ 4096 * getD w 1 0 + r + 1
-    order-least = eqb-true _ _ (sym (R .held z r h) ∙ L .here h)
-
-    -- a waiting record has no lesser number
-    none-below : (j : ℕ) → j < 4096 → Waits j → orderAt rs j < orderAt rs (r % 4096) → ⊥
-    none-below j l d b =
-        let s = order-some rs j d .1 in
-        let a = R .based z j d in
-        let p = orderAt rs j - 1 - 4096 * getD w 1 0 in
-        let at : p % 4096 ≡ j = omega arith in
-        let less : p < r = omega (arith, order-least) in
-        eqb-false (orderAt rs (p % 4096)) (4096 * getD w 1 0 + p + 1) (sym (R .held z p (omega arith)) ∙ L .none p less) (ap (orderAt rs) at ∙ omega arith)
+    order-least = eqb-true _ _ (sym (R .held z r (L .within)) ∙ L .here)
 
     told : (f : Found) → Chosen (length rs) f → At (r % 4096) ≡ f
     told Nowhere (chosen-none a) =
@@ -107,14 +114,14 @@ module _ (rs : List Record) where
       where
         go : Dec (orderAt rs j < orderAt rs (r % 4096)) → orderAt rs j ≡ 4096 * recordIn rs j .count + j + 1 → orderAt rs j ≤ orderAt rs (r % 4096)
             → orderAt rs (r % 4096) ≡ 4096 * recordIn rs (r % 4096) .count + r % 4096 + 1 → r % 4096 ≡ j
-        go (yes d) t u s = absurd (none-below j (omega arith) b d)
+        go (yes d) t u s = absurd (none-below w r R z (omega (arith, L .within)) (L .none) j (omega arith) b (omega (arith, order-least)))
         go (no d) t u s = omega arith
 
-    pub least-held : At (r % 4096) ≡ leastWaiting rs (length rs)
+    least-held : At (r % 4096) ≡ leastWaiting rs (length rs)
     least-held = told (leastWaiting rs (length rs)) (chosen (length rs) (omega arith) m)
 
     -- .. and it leaves the set
-    pub taken-held : (new : List ℕ) → Removed (setOf w) r new → Ranked (put 2 4228 w new) (takenFrom rs (At (r % 4096)))
+    taken-held : (new : List ℕ) → Removed (setOf w) r new → Ranked (put 2 4229 w new) (takenFrom rs (At (r % 4096)))
     taken-held new I =
         let j = r % 4096 in
         let n = recordIn rs j .count in
@@ -122,6 +129,22 @@ module _ (rs : List Record) where
         let e : r ≡ 4096 * (n - getD w 1 0) + j = omega (arith, order-least, s .1) in
         removed-set w j n (omega arith) rs (takenFrom rs (At j)) R (s .1 ∙ sym (order-positive j n)) (handled-order rs j (s .0)) new (omega (arith, order-least, s .1))
         (subst (λ p. Removed (setOf w) p new) e I)
+
+  -- ---- what was taken out of the set
+  module _ (w new : List ℕ) (t : Taken) (R : Ranked w rs) (z : getD w 0 0 < 2) (m : length rs ≤ 4096) (L : LeastTaken (setOf w) t new) where
+    pub number-taken : (p : ℕ) → t ≡ Number p → (At (p % 4096) ≡ leastWaiting rs (length rs)) × Ranked (put 2 4229 w new) (takenFrom rs (At (p % 4096)))
+    number-taken p e =
+        let G : Left (setOf w) p new = subst (λ (s : Taken). LeastTaken (setOf w) s new) e L in
+        (least-held w p R z m (G .least), taken-held w p R z m (G .least) new (G .removed))
+
+    nothing-told : t ≡ Nothing → Empty (setOf w) × (new ≡ setOf w)
+    nothing-told e = subst (λ (s : Taken). LeastTaken (setOf w) s new) e L
+
+    pub nothing-taken : t ≡ Nothing → Ranked (put 2 4229 w new) rs
+    nothing-taken e = ranked-back w new rs R (nothing-told e .1)
+
+    pub nothing-waits : t ≡ Nothing → getD w 0 0 ≡ 0 → (Nowhere ≡ leastWaiting rs (length rs)) × Ranked (put 2 4229 w new) rs
+    nothing-waits e q = (none-held w R q m (nothing-told e .0), nothing-taken e)
 
 -- ---- the records looked through
 pub least-all : (w : List ℕ) (n : ℕ) (r : Found) → n ≡ itemCount w → r ≡ leastWaiting (recordsAt w n) n → r ≡ leastWaiting (chartOf w .records) (length (chartOf w .records))

@@ -6,16 +6,16 @@ use mathlib.Core.List.{List, []}
 use native.Mathlib.Omega.{arith}
 use native.Mathlib.Decide.{ℕ-discrete}
 use lib.Dec.{eqb}
-use lib.ListN.{length, getD, set, length-set}
-use lib.Seq.{getD-set-same}
+use lib.ListN.{length, getD, set, take, length-set}
+use lib.Seq.{getD-set-same, getD-set-other, drop-set-lt}
 use borrow.Author.Tests.{eq-eqb, ne-eqb}
 use Rattle.agenda.specs.declared.Record.{Record}
 use Rattle.queues.specs.Queues.{holds, Levels, Inserted, Removed, Cleared}
 use Rattle.agenda.specs.Consequences.{recordIn}
 use Rattle.agenda.specs.Steps.{handledNow}
-use Rattle.ranking.specs.Ranking.{orderOf, orderAt, setOf, Based, Held, Ranked, Replaces}
+use Rattle.ranking.specs.Ranking.{orderOf, orderAt, setOf, Based, Held, Whole, Ranked, Replaces}
 use Rattle.ranking.proofs.Orders.{order-positive, order-past, order-some, handled-order}
-use Rattle.ranking.proofs.Parts.{put, length-put, put-same, word-before}
+use Rattle.ranking.proofs.Parts.{length-part, put, length-put, put-same, word-before}
 
 -- ---- the same records, as far as they are ranked
 pub ranked-same : (w : List ℕ) (rs rs′ : List Record) → ((k : ℕ) → orderAt rs′ k ≡ orderAt rs k) → Ranked w rs → Ranked w rs′
@@ -24,6 +24,7 @@ ranked-same w rs rs′ e R = record {
   levels = R .levels;
   based = λ z j n. rw (e j) (R .based z j (λ q. n (e j ∙ q)));
   held = λ z p h. R .held z p h ∙ sym (ap (λ k. eqb k (4096 * getD w 1 0 + p + 1)) (e (p % 4096)));
+  whole = λ z j. rw (e j) (R .whole z j);
 }
 
 -- a order that was 0 and is 0
@@ -35,33 +36,56 @@ ranked-still w j rs rs′ R z E = ranked-same w rs rs′ (λ k. go k (ℕ-discre
     go k (no n) = E .others k n
 
 -- words that say nothing
-pub ranked-marked : (w : List ℕ) → length w ≡ 4230 → (rs : List Record) → Ranked (set w 0 1) rs
+pub ranked-marked : (w : List ℕ) → length w ≡ 4231 → (rs : List Record) → Ranked (set w 0 2) rs
 ranked-marked w e rs = record {
-  size = length-set w 0 1 ∙ e;
-  levels = λ z. absurd (no-zero z);
-  based = λ z. absurd (no-zero z);
-  held = λ z. absurd (no-zero z);
+  size = length-set w 0 2 ∙ e;
+  levels = λ z. absurd (omega (arith, marked));
+  based = λ z. absurd (omega (arith, marked));
+  held = λ z. absurd (omega (arith, marked));
+  whole = λ z. absurd (omega (arith, marked));
 }
   where
-    no-zero : getD (set w 0 1) 0 0 ≡ 0 → ⊥
-    no-zero z = let q : getD (set w 0 1) 0 0 ≡ 1 = getD-set-same w 0 1 0 (omega arith) in omega arith
+    marked : getD (set w 0 2) 0 0 ≡ 2
+    marked = getD-set-same w 0 2 0 (omega arith)
+
+-- words whose set may lack records
+ranked-parted : (w : List ℕ) (rs : List Record) → length w ≡ 4231 → Levels (setOf w) → Based (getD w 1 0) rs → Held (getD w 1 0) (setOf w) rs → Ranked (set w 0 1) rs
+ranked-parted w rs s a b c = record {
+  size = length-set w 0 1 ∙ s;
+  levels = λ z. rw same a;
+  based = λ z. rw base b;
+  held = λ z. rw (base, same) c;
+  whole = λ z. absurd (omega (arith, getD-set-same w 0 1 0 (omega arith)));
+}
+  where
+    base : getD (set w 0 1) 1 0 ≡ getD w 1 0
+    base = getD-set-other w 0 1 1 0 (λ q. omega arith)
+
+    same : setOf (set w 0 1) ≡ setOf w
+    same = ap (take 4229) (drop-set-lt 2 w 0 1 (omega arith))
 
 -- ---- the set is lent
-module _ (w new : List ℕ) (s : length w ≡ 4230) (e : length new ≡ 4228) where
-  pub put-size : length (put 2 4228 w new) ≡ 4230
-  put-size = length-put 2 4228 w new (omega arith) e ∙ s
+module _ (w new : List ℕ) (s : length w ≡ 4231) (e : length new ≡ 4229) where
+  pub put-size : length (put 2 4229 w new) ≡ 4231
+  put-size = length-put 2 4229 w new (omega arith) e ∙ s
 
-  ranked-put : (rs : List Record) → (getD w 0 0 ≡ 0 → Levels new) → (getD w 0 0 ≡ 0 → Based (getD w 1 0) rs) → (getD w 0 0 ≡ 0 → Held (getD w 1 0) new rs) → Ranked (put 2 4228 w new) rs
-  ranked-put rs a b c =
-      let stale = word-before 2 4228 w new (omega arith) e 0 (omega arith) in
-      let base = word-before 2 4228 w new (omega arith) e 1 (omega arith) in
-      let same = put-same 2 4228 w new (omega arith) e in
+  ranked-put : (rs : List Record) → (getD w 0 0 < 2 → Levels new) → (getD w 0 0 < 2 → Based (getD w 1 0) rs) → (getD w 0 0 < 2 → Held (getD w 1 0) new rs)
+      → (getD w 0 0 ≡ 0 → Whole (getD w 1 0) rs) → Ranked (put 2 4229 w new) rs
+  ranked-put rs a b c d =
+      let stale = word-before 2 4229 w new (omega arith) e 0 (omega arith) in
+      let base = word-before 2 4229 w new (omega arith) e 1 (omega arith) in
+      let same = put-same 2 4229 w new (omega arith) e in
       record {
         size = put-size;
-        levels = λ z. rw same (a (sym stale ∙ z));
-        based = λ z. rw base (b (sym stale ∙ z));
-        held = λ z. rw (base, same) (c (sym stale ∙ z));
+        levels = λ z. rw same (a (omega arith));
+        based = λ z. rw base (b (omega arith));
+        held = λ z. rw (base, same) (c (omega arith));
+        whole = λ z. rw base (d (sym stale ∙ z));
       }
+
+-- .. and comes back as it was
+pub ranked-back : (w new : List ℕ) (rs : List Record) → Ranked w rs → new ≡ setOf w → Ranked (put 2 4229 w new) rs
+ranked-back w new rs R e = ranked-put w new (R .size) (ap length e ∙ length-part 2 4229 w (omega (arith, R .size))) rs (λ z. rw e (R .levels z)) (R .based) (λ z. rw e (R .held z)) (R .whole)
 
 -- ---- one record waits with a count, in rs′ and not in rs
 module _ (j n base : ℕ) (rs rs′ : List Record) (none : orderAt rs j ≡ 0) (some : orderAt rs′ j ≡ 4096 * n + j + 1) (others : (k : ℕ) → (k ≡ j → ⊥) → orderAt rs′ k ≡ orderAt rs k) (h : j < 4096) where
@@ -96,6 +120,20 @@ module _ (j n base : ℕ) (rs rs′ : List Record) (none : orderAt rs j ≡ 0) (
       go (yes e) = absurd (d (ap (orderAt rs) e ∙ none))
       go (no e) = rw (← others k e) (B k (λ q. d (sym (others k e) ∙ q)))
 
+  whole-more : n < base + 32 → Whole base rs → Whole base rs′
+  whole-more l W k = go (ℕ-discrete k j)
+    where
+      go : Dec (k ≡ j) → orderAt rs′ k ≤ 4096 * base + 131072
+      go (yes e) = rw e (omega arith)
+      go (no e) = rw (others k e) (W k)
+
+  whole-less : Whole base rs′ → Whole base rs
+  whole-less W k = go (ℕ-discrete k j)
+    where
+      go : Dec (k ≡ j) → orderAt rs k ≤ 4096 * base + 131072
+      go (yes e) = rw e (omega arith)
+      go (no e) = rw (← others k e) (W k)
+
   -- a count that is not in the set
   held-far : (ws : List ℕ) → base + 32 ≤ n → Held base ws rs → Held base ws rs′
   held-far ws l H p b = H p b ∙ other-number p (λ q. omega arith)
@@ -108,32 +146,38 @@ module _ (j n base : ℕ) (rs rs′ : List Record) (none : orderAt rs j ≡ 0) (
     where
       go : Dec (p ≡ m) → holds new p ≡ eqb (orderAt rs′ (p % 4096)) (4096 * base + p + 1)
       go (yes q) = ap (holds new) q ∙ I .self ∙ sym (own-number p (omega arith))
-      go (no q) = I .others p q ∙ H p b ∙ other-number p (λ t. q (omega arith))
+      go (no q) = I .others p b q ∙ H p b ∙ other-number p (λ t. q (omega arith))
 
   held-less : (ws new : List ℕ) (m : ℕ) → 4096 * base + m ≡ 4096 * n + j → Removed ws m new → Held base ws rs′ → Held base new rs
   held-less ws new m e I H p b = go (ℕ-discrete p m)
     where
       go : Dec (p ≡ m) → holds new p ≡ eqb (orderAt rs (p % 4096)) (4096 * base + p + 1)
       go (yes q) = ap (holds new) q ∙ I .self ∙ sym (own-none p (omega arith))
-      go (no q) = I .others p q ∙ H p b ∙ sym (other-number p (λ t. q (omega arith)))
+      go (no q) = I .others p b q ∙ H p b ∙ sym (other-number p (λ t. q (omega arith)))
 
 -- ---- a record comes
 module _ (w : List ℕ) (j n : ℕ) (h : j < 4096) (rs rs′ : List Record) (R : Ranked w rs) (z : orderAt rs j ≡ 0) (E : Replaces j (orderOf true j n) rs rs′) where
   come : orderAt rs′ j ≡ 4096 * n + j + 1
   come = E .given ∙ order-positive j n
 
-  pub inserted-far : getD w 1 0 + 32 ≤ n → Ranked w rs′
-  inserted-far l = record {
-    size = R .size;
-    levels = R .levels;
-    based = λ q. based-more j n (getD w 1 0) rs rs′ z come (E .others) h (omega arith) (R .based q);
-    held = λ q. held-far j n (getD w 1 0) rs rs′ z come (E .others) h (setOf w) l (R .held q);
-  }
+  based-come : getD w 1 0 ≤ n → getD w 0 0 < 2 → Based (getD w 1 0) rs′
+  based-come l q = based-more j n (getD w 1 0) rs rs′ z come (E .others) h l (R .based q)
 
-  pub inserted-set : (new : List ℕ) → getD w 1 0 ≤ n → Inserted (setOf w) (4096 * (n - getD w 1 0) + j) new → Ranked (put 2 4228 w new) rs′
-  inserted-set new l I =
-      ranked-put w new (R .size) (I .size) rs′ (λ q. I .levels (R .levels q)) (λ q. based-more j n (getD w 1 0) rs rs′ z come (E .others) h l (R .based q))
+  held-come : getD w 1 0 + 32 ≤ n → getD w 0 0 < 2 → Held (getD w 1 0) (setOf w) rs′
+  held-come l q = held-far j n (getD w 1 0) rs rs′ z come (E .others) h (setOf w) l (R .held q)
+
+  -- a count far above the base: the first that the set lacks, and one more
+  pub inserted-first : getD w 1 0 + 32 ≤ n → getD w 0 0 ≡ 0 → Ranked (set w 0 1) rs′
+  inserted-first l q = ranked-parted w rs′ (R .size) (R .levels (omega arith)) (based-come (omega arith) (omega arith)) (held-come l (omega arith))
+
+  pub inserted-far : getD w 1 0 + 32 ≤ n → (getD w 0 0 ≡ 0 → ⊥) → Ranked w rs′
+  inserted-far l d = record { size = R .size; levels = R .levels; based = based-come (omega arith); held = held-come l; whole = λ q. absurd (d q) }
+
+  pub inserted-set : (new : List ℕ) → getD w 1 0 ≤ n → n < getD w 1 0 + 32 → Inserted (setOf w) (4096 * (n - getD w 1 0) + j) new → Ranked (put 2 4229 w new) rs′
+  inserted-set new l m I =
+      ranked-put w new (R .size) (I .size) rs′ (λ q. I .levels (R .levels q)) (based-come l)
       (λ q. held-more j n (getD w 1 0) rs rs′ z come (E .others) h (setOf w) new (4096 * (n - getD w 1 0) + j) (omega arith) I (R .held q))
+      (λ q. whole-more j n (getD w 1 0) rs rs′ z come (E .others) h m (R .whole q))
 
 -- ---- a record goes
 module _ (w : List ℕ) (j n : ℕ) (h : j < 4096) (rs rs′ : List Record) (R : Ranked w rs) (z : orderAt rs j ≡ orderOf true j n) (E : Replaces j 0 rs rs′) where
@@ -143,27 +187,29 @@ module _ (w : List ℕ) (j n : ℕ) (h : j < 4096) (rs rs′ : List Record) (R :
   back : (k : ℕ) → (k ≡ j → ⊥) → orderAt rs k ≡ orderAt rs′ k
   back k d = sym (E .others k d)
 
+  based-gone : getD w 0 0 < 2 → Based (getD w 1 0) rs′
+  based-gone q = based-less j n (getD w 1 0) rs′ rs (E .given) went back h (R .based q)
+
+  whole-gone : getD w 0 0 ≡ 0 → Whole (getD w 1 0) rs′
+  whole-gone q = whole-less j n (getD w 1 0) rs′ rs (E .given) went back h (R .whole q)
+
   -- no waiting record is below the base
   pub removed-none : n < getD w 1 0 → Ranked w rs′
-  removed-none l = record {
-    size = R .size;
-    levels = R .levels;
-    based = λ q. absurd (omega (arith, R .based q j (λ t. omega (arith, went)), went));
-    held = λ q. absurd (omega (arith, R .based q j (λ t. omega (arith, went)), went));
-  }
+  removed-none l = record { size = R .size; levels = R .levels; based = based-gone; held = λ q. absurd (omega (arith, R .based q j (λ t. omega (arith, went)), went)); whole = whole-gone }
 
   pub removed-far : getD w 1 0 + 32 ≤ n → Ranked w rs′
   removed-far l = record {
     size = R .size;
     levels = R .levels;
-    based = λ q. based-less j n (getD w 1 0) rs′ rs (E .given) went back h (R .based q);
+    based = based-gone;
     held = λ q. held-near j n (getD w 1 0) rs′ rs (E .given) went back h (setOf w) l (R .held q);
+    whole = whole-gone;
   }
 
-  pub removed-set : (new : List ℕ) → getD w 1 0 ≤ n → Removed (setOf w) (4096 * (n - getD w 1 0) + j) new → Ranked (put 2 4228 w new) rs′
+  pub removed-set : (new : List ℕ) → getD w 1 0 ≤ n → Removed (setOf w) (4096 * (n - getD w 1 0) + j) new → Ranked (put 2 4229 w new) rs′
   removed-set new l I =
-      ranked-put w new (R .size) (I .size) rs′ (λ q. I .levels (R .levels q)) (λ q. based-less j n (getD w 1 0) rs′ rs (E .given) went back h (R .based q))
-      (λ q. held-less j n (getD w 1 0) rs′ rs (E .given) went back h (setOf w) new (4096 * (n - getD w 1 0) + j) (omega arith) I (R .held q))
+      ranked-put w new (R .size) (I .size) rs′ (λ q. I .levels (R .levels q)) based-gone
+      (λ q. held-less j n (getD w 1 0) rs′ rs (E .given) went back h (setOf w) new (4096 * (n - getD w 1 0) + j) (omega arith) I (R .held q)) whole-gone
 
 -- ---- a record has another count: it goes, and comes
 pub recounted : (j old n : ℕ) (rs rs′ : List Record) (u v w : List ℕ) → ((xs ys : List Record) → Ranked u xs → orderAt xs j ≡ orderOf true j old → Replaces j 0 xs ys → Ranked v ys)
@@ -175,10 +221,11 @@ recounted j old n rs rs′ u v w f g R z E =
     g gone rs′ (f rs gone R z H) (H .given) (record { given = E .given; others = λ k d. E .others k d ∙ sym (H .others k d) })
 
 -- ---- no records
-pub ranked-none : (w new : List ℕ) → length w ≡ 4230 → Cleared new → Ranked (put 2 4228 w new) []
+pub ranked-none : (w new : List ℕ) → length w ≡ 4231 → Cleared new → Ranked (put 2 4229 w new) []
 ranked-none w new s C =
     ranked-put w new s (C .levels .size) [] (λ q. C .levels) (λ q j d. absurd (d (order-past [] j (omega arith))))
     (λ q p b. C .none p ∙ sym (ne-eqb (orderAt [] (p % 4096)) (4096 * getD w 1 0 + p + 1) (λ t. let z = order-past [] (p % 4096) (omega arith) in omega arith)))
+    (λ q j. omega (arith, order-past [] j (omega arith)))
 
 -- ---- a record that is placed waits or does not
 pub placed-some : (t : Bool) (j n : ℕ) (rs rs′ : List Record) → t ≡ true → Replaces j (orderOf t j n) rs rs′ → Replaces j (orderOf true j n) rs rs′
@@ -189,5 +236,5 @@ unfolding orderOf
 placed-none t j n rs rs′ h E = rw h at E
 
 -- ---- the words are made anew
-pub renewed-size : (w : List ℕ) (base : ℕ) → length w ≡ 4230 → length (set (set w 0 0) 1 base) ≡ 4230
+pub renewed-size : (w : List ℕ) (base : ℕ) → length w ≡ 4231 → length (set (set w 0 0) 1 base) ≡ 4231
 renewed-size w base s = length-set (set w 0 0) 1 base ∙ length-set w 0 0 ∙ s

@@ -2,7 +2,7 @@
 use mathlib.Core.Bool.{Bool, _&&_, not, cond}
 use mathlib.Core.List.{List}
 use mathlib.Core.Path.{_≡_}
-use Prim.Native.Nat.{ℕ, _+_, _*_, _%_, _<_}
+use Prim.Native.Nat.{ℕ, _+_, _*_, _%_, _≤_, _<_}
 use lib.ListN.{length, getD, set, take, drop}
 use lib.Dec.{eqb, ltb}
 use Rattle.agenda.specs.declared.Record.{Record}
@@ -29,7 +29,7 @@ orderAt rs j = orderOf (waitsAt rs j) j (recordIn rs j .count)
 -- ---- in words
 -- the words of the set
 abbrev pub setOf : List ℕ → List ℕ
-setOf w = take 4228 (drop 2 w)
+setOf w = take 4229 (drop 2 w)
 
 -- no waiting record has a count below the base
 abbrev pub Based : ℕ → List Record → Type 0
@@ -39,12 +39,18 @@ Based base rs = (j : ℕ) → (orderAt rs j ≡ 0 → ⊥) → 4096 * base + j <
 abbrev pub Held : ℕ → List ℕ → List Record → Type 0
 Held base ws rs = (p : ℕ) → p < 131072 → holds ws p ≡ eqb (orderAt rs (p % 4096)) (4096 * base + p + 1)
 
--- the words are the ranking of the records: word 1 is the base, and the set follows. Where word 0 is not 0 the other words say nothing
+-- no waiting record has a count of base + 32 or more
+abbrev pub Whole : ℕ → List Record → Type 0
+Whole base rs = (j : ℕ) → orderAt rs j ≤ 4096 * base + 131072
+
+-- the words are the ranking of the records: word 1 is the base, and the set follows. Where word 0 is 0 the set holds every waiting record,
+-- where it is 1 those of a count of base + 32 or more may be missing, and where it is 2 the other words say nothing
 pub record Ranked (w : List ℕ) (rs : List Record) : Type 0 where
-  pub size : length w ≡ 4230
-  pub levels : getD w 0 0 ≡ 0 → Levels (setOf w)
-  pub based : getD w 0 0 ≡ 0 → Based (getD w 1 0) rs
-  pub held : getD w 0 0 ≡ 0 → Held (getD w 1 0) (setOf w) rs
+  pub size : length w ≡ 4231
+  pub levels : getD w 0 0 < 2 → Levels (setOf w)
+  pub based : getD w 0 0 < 2 → Based (getD w 1 0) rs
+  pub held : getD w 0 0 < 2 → Held (getD w 1 0) (setOf w) rs
+  pub whole : getD w 0 0 ≡ 0 → Whole (getD w 1 0) rs
 
 -- the records rs′ have the orders of rs, but p at place j
 pub record Replaces (j p : ℕ) (rs rs′ : List Record) : Type 0 where

@@ -170,13 +170,18 @@ pub paste-start : (d s : List ℕ) (at : ℕ) → d ≡ pasted d at s 0
 unfolding pasted
 paste-start d s at = paste-zero d at s
 
-pub paste-next : (d s e : List ℕ) (at i : ℕ) → at + i < length d → i < length s → e ≡ pasted d at s i
-    → set e (at + i) (getD s i 0) ≡ pasted d at s (i + 1)
+paste-next : (d s e : List ℕ) (at i k : ℕ) → k ≡ i + 1 → at + i < length d → i < length s → e ≡ pasted d at s i
+    → set e (at + i) (getD s i 0) ≡ pasted d at s k
 unfolding pasted
-paste-next d s e at i h l p = rw (p, add-one) (paste-suc d at s i 0 h l)
+paste-next d s e at i k n h l p = rw (p, n, add-one) (paste-suc d at s i 0 h l)
 
-pub paste-done : (d s e : List ℕ) (at k : ℕ) → k ≤ 16 → 16 ≤ k → e ≡ pasted d at s k → e ≡ pasted d at s 16
-paste-done d s e at k a b p = p ∙ ap (λ n. pasted d at s n) (let q : k ≡ 16 = omega arith in q)
+pub paste-four : (d s e : List ℕ) (at i : ℕ) → at + i + 4 ≤ length d → i + 4 ≤ length s → e ≡ pasted d at s i
+    → set (set (set (set e (at + i) (getD s i 0)) (at + (i + 1)) (getD s (i + 1) 0)) (at + (i + 2)) (getD s (i + 2) 0)) (at + (i + 3)) (getD s (i + 3) 0) ≡ pasted d at s (i + 4)
+paste-four d s e at i h l p =
+    paste-next d s _ at (i + 3) (i + 4) (omega arith) (omega arith) (omega arith)
+    (paste-next d s _ at (i + 2) (i + 3) (omega arith) (omega arith) (omega arith)
+    (paste-next d s _ at (i + 1) (i + 2) (omega arith) (omega arith) (omega arith)
+    (paste-next d s e at i (i + 1) refl (omega arith) (omega arith) p)))
 
 pub save-some : (w v : List ℕ) (j : ℕ) (x : Record) → j < capacity w → v ≡ pasted w (2 + 16 * j) (wordsOf x) 16 → v ≡ saved w j x
 unfolding saved

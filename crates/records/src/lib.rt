@@ -1,6 +1,7 @@
 // A chart's words: the header, and records of sixteen words that are read, compared and written.
 ghost use mathlib.Core.Path.{_≡_};
-ghost use Prim.Native.Nat.{_≤_, _<_, _+_, _*_};
+ghost use mathlib.Core.List.{List};
+ghost use Prim.Native.Nat.{ℕ, _≤_, _<_, _+_, _*_};
 ghost use lib.ListN.{length, getD};
 ghost use Rattle.records.specs.Words.{capacity, itemCount, fieldAt, blockAt, ofWords, recordAt, recordsAt, wordsOf, pasted, fourSame, lesserAt, improvedAt, appendedTo, addedTo, markedAt};
 ghost use Rattle.agenda.specs.Records.{sameRecord};
@@ -147,16 +148,30 @@ pub fn load(chart: &[u64], j: u64) -> Record
     record_of(words_at(chart, j))
 }
 
+// Four words, the k-th and the next, copied to their places from at on: all are read before one is written, so that wide loads and stores can do it.
+fn put_four(chart: &mut [u64], at: usize, x: &[u64], k: usize)
+    requires { ⌜ (at + k + 4 ≤ length (now chart)) × (k + 4 ≤ length (now x)) ⌝ }
+    ensures { λ r. ⌜ ((w : List ℕ) → length w ≡ length (now (chart .entry)) → now (chart .entry) ≡ pasted w at (now (x .entry)) k → now (chart .exit) ≡ pasted w at (now (x .entry)) (k + 4)) × (length (now (chart .exit)) ≡ length (now (chart .entry))) ⌝ }
+{
+    let a = x[k];
+    let b = x[k + 1];
+    let c = x[k + 2];
+    let d = x[k + 3];
+    chart[at + k] = a;
+    chart[at + (k + 1)] = b;
+    chart[at + (k + 2)] = c;
+    chart[at + (k + 3)] = d;
+}
+
 // Sixteen words, copied to the place at on.
 fn put_words(chart: &mut [u64], at: usize, x: &[u64])
     requires { ⌜ (at + 16 ≤ length (now chart)) × (length (now x) ≡ 16) ⌝ }
     ensures { λ r. ⌜ now (chart .exit) ≡ pasted (now (chart .entry)) at (now (x .entry)) 16 ⌝ }
 {
-    let mut k = 0;
-    while k < 16 {
-        chart[at + k] = x[k];
-        k += 1;
-    }
+    put_four(chart, at, x, 0);
+    put_four(chart, at, x, 4);
+    put_four(chart, at, x, 8);
+    put_four(chart, at, x, 12);
 }
 
 // Whether the four words from k on are those of the record at place j, which lies inside the chart.

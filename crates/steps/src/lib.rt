@@ -111,7 +111,7 @@ pub fn advance(g: &[u64], h: &[u64], chart: &mut [u64], steps: u64) -> bool
     pivots::fill(g, &plans, &wants, &mut pivots);
     let mut graph = [0u64; 577];
     joins::graphs::fill(g, h, &mut graph);
-    let mut index = [0u32; 49289];
+    let mut index = [0u32; 49290];
     index::build(g, h, &graph, &wants, &pivots, chart, &mut index);
     advance_by(
         g,

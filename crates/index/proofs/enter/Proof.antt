@@ -63,7 +63,7 @@ returns c =
     let b = c .before .before .before .before .before .before .before .before .link .kept in
     let d = c .before .before .place .kept in
     let p : length (c .before .before .before .before .before .before .before .before .link .last .0) ≡ 12288 = omega arith in
-    let q : length (c .before .before .place .last .0) ≡ 4230 = omega arith in
+    let q : length (c .before .before .place .last .0) ≡ 4231 = omega arith in
     λ rs I e. (entered (s .wants .now) (s .pivots .now) (s .index .now) _ (c .before .before .before .before .before .before .before .before .link .last .0) (c .before .before .place .last .0) (s .n) (s .h) (ofWords (s .x .now)) rs I e (c .before .before .before .before .before .before .before .before .before .before .before .before .before .before .before .before .pre .2) (c .before .before .before .before .before .before .before .before .before .before .before .before .list .ensures) (c .before .before .before .before .before .before .before .before .before .before .before .before .before .before .before .before .pre .4) (c .before .before .before .before .before .before .before .before .link .ensures) (c .before .before .place .ensures rs (rs ++ ((ofWords (s .x .now)) ∷ []))), entered-near (s .wants .now) (s .pivots .now) (s .index .now) _ (c .before .before .before .before .before .before .before .before .link .last .0) (c .before .before .place .last .0) (s .n) (s .h) (ofWords (s .x .now)) rs I e (c .before .before .before .before .before .before .before .before .before .before .before .before .before .before .before .before .pre .2) (c .before .before .before .before .before .before .before .before .before .before .before .before .list .ensures) p q)
 
 pub enter-spec : {M : Type 1} → statement M

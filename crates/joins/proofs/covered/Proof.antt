@@ -1,6 +1,5 @@
 -- Where every node near is seen, the open nodes are images. Else a subset of the images, since open nodes are nodes of the graph.
 use native.Mathlib.Omega.{arith}
-use borrow.Author.Needs.{needs}
 use borrow.Author.Tests.{eq-eqb}
 use Rattle.joins.proofs.Combining.{covers, covers-near}
 use Rattle.joins.proofs.covered.Statement.{statement}

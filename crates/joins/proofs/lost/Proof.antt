@@ -1,18 +1,8 @@
 -- By the words of the node's edges.
-use native.Mathlib.Omega.{arith}
 use borrow.Author.Needs.{needs}
-use borrow.Author.Tests.{le-ltb}
-use Rattle.joins.specs.Joins.{openBy}
-use Rattle.joins.proofs.Openness.{lost-near}
+use Rattle.joins.proofs.Openness.{open-read}
 use Rattle.joins.proofs.lost.Statement.{statement}
 use Rattle.joins.proofs.lost.Tie as tie
-
-returns : tie.Need-returns
-returns c = search needs
-
-returns-2 : tie.Need-returns-2
-unfolding openBy
-returns-2 c = rw (c .before .if1 .left, le-ltb _ _ (c .if2 .taken))
 
 add-low : tie.Need-add-low
 add-low c = search needs
@@ -56,15 +46,13 @@ element-copy-out-has c = search needs
 has-requires : tie.Need-has-requires
 has-requires c κs = search needs
 
-returns-3 : tie.Need-returns-3
-returns-3 c = lost-near _ _ _ _ _ (c .before .before .before .before .before .before .before .if1 .left) (c .before .before .before .before .before .before .if2 .left) (c .has .ensures)
+returns : tie.Need-returns
+returns c = open-read _ _ _ _ (c .before .before .before .before .before .before .pre) (c .has .ensures)
 
 pub lost-spec : {M : Type 1} → statement M
 lost-spec =
     tie.close
     (tie.spec
-    returns
-    returns-2
     add-low
     mul-low
     element-copy-out-low
@@ -79,4 +67,4 @@ lost-spec =
     element-copy-out-high-2
     element-copy-out-has
     has-requires
-    returns-3)
+    returns)

@@ -9,10 +9,10 @@ use Rattle.queues.proofs.clear.Statement.{statement}
 use Rattle.queues.proofs.clear.Tie as tie
 
 abbrev Inv-loop : tie.InvT-loop
-Inv-loop ws₀ i₀ ws i = (length ws ≡ 4228) × (i ≤ 4228) × ((n : ℕ) → n < i → getD ws n 0 ≡ 0)
+Inv-loop ws₀ i₀ ws i = (length ws ≡ 4229) × (i ≤ 4229) × ((n : ℕ) → n < i → getD ws n 0 ≡ 0)
 
 abbrev μ-loop : tie.MeasureT-loop
-μ-loop ws₀ i₀ ws i = 4228 - i
+μ-loop ws₀ i₀ ws i = 4229 - i
 
 loop-holds : tie.Need-loop-holds Inv-loop μ-loop
 loop-holds c = (c .pre, omega arith, λ n h. absurd (omega arith))
