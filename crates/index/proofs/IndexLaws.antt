@@ -115,65 +115,65 @@ kept-same ix = record { links = refl; ranks = refl }
 pub kept-on : (ix mid new : List ℕ) → Kept ix mid → Kept mid new → Kept ix new
 kept-on ix mid new p q = record { links = q .links ∙ p .links; ranks = q .ranks ∙ p .ranks }
 
-module _ (wants pivots : List ℕ) where
+module _ (keys : List ℕ) where
   abbrev Regular : List Record → Type 0
-  Regular rs = (j : ℕ) → j < length rs → regularOf pivots (recordIn rs j) ≡ true
+  Regular rs = (j : ℕ) → j < length rs → regularOf keys (recordIn rs j) ≡ true
 
   -- words with the same lists and mark
-  keyed-same : (ix new : List ℕ) (rs : List Record) → length new ≡ indexWords → listsOf new ≡ listsOf ix → markOf new ≡ markOf ix → Keyed wants pivots ix rs → Keyed wants pivots new rs
+  keyed-same : (ix new : List ℕ) (rs : List Record) → length new ≡ indexWords → listsOf new ≡ listsOf ix → markOf new ≡ markOf ix → Keyed keys ix rs → Keyed keys new rs
   keyed-same ix new rs s p q K = record { size = s; listed = rw p (K .listed); regular = λ z. K .regular (sym q ∙ z) }
 
-  keyed-links : (ix new : List ℕ) (rs : List Record) → length new ≡ 12288 → Keyed wants pivots ix rs → Keyed wants pivots (put 0 12288 ix new) rs
+  keyed-links : (ix new : List ℕ) (rs : List Record) → length new ≡ 12288 → Keyed keys ix rs → Keyed keys (put 0 12288 ix new) rs
   keyed-links ix new rs e K = let s = K .size in
       keyed-same ix (put 0 12288 ix new) rs (links-size ix new s e) (links-lists ix new s e) (links-mark ix new s e) K
 
-  keyed-ranks : (ix new : List ℕ) (rs : List Record) → length new ≡ 4231 → Keyed wants pivots ix rs → Keyed wants pivots (put 12288 4231 ix new) rs
+  keyed-ranks : (ix new : List ℕ) (rs : List Record) → length new ≡ 4231 → Keyed keys ix rs → Keyed keys (put 12288 4231 ix new) rs
   keyed-ranks ix new rs e K = let s = K .size in
       keyed-same ix (put 12288 4231 ix new) rs (ranks-size ix new s e) (ranks-lists ix new s e) (ranks-mark ix new s e) K
 
-  keyed-of : (ix : List ℕ) (rs : List Record) → Indexed wants pivots ix rs → Keyed wants pivots ix rs
+  keyed-of : (ix : List ℕ) (rs : List Record) → Indexed keys ix rs → Keyed keys ix rs
   keyed-of ix rs I = record { size = I .size; listed = I .listed; regular = I .regular }
 
-  pub keyed-ready : (ix : List ℕ) (rs : List Record) → Keyed wants pivots ix rs → Ready (listsOf ix)
-  keyed-ready ix rs K = listed-ready (listsOf ix) (keysFor wants pivots rs) (K .listed)
+  pub keyed-ready : (ix : List ℕ) (rs : List Record) → Keyed keys ix rs → Ready (listsOf ix)
+  keyed-ready ix rs K = listed-ready (listsOf ix) (keysFor keys rs) (K .listed)
 
-  pub indexed-ready : (ix : List ℕ) (rs : List Record) → Indexed wants pivots ix rs → Ready (listsOf ix)
+  pub indexed-ready : (ix : List ℕ) (rs : List Record) → Indexed keys ix rs → Ready (listsOf ix)
   indexed-ready ix rs I = keyed-ready ix rs (keyed-of ix rs I)
 
-  pub keys-within : (x : Record) (ks : List ℕ) → ks ≡ keysOf wants pivots x → Within 2048 ks
-  keys-within x ks e i h = rw e (keys-few wants pivots x i)
+  pub keys-within : (x : Record) (ks : List ℕ) → ks ≡ keysOf keys x → Within 2048 ks
+  keys-within x ks e i h = rw e (keys-few keys x i)
 
-  module _ (ix new ks : List ℕ) (n : ℕ) (x : Record) (t : Bool) (e : ks ≡ keysOf wants pivots x) (q : new ≡ enteredAll (listsOf ix) (5 * n) ks) (r : t ≡ regularOf pivots x) where
-    new-is : put 16519 24578 ix new ≡ withKeys ix n (keysOf wants pivots x)
+  module _ (ix new ks : List ℕ) (n : ℕ) (x : Record) (t : Bool) (e : ks ≡ keysOf keys x) (q : new ≡ enteredAll (listsOf ix) (5 * n) ks) (r : t ≡ regularOf keys x) where
+    new-is : put 16519 24578 ix new ≡ withKeys ix n (keysOf keys x)
     new-is = ap (put 16519 24578 ix) (q ∙ ap (enteredAll (listsOf ix) (5 * n)) e)
 
-    pub list-regular : t ≡ true → put 16519 24578 ix new ≡ listedWith wants pivots ix n x
+    pub list-regular : t ≡ true → put 16519 24578 ix new ≡ listedWith keys ix n x
     unfolding listedWith
-    list-regular p = new-is ∙ sym (ap (λ b. cond b (withKeys ix n (keysOf wants pivots x)) (set (withKeys ix n (keysOf wants pivots x)) 41097 1)) (sym r ∙ p))
+    list-regular p = new-is ∙ sym (ap (λ b. cond b (withKeys ix n (keysOf keys x)) (set (withKeys ix n (keysOf keys x)) 41097 1)) (sym r ∙ p))
 
-    pub list-irregular : t ≡ false → set (put 16519 24578 ix new) 41097 1 ≡ listedWith wants pivots ix n x
+    pub list-irregular : t ≡ false → set (put 16519 24578 ix new) 41097 1 ≡ listedWith keys ix n x
     unfolding listedWith
     list-irregular p =
         ap (λ (v : List ℕ). set v 41097 1) new-is
-        ∙ sym (ap (λ b. cond b (withKeys ix n (keysOf wants pivots x)) (set (withKeys ix n (keysOf wants pivots x)) 41097 1)) (sym r ∙ p))
+        ∙ sym (ap (λ b. cond b (withKeys ix n (keysOf keys x)) (set (withKeys ix n (keysOf keys x)) 41097 1)) (sym r ∙ p))
 
   -- ---- one record more
-  regular-more : (rs : List Record) (x : Record) → regularOf pivots x ≡ true → Regular rs → Regular (rs ++ (x ∷ []))
+  regular-more : (rs : List Record) (x : Record) → regularOf keys x ≡ true → Regular rs → Regular (rs ++ (x ∷ []))
   regular-more rs x t R j l = go (decLt j (length rs))
     where
-      go : Dec (j < length rs) → regularOf pivots (recordIn (rs ++ (x ∷ [])) j) ≡ true
-      go (yes h) = ap (regularOf pivots) (List·getD-append rs (x ∷ []) noRecord j h) ∙ R j h
-      go (no h) = ap (regularOf pivots) (getD-at rs x [] noRecord j (omega (arith, length-append rs (x ∷ [])))) ∙ t
+      go : Dec (j < length rs) → regularOf keys (recordIn (rs ++ (x ∷ [])) j) ≡ true
+      go (yes h) = ap (regularOf keys) (List·getD-append rs (x ∷ []) noRecord j h) ∙ R j h
+      go (no h) = ap (regularOf keys) (getD-at rs x [] noRecord j (omega (arith, length-append rs (x ∷ [])))) ∙ t
 
-  module _ (ix : List ℕ) (n : ℕ) (x : Record) (rs : List Record) (K : Keyed wants pivots ix rs) (e : n ≡ length rs) (h : n < 4096) where
+  module _ (ix : List ℕ) (n : ℕ) (x : Record) (rs : List Record) (K : Keyed keys ix rs) (e : n ≡ length rs) (h : n < 4096) where
     abbrev new : List ℕ
-    new = enteredAll (listsOf ix) (5 * n) (keysOf wants pivots x)
+    new = enteredAll (listsOf ix) (5 * n) (keysOf keys x)
 
-    more-listed : Listed new (keysFor wants pivots (rs ++ (x ∷ [])))
+    more-listed : Listed new (keysFor keys (rs ++ (x ∷ [])))
     more-listed =
-        rw (keys-more wants pivots rs x)
-        (listed-entered-all (listsOf ix) (keysFor wants pivots rs) (5 * n) (keysOf wants pivots x) (K .listed) (omega (arith, keys-length wants pivots rs)) (omega arith) (keys-within x (keysOf wants pivots x) refl)
-        (keys-five wants pivots x))
+        rw (keys-more keys rs x)
+        (listed-entered-all (listsOf ix) (keysFor keys rs) (5 * n) (keysOf keys x) (K .listed) (omega (arith, keys-length keys rs)) (omega arith) (keys-within x (keysOf keys x) refl)
+        (keys-five keys x))
 
     abbrev lists : List ℕ
     lists = put 16519 24578 ix new
@@ -189,9 +189,9 @@ module _ (wants pivots : List ℕ) where
     marked = getD-set-same lists 41097 1 0 (omega (arith, lists-size ix new (K .size) (more-listed .size)))
 
     abbrev Both : List ℕ → Type 0
-    Both v = Keyed wants pivots v (rs ++ (x ∷ [])) × Kept ix v
+    Both v = Keyed keys v (rs ++ (x ∷ [])) × Kept ix v
 
-    regular-both : regularOf pivots x ≡ true → Both lists
+    regular-both : regularOf keys x ≡ true → Both lists
     regular-both t = (
       record {
         size = lists-size ix new (K .size) (more-listed .size);
@@ -211,18 +211,18 @@ module _ (wants pivots : List ℕ) where
       kept-on ix lists (set lists 41097 1) lists-kept set-kept,
     )
 
-    pub keyed-more : Both (listedWith wants pivots ix n x)
+    pub keyed-more : Both (listedWith keys ix n x)
     unfolding listedWith
-    keyed-more = go (regularOf pivots x) refl
+    keyed-more = go (regularOf keys x) refl
       where
-        go : (t : Bool) → regularOf pivots x ≡ t → Both (cond t lists (set lists 41097 1))
+        go : (t : Bool) → regularOf keys x ≡ t → Both (cond t lists (set lists 41097 1))
         go true p = regular-both p
         go false p = irregular-both
 
     -- the sets beside the records stay
-    pub near-more : NearKept ix (listedWith wants pivots ix n x)
+    pub near-more : NearKept ix (listedWith keys ix n x)
     unfolding listedWith
-    near-more = go (regularOf pivots x)
+    near-more = go (regularOf keys x)
       where
         kept : NearKept ix lists
         kept = near-put 16519 24578 ix new (K .size) (more-listed .size) (omega arith)
@@ -232,33 +232,33 @@ module _ (wants pivots : List ℕ) where
         go false = near-on ix lists (set lists 41097 1) kept (near-marked lists 1)
 
   -- the first records of words, one more of them
-  pub keyed-next : (w ix next : List ℕ) (j : ℕ) (x : Record) → Keyed wants pivots ix (recordsAt w j) → j < 4096 → x ≡ recordAt w j → next ≡ listedWith wants pivots ix j x
-      → Keyed wants pivots next (recordsAt w (j + 1)) × Kept ix next
+  pub keyed-next : (w ix next : List ℕ) (j : ℕ) (x : Record) → Keyed keys ix (recordsAt w j) → j < 4096 → x ≡ recordAt w j → next ≡ listedWith keys ix j x
+      → Keyed keys next (recordsAt w (j + 1)) × Kept ix next
   unfolding recordsAt
   keyed-next w ix next j x K h e q =
       rw add-one
-      (subst (λ (v : List ℕ). Keyed wants pivots v (recordsAt w j ++ (recordAt w j ∷ [])) × Kept ix v) (sym (q ∙ ap (listedWith wants pivots ix j) e))
+      (subst (λ (v : List ℕ). Keyed keys v (recordsAt w j ++ (recordAt w j ∷ [])) × Kept ix v) (sym (q ∙ ap (listedWith keys ix j) e))
       (keyed-more ix j (recordAt w j) (recordsAt w j) K (sym (length-records w j)) h))
 
-  pub keyed-first : (w ix : List ℕ) → length ix ≡ indexWords → Unlisted (listsOf ix) → Keyed wants pivots ix (recordsAt w 0)
+  pub keyed-first : (w ix : List ℕ) → length ix ≡ indexWords → Unlisted (listsOf ix) → Keyed keys ix (recordsAt w 0)
   unfolding recordsAt keysFor
   keyed-first w ix s u = record { size = s; listed = listed-none (listsOf ix) u; regular = λ z j l. absurd (omega arith) }
 
-  pub keyed-all : (w ix : List ℕ) (n j : ℕ) → n ≡ itemCount w → j ≤ n → n ≤ j → Keyed wants pivots ix (recordsAt w j) → Keyed wants pivots ix (chartOf w .records)
+  pub keyed-all : (w ix : List ℕ) (n j : ℕ) → n ≡ itemCount w → j ≤ n → n ≤ j → Keyed keys ix (recordsAt w j) → Keyed keys ix (chartOf w .records)
   unfolding chartOf
-  keyed-all w ix n j e h l K = subst (λ k. Keyed wants pivots ix (recordsAt w k)) (let q : j ≡ itemCount w = omega arith in q) K
+  keyed-all w ix n j e h l K = subst (λ k. Keyed keys ix (recordsAt w k)) (let q : j ≡ itemCount w = omega arith in q) K
 
   -- ---- all parts
-  indexed-by : (ix : List ℕ) (rs : List Record) → Keyed wants pivots ix rs → Chained (linksOf ix) rs → Ranked (ranksOf ix) rs → Indexed wants pivots ix rs
+  indexed-by : (ix : List ℕ) (rs : List Record) → Keyed keys ix rs → Chained (linksOf ix) rs → Ranked (ranksOf ix) rs → Indexed keys ix rs
   indexed-by ix rs K c r = record { size = K .size; chained = c; ranked = r; listed = K .listed; regular = K .regular }
 
   -- the ranking, beside the other parts of the same records
-  indexed-ranks : (ix new : List ℕ) (rs : List Record) → Keyed wants pivots ix rs → Chained (linksOf ix) rs → Ranked new rs → Indexed wants pivots (put 12288 4231 ix new) rs
+  indexed-ranks : (ix new : List ℕ) (rs : List Record) → Keyed keys ix rs → Chained (linksOf ix) rs → Ranked new rs → Indexed keys (put 12288 4231 ix new) rs
   indexed-ranks ix new rs K c r =
       indexed-by (put 12288 4231 ix new) rs (keyed-ranks ix new rs (r .size) K) (rw (ranks-links ix new (K .size) (r .size)) c) (rw (ranks-new ix new (K .size) (r .size)) r)
 
   -- .. and the chains
-  indexed-both : (ix links ranks : List ℕ) (rs : List Record) → Keyed wants pivots ix rs → Chained links rs → Ranked ranks rs → Indexed wants pivots (put 12288 4231 (put 0 12288 ix links) ranks) rs
+  indexed-both : (ix links ranks : List ℕ) (rs : List Record) → Keyed keys ix rs → Chained links rs → Ranked ranks rs → Indexed keys (put 12288 4231 (put 0 12288 ix links) ranks) rs
   indexed-both ix links ranks rs K c r =
       indexed-ranks (put 0 12288 ix links) ranks rs (keyed-links ix links rs (c .words) K) (rw (links-new ix links (K .size) (c .words)) c) r
 
@@ -274,16 +274,16 @@ module _ (ix links : List ℕ) (rs : List Record) (e : Empty ix) (c : Chained li
     pub unlisted-beside : Unlisted (listsOf (put 12288 4231 (put 0 12288 ix links) ranks))
     unlisted-beside = rw (ranks-lists (put 0 12288 ix links) ranks mid-size (r .size), links-lists ix links (e .size) (c .words)) (lists-empty ix e)
 
-    pub built : (wants pivots new : List ℕ) → Keyed wants pivots new rs → Kept (put 12288 4231 (put 0 12288 ix links) ranks) new → Indexed wants pivots new rs
-    built wants pivots new K k =
-        indexed-by wants pivots new rs K
+    pub built : (keys new : List ℕ) → Keyed keys new rs → Kept (put 12288 4231 (put 0 12288 ix links) ranks) new → Indexed keys new rs
+    built keys new K k =
+        indexed-by keys new rs K
         (rw (k .links, ranks-links (put 0 12288 ix links) ranks mid-size (r .size), links-new ix links (e .size) (c .words)) c)
         (rw (k .ranks, ranks-new (put 0 12288 ix links) ranks mid-size (r .size)) r)
 
 -- ---- one record more
-module _ (wants pivots ix listed links ranks : List ℕ) (n h : ℕ) (x : Record) (rs : List Record) (I : Indexed wants pivots ix rs) (e : n ≡ length rs) (f : n < 4096) where
-  keyed : listed ≡ listedWith wants pivots ix n x → Keyed wants pivots listed (rs ++ (x ∷ [])) × Kept ix listed
-  keyed o = rw o (keyed-more wants pivots ix n x rs (keyed-of wants pivots ix rs I) e f)
+module _ (keys ix listed links ranks : List ℕ) (n h : ℕ) (x : Record) (rs : List Record) (I : Indexed keys ix rs) (e : n ≡ length rs) (f : n < 4096) where
+  keyed : listed ≡ listedWith keys ix n x → Keyed keys listed (rs ++ (x ∷ [])) × Kept ix listed
+  keyed o = rw o (keyed-more keys ix n x rs (keyed-of keys ix rs I) e f)
 
   longer : Kept ix listed → h ≡ hashOf x → links ≡ linked (linksOf listed) n h → Chained links (rs ++ (x ∷ []))
   longer k p q =
@@ -299,55 +299,55 @@ module _ (wants pivots ix listed links ranks : List ℕ) (n h : ℕ) (x : Record
       subst (λ k. Replaces k (orderOf (eqb (x .handled) 0) k (x .count)) rs (rs ++ (x ∷ []))) (sym e)
       (subst (λ (t : Bool). Replaces (length rs) (orderOf t (length rs) (x .count)) rs (rs ++ (x ∷ []))) (not-not (eqb (x .handled) 0)) (appended-order rs x))
 
-  pub entered : listed ≡ listedWith wants pivots ix n x → h ≡ hashOf x → links ≡ linked (linksOf listed) n h
+  pub entered : listed ≡ listedWith keys ix n x → h ≡ hashOf x → links ≡ linked (linksOf listed) n h
       → (Ranked (ranksOf (put 0 12288 listed links)) rs → orderAt rs n ≡ 0 → Replaces n (orderOf (eqb (x .handled) 0) n (x .count)) rs (rs ++ (x ∷ [])) → Ranked ranks (rs ++ (x ∷ [])))
-      → Indexed wants pivots (put 12288 4231 (put 0 12288 listed links) ranks) (rs ++ (x ∷ []))
+      → Indexed keys (put 12288 4231 (put 0 12288 listed links) ranks) (rs ++ (x ∷ []))
   entered o p q r =
       let K = keyed o in
       let c = longer (K .1) p q in
-      indexed-both wants pivots listed links ranks (rs ++ (x ∷ [])) (K .0) c (r (rw (links-ranks listed links (K .0 .size) (c .words), K .1 .ranks) (I .ranked)) (order-past rs n (omega arith)) order)
+      indexed-both keys listed links ranks (rs ++ (x ∷ [])) (K .0) c (r (rw (links-ranks listed links (K .0 .size) (c .words), K .1 .ranks) (I .ranked)) (order-past rs n (omega arith)) order)
 
-  pub entered-near : listed ≡ listedWith wants pivots ix n x → length links ≡ 12288 → length ranks ≡ 4231 → NearKept ix (put 12288 4231 (put 0 12288 listed links) ranks)
+  pub entered-near : listed ≡ listedWith keys ix n x → length links ≡ 12288 → length ranks ≡ 4231 → NearKept ix (put 12288 4231 (put 0 12288 listed links) ranks)
   entered-near o p q =
       let s = keyed o .0 .size in
       near-on ix listed (put 12288 4231 (put 0 12288 listed links) ranks)
-      (rw o (near-more wants pivots ix n x rs (keyed-of wants pivots ix rs I) e f))
+      (rw o (near-more keys ix n x rs (keyed-of keys ix rs I) e f))
       (near-on listed (put 0 12288 listed links) (put 12288 4231 (put 0 12288 listed links) ranks) (near-put 0 12288 listed links s p (omega arith))
       (near-put 12288 4231 (put 0 12288 listed links) ranks (links-size listed links s p) q (omega arith)))
 
 -- ---- a record that is improved or handled
-module _ (ix ranks : List ℕ) (j : ℕ) (wants pivots : List ℕ) (rs : List Record) (I : Indexed wants pivots ix rs) (l : j < length rs) where
+module _ (ix ranks : List ℕ) (j : ℕ) (keys : List ℕ) (rs : List Record) (I : Indexed keys ix rs) (l : j < length rs) where
   -- a record with the same keys, as regular as the one in whose place it comes
-  keyed-set : (y : Record) → keysOf wants pivots y ≡ keysOf wants pivots (recordIn rs j) → regularOf pivots y ≡ regularOf pivots (recordIn rs j) → Keyed wants pivots ix (set rs j y)
+  keyed-set : (y : Record) → keysOf keys y ≡ keysOf keys (recordIn rs j) → regularOf keys y ≡ regularOf keys (recordIn rs j) → Keyed keys ix (set rs j y)
   keyed-set y p q = record {
     size = I .size;
-    listed = rw (keys-set wants pivots rs j y p) (I .listed);
+    listed = rw (keys-set keys rs j y p) (I .listed);
     regular = λ z k h. at z k (omega (arith, length-set rs j y)) (ℕ-discrete k j);
   }
     where
-      at : markOf ix ≡ 0 → (k : ℕ) → k < length rs → Dec (k ≡ j) → regularOf pivots (recordIn (set rs j y) k) ≡ true
-      at z k h (yes e) = rw e (ap (regularOf pivots) (getD-set-same rs j y noRecord l) ∙ q ∙ I .regular z j l)
-      at z k h (no e) = ap (regularOf pivots) (getD-set-other rs j k y noRecord e) ∙ I .regular z k h
+      at : markOf ix ≡ 0 → (k : ℕ) → k < length rs → Dec (k ≡ j) → regularOf keys (recordIn (set rs j y) k) ≡ true
+      at z k h (yes e) = rw e (ap (regularOf keys) (getD-set-same rs j y noRecord l) ∙ q ∙ I .regular z j l)
+      at z k h (no e) = ap (regularOf keys) (getD-set-other rs j k y noRecord e) ∙ I .regular z k h
 
   pub recounted : (x : Record) (old n : ℕ) → isHandled (recordIn rs j) ≡ false → old ≡ recordIn rs j .count → n ≡ x .count
       → (Ranked (ranksOf ix) rs → orderAt rs j ≡ orderOf true j old → Replaces j (orderOf true j n) rs (set rs j (improved (recordIn rs j) x)) → Ranked ranks (set rs j (improved (recordIn rs j) x)))
-      → Indexed wants pivots (put 12288 4231 ix ranks) (set rs j (improved (recordIn rs j) x))
+      → Indexed keys (put 12288 4231 ix ranks) (set rs j (improved (recordIn rs j) x))
   recounted x old n h o e f =
       let y = recordIn rs j in
-      indexed-ranks wants pivots ix ranks (set rs j (improved y x)) (keyed-set (improved y x) (improved-keys wants pivots y x) (improved-regular pivots y x))
+      indexed-ranks keys ix ranks (set rs j (improved y x)) (keyed-set (improved y x) (improved-keys keys y x) (improved-regular keys y x))
       (chained-improved (linksOf ix) rs j x (I .chained)) (f (I .ranked) (waiting-order rs j old l h o) (rw e (improved-order rs j x l h)))
 
   -- handled, with the ranking given for it
-  handled-by : Ranked ranks (set rs j (handledNow (recordIn rs j))) → Indexed wants pivots (put 12288 4231 ix ranks) (set rs j (handledNow (recordIn rs j)))
+  handled-by : Ranked ranks (set rs j (handledNow (recordIn rs j))) → Indexed keys (put 12288 4231 ix ranks) (set rs j (handledNow (recordIn rs j)))
   handled-by r =
       let y = recordIn rs j in
-      indexed-ranks wants pivots ix ranks (set rs j (handledNow y)) (keyed-set (handledNow y) (handled-keys wants pivots y) (handled-regular pivots y)) (chained-handled (linksOf ix) rs j (I .chained)) r
+      indexed-ranks keys ix ranks (set rs j (handledNow y)) (keyed-set (handledNow y) (handled-keys keys y) (handled-regular keys y)) (chained-handled (linksOf ix) rs j (I .chained)) r
 
 -- ---- a record is taken, or none: then the ranking may be made anew
-pub taken-by : (wants pivots ix ranks : List ℕ) (rs : List Record) (f : Found) → f ≡ leastWaiting rs (length rs) → Ranked ranks (takenFrom rs f) → Indexed wants pivots ix rs
-    → Indexed wants pivots (put 12288 4231 ix ranks) (takenFrom rs f)
-taken-by wants pivots ix ranks rs f e r I = go f (rw e (least-below rs (length rs))) r
+pub taken-by : (keys ix ranks : List ℕ) (rs : List Record) (f : Found) → f ≡ leastWaiting rs (length rs) → Ranked ranks (takenFrom rs f) → Indexed keys ix rs
+    → Indexed keys (put 12288 4231 ix ranks) (takenFrom rs f)
+taken-by keys ix ranks rs f e r I = go f (rw e (least-below rs (length rs))) r
   where
-    go : (f : Found) → Below (length rs) f → Ranked ranks (takenFrom rs f) → Indexed wants pivots (put 12288 4231 ix ranks) (takenFrom rs f)
-    go Nowhere b r = indexed-ranks wants pivots ix ranks rs (keyed-of wants pivots ix rs I) (I .chained) r
-    go (At j) (one l) r = handled-by ix ranks j wants pivots rs I l r
+    go : (f : Found) → Below (length rs) f → Ranked ranks (takenFrom rs f) → Indexed keys (put 12288 4231 ix ranks) (takenFrom rs f)
+    go Nowhere b r = indexed-ranks keys ix ranks rs (keyed-of keys ix rs I) (I .chained) r
+    go (At j) (one l) r = handled-by ix ranks j keys rs I l r

@@ -1,10 +1,10 @@
 -- The keys of a chart's records: where each stands, and that they stay as records come, are improved and handled.
-use Prim.Native.Nat.{ℕ, zero, suc, _+_, _*_, _≤_, _<_}
+use Prim.Native.Nat.{ℕ, zero, suc, _+_, _*_, _/_, _≤_, _<_}
 use mathlib.Core.Path.{_≡_, refl, sym, ap, ap₂, _∙_, subst}
 use mathlib.Core.List.{List, [], _∷_, _++_, append-assoc}
 use mathlib.Core.Bool.{Bool, true, false, cond}
 use native.Mathlib.Omega.{arith}
-use lib.Dec.{eqb, ltb}
+use lib.Dec.{eqb}
 use lib.ListN.{length, length-append, getD, set, List·getD-append}
 use lib.Seq.{getD-append-add}
 use Rattle.agenda.specs.declared.Record.{Record}
@@ -14,82 +14,74 @@ use Rattle.agenda.proofs.Records.{bare}
 use Rattle.agenda.proofs.Growth.{Grew, all-grown}
 use Rattle.records.specs.Words.{Fits, capacity, chartOf, grownBy}
 use Rattle.records.proofs.Grown.{Whole, grown-chart}
-use Rattle.pivots.specs.Keys.{passiveTag, fiveKeys, placeOf, listedKeys, keysOf}
-use Rattle.pivots.specs.Pivots.{usesIn}
+use Rattle.pivots.specs.Keys.{passiveTag, mixed, imageOf, fiveKeys, keysBy, wordFor, usesOf, keysOf}
 use Rattle.index.specs.Index.{keysFor}
 
-five-of : (b : Bool) (xs ys : List ℕ) → length xs ≡ 5 → length ys ≡ 5 → length (cond b xs ys) ≡ 5
-five-of true xs ys p q = p
-five-of false xs ys p q = q
-
-all-five : (u tag s : ℕ) (L : List ℕ) → length (fiveKeys u tag s L) ≡ 5
-unfolding fiveKeys
-all-five u tag s L = refl
-
-listed-five : (u tag s : ℕ) (L : List ℕ) → length (listedKeys u tag s L) ≡ 5
-unfolding listedKeys
-listed-five u tag s L = five-of (ltb (placeOf u) 5) _ (fiveKeys u tag s L) refl (all-five u tag s L)
-
-module _ (wants pivots : List ℕ) where
+module _ (keys : List ℕ) where
   -- ---- of one record
-  pub keys-five : (x : Record) → length (keysOf wants pivots x) ≡ 5
-  unfolding keysOf
-  keys-five x = five-of (eqb (x .kind) 0) _ (listedKeys (usesIn pivots (x .of)) passiveTag (x .of) (x .nodes)) refl (listed-five (usesIn pivots (x .of)) passiveTag (x .of) (x .nodes))
+  pub keys-five : (x : Record) → length (keysOf keys x) ≡ 5
+  unfolding keysOf keysBy fiveKeys
+  keys-five x = go (eqb (wordFor keys 0 2112 x) 0)
+    where
+      go : (b : Bool)
+          → length (cond b (fiveKeys (usesOf keys x) passiveTag (x .of) (x .nodes)) (mixed (wordFor keys 0 2112 x / 16) (imageOf (wordFor keys 0 2112 x) (x .nodes)) ∷ 0 ∷ 0 ∷ 0 ∷ 0 ∷ [])) ≡ 5
+      go true = refl
+      go false = refl
 
   -- only what makes two records the same item tells
-  pub keys-bare : (x y : Record) → bare x ≡ bare y → keysOf wants pivots x ≡ keysOf wants pivots y
+  pub keys-bare : (x y : Record) → bare x ≡ bare y → keysOf keys x ≡ keysOf keys y
   unfolding keysOf
-  keys-bare x y e = ap (keysOf wants pivots) e
+  keys-bare x y e = ap (keysOf keys) e
 
   -- ---- of several
-  pub keys-length : (rs : List Record) → length (keysFor wants pivots rs) ≡ 5 * length rs
+  pub keys-length : (rs : List Record) → length (keysFor keys rs) ≡ 5 * length rs
   unfolding keysFor
   keys-length [] = refl
-  keys-length (x ∷ rs) = omega (arith, length-append (keysOf wants pivots x) (keysFor wants pivots rs), keys-five x, keys-length rs)
+  keys-length (x ∷ rs) = omega (arith, length-append (keysOf keys x) (keysFor keys rs), keys-five x, keys-length rs)
 
-  pub keys-at : (rs : List Record) (j i : ℕ) → j < length rs → i < 5 → getD (keysFor wants pivots rs) (5 * j + i) 0 ≡ getD (keysOf wants pivots (recordIn rs j)) i 0
+  pub keys-at : (rs : List Record) (j i : ℕ) → j < length rs → i < 5 → getD (keysFor keys rs) (5 * j + i) 0 ≡ getD (keysOf keys (recordIn rs j)) i 0
   unfolding keysFor
   keys-at [] j i h l = absurd (omega arith)
   keys-at (x ∷ rs) zero i h l =
-      ap (λ n. getD (keysOf wants pivots x ++ keysFor wants pivots rs) n 0) (let q : 5 * 0 + i ≡ i = omega arith in q)
-      ∙ List·getD-append (keysOf wants pivots x) (keysFor wants pivots rs) 0 i (omega (arith, keys-five x))
+      ap (λ n. getD (keysOf keys x ++ keysFor keys rs) n 0) (let q : 5 * 0 + i ≡ i = omega arith in q)
+      ∙ List·getD-append (keysOf keys x) (keysFor keys rs) 0 i (omega (arith, keys-five x))
   keys-at (x ∷ rs) (suc j) i h l =
-      ap (λ n. getD (keysOf wants pivots x ++ keysFor wants pivots rs) n 0)
-      (let q : 5 * suc j + i ≡ length (keysOf wants pivots x) + (5 * j + i) = omega (arith, keys-five x) in q)
-      ∙ getD-append-add (keysOf wants pivots x) (keysFor wants pivots rs) (5 * j + i) 0
+      ap (λ n. getD (keysOf keys x ++ keysFor keys rs) n 0)
+      (let q : 5 * suc j + i ≡ length (keysOf keys x) + (5 * j + i) = omega (arith, keys-five x) in q)
+      ∙ getD-append-add (keysOf keys x) (keysFor keys rs) (5 * j + i) 0
       ∙ keys-at rs j i (omega arith) l
 
   -- one record more
-  pub keys-more : (rs : List Record) (x : Record) → keysFor wants pivots (rs ++ (x ∷ [])) ≡ keysFor wants pivots rs ++ keysOf wants pivots x
+  pub keys-more : (rs : List Record) (x : Record) → keysFor keys (rs ++ (x ∷ [])) ≡ keysFor keys rs ++ keysOf keys x
   unfolding keysFor
-  keys-more [] x = end (keysOf wants pivots x)
+  keys-more [] x = end (keysOf keys x)
     where
       end : (ks : List ℕ) → ks ++ [] ≡ ks
       end [] = refl
       end (k ∷ ks) = ap (λ (l : List ℕ). k ∷ l) (end ks)
-  keys-more (y ∷ rs) x = ap (λ (ks : List ℕ). keysOf wants pivots y ++ ks) (keys-more rs x) ∙ sym (append-assoc (keysOf wants pivots y) (keysFor wants pivots rs) (keysOf wants pivots x))
+  keys-more (y ∷ rs) x = ap (λ (ks : List ℕ). keysOf keys y ++ ks) (keys-more rs x) ∙ sym (append-assoc (keysOf keys y) (keysFor keys rs) (keysOf keys x))
 
   -- a record with the keys of the one in whose place it comes
-  pub keys-set : (rs : List Record) (j : ℕ) (y : Record) → keysOf wants pivots y ≡ keysOf wants pivots (recordIn rs j) → keysFor wants pivots (set rs j y) ≡ keysFor wants pivots rs
+  pub keys-set : (rs : List Record) (j : ℕ) (y : Record) → keysOf keys y ≡ keysOf keys (recordIn rs j) → keysFor keys (set rs j y) ≡ keysFor keys rs
   unfolding keysFor
   keys-set [] j y e = refl
-  keys-set (x ∷ rs) zero y e = ap (λ (ks : List ℕ). ks ++ keysFor wants pivots rs) e
-  keys-set (x ∷ rs) (suc j) y e = ap (λ (ks : List ℕ). keysOf wants pivots x ++ ks) (keys-set rs j y e)
+  keys-set (x ∷ rs) zero y e = ap (λ (ks : List ℕ). ks ++ keysFor keys rs) e
+  keys-set (x ∷ rs) (suc j) y e = ap (λ (ks : List ℕ). keysOf keys x ++ ks) (keys-set rs j y e)
 
   -- ---- keys that stay, with more behind them
   pub record KeysMore (rs ts : List Record) : Type 0 where
     pub more : List ℕ
-    pub is : keysFor wants pivots ts ≡ keysFor wants pivots rs ++ more
+    pub is : keysFor keys ts ≡ keysFor keys rs ++ more
 
   keys-same : (rs ts : List Record) → length rs ≤ length ts → ((k : ℕ) → k < length rs → bare (recordIn ts k) ≡ bare (recordIn rs k)) → KeysMore rs ts
   unfolding keysFor
-  keys-same [] ts l e = record { more = keysFor wants pivots ts; is = refl }
+  keys-same [] ts l e = record { more = keysFor keys ts; is = refl }
   keys-same (x ∷ rs) [] l e = absurd (omega arith)
   keys-same (x ∷ rs) (y ∷ ts) l e =
       let r = keys-same rs ts (omega arith) (λ k h. e (suc k) (omega arith)) in
       record {
         more = r .more;
-        is = ap₂ (λ (a b : List ℕ). a ++ b) (keys-bare y x (e 0 (omega arith))) (r .is) ∙ sym (append-assoc (keysOf wants pivots x) (keysFor wants pivots rs) (r .more));
+        is = ap₂ (λ (a b : List ℕ). a ++ b) (keys-bare y x (e 0 (omega arith))) (r .is) ∙ sym (append-assoc (keysOf keys x) (keysFor keys rs) (r .more));
       }
 
   pub keys-grew : (rs ts : List Record) → Grew rs ts → KeysMore rs ts

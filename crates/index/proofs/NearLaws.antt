@@ -73,8 +73,8 @@ module _ (ix : List ℕ) (j o : ℕ) where
       ap₂ (λ a b. a + 4294967296 * b) a b ∙ q
 
   -- the other indexes stay
-  indexed-near : (wants pivots : List ℕ) (rs : List Record) → Indexed wants pivots ix rs → Indexed wants pivots (nearPut ix j o) rs
-  indexed-near wants pivots rs I = record {
+  indexed-near : (keys : List ℕ) (rs : List Record) → Indexed keys ix rs → Indexed keys (nearPut ix j o) rs
+  indexed-near keys rs I = record {
     size = near-size ∙ I .size;
     chained = rw (near-part 0 12288 (omega arith)) (I .chained);
     ranked = rw (near-part 12288 4231 (omega arith)) (I .ranked);
@@ -82,8 +82,8 @@ module _ (ix : List ℕ) (j o : ℕ) where
     regular = λ z. I .regular (sym (other-word 41097 (λ e. omega arith) (λ e. omega arith)) ∙ z);
   }
 
-  pub indexed-put : (new wants pivots : List ℕ) (rs : List Record) → new ≡ nearPut ix j o → Indexed wants pivots ix rs → Indexed wants pivots new rs
-  indexed-put new wants pivots rs e I = rw e (indexed-near wants pivots rs I)
+  pub indexed-put : (new keys : List ℕ) (rs : List Record) → new ≡ nearPut ix j o → Indexed keys ix rs → Indexed keys new rs
+  indexed-put new keys rs e I = rw e (indexed-near keys rs I)
 
 -- ---- the sets hold the open nodes
 module _ (g h : List ℕ) where

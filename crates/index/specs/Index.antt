@@ -35,18 +35,18 @@ abbrev pub nearOf : List ℕ → ℕ → ℕ
 nearOf ix j = getD ix (41098 + 2 * j) 0 + 4294967296 * getD ix (41099 + 2 * j) 0
 
 -- the keys of records, five of each: entry 5 * j + i is key i of record j
-unfoldable pub keysFor : List ℕ → List ℕ → List Record → List ℕ
+unfoldable pub keysFor : List ℕ → List Record → List ℕ
 unfolding keysOf
-keysFor wants pivots [] = []
-keysFor wants pivots (x ∷ rs) = keysOf wants pivots x ++ keysFor wants pivots rs
+keysFor keys [] = []
+keysFor keys (x ∷ rs) = keysOf keys x ++ keysFor keys rs
 
 -- each part is the index of the records that it is named for
-pub record Indexed (wants pivots ix : List ℕ) (rs : List Record) : Type 0 where
+pub record Indexed (keys ix : List ℕ) (rs : List Record) : Type 0 where
   pub size : length ix ≡ indexWords
   pub chained : Chained (linksOf ix) rs
   pub ranked : Ranked (ranksOf ix) rs
-  pub listed : Listed (listsOf ix) (keysFor wants pivots rs)
-  pub regular : markOf ix ≡ 0 → (j : ℕ) → j < length rs → regularOf pivots (recordIn rs j) ≡ true
+  pub listed : Listed (listsOf ix) (keysFor keys rs)
+  pub regular : markOf ix ≡ 0 → (j : ℕ) → j < length rs → regularOf keys (recordIn rs j) ≡ true
 
 -- words that are all 0: the indexes of no records
 pub record Empty (ix : List ℕ) : Type 0 where
@@ -54,10 +54,10 @@ pub record Empty (ix : List ℕ) : Type 0 where
   pub zeros : (k : ℕ) → getD ix k 0 ≡ 0
 
 -- ---- the lists and the mark on their own
-pub record Keyed (wants pivots ix : List ℕ) (rs : List Record) : Type 0 where
+pub record Keyed (keys ix : List ℕ) (rs : List Record) : Type 0 where
   pub size : length ix ≡ indexWords
-  pub listed : Listed (listsOf ix) (keysFor wants pivots rs)
-  pub regular : markOf ix ≡ 0 → (j : ℕ) → j < length rs → regularOf pivots (recordIn rs j) ≡ true
+  pub listed : Listed (listsOf ix) (keysFor keys rs)
+  pub regular : markOf ix ≡ 0 → (j : ℕ) → j < length rs → regularOf keys (recordIn rs j) ≡ true
 
 -- the links and the ranking are as they were
 pub record Kept (ix new : List ℕ) : Type 0 where
@@ -66,13 +66,13 @@ pub record Kept (ix new : List ℕ) : Type 0 where
 
 -- record n, which is x, on the lists of its keys
 abbrev pub withKeys : List ℕ → ℕ → List ℕ → List ℕ
-withKeys ix n keys = take 16519 ix ++ (enteredAll (listsOf ix) (5 * n) keys ++ drop 24578 (drop 16519 ix))
+withKeys ix n ks = take 16519 ix ++ (enteredAll (listsOf ix) (5 * n) ks ++ drop 24578 (drop 16519 ix))
 
 -- .. and marked where it is irregular
-unfoldable pub listedWith : List ℕ → List ℕ → List ℕ → ℕ → Record → List ℕ
+unfoldable pub listedWith : List ℕ → List ℕ → ℕ → Record → List ℕ
 unfolding enteredAll keysOf regularOf
-listedWith wants pivots ix n x =
-    cond (regularOf pivots x) (withKeys ix n (keysOf wants pivots x)) (set (withKeys ix n (keysOf wants pivots x)) 41097 1)
+listedWith keys ix n x =
+    cond (regularOf keys x) (withKeys ix n (keysOf keys x)) (set (withKeys ix n (keysOf keys x)) 41097 1)
 
 -- ---- the sets beside the records
 -- each holds the open graph nodes of its record's edges

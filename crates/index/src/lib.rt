@@ -32,13 +32,13 @@ const LISTS: usize = 16519;
 const MARK: usize = 41097;
 
 // Record n, one more than there are, is that of the words x: it comes on the lists of its keys.
-fn list(wants: &[u64; 1024], pivots: &[u64; 1088], index: &mut [u32], n: u64, x: &[u64])
+fn list(keys: &[u64; 2240], index: &mut [u32], n: u64, x: &[u64])
     requires { ⌜ (length (now index) ≡ indexWords) × Ready (listsOf (now index)) × (n < 4096) × (length (now x) ≡ 16) ⌝ }
-    ensures { λ r. ⌜ now (index .exit) ≡ listedWith (now (wants .entry)) (now (pivots .entry)) (now (index .entry)) n (ofWords (now (x .entry))) ⌝ }
+    ensures { λ r. ⌜ now (index .exit) ≡ listedWith (now (keys .entry)) (now (index .entry)) n (ofWords (now (x .entry))) ⌝ }
 {
-    let listing = pivots::listing(wants, pivots, x);
-    let keys = listing.keys;
-    lists::enter_all(&mut index[LISTS..MARK], 5 * n, keys);
+    let listing = pivots::listing(keys, x);
+    let own = listing.keys;
+    lists::enter_all(&mut index[LISTS..MARK], 5 * n, own);
     if listing.regular {
         return;
     }
@@ -46,15 +46,15 @@ fn list(wants: &[u64; 1024], pivots: &[u64; 1088], index: &mut [u32], n: u64, x:
 }
 
 // The lists of a chart's records, which come one after another: there is none before.
-fn list_all(wants: &[u64; 1024], pivots: &[u64; 1088], chart: &[u64], index: &mut [u32])
+fn list_all(keys: &[u64; 2240], chart: &[u64], index: &mut [u32])
     requires { ⌜ (length (now index) ≡ indexWords) × Unlisted (listsOf (now index)) × (itemCount (now chart) ≤ 4096) ⌝ }
-    ensures { λ r. ⌜ Keyed (now (wants .entry)) (now (pivots .entry)) (now (index .exit)) (chartOf (now (chart .entry)) .records) × Kept (now (index .entry)) (now (index .exit)) ⌝ }
+    ensures { λ r. ⌜ Keyed (now (keys .entry)) (now (index .exit)) (chartOf (now (chart .entry)) .records) × Kept (now (index .entry)) (now (index .exit)) ⌝ }
 {
     let n = records::item_count(chart);
     let mut j = 0;
     while j < n {
         let at = (2 + 16 * j) as usize;
-        list(wants, pivots, index, j, &chart[at..at + 16]);
+        list(keys, index, j, &chart[at..at + 16]);
         j += 1;
     }
 }
@@ -92,7 +92,7 @@ fn span(g: &[u64], h: &[u64], graph: &[u64; 577], m: u64) -> u64
 // A set beside each of a chart's records.
 fn span_all(g: &[u64], h: &[u64], graph: &[u64; 577], chart: &[u64], index: &mut [u32])
     requires { ⌜ (length (now index) ≡ indexWords) × (itemCount (now chart) ≤ 4096) × Accepted (now g) (now h) × GraphTable (now g) (now h) (now graph) ⌝ }
-    ensures { λ r. ⌜ Spanned (now (g .entry)) (now (h .entry)) (now (index .exit)) (chartOf (now (chart .entry)) .records) × ((wants pivots : List ℕ) (rs : List Record) → Indexed wants pivots (now (index .entry)) rs → Indexed wants pivots (now (index .exit)) rs) ⌝ }
+    ensures { λ r. ⌜ Spanned (now (g .entry)) (now (h .entry)) (now (index .exit)) (chartOf (now (chart .entry)) .records) × ((keys : List ℕ) (rs : List Record) → Indexed keys (now (index .entry)) rs → Indexed keys (now (index .exit)) rs) ⌝ }
 {
     let n = records::item_count(chart);
     let mut j = 0;
@@ -108,24 +108,23 @@ pub fn build(
     g: &[u64],
     h: &[u64],
     graph: &[u64; 577],
-    wants: &[u64; 1024],
-    pivots: &[u64; 1088],
+    keys: &[u64; 2240],
     chart: &[u64],
     index: &mut [u32],
 )
     requires { ⌜ Empty (now index) × (itemCount (now chart) ≤ 4096) × Accepted (now g) (now h) × GraphTable (now g) (now h) (now graph) ⌝ }
-    ensures { λ r. ⌜ Indexed (now (wants .entry)) (now (pivots .entry)) (now (index .exit)) (chartOf (now (chart .entry)) .records) × Spanned (now (g .entry)) (now (h .entry)) (now (index .exit)) (chartOf (now (chart .entry)) .records) ⌝ }
+    ensures { λ r. ⌜ Indexed (now (keys .entry)) (now (index .exit)) (chartOf (now (chart .entry)) .records) × Spanned (now (g .entry)) (now (h .entry)) (now (index .exit)) (chartOf (now (chart .entry)) .records) ⌝ }
 {
     chains::build(chart, &mut index[0..RANKS]);
     ranking::build(&mut index[RANKS..LISTS]);
-    list_all(wants, pivots, chart, index);
+    list_all(keys, chart, index);
     span_all(g, h, graph, chart, index);
 }
 
 // The first waiting record of least count waits no more: whoever takes it marks it in the chart. The ranking may be made anew for it.
 pub fn take(chart: &[u64], index: &mut [u32]) -> Found
     requires { ⌜ (length (now index) ≡ indexWords) × Ranked (ranksOf (now index)) (chartOf (now chart) .records) × (length (chartOf (now chart) .records) ≤ 4096) ⌝ }
-    ensures { λ r. ⌜ (r ≡ leastWaiting (chartOf (now (chart .entry)) .records) (length (chartOf (now (chart .entry)) .records))) × ((wants pivots : List ℕ) → Indexed wants pivots (now (index .entry)) (chartOf (now (chart .entry)) .records) → Indexed wants pivots (now (index .exit)) (takenFrom (chartOf (now (chart .entry)) .records) r)) × NearKept (now (index .entry)) (now (index .exit)) ⌝ }
+    ensures { λ r. ⌜ (r ≡ leastWaiting (chartOf (now (chart .entry)) .records) (length (chartOf (now (chart .entry)) .records))) × ((keys : List ℕ) → Indexed keys (now (index .entry)) (chartOf (now (chart .entry)) .records) → Indexed keys (now (index .exit)) (takenFrom (chartOf (now (chart .entry)) .records) r)) × NearKept (now (index .entry)) (now (index .exit)) ⌝ }
 {
     ranking::take(chart, &mut index[RANKS..LISTS])
 }
@@ -238,11 +237,11 @@ pub fn regular(index: &[u32]) -> bool
 }
 
 // Record n, one more than there are, is that of the words x.
-fn enter(wants: &[u64; 1024], pivots: &[u64; 1088], index: &mut [u32], n: u64, x: &[u64], h: u64)
+fn enter(keys: &[u64; 2240], index: &mut [u32], n: u64, x: &[u64], h: u64)
     requires { ⌜ (length (now index) ≡ indexWords) × Ready (listsOf (now index)) × (n < 4096) × (length (now x) ≡ 16) × (h ≡ hashOf (ofWords (now x))) × (h < 4294967296) ⌝ }
-    ensures { λ r. ⌜ ((rs : List Record) → Indexed (now (wants .entry)) (now (pivots .entry)) (now (index .entry)) rs → n ≡ length rs → Indexed (now (wants .entry)) (now (pivots .entry)) (now (index .exit)) (rs ++ (ofWords (now (x .entry)) ∷ [])) × NearKept (now (index .entry)) (now (index .exit))) ⌝ }
+    ensures { λ r. ⌜ ((rs : List Record) → Indexed (now (keys .entry)) (now (index .entry)) rs → n ≡ length rs → Indexed (now (keys .entry)) (now (index .exit)) (rs ++ (ofWords (now (x .entry)) ∷ [])) × NearKept (now (index .entry)) (now (index .exit))) ⌝ }
 {
-    list(wants, pivots, index, n, x);
+    list(keys, index, n, x);
     chains::link(&mut index[0..RANKS], n, h);
     ranking::place(&mut index[RANKS..LISTS], n, x[5] == 0, x[4]);
 }
@@ -250,7 +249,7 @@ fn enter(wants: &[u64; 1024], pivots: &[u64; 1088], index: &mut [u32], n: u64, x
 // Record j, which waits with the count `old`, has the count of x.
 fn recount(index: &mut [u32], j: u64, old: u64, count: u64)
     requires { ⌜ (length (now index) ≡ indexWords) × (j < 4096) ⌝ }
-    ensures { λ r. ⌜ ((wants pivots : List ℕ) (rs : List Record) (x : Record) → Indexed wants pivots (now (index .entry)) rs → j < length rs → isHandled (recordIn rs j) ≡ false → old ≡ recordIn rs j .count → count ≡ x .count → Indexed wants pivots (now (index .exit)) (set rs j (improved (recordIn rs j) x))) × NearKept (now (index .entry)) (now (index .exit)) ⌝ }
+    ensures { λ r. ⌜ ((keys : List ℕ) (rs : List Record) (x : Record) → Indexed keys (now (index .entry)) rs → j < length rs → isHandled (recordIn rs j) ≡ false → old ≡ recordIn rs j .count → count ≡ x .count → Indexed keys (now (index .exit)) (set rs j (improved (recordIn rs j) x))) × NearKept (now (index .entry)) (now (index .exit)) ⌝ }
 {
     ranking::recount(&mut index[RANKS..LISTS], j, old, count);
 }
@@ -258,7 +257,7 @@ fn recount(index: &mut [u32], j: u64, old: u64, count: u64)
 // The record at place j, found again with the item of x, takes the count and the partners of x if that is better.
 fn again(chart: &mut [u64], index: &mut [u32], j: u64, x: &[u64])
     requires { ⌜ (length (now index) ≡ indexWords) × (j < itemCount (now chart)) × (j < 4096) × (length (now x) ≡ 16) ⌝ }
-    ensures { λ r. ⌜ (now (chart .exit) ≡ improvedAt (now (chart .entry)) j (ofWords (now (x .entry)))) × ((wants pivots : List ℕ) → Indexed wants pivots (now (index .entry)) (chartOf (now (chart .entry)) .records) → Indexed wants pivots (now (index .exit)) (placed (capacity (now (chart .entry))) (ofWords (now (x .entry))) (chartOf (now (chart .entry))) (At j) .records)) × NearKept (now (index .entry)) (now (index .exit)) ⌝ }
+    ensures { λ r. ⌜ (now (chart .exit) ≡ improvedAt (now (chart .entry)) j (ofWords (now (x .entry)))) × ((keys : List ℕ) → Indexed keys (now (index .entry)) (chartOf (now (chart .entry)) .records) → Indexed keys (now (index .exit)) (placed (capacity (now (chart .entry))) (ofWords (now (x .entry))) (chartOf (now (chart .entry))) (At j) .records)) × NearKept (now (index .entry)) (now (index .exit)) ⌝ }
 {
     if records::field(chart, j, 5) != 0 {
         return;
@@ -272,22 +271,14 @@ fn again(chart: &mut [u64], index: &mut [u32], j: u64, x: &[u64])
 }
 
 // The record x behind the others, with the set o beside it; where no place is left the chart is marked.
-fn behind(
-    wants: &[u64; 1024],
-    pivots: &[u64; 1088],
-    chart: &mut [u64],
-    index: &mut [u32],
-    x: &[u64],
-    h: u64,
-    o: u64,
-)
-    requires { ⌜ Indexed (now wants) (now pivots) (now index) (chartOf (now chart) .records) × (capacity (now chart) ≤ 4096) × (length (now x) ≡ 16) × (h ≡ hashOf (ofWords (now x))) × (h < 4294967296) ⌝ }
-    ensures { λ r. ⌜ (now (chart .exit) ≡ appendedTo (now (chart .entry)) (itemCount (now (chart .entry))) (ofWords (now (x .entry)))) × Indexed (now (wants .entry)) (now (pivots .entry)) (now (index .exit)) (placed (capacity (now (chart .entry))) (ofWords (now (x .entry))) (chartOf (now (chart .entry))) Nowhere .records) × ((g h : List ℕ) → Spanned g h (now (index .entry)) (chartOf (now (chart .entry)) .records) → Spans g h (ofWords (now (x .entry)) .edges) o → Spanned g h (now (index .exit)) (placed (capacity (now (chart .entry))) (ofWords (now (x .entry))) (chartOf (now (chart .entry))) Nowhere .records)) ⌝ }
+fn behind(keys: &[u64; 2240], chart: &mut [u64], index: &mut [u32], x: &[u64], h: u64, o: u64)
+    requires { ⌜ Indexed (now keys) (now index) (chartOf (now chart) .records) × (capacity (now chart) ≤ 4096) × (length (now x) ≡ 16) × (h ≡ hashOf (ofWords (now x))) × (h < 4294967296) ⌝ }
+    ensures { λ r. ⌜ (now (chart .exit) ≡ appendedTo (now (chart .entry)) (itemCount (now (chart .entry))) (ofWords (now (x .entry)))) × Indexed (now (keys .entry)) (now (index .exit)) (placed (capacity (now (chart .entry))) (ofWords (now (x .entry))) (chartOf (now (chart .entry))) Nowhere .records) × ((g h : List ℕ) → Spanned g h (now (index .entry)) (chartOf (now (chart .entry)) .records) → Spans g h (ofWords (now (x .entry)) .edges) o → Spanned g h (now (index .exit)) (placed (capacity (now (chart .entry))) (ofWords (now (x .entry))) (chartOf (now (chart .entry))) Nowhere .records)) ⌝ }
 {
     let n = records::item_count(chart);
     if n < records::capacity_of(chart) {
         put_near(index, n, o);
-        enter(wants, pivots, index, n, x, h);
+        enter(keys, index, n, x, h);
         records::append_words(chart, n, x);
         return;
     }
@@ -295,16 +286,9 @@ fn behind(
 }
 
 // The record x in the chart, as `records::add` has it, with the indexes kept. The set o holds the open nodes of its edges.
-pub fn add(
-    wants: &[u64; 1024],
-    pivots: &[u64; 1088],
-    chart: &mut [u64],
-    index: &mut [u32],
-    x: &[u64],
-    o: u64,
-)
-    requires { ⌜ Indexed (now wants) (now pivots) (now index) (chartOf (now chart) .records) × Fits (now chart) × (capacity (now chart) ≤ 4096) × (length (now x) ≡ 16) ⌝ }
-    ensures { λ r. ⌜ (now (chart .exit) ≡ addedTo (now (chart .entry)) (ofWords (now (x .entry)))) × Indexed (now (wants .entry)) (now (pivots .entry)) (now (index .exit)) (chartOf (now (chart .exit)) .records) × ((g h : List ℕ) → Spanned g h (now (index .entry)) (chartOf (now (chart .entry)) .records) → Spans g h (ofWords (now (x .entry)) .edges) o → Spanned g h (now (index .exit)) (chartOf (now (chart .exit)) .records)) ⌝ }
+pub fn add(keys: &[u64; 2240], chart: &mut [u64], index: &mut [u32], x: &[u64], o: u64)
+    requires { ⌜ Indexed (now keys) (now index) (chartOf (now chart) .records) × Fits (now chart) × (capacity (now chart) ≤ 4096) × (length (now x) ≡ 16) ⌝ }
+    ensures { λ r. ⌜ (now (chart .exit) ≡ addedTo (now (chart .entry)) (ofWords (now (x .entry)))) × Indexed (now (keys .entry)) (now (index .exit)) (chartOf (now (chart .exit)) .records) × ((g h : List ℕ) → Spanned g h (now (index .entry)) (chartOf (now (chart .entry)) .records) → Spans g h (ofWords (now (x .entry)) .edges) o → Spanned g h (now (index .exit)) (chartOf (now (chart .exit)) .records)) ⌝ }
 {
     if records::mark_of(chart) != 0 {
         return;
@@ -312,6 +296,6 @@ pub fn add(
     let h = chains::hash(x);
     match chains::find(chart, &index[0..RANKS], x, h) {
         Found::At(j) => again(chart, index, j, x),
-        Found::Nowhere => behind(wants, pivots, chart, index, x, h, o),
+        Found::Nowhere => behind(keys, chart, index, x, h, o),
     }
 }

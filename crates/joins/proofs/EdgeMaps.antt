@@ -23,7 +23,6 @@ use Rattle.questions.proofs.WellFormedLent.{checked-grammar-ok}
 use Rattle.questions.proofs.WellFormedAccepted.{rule-is, edge-is}
 use Rattle.joins.specs.Joins.{KnownEdge, edgeNodes, octal, nodesWord, BareFrom}
 use Rattle.joins.proofs.Known.{rule-ok, right-nodes, right-edges, nodes-few}
-use Rattle.joins.proofs.PlanMasks.{set-next}
 
 -- ---- maps in eight places
 pub length-padded : (f : List ℕ) → length (padded f) ≡ 8
@@ -58,37 +57,6 @@ pub set-eight : (t : List ℕ) (a b c d e f g h : ℕ) → length t ≡ 8 → se
 unfolding tabulate
 set-eight t a b c d e f g h size =
     subst (λ (t : List ℕ). set (set (set (set (set (set (set (set t 0 a) 1 b) 2 c) 3 d) 4 e) 5 f) 6 g) 7 h ≡ a ∷ b ∷ c ∷ d ∷ e ∷ f ∷ g ∷ h ∷ []) (as-words 8 t size) refl
-
--- ---- places without images
--- from place n on, so far
-pub record Cleared (n : ℕ) (t f : List ℕ) (i : ℕ) : Type 0 where
-  pub from : n ≤ i
-  pub upto : i ≤ 8
-  pub size : length f ≡ 8
-  pub before : (x : ℕ) → x < n → at f x ≡ at t x
-  pub after : (x : ℕ) → n ≤ x → x < i → at f x ≡ unplaced
-
-pub cleared-none : (n : ℕ) (t : List ℕ) → n ≤ 8 → length t ≡ 8 → Cleared n t t n
-cleared-none n t few size = record { from = omega arith; upto = few; size = size; before = λ x h. refl; after = λ x a b. absurd (omega arith) }
-
-pub cleared-next : (n : ℕ) (t f : List ℕ) (i : ℕ) → i < 8 → Cleared n t f i → Cleared n t (set f i 64) (i + 1)
-cleared-next n t f i h c = record {
-  from = omega (arith, c .from);
-  upto = omega arith;
-  size = length-set f i 64 ∙ c .size;
-  before = λ x l. getD-set-other f i x 64 unplaced (λ d. omega (arith, c .from)) ∙ c .before x l;
-  after = λ x a b. set-next (λ x v. n ≤ x → v ≡ unplaced) f i 64 unplaced (omega (arith, c .size)) (λ x d a. c .after x a d) (λ a. refl) x b a;
-}
-
-pub cleared-all : (n : ℕ) (t f : List ℕ) (i : ℕ) → length t ≡ 8 → 8 ≤ i → Cleared n t f i → f ≡ padded (take n t)
-cleared-all n t f i size h c = is-padded f (take n t) (c .size) (λ x l. go x l (decLt x n))
-  where
-    long : length (take n t) ≡ n
-    long = length-take-le n t (omega (arith, c .from, c .upto))
-
-    go : (x : ℕ) → x < 8 → Dec (x < n) → at f x ≡ at (take n t) x
-    go x l (yes d) = c .before x d ∙ sym (getD-take n t x unplaced d)
-    go x l (no d) = c .after x (omega arith) (omega arith) ∙ sym (at-past (take n t) x (omega (arith, long)))
 
 -- ---- the node of L for a rule node
 node-first : (x a b : ℕ) (as′ bs : List ℕ) → x ≡ a → nodeFor x (a ∷ as′) (b ∷ bs) ≡ b

@@ -185,18 +185,6 @@ pub fn clear(t: &mut [u64])
     t[7] = 64;
 }
 
-// None from place n on.
-pub fn clear_from(n: u64, t: &mut [u64])
-    requires { ⌜ (n ≤ 8) × (length (now t) ≡ 8) ⌝ }
-    ensures { λ x. ⌜ now (t .exit) ≡ padded (take n (now (t .entry))) ⌝ }
-{
-    let mut i = n;
-    while i < 8 {
-        t[i as usize] = 64;
-        i += 1;
-    }
-}
-
 // How many nodes edge i of rule r has, and which, as one number.
 pub fn nodes_word(g: &[u64], r: u64, i: u64) -> u64
     requires { ⌜ KnownEdge (now g) r i ⌝ }
@@ -213,12 +201,11 @@ pub fn nodes_word(g: &[u64], r: u64, i: u64) -> u64
     rank + 8 * w
 }
 
-// The map of edge i's nodes, which w tells, to the first nodes of l, in order, into the eight places of t: from the last on, since the first of equal nodes counts.
+// The map of edge i's nodes, which w tells, to the first nodes of l, in order, into the eight places of t, which has no images: from the last on, since the first of equal nodes counts.
 pub fn attach_by(g: &[u64], r: u64, i: u64, w: u64, l: &[u64], t: &mut [u64])
-    requires { ⌜ KnownEdge (now g) r i × (w ≡ nodesWord (now g) r i) × (length (now l) ≡ 8) × (length (now t) ≡ 8) ⌝ }
+    requires { ⌜ KnownEdge (now g) r i × (w ≡ nodesWord (now g) r i) × (length (now l) ≡ 8) × (now t ≡ replicate 8 unplaced) ⌝ }
     ensures { λ x. ⌜ now (t .exit) ≡ padded (attach (ruleNodes (now (g .entry)) r) (edgeNodes (now (g .entry)) r i) (take (rankAt (now (g .entry)) (edgeLabel (now (g .entry)) r i)) (now (l .entry)))) ⌝ }
 {
-    clear(t);
     let mut k = w % 8;
     let mut rest = w / 8;
     while 0 < k {
@@ -229,12 +216,13 @@ pub fn attach_by(g: &[u64], r: u64, i: u64, w: u64, l: &[u64], t: &mut [u64])
     }
 }
 
-// The same, where the nodes are read off the table.
+// The same, where the nodes are read off the table and t may have any words.
 pub fn attach(g: &[u64], r: u64, i: u64, l: &[u64], t: &mut [u64])
     requires { ⌜ KnownEdge (now g) r i × (length (now l) ≡ 8) × (length (now t) ≡ 8) ⌝ }
     ensures { λ x. ⌜ now (t .exit) ≡ padded (attach (ruleNodes (now (g .entry)) r) (edgeNodes (now (g .entry)) r i) (take (rankAt (now (g .entry)) (edgeLabel (now (g .entry)) r i)) (now (l .entry)))) ⌝ }
 {
     let w = nodes_word(g, r, i);
+    clear(t);
     attach_by(g, r, i, w, l, t);
 }
 

@@ -2,7 +2,7 @@
 use mathlib.Core.Path.{_≡_, refl, sym, ap, ap₂, _∙_}
 use mathlib.Core.Bool.{Bool, true, false, _&&_, _||_, cond, true≢false}
 use mathlib.Core.List.{List, [], _∷_}
-use Prim.Native.Nat.{ℕ, zero, suc, _+_, _%_, _^_, _≤_, _<_}
+use Prim.Native.Nat.{ℕ, zero, suc, _/_, _%_, _^_, _≤_, _<_}
 use native.Mathlib.Omega.{arith}
 use native.Mathlib.Decide.{decLt, ℕ-discrete}
 use lib.ListN.{length, getD}
@@ -13,33 +13,25 @@ use Rattle.masks.specs.Laws.{bit-single-other}
 use Rattle.hrg.specs.Trees.{at}
 use Rattle.agenda.specs.declared.Record.{Record}
 use Rattle.agenda.specs.Steps.{improved, handledNow}
-use Rattle.rules.specs.Wants.{wantIn}
-use Rattle.pivots.specs.Pivots.{positionOf, nodeOf, pivotIn, usesIn, EdgePivot, JoinPivot}
-use Rattle.pivots.specs.Keys.{bucketOf, imageOf, activeKey, placeKey, fiveKeys, placeOf, nodeAt, listedKeys, keysOf, queryOf, allPlaced, regularOf}
+use Rattle.questions.specs.Abstract.{grammarOf}
+use Rattle.rules.specs.Wants.{wantOf}
+use Rattle.pivots.specs.Pivots.{positionOf, nodeOf, EdgePivot, JoinPivot}
+use Rattle.pivots.specs.Keys.{baseOf, mixed, bucketOf, wordOf, imageOf, keyWord, placeOf, placeNode, placeWord, ruleWord, symbolWord, usesIn, KeyTable, placeKey, fiveKeys, keysBy, wordFor, usesOf, keysOf, queryOf, allPlaced, regularBy, regularOf}
 
 -- ---- buckets
 pub bucket-positive : (tag s k a : ℕ) → 0 < bucketOf tag s k a
-unfolding bucketOf
+unfolding bucketOf mixed
 bucket-positive tag s k a = omega arith
 
-pub bucket-few : (tag s k a : ℕ) → bucketOf tag s k a ≤ 2048
+mixed-few : (b a : ℕ) → mixed b a ≤ 2048
+unfolding mixed
+mixed-few b a = omega arith
+
+bucket-few : (tag s k a : ℕ) → bucketOf tag s k a ≤ 2048
 unfolding bucketOf
-bucket-few tag s k a = omega arith
+bucket-few tag s k a = mixed-few (baseOf tag s k) a
 
--- ---- the key of an active record
-module _ (tag want w r p : ℕ) (f : List ℕ) where
-  pub key-edge : want < 64 → activeKey tag want w r p f ≡ bucketOf tag want (positionOf w) (imageOf w f)
-  unfolding activeKey
-  key-edge h = rw (ne-eqb want 80 (λ e. omega arith), lt-ltb want 64 h)
-
-  pub key-join : 64 ≤ want → (want ≡ 80 → ⊥) → activeKey tag want w r p f ≡ bucketOf 3 r p (imageOf w f)
-  unfolding activeKey
-  key-join h n = rw (ne-eqb want 80 n, le-ltb want 64 h)
-
-  pub key-none : want ≡ 80 → activeKey tag want w r p f ≡ 0
-  unfolding activeKey
-  key-none e = rw (eq-eqb want 80 e)
-
+-- ---- images
 pub image-there : (w : ℕ) (f : List ℕ) → nodeOf w < 8 → imageOf w f ≡ at f (nodeOf w)
 unfolding imageOf
 image-there w f h = rw (lt-ltb (nodeOf w) 8 h)
@@ -48,18 +40,101 @@ pub image-none : (w : ℕ) (f : List ℕ) → 8 ≤ nodeOf w → imageOf w f ≡
 unfolding imageOf
 image-none w f h = rw (le-ltb (nodeOf w) 8 h)
 
+-- only the node tells
+image-same : (w w′ : ℕ) (f : List ℕ) → nodeOf w ≡ nodeOf w′ → imageOf w f ≡ imageOf w′ f
+unfolding imageOf
+image-same w w′ f e = ap (λ v. cond (ltb v 8) (at f v) 64) e
+
+or-left : (a : ℕ) (t : Bool) (b : ℕ) → (leb a b || t) ≡ true → b < a → t ≡ true
+or-left a t b h l = go (leb a b) (lt-leb a b l) h
+  where
+    go : (s : Bool) → s ≡ false → (s || t) ≡ true → t ≡ true
+    go true e h = absurd (true≢false e)
+    go false e h = h
+
+-- ---- the word of a base and a node
+module _ (tag s k v : ℕ) (tagged : 0 < tag % 128) (few : v < 16) where
+  abbrev word : ℕ
+  word = wordOf tag s k v
+
+  word-there : word ≡ 0 → ⊥
+  unfolding wordOf baseOf
+  word-there e = omega arith
+
+  word-base : word / 16 ≡ baseOf tag s k
+  unfolding wordOf
+  word-base = omega arith
+
+  word-node : nodeOf word ≡ v
+  unfolding wordOf
+  word-node = omega arith
+
+  -- the key by it, where w has the same node
+  word-keys : (w u tag′ s′ : ℕ) (L : List ℕ) → nodeOf w ≡ v → keysBy word u tag′ s′ L ≡ (bucketOf tag s k (imageOf w L) ∷ 0 ∷ 0 ∷ 0 ∷ 0 ∷ [])
+  unfolding keysBy bucketOf
+  word-keys w u tag′ s′ L e =
+      rw (ne-eqb word 0 word-there)
+      (ap₂ (λ b a. mixed b a ∷ 0 ∷ 0 ∷ 0 ∷ 0 ∷ []) word-base (image-same word w L (word-node ∙ sym e)))
+
+  word-regular : (u : ℕ) (L : List ℕ) → regularBy word u L ≡ true → v < 8 → at L v < 64
+  unfolding regularBy
+  word-regular u L ok h =
+      let n = word-node in
+      let t : ltb (imageOf word L) 64 ≡ true = or-left 8 (ltb (imageOf word L) 64) (nodeOf word) (rw (ne-eqb word 0 word-there) at ok) (omega arith) in
+      omega (arith, image-there word L (omega arith), ltb-true (imageOf word L) 64 t, ap (at L) n)
+
+-- of active records
+module _ (tag want w r p : ℕ) where
+  pub word-edge : want < 64 → keyWord tag want w r p ≡ wordOf tag want (positionOf w) (nodeOf w)
+  unfolding keyWord
+  word-edge h = rw (ne-eqb want 80 (λ e. omega arith), lt-ltb want 64 h)
+
+  pub word-join : 64 ≤ want → (want ≡ 80 → ⊥) → keyWord tag want w r p ≡ wordOf 3 r p (nodeOf w)
+  unfolding keyWord
+  word-join h n = rw (ne-eqb want 80 n, le-ltb want 64 h)
+
+  pub word-none : want ≡ 80 → keyWord tag want w r p ≡ 0
+  unfolding keyWord
+  word-none e = rw (eq-eqb want 80 e)
+
+-- of passive ones
+pub place-there : (tag s u : ℕ) → placeOf u < 5 → placeWord tag s u ≡ wordOf tag s (placeOf u) (placeNode (placeOf u))
+unfolding placeWord
+place-there tag s u h = rw (lt-ltb (placeOf u) 5 h)
+
+pub place-none : (tag s u : ℕ) → 5 ≤ placeOf u → placeWord tag s u ≡ 0
+unfolding placeWord
+place-none tag s u h = rw (le-ltb (placeOf u) 5 h)
+
+-- a symbol that is not asked for has none
+pub place-nowhere : (tag s : ℕ) → placeWord tag s 0 ≡ 0
+unfolding placeWord placeOf
+place-nowhere tag s = refl
+
+pub node-first : (i : ℕ) → i < 4 → placeNode i ≡ i
+unfolding placeNode
+node-first i h = rw (lt-ltb i 4 h)
+
+node-few : (i : ℕ) → placeNode i < 16
+unfolding placeNode
+node-few i = go (decLt i 4)
+  where
+    go : Dec (i < 4) → cond (ltb i 4) i 8 < 16
+    go (yes d) = rw (lt-ltb i 4 d) (omega arith)
+    go (no d) = rw (le-ltb i 4 (omega arith)) (omega arith)
+
+-- no node stands in the last place
+last-image : (L : List ℕ) → imageOf (placeNode 4) L ≡ 64
+unfolding imageOf placeNode
+last-image L = refl
+
 -- ---- the keys of a passive record
-place-there : (used tag s i a : ℕ) → used ≡ 1 → placeKey used tag s i a ≡ bucketOf tag s i a
+abbrev pub listedKeys : ℕ → ℕ → ℕ → List ℕ → List ℕ
+listedKeys u tag s L = keysBy (placeWord tag s u) u tag s L
+
+used-key : (used tag s i a : ℕ) → used ≡ 1 → placeKey used tag s i a ≡ bucketOf tag s i a
 unfolding placeKey
-place-there used tag s i a e = rw e
-
-pub node-there : (L : List ℕ) (i : ℕ) → i < 4 → nodeAt L i ≡ at L i
-unfolding nodeAt
-node-there L i h = rw (lt-ltb i 4 h)
-
-pub node-none : (L : List ℕ) (i : ℕ) → 4 ≤ i → nodeAt L i ≡ 64
-unfolding nodeAt
-node-none L i h = rw (le-ltb i 4 h)
+used-key used tag s i a e = rw e
 
 -- a set with an only place has no other
 only-is : (u : ℕ) → placeOf u < 5 → u ≡ single (placeOf u)
@@ -82,30 +157,32 @@ only-place u k h e = go (ℕ-discrete k (placeOf u))
     go (yes d) = d
     go (no d) = absurd (omega (arith, ap (λ u. bit u k) (only-is u h), bit-single-other (placeOf u) k d))
 
-module _ (u tag s : ℕ) (L : List ℕ) where
-  pub listed-one : placeOf u < 5 → listedKeys u tag s L ≡ (bucketOf tag s (placeOf u) (nodeAt L (placeOf u)) ∷ 0 ∷ 0 ∷ 0 ∷ 0 ∷ [])
-  unfolding listedKeys
-  listed-one h = rw (lt-ltb (placeOf u) 5 h)
+module _ (u tag s : ℕ) (L : List ℕ) (tagged : 0 < tag % 128) where
+  listed-one : placeOf u < 5 → listedKeys u tag s L ≡ (bucketOf tag s (placeOf u) (imageOf (placeNode (placeOf u)) L) ∷ 0 ∷ 0 ∷ 0 ∷ 0 ∷ [])
+  listed-one h =
+      let v = placeNode (placeOf u) in
+      ap (λ w. keysBy w u tag s L) (place-there tag s u h)
+      ∙ word-keys tag s (placeOf u) v tagged (node-few (placeOf u)) v u tag s L (omega (arith, node-few (placeOf u)))
 
-  pub listed-all : 5 ≤ placeOf u → listedKeys u tag s L ≡ fiveKeys u tag s L
-  unfolding listedKeys
-  listed-all h = rw (le-ltb (placeOf u) 5 h)
+  listed-all : 5 ≤ placeOf u → listedKeys u tag s L ≡ fiveKeys u tag s L
+  unfolding keysBy
+  listed-all h = ap (λ w. keysBy w u tag s L) (place-none tag s u h)
 
-  five-at : (k : ℕ) → k < 5 → bit u k ≡ 1 → getD (fiveKeys u tag s L) k 0 ≡ bucketOf tag s k (nodeAt L k)
-  unfolding fiveKeys nodeAt
-  five-at zero h e = place-there (bit u 0) tag s 0 (at L 0) e
-  five-at (suc zero) h e = place-there (bit u 1) tag s 1 (at L 1) e
-  five-at (suc (suc zero)) h e = place-there (bit u 2) tag s 2 (at L 2) e
-  five-at (suc (suc (suc zero))) h e = place-there (bit u 3) tag s 3 (at L 3) e
-  five-at (suc (suc (suc (suc zero)))) h e = place-there (bit u 4) tag s 4 64 e
+  five-at : (k : ℕ) → k < 5 → bit u k ≡ 1 → getD (fiveKeys u tag s L) k 0 ≡ bucketOf tag s k (imageOf (placeNode k) L)
+  unfolding fiveKeys imageOf placeNode
+  five-at zero h e = used-key (bit u 0) tag s 0 (at L 0) e
+  five-at (suc zero) h e = used-key (bit u 1) tag s 1 (at L 1) e
+  five-at (suc (suc zero)) h e = used-key (bit u 2) tag s 2 (at L 2) e
+  five-at (suc (suc (suc zero))) h e = used-key (bit u 3) tag s 3 (at L 3) e
+  five-at (suc (suc (suc (suc zero)))) h e = used-key (bit u 4) tag s 4 64 e
   five-at (suc (suc (suc (suc (suc k))))) h e = absurd (omega arith)
 
   -- a place that is used has its key among the five
-  pub listed-at : (k : ℕ) → k < 5 → bit u k ≡ 1 → (i : ℕ) × (i < 5) × (getD (listedKeys u tag s L) i 0 ≡ bucketOf tag s k (nodeAt L k))
+  listed-at : (k : ℕ) → k < 5 → bit u k ≡ 1 → (i : ℕ) × (i < 5) × (getD (listedKeys u tag s L) i 0 ≡ bucketOf tag s k (imageOf (placeNode k) L))
   listed-at k h e = go (decLt (placeOf u) 5)
     where
-      go : Dec (placeOf u < 5) → (i : ℕ) × (i < 5) × (getD (listedKeys u tag s L) i 0 ≡ bucketOf tag s k (nodeAt L k))
-      go (yes d) = (0, omega arith, ap (λ (l : List ℕ). getD l 0 0) (listed-one d) ∙ ap (λ k. bucketOf tag s k (nodeAt L k)) (sym (only-place u k d e)))
+      go : Dec (placeOf u < 5) → (i : ℕ) × (i < 5) × (getD (listedKeys u tag s L) i 0 ≡ bucketOf tag s k (imageOf (placeNode k) L))
+      go (yes d) = (0, omega arith, ap (λ (l : List ℕ). getD l 0 0) (listed-one d) ∙ ap (λ k. bucketOf tag s k (imageOf (placeNode k) L)) (sym (only-place u k d e)))
       go (no d) = (k, h, ap (λ (l : List ℕ). getD l k 0) (listed-all (omega arith)) ∙ five-at k h e)
 
 -- ---- an edge
@@ -115,162 +192,46 @@ pub record Differ (A f L : List ℕ) (w : ℕ) : Type 0 where
   pub node : nodeOf w ≡ at A (positionOf w)
   pub differ : at f (nodeOf w) ≡ at L (positionOf w) → ⊥
 
-module _ (u tag s w r p : ℕ) (A f L : List ℕ) (known : s < 64) (size : length A ≤ 4) (inside : (k : ℕ) → k < length A → at A k < 8) (pivot : EdgePivot A w) (used : bit u (positionOf w) ≡ 1)
-    (apart : (i : ℕ) → i < 5 → activeKey tag s w r p f ≡ getD (listedKeys u tag s L) i 0 → ⊥) where
+module _ (u tag s w : ℕ) (A f L : List ℕ) (tagged : 0 < tag % 128) (size : length A ≤ 4) (inside : (k : ℕ) → k < length A → at A k < 8) (pivot : EdgePivot A w) (used : bit u (positionOf w) ≡ 1)
+    (apart : (i : ℕ) → i < 5 → bucketOf tag s (positionOf w) (imageOf w f) ≡ getD (listedKeys u tag s L) i 0 → ⊥) where
   pub edge-differ : Differ A f L w
   edge-differ = go (eqb w 72) refl
     where
       -- the place of w has a key that is not the active record's
-      other : (k a : ℕ) → k < 5 → positionOf w ≡ k → nodeAt L k ≡ a → imageOf w f ≡ a → ⊥
+      other : (k a : ℕ) → k < 5 → positionOf w ≡ k → imageOf (placeNode k) L ≡ a → imageOf w f ≡ a → ⊥
       other k a h e n m =
-          let x = listed-at u tag s L k h (ap (bit u) (sym e) ∙ used) in
-          apart (x .0) (x .1) (key-edge tag s w r p f known ∙ ap₂ (λ k a. bucketOf tag s k a) e (m ∙ sym n) ∙ sym (x .2))
+          let x = listed-at u tag s L tagged k h (ap (bit u) (sym e) ∙ used) in
+          apart (x .0) (x .1) (ap₂ (λ k a. bucketOf tag s k a) e (m ∙ sym n) ∙ sym (x .2))
 
       go : (b : Bool) → eqb w 72 ≡ b → Differ A f L w
       go true e =
           let z = eqb-true w 72 e in
-          absurd (other 4 64 (omega arith) (omega arith) (node-none L 4 (omega arith)) (image-none w f (omega arith)))
+          absurd (other 4 64 (omega arith) (omega arith) (last-image L) (image-none w f (omega arith)))
       go false e =
           let n = eqb-false w 72 e in
           let k = pivot .position n in
+          let v = node-first (positionOf w) (omega arith) in
+          let m : nodeOf (placeNode (positionOf w)) ≡ positionOf w = omega arith in
           record {
             position = k;
             node = pivot .node n;
-            differ = λ d. other (positionOf w) (at L (positionOf w)) (omega arith) refl (node-there L (positionOf w) (omega arith)) (image-there w f (omega (arith, pivot .node n, inside (positionOf w) k)) ∙ d);
+            differ = λ d. other (positionOf w) (at L (positionOf w)) (omega arith) refl (image-there (placeNode (positionOf w)) L (omega arith) ∙ ap (at L) m) (image-there w f (omega (arith, pivot .node n, inside (positionOf w) k)) ∙ d);
           }
 
 -- ---- a join
-module _ (n w w′ r p p′ : ℕ) (f k : List ℕ) (few : p < 16) (few′ : p′ < 16) (pivot : JoinPivot n w w′)
-    (apart : activeKey 1 (64 + p′) w r ((64 + p′) % 64) f ≡ activeKey 2 (64 + p) w′ r p′ k → ⊥) where
-  images-differ : imageOf w f ≡ imageOf w′ k → ⊥
-  images-differ e =
-      let s : (64 + p′) % 64 ≡ p′ = omega arith in
-      apart (key-join 1 (64 + p′) w r ((64 + p′) % 64) f (omega arith) (λ e. omega arith) ∙ ap₂ (λ p a. bucketOf 3 r p a) s e ∙ sym (key-join 2 (64 + p) w′ r p′ k (omega arith) (λ e. omega arith)))
-
+module _ (n w w′ : ℕ) (f k : List ℕ) (pivot : JoinPivot n w w′) (apart : imageOf w f ≡ imageOf w′ k → ⊥) where
   pub join-node : nodeOf w < 8
   join-node = go (decLt (nodeOf w) 8)
     where
       go : Dec (nodeOf w < 8) → nodeOf w < 8
       go (yes d) = d
-      go (no d) = absurd (images-differ (image-none w f (omega arith) ∙ sym (image-none w′ k (omega (arith, pivot .same)))))
+      go (no d) = absurd (apart (image-none w f (omega arith) ∙ sym (image-none w′ k (omega (arith, pivot .same)))))
 
   pub join-differ : at f (nodeOf w) ≡ at k (nodeOf w) → ⊥
   join-differ e =
-      images-differ (image-there w f join-node ∙ e ∙ ap (at k) (pivot .same) ∙ sym (image-there w′ k (omega (arith, pivot .same, join-node))))
-
--- ---- keys of records
-module _ (wants pivots : List ℕ) (x : Record) where
-  abbrev want : ℕ
-  want = wantIn wants (x .of) (x .plan)
-
-  abbrev pivot-of : ℕ
-  pivot-of = pivotIn pivots (x .of) (x .plan)
-
-  pub active-keys : eqb (x .kind) 0 ≡ true → getD (keysOf wants pivots x) 0 0 ≡ activeKey 2 want pivot-of (x .of) (x .plan) (x .nodes)
-  unfolding keysOf
-  active-keys e = rw e
-
-  pub passive-keys : eqb (x .kind) 0 ≡ false → keysOf wants pivots x ≡ listedKeys (usesIn pivots (x .of)) 1 (x .of) (x .nodes)
-  unfolding keysOf
-  passive-keys e = rw e
-
-  pub active-query : eqb (x .kind) 0 ≡ true → getD (queryOf wants pivots x) 0 0 ≡ activeKey 1 want pivot-of (x .of) (want % 64) (x .nodes)
-  unfolding queryOf
-  active-query e = rw e
-
-  pub passive-query : eqb (x .kind) 0 ≡ false → queryOf wants pivots x ≡ listedKeys (usesIn pivots (x .of)) 2 (x .of) (x .nodes)
-  unfolding queryOf
-  passive-query e = rw e
-
--- only what makes two records the same item tells
-pub improved-keys : (wants pivots : List ℕ) (y x : Record) → keysOf wants pivots (improved y x) ≡ keysOf wants pivots y
-unfolding keysOf
-improved-keys wants pivots y x = refl
-
-pub handled-keys : (wants pivots : List ℕ) (y : Record) → keysOf wants pivots (handledNow y) ≡ keysOf wants pivots y
-unfolding keysOf
-handled-keys wants pivots y = refl
-
--- keys are at most 2,048
-few-of : (b : Bool) (x y : ℕ) → x ≤ 2048 → y ≤ 2048 → cond b x y ≤ 2048
-few-of true x y h l = h
-few-of false x y h l = l
-
-active-few : (tag want w r p : ℕ) (f : List ℕ) → activeKey tag want w r p f ≤ 2048
-unfolding activeKey
-active-few tag want w r p f =
-    let a = imageOf w f in
-    few-of (eqb want 80) 0 _ (omega arith)
-    (few-of (ltb want 64) (bucketOf tag want (positionOf w) a) (bucketOf 3 r p a) (bucket-few tag want (positionOf w) a) (bucket-few 3 r p a))
-
-place-few : (used tag s i a : ℕ) → placeKey used tag s i a ≤ 2048
-unfolding placeKey
-place-few used tag s i a = few-of (eqb used 0) 0 (bucketOf tag s i a) (omega arith) (bucket-few tag s i a)
-
-five-few : (a b c d e : ℕ) → a ≤ 2048 → b ≤ 2048 → c ≤ 2048 → d ≤ 2048 → e ≤ 2048 → (i : ℕ) → getD (a ∷ b ∷ c ∷ d ∷ e ∷ []) i 0 ≤ 2048
-five-few a b c d e p q u v t zero = p
-five-few a b c d e p q u v t (suc zero) = q
-five-few a b c d e p q u v t (suc (suc zero)) = u
-five-few a b c d e p q u v t (suc (suc (suc zero))) = v
-five-few a b c d e p q u v t (suc (suc (suc (suc zero)))) = t
-five-few a b c d e p q u v t (suc (suc (suc (suc (suc i))))) = omega arith
-
-one-few : (k : ℕ) → k ≤ 2048 → (i : ℕ) → getD (k ∷ 0 ∷ 0 ∷ 0 ∷ 0 ∷ []) i 0 ≤ 2048
-one-few k h i = five-few k 0 0 0 0 h (omega arith) (omega arith) (omega arith) (omega arith) i
-
-all-few : (u tag s : ℕ) (L : List ℕ) (i : ℕ) → getD (fiveKeys u tag s L) i 0 ≤ 2048
-unfolding fiveKeys
-all-few u tag s L i =
-    five-few (placeKey (bit u 0) tag s 0 (at L 0)) (placeKey (bit u 1) tag s 1 (at L 1)) (placeKey (bit u 2) tag s 2 (at L 2)) (placeKey (bit u 3) tag s 3 (at L 3)) (placeKey (bit u 4) tag s 4 64)
-    (place-few (bit u 0) tag s 0 (at L 0)) (place-few (bit u 1) tag s 1 (at L 1)) (place-few (bit u 2) tag s 2 (at L 2)) (place-few (bit u 3) tag s 3 (at L 3)) (place-few (bit u 4) tag s 4 64) i
-
-listed-few : (u tag s : ℕ) (L : List ℕ) (i : ℕ) → getD (listedKeys u tag s L) i 0 ≤ 2048
-unfolding listedKeys
-listed-few u tag s L i = go (ltb (placeOf u) 5)
-  where
-    go : (b : Bool) → getD (cond b (bucketOf tag s (placeOf u) (nodeAt L (placeOf u)) ∷ 0 ∷ 0 ∷ 0 ∷ 0 ∷ []) (fiveKeys u tag s L)) i 0 ≤ 2048
-    go true = one-few (bucketOf tag s (placeOf u) (nodeAt L (placeOf u))) (bucket-few tag s (placeOf u) (nodeAt L (placeOf u))) i
-    go false = all-few u tag s L i
-
-module _ (wants pivots : List ℕ) (x : Record) (i : ℕ) where
-  abbrev w : ℕ
-  w = wantIn wants (x .of) (x .plan)
-
-  abbrev v : ℕ
-  v = pivotIn pivots (x .of) (x .plan)
-
-  pub keys-few : getD (keysOf wants pivots x) i 0 ≤ 2048
-  unfolding keysOf
-  keys-few = go (eqb (x .kind) 0)
-    where
-      go : (b : Bool) → getD (cond b (activeKey 2 w v (x .of) (x .plan) (x .nodes) ∷ 0 ∷ 0 ∷ 0 ∷ 0 ∷ []) (listedKeys (usesIn pivots (x .of)) 1 (x .of) (x .nodes))) i 0 ≤ 2048
-      go true = one-few (activeKey 2 w v (x .of) (x .plan) (x .nodes)) (active-few 2 w v (x .of) (x .plan) (x .nodes)) i
-      go false = listed-few (usesIn pivots (x .of)) 1 (x .of) (x .nodes) i
-
-  pub query-few : getD (queryOf wants pivots x) i 0 ≤ 2048
-  unfolding queryOf
-  query-few = go (eqb (x .kind) 0)
-    where
-      go : (b : Bool) → getD (cond b (activeKey 1 w v (x .of) (w % 64) (x .nodes) ∷ 0 ∷ 0 ∷ 0 ∷ 0 ∷ []) (listedKeys (usesIn pivots (x .of)) 2 (x .of) (x .nodes))) i 0 ≤ 2048
-      go true = one-few (activeKey 1 w v (x .of) (w % 64) (x .nodes)) (active-few 1 w v (x .of) (w % 64) (x .nodes)) i
-      go false = listed-few (usesIn pivots (x .of)) 2 (x .of) (x .nodes) i
+      apart (image-there w f join-node ∙ e ∙ ap (at k) (pivot .same) ∙ sym (image-there w′ k (omega (arith, pivot .same, join-node))))
 
 -- ---- regular records
-pub improved-regular : (pivots : List ℕ) (y x : Record) → regularOf pivots (improved y x) ≡ regularOf pivots y
-unfolding regularOf
-improved-regular pivots y x = refl
-
-pub handled-regular : (pivots : List ℕ) (y : Record) → regularOf pivots (handledNow y) ≡ regularOf pivots y
-unfolding regularOf
-handled-regular pivots y = refl
-
-or-left : (a : ℕ) (t : Bool) (b : ℕ) → (leb a b || t) ≡ true → b < a → t ≡ true
-or-left a t b h l = go (leb a b) (lt-leb a b l) h
-  where
-    go : (s : Bool) → s ≡ false → (s || t) ≡ true → t ≡ true
-    go true e h = absurd (true≢false e)
-    go false e h = h
-
 and-parts : (a b : Bool) → (a && b) ≡ true → (a ≡ true) × (b ≡ true)
 and-parts true true h = (refl, refl)
 and-parts true false h = absurd (true≢false (sym h))
@@ -295,30 +256,145 @@ placed-at u L h k few e =
     go (suc (suc (suc zero))) few e a b c d = ltb-true _ 64 (used-placed (bit u 3) _ e d)
     go (suc (suc (suc (suc k)))) few e a b c d = absurd (omega arith)
 
--- where a set has an only place, that place tells
-and-true : (t : Bool) → (t && true) ≡ t
-and-true true = refl
-and-true false = refl
+-- ---- keys of records
+module _ (g t : List ℕ) (K : KeyTable g t) (x : Record) where
+  abbrev want : ℕ
+  want = wantOf (grammarOf g) (x .of) (x .plan)
 
-placed-single : (i : ℕ) (L : List ℕ) → i < 5 → allPlaced (single i) L ≡ (leb 4 i || ltb (nodeAt L i) 64)
-unfolding allPlaced nodeAt single bit
-placed-single zero L h = simp and-true
-placed-single (suc zero) L h = simp and-true
-placed-single (suc (suc zero)) L h = simp and-true
-placed-single (suc (suc (suc zero))) L h = refl
-placed-single (suc (suc (suc (suc zero)))) L h = refl
-placed-single (suc (suc (suc (suc (suc i))))) L h = absurd (omega arith)
+  abbrev pivot : ℕ
+  pivot = K .pivot (x .of) (x .plan)
 
-pub placed-only : (u : ℕ) (L : List ℕ) → placeOf u < 5 → allPlaced u L ≡ (leb 4 (placeOf u) || ltb (nodeAt L (placeOf u)) 64)
-placed-only u L h = ap (λ u. allPlaced u L) (only-is u h) ∙ placed-single (placeOf u) L h
+  abbrev uses : ℕ
+  uses = usesIn t (x .of)
 
-module _ (pivots : List ℕ) (x : Record) (ok : regularOf pivots x ≡ true) where
-  pub regular-active : eqb (x .kind) 0 ≡ true → nodeOf (pivotIn pivots (x .of) (x .plan)) < 8 → at (x .nodes) (nodeOf (pivotIn pivots (x .of) (x .plan))) < 64
-  unfolding regularOf
-  regular-active e h =
-      let w = pivotIn pivots (x .of) (x .plan) in
-      omega (arith, image-there w (x .nodes) h, ltb-true (imageOf w (x .nodes)) 64 (or-left 8 (ltb (imageOf w (x .nodes)) 64) (nodeOf w) (rw e at ok) h))
+  module _ (active : eqb (x .kind) 0 ≡ true) where
+    for-active : (a b : ℕ) → wordFor t a b x ≡ ruleWord t a (x .of) (x .plan)
+    unfolding wordFor
+    for-active a b = rw active
 
-  pub regular-passive : eqb (x .kind) 0 ≡ false → (k : ℕ) → k < 4 → bit (usesIn pivots (x .of)) k ≡ 1 → at (x .nodes) k < 64
-  unfolding regularOf
-  regular-passive e k h b = placed-at (usesIn pivots (x .of)) (x .nodes) (rw e at ok) k h b
+    keyed : (a b u tag′ tag s k : ℕ) → 0 < tag % 128 → ruleWord t a (x .of) (x .plan) ≡ wordOf tag s k (nodeOf pivot) → getD (keysBy (wordFor t a b x) u tag′ (x .of) (x .nodes)) 0 0 ≡ bucketOf tag s k (imageOf pivot (x .nodes))
+    keyed a b u tag′ tag s k tagged e =
+        ap (λ w. getD (keysBy w u tag′ (x .of) (x .nodes)) 0 0) (for-active a b ∙ e)
+        ∙ ap (λ (l : List ℕ). getD l 0 0) (word-keys tag s k (nodeOf pivot) tagged (omega arith) pivot u tag′ (x .of) (x .nodes) refl)
+
+    pub edge-keys : want < 64 → getD (keysOf t x) 0 0 ≡ bucketOf 2 want (positionOf pivot) (imageOf pivot (x .nodes))
+    unfolding keysOf
+    edge-keys h = keyed 0 2112 (usesOf t x) 1 2 want (positionOf pivot) (omega arith) (K .listed (x .of) (x .plan) ∙ word-edge 2 want pivot (x .of) (x .plan) h)
+
+    pub join-keys : 64 ≤ want → (want ≡ 80 → ⊥) → getD (keysOf t x) 0 0 ≡ bucketOf 3 (x .of) (x .plan) (imageOf pivot (x .nodes))
+    unfolding keysOf
+    join-keys h n = keyed 0 2112 (usesOf t x) 1 3 (x .of) (x .plan) (omega arith) (K .listed (x .of) (x .plan) ∙ word-join 2 want pivot (x .of) (x .plan) h n)
+
+    pub edge-query : want < 64 → getD (queryOf t x) 0 0 ≡ bucketOf 1 want (positionOf pivot) (imageOf pivot (x .nodes))
+    unfolding queryOf
+    edge-query h = keyed 1024 2176 (usesOf t x) 2 1 want (positionOf pivot) (omega arith) (K .asked (x .of) (x .plan) ∙ word-edge 1 want pivot (x .of) (want % 64) h)
+
+    pub join-query : 64 ≤ want → (want ≡ 80 → ⊥) → getD (queryOf t x) 0 0 ≡ bucketOf 3 (x .of) (want % 64) (imageOf pivot (x .nodes))
+    unfolding queryOf
+    join-query h n = keyed 1024 2176 (usesOf t x) 2 3 (x .of) (want % 64) (omega arith) (K .asked (x .of) (x .plan) ∙ word-join 1 want pivot (x .of) (want % 64) h n)
+
+    module _ (ok : regularOf t x ≡ true) where
+      regular-by : (w : ℕ) → ruleWord t 0 (x .of) (x .plan) ≡ w → regularBy w (usesOf t x) (x .nodes) ≡ true
+      unfolding regularOf
+      regular-by w e = ap (λ w. regularBy w (usesOf t x) (x .nodes)) (sym (for-active 0 2112 ∙ e)) ∙ ok
+
+      pub regular-active : (want ≡ 80 → ⊥) → nodeOf pivot < 8 → at (x .nodes) (nodeOf pivot) < 64
+      regular-active n h = go (decLt want 64)
+        where
+          go : Dec (want < 64) → at (x .nodes) (nodeOf pivot) < 64
+          go (yes d) =
+              word-regular 2 want (positionOf pivot) (nodeOf pivot) (omega arith) (omega arith) (usesOf t x) (x .nodes)
+              (regular-by _ (K .listed (x .of) (x .plan) ∙ word-edge 2 want pivot (x .of) (x .plan) d)) h
+          go (no d) =
+              word-regular 3 (x .of) (x .plan) (nodeOf pivot) (omega arith) (omega arith) (usesOf t x) (x .nodes)
+              (regular-by _ (K .listed (x .of) (x .plan) ∙ word-join 2 want pivot (x .of) (x .plan) (omega arith) n)) h
+
+  module _ (passive : eqb (x .kind) 0 ≡ false) where
+    for-passive : (a b : ℕ) → wordFor t a b x ≡ symbolWord t b (x .of)
+    unfolding wordFor
+    for-passive a b = rw passive
+
+    uses-passive : usesOf t x ≡ uses
+    unfolding usesOf
+    uses-passive = rw passive
+
+    pub passive-keys : keysOf t x ≡ listedKeys uses 1 (x .of) (x .nodes)
+    unfolding keysOf
+    passive-keys = ap₂ (λ w u. keysBy w u 1 (x .of) (x .nodes)) (for-passive 0 2112 ∙ K .place (x .of)) uses-passive
+
+    pub passive-query : queryOf t x ≡ listedKeys uses 2 (x .of) (x .nodes)
+    unfolding queryOf
+    passive-query = ap₂ (λ w u. keysBy w u 2 (x .of) (x .nodes)) (for-passive 1024 2176 ∙ K .sought (x .of)) uses-passive
+
+    module _ (ok : regularOf t x ≡ true) where
+      regular-place : (w : ℕ) → placeWord 1 (x .of) uses ≡ w → regularBy w uses (x .nodes) ≡ true
+      unfolding regularOf
+      regular-place w e = ap₂ (λ w u. regularBy w u (x .nodes)) (sym (for-passive 0 2112 ∙ K .place (x .of) ∙ e)) (sym uses-passive) ∙ ok
+
+      pub regular-passive : (k : ℕ) → k < 4 → bit uses k ≡ 1 → at (x .nodes) k < 64
+      unfolding regularBy
+      regular-passive k h b = go (decLt (placeOf uses) 5)
+        where
+          go : Dec (placeOf uses < 5) → at (x .nodes) k < 64
+          go (yes d) =
+              let e = only-place uses k d b in
+              let v : placeNode (placeOf uses) ≡ k = node-first (placeOf uses) (omega arith) ∙ sym e in
+              let there = word-regular 1 (x .of) (placeOf uses) (placeNode (placeOf uses)) (omega arith) (node-few (placeOf uses)) uses (x .nodes) (regular-place _ (place-there 1 (x .of) uses d)) (omega arith) in
+              omega (arith, there, ap (at (x .nodes)) v)
+          go (no d) = placed-at uses (x .nodes) (regular-place 0 (place-none 1 (x .of) uses (omega arith))) k h b
+
+-- ---- only what makes two records the same item tells
+pub improved-keys : (t : List ℕ) (y x : Record) → keysOf t (improved y x) ≡ keysOf t y
+unfolding keysOf wordFor usesOf
+improved-keys t y x = refl
+
+pub handled-keys : (t : List ℕ) (y : Record) → keysOf t (handledNow y) ≡ keysOf t y
+unfolding keysOf wordFor usesOf
+handled-keys t y = refl
+
+pub improved-regular : (t : List ℕ) (y x : Record) → regularOf t (improved y x) ≡ regularOf t y
+unfolding regularOf wordFor usesOf
+improved-regular t y x = refl
+
+pub handled-regular : (t : List ℕ) (y : Record) → regularOf t (handledNow y) ≡ regularOf t y
+unfolding regularOf wordFor usesOf
+handled-regular t y = refl
+
+-- ---- keys are at most 2,048
+place-few : (used tag s i a : ℕ) → placeKey used tag s i a ≤ 2048
+unfolding placeKey
+place-few used tag s i a = go (eqb used 0)
+  where
+    go : (b : Bool) → cond b 0 (bucketOf tag s i a) ≤ 2048
+    go true = omega arith
+    go false = bucket-few tag s i a
+
+five-few : (a b c d e : ℕ) → a ≤ 2048 → b ≤ 2048 → c ≤ 2048 → d ≤ 2048 → e ≤ 2048 → (i : ℕ) → getD (a ∷ b ∷ c ∷ d ∷ e ∷ []) i 0 ≤ 2048
+five-few a b c d e p q u v t zero = p
+five-few a b c d e p q u v t (suc zero) = q
+five-few a b c d e p q u v t (suc (suc zero)) = u
+five-few a b c d e p q u v t (suc (suc (suc zero))) = v
+five-few a b c d e p q u v t (suc (suc (suc (suc zero)))) = t
+five-few a b c d e p q u v t (suc (suc (suc (suc (suc i))))) = omega arith
+
+all-few : (u tag s : ℕ) (L : List ℕ) (i : ℕ) → getD (fiveKeys u tag s L) i 0 ≤ 2048
+unfolding fiveKeys
+all-few u tag s L i =
+    five-few (placeKey (bit u 0) tag s 0 (at L 0)) (placeKey (bit u 1) tag s 1 (at L 1)) (placeKey (bit u 2) tag s 2 (at L 2)) (placeKey (bit u 3) tag s 3 (at L 3)) (placeKey (bit u 4) tag s 4 64)
+    (place-few (bit u 0) tag s 0 (at L 0)) (place-few (bit u 1) tag s 1 (at L 1)) (place-few (bit u 2) tag s 2 (at L 2)) (place-few (bit u 3) tag s 3 (at L 3)) (place-few (bit u 4) tag s 4 64) i
+
+by-few : (w u tag s : ℕ) (L : List ℕ) (i : ℕ) → getD (keysBy w u tag s L) i 0 ≤ 2048
+unfolding keysBy
+by-few w u tag s L i = go (eqb w 0)
+  where
+    go : (b : Bool) → getD (cond b (fiveKeys u tag s L) (mixed (w / 16) (imageOf w L) ∷ 0 ∷ 0 ∷ 0 ∷ 0 ∷ [])) i 0 ≤ 2048
+    go true = all-few u tag s L i
+    go false = five-few (mixed (w / 16) (imageOf w L)) 0 0 0 0 (mixed-few (w / 16) (imageOf w L)) (omega arith) (omega arith) (omega arith) (omega arith) i
+
+pub keys-few : (t : List ℕ) (x : Record) (i : ℕ) → getD (keysOf t x) i 0 ≤ 2048
+unfolding keysOf
+keys-few t x i = by-few (wordFor t 0 2112 x) (usesOf t x) 1 (x .of) (x .nodes) i
+
+pub query-few : (t : List ℕ) (x : Record) (i : ℕ) → getD (queryOf t x) i 0 ≤ 2048
+unfolding queryOf
+query-few t x i = by-few (wordFor t 1024 2176 x) (usesOf t x) 2 (x .of) (x .nodes) i

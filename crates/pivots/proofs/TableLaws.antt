@@ -9,7 +9,7 @@ use native.Mathlib.Numerals.{add-one}
 use lib.ListN.{length, length-set, getD, set, replicate, getD-replicate}
 use lib.Seq.{getD-set-same, getD-set-other}
 use lib.Dec.{eqb}
-use borrow.Author.Tests.{eq-eqb, lt-ltb, le-ltb}
+use borrow.Author.Tests.{eq-eqb, ne-eqb, lt-ltb, le-ltb}
 use Rattle.masks.specs.Masks.{member, Added}
 use Rattle.hrg.specs.Counts.{occurs}
 use Rattle.hrg.specs.Grammars.{Edge, Rule, Grammar, PlanNode, leaf, introduce, join, ruleOf, rightOf, planOf, planNode, edgeAt}
@@ -28,10 +28,12 @@ use Rattle.joins.proofs.EdgeMaps.{edge-rank, edge-node-few}
 use Rattle.joins.proofs.PlanMasks.{node-is, introduced-is, joined-is}
 use Rattle.rules.specs.declared.Place.{Place}
 use Rattle.rules.specs.Rules.{Above}
-use Rattle.rules.specs.Wants.{wantOf, WantTable}
-use Rattle.rules.proofs.WantLaws.{want-nowhere, word-past as want-past, word-there as want-there}
-use Rattle.rules.proofs.Meeting.{rule, few}
-use Rattle.pivots.specs.Pivots.{positionOf, nodeOf, pivotIn, usesIn, EdgePivot, PivotTable, lastTo, sharedNode, PivotBelow, PivotOf}
+use Rattle.rules.specs.Wants.{wantOf}
+use Rattle.rules.proofs.WantLaws.{unknown-rule, unknown-node, rules-few}
+use Rattle.rules.proofs.Meeting.{rule, label-few, want-label, few, want-first, want-second}
+use Rattle.pivots.specs.Pivots.{positionOf, nodeOf, EdgePivot, lastTo, sharedNode, PivotBelow, PivotOf}
+use Rattle.pivots.specs.Keys.{keyWord, placeWord, ruleWord, symbolWord, usesIn, KeyTable, Entered, Placed}
+use Rattle.pivots.proofs.KeyLaws.{word-none, place-nowhere}
 
 -- ---- an edge
 pub no-edge-pivot : (A : List ℕ) → EdgePivot A 72 × (72 ≤ 72)
@@ -260,46 +262,77 @@ module _ (g : List ℕ) (r p : ℕ) (x : Place) (above : Above g r p x) where
       }
 
 -- ---- the table
--- the pivots before i are there, those that want a symbol among its uses, and the pivots from i on as they were made
-pub record Filled (g wants t : List ℕ) (i : ℕ) : Type 0 where
-  pub size : length t ≡ 1088
-  pub before : (k : ℕ) → k < i → k < 1024 → PivotOf g (k / 16) (k % 16) (getD t k 0)
-  pub after : (k : ℕ) → i ≤ k → k < 1024 → getD t k 0 ≡ 0
-  pub used : (k : ℕ) → k < i → k < 1024 → getD wants k 0 < 64 → member (getD t (1024 + getD wants k 0) 0) (positionOf (getD t k 0)) ≡ true
+-- what it tells of place k, rule r and plan node p, where w is the pivot
+pub record Told (g t : List ℕ) (k r p w : ℕ) : Type 0 where
+  pub is : (wantOf (grammarOf g) r p ≡ 80 → ⊥) → PivotOf g r p w
+  pub listed : getD t k 0 ≡ keyWord 2 (wantOf (grammarOf g) r p) w r p
+  pub asked : getD t (1024 + k) 0 ≡ keyWord 1 (wantOf (grammarOf g) r p) w r (wantOf (grammarOf g) r p % 64)
+  pub used : wantOf (grammarOf g) r p < 64 → member (getD t (2048 + wantOf (grammarOf g) r p) 0) (positionOf w) ≡ true
 
-pub filled-none : (g wants : List ℕ) → Filled g wants (replicate 1088 0) 0
-filled-none g wants = record { size = refl; before = λ k l. absurd (omega arith); after = λ k l m. getD-replicate 1088 k 0 0 (omega arith); used = λ k l. absurd (omega arith) }
+-- the places before i are told, and the words from i on as they were made
+pub record Filled (g t : List ℕ) (i : ℕ) : Type 0 where
+  pub pivot : ℕ → ℕ
+  pub size : length t ≡ 2240
+  pub before : (k : ℕ) → k < i → k < 1024 → Told g t k (k / 16) (k % 16) (pivot k)
+  pub after : (k : ℕ) → i ≤ k → k < 1024 → (getD t k 0 ≡ 0) × (getD t (1024 + k) 0 ≡ 0)
 
--- one pivot more: t′ has it, keeps the others, and has its position and the former ones among the uses
-record Grown (wants t t′ : List ℕ) (i w : ℕ) : Type 0 where
-  size : length t′ ≡ 1088
-  here : getD t′ i 0 ≡ w
-  others : (k : ℕ) → k < 1024 → (k ≡ i → ⊥) → getD t′ k 0 ≡ getD t k 0
-  kept : (s e : ℕ) → s < 64 → e < 64 → member (getD t (1024 + s) 0) e ≡ true → member (getD t′ (1024 + s) 0) e ≡ true
-  used : getD wants i 0 < 64 → member (getD t′ (1024 + getD wants i 0) 0) (positionOf w) ≡ true
-
-filled-grown : (g wants t t′ : List ℕ) (i w m : ℕ) → m ≡ i + 1 → Filled g wants t i → PivotOf g (i / 16) (i % 16) w → Grown wants t t′ i w → Filled g wants t′ m
-filled-grown g wants t t′ i w m e f is n = record {
-  size = n .size;
-  before = λ k d b. pivot k d b (decLt k i);
-  after = λ k d b. n .others k b (λ q. omega arith) ∙ f .after k (omega arith) b;
-  used = λ k d b h. among k d b h (decLt k i);
+pub filled-none : (g : List ℕ) → Filled g (replicate 2240 0) 0
+filled-none g = record {
+  pivot = λ k. 72;
+  size = refl;
+  before = λ k l. absurd (omega arith);
+  after = λ k l m. (getD-replicate 2240 k 0 0 (omega arith), getD-replicate 2240 (1024 + k) 0 0 (omega arith));
 }
-  where
-    pivot : (k : ℕ) → k < m → k < 1024 → Dec (k < i) → PivotOf g (k / 16) (k % 16) (getD t′ k 0)
-    pivot k d b (no h) = let q : i ≡ k = omega arith in subst (λ k. PivotOf g (k / 16) (k % 16) (getD t′ k 0)) q (subst (λ v. PivotOf g (i / 16) (i % 16) v) (sym (n .here)) is)
-    pivot k d b (yes h) = subst (λ v. PivotOf g (k / 16) (k % 16) v) (sym (n .others k b (λ q. omega arith))) (f .before k h b)
 
-    among : (k : ℕ) → k < m → k < 1024 → getD wants k 0 < 64 → Dec (k < i) → member (getD t′ (1024 + getD wants k 0) 0) (positionOf (getD t′ k 0)) ≡ true
-    among k d b low (no h) =
-        let q : i ≡ k = omega arith in
-        let here : member (getD t′ (1024 + getD wants i 0) 0) (positionOf (getD t′ i 0)) ≡ true
-        = ap (λ v. member (getD t′ (1024 + getD wants i 0) 0) (positionOf v)) (n .here) ∙ n .used (omega (arith, ap (λ k. getD wants k 0) q)) in
-        subst (λ k. member (getD t′ (1024 + getD wants k 0) 0) (positionOf (getD t′ k 0)) ≡ true) q here
-    among k d b low (yes h) =
-        ap (λ v. member (getD t′ (1024 + getD wants k 0) 0) (positionOf v)) (n .others k b (λ q. omega arith))
-        ∙ n .kept (getD wants k 0) (positionOf (getD t k 0)) low (omega (arith, f .before k h b .small)) (f .used k h b low)
+module _ (g t : List ℕ) (i m : ℕ) (f : Filled g t i) (l : i < 1024) (e : m ≡ i + 1) (want : ℕ) (asks : want ≡ wantOf (grammarOf g) (i / 16) (i % 16)) where
+  abbrev wanted : ℕ → ℕ
+  wanted k = wantOf (grammarOf g) (k / 16) (k % 16)
 
+  -- nothing is wanted: the words stay 0
+  pub filled-idle : want ≡ 80 → Filled g t m
+  filled-idle idle = record { pivot = f .pivot; size = f .size; before = λ k d b. told k d b (ℕ-discrete i k); after = λ k d b. f .after k (omega arith) b }
+    where
+      told : (k : ℕ) → k < m → k < 1024 → Dec (i ≡ k) → Told g t k (k / 16) (k % 16) (f .pivot k)
+      told k d b (yes q) =
+          let n : wanted k ≡ 80 = ap wanted (sym q) ∙ sym asks ∙ idle in
+          let z = f .after k (omega arith) b in
+          record {
+            is = λ x. absurd (x n);
+            listed = z .0 ∙ sym (word-none 2 (wanted k) (f .pivot k) (k / 16) (k % 16) n);
+            asked = z .1 ∙ sym (word-none 1 (wanted k) (f .pivot k) (k / 16) (wanted k % 64) n);
+            used = λ h. absurd (omega arith);
+          }
+      told k d b (no q) = f .before k (let x : k < i = omega arith in x) b
+
+  -- the words of pivot w
+  module _ (w : ℕ) (is : PivotOf g (i / 16) (i % 16) w) (t′ : List ℕ) (n : Entered t i want w t′) where
+    pub filled-more : Filled g t′ m
+    filled-more = record {
+      pivot = λ k. cond (eqb k i) w (f .pivot k);
+      size = n .size;
+      before = λ k d b. told k d b (ℕ-discrete k i);
+      after = λ k d b. (
+        n .others k (omega arith) (λ q. omega arith) (λ q. omega arith) ∙ f .after k (omega arith) b .0,
+        n .others (1024 + k) (omega arith) (λ q. omega arith) (λ q. omega arith) ∙ f .after k (omega arith) b .1,
+      );
+    }
+      where
+        here : Told g t′ i (i / 16) (i % 16) w
+        here = let new = subst (λ s. Entered t i s w t′) asks n in record { is = λ x. is; listed = new .listed; asked = new .asked; used = new .used }
+
+        kept : (k v : ℕ) → k < 1024 → (k ≡ i → ⊥) → Told g t k (k / 16) (k % 16) v → Told g t′ k (k / 16) (k % 16) v
+        kept k v b q o = record {
+          is = o .is;
+          listed = n .others k (omega arith) q (λ z. omega arith) ∙ o .listed;
+          asked = n .others (1024 + k) (omega arith) (λ z. omega arith) (λ z. q (omega arith)) ∙ o .asked;
+          used = λ h. n .kept (wanted k) (positionOf v) h (omega (arith, o .is (λ z. omega arith) .small)) (o .used h);
+        }
+
+        told : (k : ℕ) → k < m → k < 1024 → Dec (k ≡ i) → Told g t′ k (k / 16) (k % 16) (cond (eqb k i) w (f .pivot k))
+        told k d b (yes q) = rw (eq-eqb k i q) (subst (λ k. Told g t′ k (k / 16) (k % 16) w) (sym q) here)
+        told k d b (no q) = rw (ne-eqb k i q) (kept k (f .pivot k) b q (f .before k (let x : k < i = omega (arith, q) in x) b))
+
+-- ---- the words of one place, as they come
 or-first : (a b : Bool) → a ≡ true → (a || b) ≡ true
 or-first true b h = refl
 or-first false b h = absurd (true≢false (sym h))
@@ -308,140 +341,221 @@ or-second : (a b : Bool) → b ≡ true → (a || b) ≡ true
 or-second true b h = refl
 or-second false b h = h
 
-module _ (g wants t : List ℕ) (i w : ℕ) (f : Filled g wants t i) (l : i < 1024) (is : PivotOf g (i / 16) (i % 16) w) where
-  here : getD (set t i w) i 0 ≡ w
-  here = getD-set-same t i w 0 (omega (arith, f .size))
+module _ (t : List ℕ) (i want w x y : ℕ) (size : length t ≡ 2240) (l : i < 1024) (a : x ≡ keyWord 2 want w (i / 16) (i % 16)) (b : y ≡ keyWord 1 want w (i / 16) (want % 64)) where
+  abbrev two : List ℕ
+  two = set (set t i x) (1024 + i) y
 
-  size-set : length (set t i w) ≡ 1088
-  size-set = simp length-set (f .size)
+  pub size-two : length two ≡ 2240
+  size-two = simp length-set size
+
+  first : getD two i 0 ≡ keyWord 2 want w (i / 16) (i % 16)
+  first = getD-set-other (set t i x) (1024 + i) i y 0 (λ q. omega arith) ∙ getD-set-same t i x 0 (omega arith) ∙ a
+
+  second : getD two (1024 + i) 0 ≡ keyWord 1 want w (i / 16) (want % 64)
+  second = getD-set-same (set t i x) (1024 + i) y 0 (simp length-set (omega arith)) ∙ b
+
+  rest : (k : ℕ) → (k ≡ i → ⊥) → (k ≡ 1024 + i → ⊥) → getD two k 0 ≡ getD t k 0
+  rest k p q = getD-set-other (set t i x) (1024 + i) k y 0 q ∙ getD-set-other t i k x 0 p
 
   -- of one that wants no symbol
-  pub filled-more : (m : ℕ) → m ≡ i + 1 → 64 ≤ getD wants i 0 → (new : List ℕ) → new ≡ set t i w → Filled g wants new m
-  filled-more m e none new is-new =
-      subst (λ t. Filled g wants t m) (sym is-new)
-      (filled-grown g wants t (set t i w) i w m e f is
-      (record {
-        size = size-set;
-        here = here;
-        others = λ k b n. getD-set-other t i k w 0 n;
-        kept = λ s e a b h. ap (λ u. member u e) (getD-set-other t i (1024 + s) w 0 (λ q. omega arith)) ∙ h;
-        used = λ h. absurd (omega arith);
-      }))
+  pub entered-two : 64 ≤ want → (new : List ℕ) → new ≡ two → Entered t i want w new
+  entered-two h new e = subst (λ (t′ : List ℕ). Entered t i want w t′) (sym e) (record {
+    size = size-two;
+    listed = first;
+    asked = second;
+    others = λ k d p q. rest k p q;
+    kept = λ s e c d m. ap (λ u. member u e) (rest (2048 + s) (λ z. omega arith) (λ z. omega arith)) ∙ m;
+    used = λ z. absurd (omega arith);
+  })
 
   -- of one that wants a symbol, whose uses are u now
-  module _ (u : ℕ) (known : getD wants i 0 < 64) (added : Added (getD (set t i w) (1024 + getD wants i 0) 0) (positionOf w) u) where
-    abbrev s : ℕ
-    s = getD wants i 0
+  module _ (known : want < 64) (few : w ≤ 72) (u : ℕ) (added : Added (getD two (2048 + want) 0) (positionOf w) u) where
+    abbrev three : List ℕ
+    three = set two (2048 + want) u
 
-    abbrev t′ : List ℕ
-    t′ = set (set t i w) (1024 + s) u
+    other : (k : ℕ) → (k ≡ 2048 + want → ⊥) → getD three k 0 ≡ getD two k 0
+    other k q = getD-set-other two (2048 + want) k u 0 q
 
-    pub filled-used : (m : ℕ) → m ≡ i + 1 → (new : List ℕ) → new ≡ t′ → Filled g wants new m
-    filled-used m e new is-new =
-        subst (λ t. Filled g wants t m) (sym is-new)
-        (filled-grown g wants t t′ i w m e f is
-        (record {
-          size = simp length-set (f .size);
-          here = getD-set-other (set t i w) (1024 + s) i u 0 (λ q. omega arith) ∙ here;
-          others = λ k b n. getD-set-other (set t i w) (1024 + s) k u 0 (λ q. omega arith) ∙ getD-set-other t i k w 0 n;
-          kept = λ s′ e a b h. kept s′ e a b h (ℕ-discrete s′ s);
-          used = λ h. among;
-        }))
-      where
-        now-is : getD t′ (1024 + s) 0 ≡ u
-        now-is = getD-set-same (set t i w) (1024 + s) u 0 (omega (arith, size-set))
+    now-is : getD three (2048 + want) 0 ≡ u
+    now-is = getD-set-same two (2048 + want) u 0 (omega (arith, size-two))
 
-        among : member (getD t′ (1024 + s) 0) (positionOf w) ≡ true
-        among =
-            ap (λ u. member u (positionOf w)) now-is
-            ∙ added .members (positionOf w) (omega (arith, is .small))
-            ∙ or-second (member (getD (set t i w) (1024 + s) 0) (positionOf w)) (eqb (positionOf w) (positionOf w)) (eq-eqb (positionOf w) (positionOf w) refl)
+    kept : (s e : ℕ) → s < 64 → e < 64 → member (getD t (2048 + s) 0) e ≡ true → Dec (s ≡ want) → member (getD three (2048 + s) 0) e ≡ true
+    kept s e c d m (yes q) =
+        ap (λ s. member (getD three (2048 + s) 0) e) q
+        ∙ ap (λ u. member u e) now-is
+        ∙ added .members e d
+        ∙ or-first (member (getD two (2048 + want) 0) e) (eqb e (positionOf w))
+        (ap (λ u. member u e) (rest (2048 + want) (λ z. omega arith) (λ z. omega arith)) ∙ ap (λ s. member (getD t (2048 + s) 0) e) (sym q) ∙ m)
+    kept s e c d m (no q) = ap (λ u. member u e) (other (2048 + s) (λ z. q (omega arith)) ∙ rest (2048 + s) (λ z. omega arith) (λ z. omega arith)) ∙ m
 
-        kept : (s′ e : ℕ) → s′ < 64 → e < 64 → member (getD t (1024 + s′) 0) e ≡ true → Dec (s′ ≡ s) → member (getD t′ (1024 + s′) 0) e ≡ true
-        kept s′ e a b h (yes q) =
-            ap (λ s′. member (getD t′ (1024 + s′) 0) e) q
-            ∙ ap (λ u. member u e) now-is
-            ∙ added .members e b
-            ∙ or-first (member (getD (set t i w) (1024 + s) 0) e) (eqb e (positionOf w))
-            (ap (λ u. member u e) (getD-set-other t i (1024 + s) w 0 (λ z. omega arith)) ∙ ap (λ s. member (getD t (1024 + s) 0) e) (sym q) ∙ h)
-        kept s′ e a b h (no q) =
-            ap (λ u. member u e)
-            (getD-set-other (set t i w) (1024 + s) (1024 + s′) u 0 (λ z. q (omega arith)) ∙ getD-set-other t i (1024 + s′) w 0 (λ z. omega arith))
-            ∙ h
+    pub entered-three : (new : List ℕ) → new ≡ three → Entered t i want w new
+    entered-three new e = subst (λ (t′ : List ℕ). Entered t i want w t′) (sym e) (record {
+      size = simp length-set size;
+      listed = other i (λ z. omega arith) ∙ first;
+      asked = other (1024 + i) (λ z. omega arith) ∙ second;
+      others = λ k d p q. other k (λ z. omega arith) ∙ rest k p q;
+      kept = λ s e c d m. kept s e c d m (ℕ-discrete s want);
+      used = λ z.
+          ap (λ u. member u (positionOf w)) now-is
+          ∙ added .members (positionOf w) (omega arith)
+          ∙ or-second (member (getD two (2048 + want) 0) (positionOf w)) (eqb (positionOf w) (positionOf w)) (eq-eqb (positionOf w) (positionOf w) refl);
+    })
 
--- a word of it
-module _ (t : List ℕ) (r p : ℕ) where
-  pub word-far : 64 ≤ r → 72 ≡ pivotIn t r p
-  unfolding pivotIn
-  word-far h = rw (le-ltb r 64 h)
+-- ---- the words of the symbols
+pub placed-none : (t : List ℕ) → length t ≡ 2240 → Placed t 0 t
+placed-none t h = record { size = h; others = λ k l. refl; place = λ s l. absurd (omega arith); sought = λ s l. absurd (omega arith) }
 
-  pub word-past : r < 64 → 16 ≤ p → 72 ≡ pivotIn t r p
-  unfolding pivotIn
-  word-past a h = rw (lt-ltb r 64 a, le-ltb p 16 h)
+module _ (t t′ : List ℕ) (s u x y : ℕ) (f : Placed t s t′) (l : s < 64) (is : u ≡ getD t′ (2048 + s) 0) (a : x ≡ placeWord 1 s u) (b : y ≡ placeWord 2 s u) where
+  abbrev pair : List ℕ
+  pair = set (set t′ (2112 + s) x) (2176 + s) y
 
-  pub word-there : r < 64 → p < 16 → getD t (16 * r + p) 0 ≡ pivotIn t r p
-  unfolding pivotIn
-  word-there a b = rw (lt-ltb r 64 a, lt-ltb p 16 b)
+  uses-are : u ≡ getD t (2048 + s) 0
+  uses-are = is ∙ f .others (2048 + s) (omega arith)
 
-module _ (t : List ℕ) (s : ℕ) where
-  pub uses-far : 64 ≤ s → 0 ≡ usesIn t s
-  unfolding usesIn
-  uses-far h = rw (le-ltb s 64 h)
+  past : (k : ℕ) → (k ≡ 2112 + s → ⊥) → (k ≡ 2176 + s → ⊥) → getD pair k 0 ≡ getD t′ k 0
+  past k p q = getD-set-other (set t′ (2112 + s) x) (2176 + s) k y 0 q ∙ getD-set-other t′ (2112 + s) k x 0 p
 
-  pub uses-there : s < 64 → getD t (1024 + s) 0 ≡ usesIn t s
-  unfolding usesIn
-  uses-there h = rw (lt-ltb s 64 h)
-
--- a rule that is not there wants nothing
-wants-none : (g : List ℕ) → checkGrammar g ≡ true → (r p : ℕ) → ruleCount g ≤ r → wantOf (grammarOf g) r p ≡ 80
-wants-none g checked r p h = want-nowhere (grammarOf g) r p (λ q l. absurd (omega (arith, rule g checked r q l)))
-
-module _ (g : List ℕ) (checked : checkGrammar g ≡ true) (wants : List ℕ) (want-table : WantTable g wants) (t : List ℕ) (n i : ℕ) (e : n ≡ 16 * ruleCount g) (l : n ≤ i) (f : Filled g wants t i) where
-  small-word : (r p : ℕ) → Dec (r < 64) → Dec (p < 16) → pivotIn t r p ≤ 72
-  small-word r p (no a) b = omega (arith, word-far t r p (omega arith))
-  small-word r p (yes a) (no b) = omega (arith, word-past t r p a (omega arith))
-  small-word r p (yes a) (yes b) = go (decLt (16 * r + p) i)
+  pub placed-more : (m : ℕ) → m ≡ s + 1 → (new : List ℕ) → new ≡ pair → Placed t m new
+  placed-more m e new q = subst (λ (v : List ℕ). Placed t m v) (sym q) (record {
+    size = simp length-set (f .size);
+    others = λ k d. past k (λ z. omega arith) (λ z. omega arith) ∙ f .others k d;
+    place = λ k d. place k d (ℕ-discrete k s);
+    sought = λ k d. sought k d (ℕ-discrete k s);
+  })
     where
-      go : Dec (16 * r + p < i) → pivotIn t r p ≤ 72
-      go (yes d) = omega (arith, f .before (16 * r + p) d (omega arith) .small, word-there t r p a b)
-      go (no d) = omega (arith, f .after (16 * r + p) (omega arith) (omega arith), word-there t r p a b)
+      place : (k : ℕ) → k < m → Dec (k ≡ s) → getD pair (2112 + k) 0 ≡ placeWord 1 k (getD t (2048 + k) 0)
+      place k d (yes z) =
+          ap (λ k. getD pair (2112 + k) 0) z
+          ∙ getD-set-other (set t′ (2112 + s) x) (2176 + s) (2112 + s) y 0 (λ q. omega arith)
+          ∙ getD-set-same t′ (2112 + s) x 0 (omega (arith, f .size))
+          ∙ a ∙ ap (placeWord 1 s) uses-are ∙ ap (λ k. placeWord 1 k (getD t (2048 + k) 0)) (sym z)
+      place k d (no z) = past (2112 + k) (λ q. z (omega arith)) (λ q. omega arith) ∙ f .place k (omega (arith, z))
 
-  known-word : (r p : ℕ) → r < ruleCount g → p < 16 → PivotOf g r p (pivotIn t r p)
-  known-word r p a b =
-      let few : r < 64 = rule-few g r checked a in
+      sought : (k : ℕ) → k < m → Dec (k ≡ s) → getD pair (2176 + k) 0 ≡ placeWord 2 k (getD t (2048 + k) 0)
+      sought k d (yes z) =
+          ap (λ k. getD pair (2176 + k) 0) z
+          ∙ getD-set-same (set t′ (2112 + s) x) (2176 + s) y 0 (simp length-set (omega (arith, f .size)))
+          ∙ b ∙ ap (placeWord 2 s) uses-are ∙ ap (λ k. placeWord 2 k (getD t (2048 + k) 0)) (sym z)
+      sought k d (no z) = past (2176 + k) (λ q. omega arith) (λ q. z (omega arith)) ∙ f .sought k (omega (arith, z))
+
+pub placed-all : (t t′ : List ℕ) (s : ℕ) → s ≤ 64 → 64 ≤ s → Placed t s t′ → Placed t 64 t′
+placed-all t t′ s a b f = let e : s ≡ 64 = omega arith in subst (λ s. Placed t s t′) e f
+
+-- ---- a word of it
+module _ (t : List ℕ) (from r p : ℕ) where
+  pub rule-far : 64 ≤ r → 0 ≡ ruleWord t from r p
+  unfolding ruleWord
+  rule-far h = rw (le-ltb r 64 h)
+
+  pub rule-past : r < 64 → 16 ≤ p → 0 ≡ ruleWord t from r p
+  unfolding ruleWord
+  rule-past a h = rw (lt-ltb r 64 a, le-ltb p 16 h)
+
+  pub rule-there : r < 64 → p < 16 → getD t (from + 16 * r + p) 0 ≡ ruleWord t from r p
+  unfolding ruleWord
+  rule-there a b = rw (lt-ltb r 64 a, lt-ltb p 16 b)
+
+module _ (t : List ℕ) (from s : ℕ) where
+  pub symbol-far : 64 ≤ s → 0 ≡ symbolWord t from s
+  unfolding symbolWord
+  symbol-far h = rw (le-ltb s 64 h)
+
+  pub symbol-there : s < 64 → getD t (from + s) 0 ≡ symbolWord t from s
+  unfolding symbolWord
+  symbol-there h = rw (lt-ltb s 64 h)
+
+uses-there : (t : List ℕ) (s : ℕ) → s < 64 → getD t (2048 + s) 0 ≡ usesIn t s
+unfolding usesIn
+uses-there t s h = symbol-there t 2048 s h
+
+uses-far : (t : List ℕ) (s : ℕ) → 64 ≤ s → 0 ≡ usesIn t s
+unfolding usesIn
+uses-far t s h = symbol-far t 2048 s h
+
+-- ---- the whole
+module _ (g : List ℕ) (checked : checkGrammar g ≡ true) (t : List ℕ) (n i : ℕ) (e : n ≡ 16 * ruleCount g) (l : n ≤ i) (f : Filled g t i) (t′ : List ℕ) (d : Placed t 64 t′) where
+  abbrev pivot-at : ℕ → ℕ → ℕ
+  pivot-at r p = f .pivot (16 * r + p)
+
+  abbrev want : ℕ → ℕ → ℕ
+  want r p = wantOf (grammarOf g) r p
+
+  told : (r p : ℕ) → r < 64 → p < 16 → 16 * r + p < i → Told g t (16 * r + p) r p (pivot-at r p)
+  told r p a b h =
       let q : (16 * r + p) / 16 ≡ r = omega arith in
       let s : (16 * r + p) % 16 ≡ p = omega arith in
-      subst (λ w. PivotOf g r p w) (word-there t r p few b)
-      (subst (λ p′. PivotOf g r p′ (getD t (16 * r + p) 0)) s
-      (subst (λ r′. PivotOf g r′ ((16 * r + p) % 16) (getD t (16 * r + p) 0)) q (f .before (16 * r + p) (omega arith) (omega arith))))
+      subst (λ p′. Told g t (16 * r + p) r p′ (pivot-at r p)) s
+      (subst (λ r′. Told g t (16 * r + p) r′ ((16 * r + p) % 16) (pivot-at r p)) q (f .before (16 * r + p) h (omega arith)))
 
-  -- an item that wants a symbol stands in the table
-  used-word : (r p s : ℕ) → wantOf (grammarOf g) r p ≡ s → s < 64 → Dec (r < ruleCount g) → Dec (p < 16) → member (usesIn t s) (positionOf (pivotIn t r p)) ≡ true
-  used-word r p s q h (no a) b = absurd (omega (arith, wants-none g checked r p (omega arith)))
-  used-word r p s q h (yes a) (no b) = absurd (omega (arith, want-table .each r p, want-past wants r p (rule-few g r checked a) (omega arith)))
+  -- a rule that is there has pivots where something is wanted
+  known-word : (r p : ℕ) → r < ruleCount g → p < 16 → (want r p ≡ 80 → ⊥) → PivotOf g r p (pivot-at r p)
+  known-word r p a b w = told r p (rule-few g r checked a) b (omega arith) .is w
+
+  used-word : (r p s : ℕ) → want r p ≡ s → s < 64 → Dec (r < ruleCount g) → Dec (p < 16) → member (usesIn t′ s) (positionOf (pivot-at r p)) ≡ true
+  used-word r p s q h (no a) b = absurd (omega (arith, unknown-rule g r p (omega arith)))
+  used-word r p s q h (yes a) (no b) = absurd (omega (arith, unknown-node g checked r p (omega arith)))
   used-word r p s q h (yes a) (yes b) =
-      let few : r < 64 = rule-few g r checked a in
-      let word : getD wants (16 * r + p) 0 ≡ s = want-there wants r p few b ∙ want-table .each r p ∙ q in
-      ap₂ (λ u w. member u (positionOf w))
-      (sym (uses-there t s h) ∙ ap (λ s. getD t (1024 + s) 0) (sym word))
-      (sym (word-there t r p few b))
-      ∙ f .used (16 * r + p) (omega arith) (omega arith) (omega arith)
+      ap (λ u. member u (positionOf (pivot-at r p))) (sym (uses-there t′ s h) ∙ d .others (2048 + s) (omega arith) ∙ ap (λ s. getD t (2048 + s) 0) (sym q))
+      ∙ told r p (rule-few g r checked a) b (omega arith) .used (omega arith)
 
-  pub filled-all : PivotTable g t
+  -- both words of a rule and a plan node
+  abbrev Words : ℕ → ℕ → Type 0
+  Words r p = (ruleWord t′ 0 r p ≡ keyWord 2 (want r p) (pivot-at r p) r p) × (ruleWord t′ 1024 r p ≡ keyWord 1 (want r p) (pivot-at r p) r (want r p % 64))
+
+  idle : (r p : ℕ) → want r p ≡ 80 → 0 ≡ ruleWord t′ 0 r p → 0 ≡ ruleWord t′ 1024 r p → Words r p
+  idle r p w a b = (sym a ∙ sym (word-none 2 (want r p) (pivot-at r p) r p w), sym b ∙ sym (word-none 1 (want r p) (pivot-at r p) r (want r p % 64) w))
+
+  words : (r p : ℕ) → Dec (r < 64) → Dec (p < 16) → Words r p
+  words r p (no a) b = idle r p (unknown-rule g r p (omega (arith, rules-few g checked))) (rule-far t′ 0 r p (omega arith)) (rule-far t′ 1024 r p (omega arith))
+  words r p (yes a) (no b) = idle r p (unknown-node g checked r p (omega arith)) (rule-past t′ 0 r p a (omega arith)) (rule-past t′ 1024 r p a (omega arith))
+  words r p (yes a) (yes b) = go (decLt (16 * r + p) i)
+    where
+      first : ruleWord t′ 0 r p ≡ getD t (16 * r + p) 0
+      first =
+          let k : 0 + 16 * r + p ≡ 16 * r + p = omega arith in
+          sym (rule-there t′ 0 r p a b) ∙ ap (λ k. getD t′ k 0) k ∙ d .others (16 * r + p) (omega arith)
+
+      second : ruleWord t′ 1024 r p ≡ getD t (1024 + (16 * r + p)) 0
+      second =
+          let k : 1024 + 16 * r + p ≡ 1024 + (16 * r + p) = omega arith in
+          sym (rule-there t′ 1024 r p a b) ∙ ap (λ k. getD t′ k 0) k ∙ d .others (1024 + (16 * r + p)) (omega arith)
+
+      go : Dec (16 * r + p < i) → Words r p
+      go (yes h) = let o = told r p a b h in (first ∙ o .listed, second ∙ o .asked)
+      go (no h) =
+          let o = f .after (16 * r + p) (omega arith) (omega arith) in
+          idle r p (unknown-rule g r p (omega arith)) (sym (first ∙ o .0)) (sym (second ∙ o .1))
+
+  -- the words of a symbol
+  placed : (from tag s : ℕ) → (s < 64 → getD t′ (from + s) 0 ≡ placeWord tag s (getD t (2048 + s) 0)) → symbolWord t′ from s ≡ placeWord tag s (usesIn t′ s)
+  placed from tag s at-s = go (decLt s 64)
+    where
+      go : Dec (s < 64) → symbolWord t′ from s ≡ placeWord tag s (usesIn t′ s)
+      go (yes h) = sym (symbol-there t′ from s h) ∙ at-s h ∙ ap (placeWord tag s) (sym (d .others (2048 + s) (omega arith)) ∙ uses-there t′ s h)
+      go (no h) = sym (symbol-far t′ from s (omega arith)) ∙ sym (place-nowhere tag s) ∙ ap (placeWord tag s) (uses-far t′ s (omega arith))
+
+  pub filled-all : KeyTable g t′
   filled-all = record {
-    small = λ r p. small-word r p (decLt r 64) (decLt p 16);
-    edge = λ r q c i d node.
-        let k = rule g checked r q d in
-        let low = introduce-lower (ruleEdges g r) (planOf (grammarOf g) r) (plan-ok g r checked k) q c i node in
-        known-word r c k (omega (arith, low, plan-few g r checked k, plan-size g r checked k)) .each q d .edge i node;
-    join = λ r q a b d node.
-        let k = rule g checked r q d in
-        let low = few g checked r q d a b node in
-        let here = known-word r a k (low .0) .each q d .first b node in
-        let there = known-word r b k (low .1) .each q d .second a node in
-        record {
-          same = here ∙ shared-comm (grammarOf g) r a b ∙ sym there;
-          known = λ h. omega (arith, here, shared-known (grammarOf g) r a b (omega (arith, here)));
-        };
-    used = λ r p s q h. used-word r p s q h (decLt r (ruleCount g)) (decLt p 16);
+    pivot = λ r p. pivot-at r p;
+    taken = record {
+      edge = λ r q c i d node.
+          let k = rule g checked r q d in
+          let low = introduce-lower (ruleEdges g r) (planOf (grammarOf g) r) (plan-ok g r checked k) q c i node in
+          let wanted = want-label g checked r q d c i node in
+          known-word r c k (omega (arith, low, plan-few g r checked k, plan-size g r checked k)) (λ z. omega (arith, label-few g checked r q d c i node)) .each q d .edge i node;
+      join = λ r q a b d node.
+          let k = rule g checked r q d in
+          let low = few g checked r q d a b node in
+          let here = known-word r a k (low .0) (λ z. omega (arith, low, want-second g checked r q d a b node)) .each q d .first b node in
+          let there = known-word r b k (low .1) (λ z. omega (arith, low, want-first g checked r q d a b node)) .each q d .second a node in
+          record {
+            same = here ∙ shared-comm (grammarOf g) r a b ∙ sym there;
+            known = λ h. omega (arith, here, shared-known (grammarOf g) r a b (omega (arith, here)));
+          };
+      used = λ r p s q h. used-word r p s q h (decLt r (ruleCount g)) (decLt p 16);
+    };
+    listed = λ r p. words r p (decLt r 64) (decLt p 16) .0;
+    asked = λ r p. words r p (decLt r 64) (decLt p 16) .1;
+    place = λ s. placed 2112 1 s (d .place s);
+    sought = λ s. placed 2176 2 s (d .sought s);
   }

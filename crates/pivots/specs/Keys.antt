@@ -1,17 +1,16 @@
--- Keys of records: two records that a rule joins lie on a key that the one is asked for and the other has.
-use mathlib.Core.Bool.{Bool, _&&_, _||_, cond}
+-- Keys of records: two records that a rule joins lie on a key that the one is asked for and the other has. All of a key but the image of one node is a word of a table that is worked out once.
+use mathlib.Core.Path.{_≡_}
+use mathlib.Core.Bool.{Bool, true, _&&_, _||_, cond}
 use mathlib.Core.List.{List, [], _∷_}
-use Prim.Native.Nat.{ℕ, _+_, _*_, _/_, _%_}
+use Prim.Native.Nat.{ℕ, _+_, _*_, _/_, _%_, _<_}
+use lib.ListN.{length, getD}
 use lib.Dec.{eqb, ltb, leb}
-use Rattle.masks.specs.Masks.{bit}
+use Rattle.masks.specs.Masks.{bit, member}
 use Rattle.hrg.specs.Trees.{at}
 use Rattle.agenda.specs.declared.Record.{Record}
-use Rattle.rules.specs.Wants.{wantIn}
-use Rattle.pivots.specs.Pivots.{positionOf, nodeOf, pivotIn, usesIn}
-
--- Four numbers mixed into 1 .. 2,048. Each is brought below a bound first, so that the sum stays in a word whatever they are; bits 21 to 31 are those on which every lower bit has an effect.
-unfoldable pub bucketOf : ℕ → ℕ → ℕ → ℕ → ℕ
-bucketOf tag s k a = (tag % 128 * 3266489917 + s % 128 * 2654435769 + k % 128 * 2246822519 + a % 128 * 668265263) % 4294967296 / 2097152 + 1
+use Rattle.questions.specs.Abstract.{grammarOf}
+use Rattle.rules.specs.Wants.{wantOf}
+use Rattle.pivots.specs.Pivots.{positionOf, nodeOf, PivotChoice}
 
 -- a passive record, an active one that wants an edge filled, and one that wants to be joined with another
 abbrev pub passiveTag : ℕ
@@ -23,16 +22,87 @@ edgeTag = 2
 abbrev pub joinTag : ℕ
 joinTag = 3
 
--- the image of the pivot w's node by a map in eight places
+-- ---- buckets
+-- What is mixed of all but the node. Each number is brought below a bound first, so that the sum stays in a word whatever they are; it is not 0, since no tag is.
+unfoldable pub baseOf : ℕ → ℕ → ℕ → ℕ
+baseOf tag s k = tag % 128 * 3266489917 + s % 128 * 2654435769 + k % 128 * 2246822519
+
+-- The base b and the node a mixed into 1 .. 2,048: bits 21 to 31 are those on which every lower bit has an effect.
+unfoldable pub mixed : ℕ → ℕ → ℕ
+mixed b a = (b + a % 128 * 668265263) % 4294967296 / 2097152 + 1
+
+unfoldable pub bucketOf : ℕ → ℕ → ℕ → ℕ → ℕ
+unfolding baseOf mixed
+bucketOf tag s k a = mixed (baseOf tag s k) a
+
+-- ---- words: a base, and the node whose image is to be mixed with it (8: none)
+unfoldable pub wordOf : ℕ → ℕ → ℕ → ℕ → ℕ
+unfolding baseOf
+wordOf tag s k v = 16 * baseOf tag s k + v
+
+-- the image of the node of w, a pivot or a word, by a map in eight places
 unfoldable pub imageOf : ℕ → List ℕ → ℕ
 imageOf w f = cond (ltb (nodeOf w) 8) (at f (nodeOf w)) 64
 
--- the key of an active record of rule r that wants `want` and has pivot w and map f, with plan node p for a join
-unfoldable pub activeKey : ℕ → ℕ → ℕ → ℕ → ℕ → List ℕ → ℕ
-unfolding bucketOf imageOf
-activeKey tag want w r p f =
-    cond (eqb want 80) 0 (cond (ltb want 64) (bucketOf tag want (positionOf w) (imageOf w f)) (bucketOf joinTag r p (imageOf w f)))
+-- for active records of rule r that want `want` and have pivot w, with plan node p for a join; 0 where they want nothing
+unfoldable pub keyWord : ℕ → ℕ → ℕ → ℕ → ℕ → ℕ
+unfolding wordOf
+keyWord tag want w r p = cond (eqb want 80) 0 (cond (ltb want 64) (wordOf tag want (positionOf w) (nodeOf w)) (wordOf joinTag r p (nodeOf w)))
 
+-- the place of a set that has no other, 5 for any other set
+unfoldable pub placeOf : ℕ → ℕ
+placeOf u = cond (eqb u 1) 0 (cond (eqb u 2) 1 (cond (eqb u 4) 2 (cond (eqb u 8) 3 (cond (eqb u 16) 4 5))))
+
+-- where it is in a passive record's list: there are four nodes, and a place for where there is no pivot
+unfoldable pub placeNode : ℕ → ℕ
+placeNode i = cond (ltb i 4) i 8
+
+-- for passive records of symbol s, if u is the set of the positions at which they are asked for; 0 where it has no only place
+unfoldable pub placeWord : ℕ → ℕ → ℕ → ℕ
+unfolding wordOf placeOf placeNode
+placeWord tag s u = cond (ltb (placeOf u) 5) (wordOf tag s (placeOf u) (placeNode (placeOf u))) 0
+
+-- ---- the table
+-- its word for rule r and plan node p, from word `from` on
+unfoldable pub ruleWord : List ℕ → ℕ → ℕ → ℕ → ℕ
+ruleWord t from r p = cond (ltb r 64 && ltb p 16) (getD t (from + 16 * r + p) 0) 0
+
+-- and for symbol s
+unfoldable pub symbolWord : List ℕ → ℕ → ℕ → ℕ
+symbolWord t from s = cond (ltb s 64) (getD t (from + s) 0) 0
+
+-- the set of the positions at which passive records of s are asked for
+unfoldable pub usesIn : List ℕ → ℕ → ℕ
+unfolding symbolWord
+usesIn t s = symbolWord t 2048 s
+
+-- t has the words of g: those by which records are listed, and those by which they ask for their partners, which for a join stand at the other child
+pub record KeyTable (g t : List ℕ) : Type 0 where
+  pub pivot : ℕ → ℕ → ℕ
+  pub taken : PivotChoice g pivot (usesIn t)
+  pub listed : (r p : ℕ) → ruleWord t 0 r p ≡ keyWord edgeTag (wantOf (grammarOf g) r p) (pivot r p) r p
+  pub asked : (r p : ℕ) → ruleWord t 1024 r p ≡ keyWord passiveTag (wantOf (grammarOf g) r p) (pivot r p) r (wantOf (grammarOf g) r p % 64)
+  pub place : (s : ℕ) → symbolWord t 2112 s ≡ placeWord passiveTag s (usesIn t s)
+  pub sought : (s : ℕ) → symbolWord t 2176 s ≡ placeWord edgeTag s (usesIn t s)
+
+-- ---- a table that is being filled
+-- t′ is t with the words for place i, of pivot w: where a symbol is wanted, the pivot's position is among its uses
+pub record Entered (t : List ℕ) (i want w : ℕ) (t′ : List ℕ) : Type 0 where
+  pub size : length t′ ≡ 2240
+  pub listed : getD t′ i 0 ≡ keyWord edgeTag want w (i / 16) (i % 16)
+  pub asked : getD t′ (1024 + i) 0 ≡ keyWord passiveTag want w (i / 16) (want % 64)
+  pub others : (k : ℕ) → k < 2048 → (k ≡ i → ⊥) → (k ≡ 1024 + i → ⊥) → getD t′ k 0 ≡ getD t k 0
+  pub kept : (s e : ℕ) → s < 64 → e < 64 → member (getD t (2048 + s) 0) e ≡ true → member (getD t′ (2048 + s) 0) e ≡ true
+  pub used : want < 64 → member (getD t′ (2048 + want) 0) (positionOf w) ≡ true
+
+-- t′ is t with the words of the first n symbols' only places
+pub record Placed (t : List ℕ) (n : ℕ) (t′ : List ℕ) : Type 0 where
+  pub size : length t′ ≡ 2240
+  pub others : (k : ℕ) → k < 2112 → getD t′ k 0 ≡ getD t k 0
+  pub place : (s : ℕ) → s < n → getD t′ (2112 + s) 0 ≡ placeWord passiveTag s (getD t (2048 + s) 0)
+  pub sought : (s : ℕ) → s < n → getD t′ (2176 + s) 0 ≡ placeWord edgeTag s (getD t (2048 + s) 0)
+
+-- ---- keys
 -- of a passive record of symbol s: for position i with the node a, if it is used
 unfoldable pub placeKey : ℕ → ℕ → ℕ → ℕ → ℕ → ℕ
 unfolding bucketOf
@@ -49,44 +119,41 @@ fiveKeys u tag s L =
     ∷ placeKey (bit u 4) tag s 4 64
     ∷ []
 
--- the place of a set that has no other, 5 for any other set
-unfoldable pub placeOf : ℕ → ℕ
-placeOf u = cond (eqb u 1) 0 (cond (eqb u 2) 1 (cond (eqb u 4) 2 (cond (eqb u 8) 3 (cond (eqb u 16) 4 5))))
+-- the key by a record's word w; the five where there is none. An only key comes first, so that whoever goes through them is done with one
+unfoldable pub keysBy : ℕ → ℕ → ℕ → ℕ → List ℕ → List ℕ
+unfolding mixed imageOf fiveKeys
+keysBy w u tag s L = cond (eqb w 0) (fiveKeys u tag s L) (mixed (w / 16) (imageOf w L) ∷ 0 ∷ 0 ∷ 0 ∷ 0 ∷ [])
 
--- the node of a key at place i
-unfoldable pub nodeAt : List ℕ → ℕ → ℕ
-nodeAt L i = cond (ltb i 4) (at L i) 64
+-- a record's word: an active one's from word `rules` on, a passive one's from `symbols` on
+unfoldable pub wordFor : List ℕ → ℕ → ℕ → Record → ℕ
+unfolding ruleWord symbolWord
+wordFor t rules symbols x = cond (eqb (x .kind) 0) (ruleWord t rules (x .of) (x .plan)) (symbolWord t symbols (x .of))
 
--- the five; but the key of an only place comes first, so that whoever goes through them is done with one
-unfoldable pub listedKeys : ℕ → ℕ → ℕ → List ℕ → List ℕ
-unfolding bucketOf placeOf nodeAt fiveKeys
-listedKeys u tag s L = cond (ltb (placeOf u) 5) (bucketOf tag s (placeOf u) (nodeAt L (placeOf u)) ∷ 0 ∷ 0 ∷ 0 ∷ 0 ∷ []) (fiveKeys u tag s L)
+-- the positions at which it is asked for, if it is passive
+unfoldable pub usesOf : List ℕ → Record → ℕ
+unfolding usesIn
+usesOf t x = cond (eqb (x .kind) 0) 0 (usesIn t (x .of))
 
 -- the keys that a record has, 0 for none
-unfoldable pub keysOf : List ℕ → List ℕ → Record → List ℕ
-unfolding wantIn pivotIn usesIn activeKey listedKeys
-keysOf wants pivots x =
-    cond (eqb (x .kind) 0)
-    (activeKey edgeTag (wantIn wants (x .of) (x .plan)) (pivotIn pivots (x .of) (x .plan)) (x .of) (x .plan) (x .nodes) ∷ 0 ∷ 0 ∷ 0 ∷ 0 ∷ [])
-    (listedKeys (usesIn pivots (x .of)) passiveTag (x .of) (x .nodes))
+unfoldable pub keysOf : List ℕ → Record → List ℕ
+unfolding keysBy wordFor usesOf
+keysOf t x = keysBy (wordFor t 0 2112 x) (usesOf t x) passiveTag (x .of) (x .nodes)
 
--- the keys that its partners have, 0 for none: those of a join stand at the other child, which `want` tells
-unfoldable pub queryOf : List ℕ → List ℕ → Record → List ℕ
-unfolding wantIn pivotIn usesIn activeKey listedKeys
-queryOf wants pivots x =
-    cond (eqb (x .kind) 0)
-    (activeKey passiveTag (wantIn wants (x .of) (x .plan)) (pivotIn pivots (x .of) (x .plan)) (x .of) (wantIn wants (x .of) (x .plan) % 64) (x .nodes) ∷ 0 ∷ 0 ∷ 0 ∷ 0 ∷ [])
-    (listedKeys (usesIn pivots (x .of)) edgeTag (x .of) (x .nodes))
+-- the keys that its partners have, 0 for none
+unfoldable pub queryOf : List ℕ → Record → List ℕ
+unfolding keysBy wordFor usesOf
+queryOf t x = keysBy (wordFor t 1024 2176 x) (usesOf t x) edgeTag (x .of) (x .nodes)
 
 -- whether a node stands in each of the first four places that is in u
 unfoldable pub allPlaced : ℕ → List ℕ → Bool
 unfolding bit
 allPlaced u L = (eqb (bit u 0) 0 || ltb (at L 0) 64) && (eqb (bit u 1) 0 || ltb (at L 1) 64) && (eqb (bit u 2) 0 || ltb (at L 2) 64) && (eqb (bit u 3) 0 || ltb (at L 3) 64)
 
--- whether the nodes by which a record is keyed are there
+-- whether the nodes by which a record is keyed are there: that of its word w, or those of its places in u
+unfoldable pub regularBy : ℕ → ℕ → List ℕ → Bool
+unfolding imageOf allPlaced
+regularBy w u L = cond (eqb w 0) (allPlaced u L) (leb 8 (nodeOf w) || ltb (imageOf w L) 64)
+
 unfoldable pub regularOf : List ℕ → Record → Bool
-unfolding pivotIn usesIn imageOf allPlaced
-regularOf pivots x =
-    cond (eqb (x .kind) 0)
-    (leb 8 (nodeOf (pivotIn pivots (x .of) (x .plan))) || ltb (imageOf (pivotIn pivots (x .of) (x .plan)) (x .nodes)) 64)
-    (allPlaced (usesIn pivots (x .of)) (x .nodes))
+unfolding regularBy wordFor usesOf
+regularOf t x = regularBy (wordFor t 0 2112 x) (usesOf t x) (x .nodes)

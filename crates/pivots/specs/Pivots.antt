@@ -2,9 +2,8 @@
 use mathlib.Core.Path.{_≡_}
 use mathlib.Core.Bool.{Bool, true, _&&_, cond}
 use mathlib.Core.List.{List}
-use Prim.Native.Nat.{ℕ, zero, suc, _+_, _*_, _/_, _%_, _≤_, _<_}
-use lib.ListN.{length, getD}
-use lib.Dec.{ltb}
+use Prim.Native.Nat.{ℕ, zero, suc, _/_, _%_, _≤_, _<_}
+use lib.ListN.{length}
 use Rattle.masks.specs.Masks.{member}
 use Rattle.hrg.specs.Grammars.{Grammar, introduce, join, ruleOf, rightOf, planOf, planNode}
 use Rattle.hrg.specs.Trees.{at}
@@ -24,14 +23,6 @@ nodeOf w = w % 16
 abbrev pub noPivot : ℕ
 noPivot = 72
 
--- the word of a table for rule r and plan node p
-unfoldable pub pivotIn : List ℕ → ℕ → ℕ → ℕ
-pivotIn t r p = cond (ltb r 64 && ltb p 16) (getD t (16 * r + p) 0) noPivot
-
--- and its word for symbol s: the set of the positions at which passive records of s are asked for
-unfoldable pub usesIn : List ℕ → ℕ → ℕ
-usesIn t s = cond (ltb s 64) (getD t (1024 + s) 0) 0
-
 -- ---- what a pivot has to be
 -- below a plan node that introduces an edge with the nodes A: a position of the edge and its node
 pub record EdgePivot (A : List ℕ) (w : ℕ) : Type 0 where
@@ -43,12 +34,11 @@ pub record JoinPivot (n w w′ : ℕ) : Type 0 where
   pub same : nodeOf w ≡ nodeOf w′
   pub known : nodeOf w < 8 → nodeOf w < n
 
--- t is a table of pivots for g, and has the positions of those that want a symbol among the symbol's uses; which of the nodes that would do are taken is left open
-pub record PivotTable (g t : List ℕ) : Type 0 where
-  pub small : (r p : ℕ) → pivotIn t r p ≤ noPivot
-  pub edge : (r q c i : ℕ) → q < length (planOf (grammarOf g) r) → planNode (planOf (grammarOf g) r) q ≡ introduce c i → EdgePivot (edgeNodes g r i) (pivotIn t r c)
-  pub join : (r q a b : ℕ) → q < length (planOf (grammarOf g) r) → planNode (planOf (grammarOf g) r) q ≡ join a b → JoinPivot (rightOf (grammarOf g) r .nodes) (pivotIn t r a) (pivotIn t r b)
-  pub used : (r p s : ℕ) → wantOf (grammarOf g) r p ≡ s → s < 64 → member (usesIn t s) (positionOf (pivotIn t r p)) ≡ true
+-- pivots for g, where `uses` has for each symbol the positions of those that want it; which of the nodes that would do are taken is left open
+pub record PivotChoice (g : List ℕ) (pivot : ℕ → ℕ → ℕ) (uses : ℕ → ℕ) : Type 0 where
+  pub edge : (r q c i : ℕ) → q < length (planOf (grammarOf g) r) → planNode (planOf (grammarOf g) r) q ≡ introduce c i → EdgePivot (edgeNodes g r i) (pivot r c)
+  pub join : (r q a b : ℕ) → q < length (planOf (grammarOf g) r) → planNode (planOf (grammarOf g) r) q ≡ join a b → JoinPivot (rightOf (grammarOf g) r .nodes) (pivot r a) (pivot r b)
+  pub used : (r p s : ℕ) → wantOf (grammarOf g) r p ≡ s → s < 64 → member (uses s) (positionOf (pivot r p)) ≡ true
 
 -- ---- the pivots that are taken
 -- the last number below n that passes, 8 for none

@@ -2,17 +2,15 @@
 // A record comes as its sixteen words, in the order of crate `records`.
 ghost use mathlib.Core.Path.{_≡_};
 ghost use mathlib.Core.Bool.{true};
-ghost use mathlib.Core.List.{List};
-ghost use Prim.Native.Nat.{ℕ, _≤_};
+ghost use Prim.Native.Nat.{_≤_, _<_};
 ghost use lib.ListN.{length, replicate};
 ghost use Rattle.questions.specs.Checking.{checkGrammar};
 ghost use Rattle.questions.specs.Abstract.{grammarOf};
 ghost use Rattle.records.specs.Words.{ofWords};
 ghost use Rattle.joins.specs.Joins.{KnownNode, KnownEdge, edgeNodes};
-ghost use Rattle.rules.specs.Wants.{WantTable};
 ghost use Rattle.rules.specs.Plans.{PlanTable};
-ghost use Rattle.pivots.specs.Pivots.{pivotIn, usesIn, sharedNode, EdgePivot, PivotBelow, PivotOf, PivotTable};
-ghost use Rattle.pivots.specs.Keys.{bucketOf, imageOf, activeKey, placeKey, placeOf, nodeAt, keysOf, queryOf, allPlaced, regularOf};
+ghost use Rattle.pivots.specs.Pivots.{sharedNode, EdgePivot, PivotBelow, PivotOf};
+ghost use Rattle.pivots.specs.Keys.{baseOf, mixed, imageOf, keyWord, placeOf, placeWord, ruleWord, symbolWord, KeyTable, Entered, Placed, placeKey, wordFor, usesOf, keysOf, queryOf, allPlaced, regularOf};
 
 // ---- pivots
 // Below a plan node that introduces edge i: the first position of the edge whose node is open at p, with that node.
@@ -88,94 +86,34 @@ fn pivot(g: &[u64], plans: &[u64; 2048], r: u64, p: u64) -> u64
     pivot_below(g, plans, r, p, above.node)
 }
 
-// The table, into words that are 0: the pivots of all rules and plan nodes, then for each symbol the set of the positions at which it is wanted. What no rule and no want fills stays as it is.
-pub fn fill(g: &[u64], plans: &[u64; 2048], wants: &[u64; 1024], t: &mut [u64])
-    requires { ⌜ (checkGrammar (now g) ≡ true) × WantTable (now g) (now wants) × PlanTable (now g) (now plans) × (now t ≡ replicate 1088 0) ⌝ }
-    ensures { λ r. ⌜ PivotTable (now (g .entry)) (now (t .exit)) ⌝ }
+// ---- buckets
+// All of a key but the node, in one number.
+fn base(tag: u64, s: u64, k: u64) -> u64
+    ensures { λ b. ⌜ (b ≡ baseOf tag s k) × (b ≤ 1099511627776) ⌝ }
 {
-    let n = 16 * layout::rule_count(g);
-    let mut i: u64 = 0;
-    while i < n {
-        let w = pivot(g, plans, i / 16, i % 16);
-        let s = wants[i as usize];
-        t[i as usize] = w;
-        if s < 64 {
-            let at = (1024 + s) as usize;
-            let u = masks::with(t[at], w / 16);
-            t[at] = u;
-        }
-        i += 1;
-    }
+    tag % 128 * 3266489917 + s % 128 * 2654435769 + k % 128 * 2246822519
 }
 
-// A pivot read off a table: none where it has no word for the rule and the plan node.
-fn pivot_of(t: &[u64; 1088], r: u64, p: u64) -> u64
-    ensures { λ w. ⌜ w ≡ pivotIn (now (t .entry)) r p ⌝ }
+// The base b and the node a mixed into 1 .. 2,048.
+fn mix(b: u64, a: u64) -> u64
+    requires { ⌜ b ≤ 1152921504606846976 ⌝ }
+    ensures { λ x. ⌜ x ≡ mixed b a ⌝ }
 {
-    if r >= 64 {
-        return 72;
-    }
-    if p >= 16 {
-        return 72;
-    }
-    t[(16 * r + p) as usize]
+    (b + a % 128 * 668265263) % 4294967296 / 2097152 + 1
 }
 
-// The positions at which records of symbol s are asked for, read off a table.
-fn uses_of(t: &[u64; 1088], s: u64) -> u64
-    ensures { λ u. ⌜ u ≡ usesIn (now (t .entry)) s ⌝ }
-{
-    if s >= 64 {
-        return 0;
-    }
-    t[(1024 + s) as usize]
-}
-
-// ---- keys
-// Four numbers mixed into 1 .. 2,048.
-fn bucket(tag: u64, s: u64, k: u64, a: u64) -> u64
-    ensures { λ x. ⌜ x ≡ bucketOf tag s k a ⌝ }
-{
-    let mix = tag % 128 * 3266489917
-        + s % 128 * 2654435769
-        + k % 128 * 2246822519
-        + a % 128 * 668265263;
-    mix % 4294967296 / 2097152 + 1
-}
-
-// The image of a pivot's node by the map of an active record.
-fn image(w: u64, x: &[u64]) -> u64
-    requires { ⌜ length (now x) ≡ 16 ⌝ }
-    ensures { λ a. ⌜ a ≡ imageOf w (ofWords (now (x .entry)) .nodes) ⌝ }
-{
-    let v = w % 16;
-    if v >= 8 {
-        return 64;
-    }
-    x[(6 + v) as usize]
-}
-
-// The key of an active record of rule r that wants `want`, whose pivot w has the image a; a join's stands at plan node p.
-fn active_key(tag: u64, want: u64, w: u64, a: u64, r: u64, p: u64) -> u64
-    ensures { λ k. ⌜ ((f : List ℕ) → a ≡ imageOf w f → k ≡ activeKey tag want w r p f) ⌝ }
+// ---- the table
+// The word for active records of rule r that want `want` and have pivot w; a join's stands at plan node p.
+fn key_word(tag: u64, want: u64, w: u64, r: u64, p: u64) -> u64
+    ensures { λ x. ⌜ x ≡ keyWord tag want w r p ⌝ }
 {
     if want == 80 {
         return 0;
     }
     if want < 64 {
-        return bucket(tag, want, w / 16, a);
+        return 16 * base(tag, want, w / 16) + w % 16;
     }
-    bucket(3, r, p, a)
-}
-
-// The key of position i of a passive record, if that is used.
-fn place_key(used: u64, tag: u64, s: u64, i: u64, a: u64) -> u64
-    ensures { λ x. ⌜ x ≡ placeKey used tag s i a ⌝ }
-{
-    if used == 0 {
-        return 0;
-    }
-    bucket(tag, s, i, a)
+    16 * base(3, r, p) + w % 16
 }
 
 // The place of a set that has no other, 5 for any other set.
@@ -192,44 +130,160 @@ fn place_of(u: u64) -> u64
     }
 }
 
-// The node of a passive record's key at place i.
-fn node_at(x: &[u64], i: u64) -> u64
-    requires { ⌜ length (now x) ≡ 16 ⌝ }
-    ensures { λ a. ⌜ a ≡ nodeAt (ofWords (now (x .entry)) .nodes) i ⌝ }
+// The word for passive records of symbol s that are asked for at the places in u.
+fn place_word(tag: u64, s: u64, u: u64) -> u64
+    ensures { λ x. ⌜ x ≡ placeWord tag s u ⌝ }
 {
-    if i >= 4 {
+    let i = place_of(u);
+    if i >= 5 {
+        return 0;
+    }
+    let b = 16 * base(tag, s, i);
+    if i == 4 {
+        return b + 8;
+    }
+    b + i
+}
+
+// The words for place i of the rules and their plan nodes, whose pivot is w.
+fn enter(t: &mut [u64], i: u64, want: u64, w: u64)
+    requires { ⌜ (length (now t) ≡ 2240) × (i < 1024) × (w ≤ 72) ⌝ }
+    ensures { λ r. ⌜ Entered (now (t .entry)) i want w (now (t .exit)) ⌝ }
+{
+    let own = key_word(2, want, w, i / 16, i % 16);
+    t[i as usize] = own;
+    let asked = key_word(1, want, w, i / 16, want % 64);
+    t[(1024 + i) as usize] = asked;
+    if want < 64 {
+        let at = (2048 + want) as usize;
+        let u = masks::with(t[at], w / 16);
+        t[at] = u;
+    }
+}
+
+// The words for the symbols, whose uses are there.
+fn fill_places(t: &mut [u64])
+    requires { ⌜ length (now t) ≡ 2240 ⌝ }
+    ensures { λ r. ⌜ Placed (now (t .entry)) 64 (now (t .exit)) ⌝ }
+{
+    let mut s: u64 = 0;
+    while s < 64 {
+        let u = t[(2048 + s) as usize];
+        t[(2112 + s) as usize] = place_word(1, s, u);
+        t[(2176 + s) as usize] = place_word(2, s, u);
+        s += 1;
+    }
+}
+
+// The table, into words that are 0: for all rules and plan nodes the words by which active records are listed, then those by which they ask; for each symbol the positions at which it is wanted, and the same two words of passive records.
+pub fn fill(g: &[u64], plans: &[u64; 2048], t: &mut [u64])
+    requires { ⌜ (checkGrammar (now g) ≡ true) × PlanTable (now g) (now plans) × (now t ≡ replicate 2240 0) ⌝ }
+    ensures { λ r. ⌜ KeyTable (now (g .entry)) (now (t .exit)) ⌝ }
+{
+    let n = 16 * layout::rule_count(g);
+    let mut i: u64 = 0;
+    while i < n {
+        let want = rules::wants::want_of(g, plans, i / 16, i % 16);
+        if want != 80 {
+            let w = pivot(g, plans, i / 16, i % 16);
+            enter(t, i, want, w);
+        }
+        i += 1;
+    }
+    fill_places(t);
+}
+
+// A word for rule r and plan node p, read off a table: 0 where it has none.
+fn rule_word(t: &[u64; 2240], from: u64, r: u64, p: u64) -> u64
+    requires { ⌜ from ≤ 1024 ⌝ }
+    ensures { λ w. ⌜ w ≡ ruleWord (now (t .entry)) from r p ⌝ }
+{
+    if r >= 64 {
+        return 0;
+    }
+    if p >= 16 {
+        return 0;
+    }
+    t[(from + 16 * r + p) as usize]
+}
+
+// And for symbol s.
+fn symbol_word(t: &[u64; 2240], from: u64, s: u64) -> u64
+    requires { ⌜ from ≤ 2176 ⌝ }
+    ensures { λ w. ⌜ w ≡ symbolWord (now (t .entry)) from s ⌝ }
+{
+    if s >= 64 {
+        return 0;
+    }
+    t[(from + s) as usize]
+}
+
+// ---- keys
+// The word of a record: an active one's from word `rules` on, a passive one's from `symbols` on.
+fn word_for(t: &[u64; 2240], rules: u64, symbols: u64, x: &[u64]) -> u64
+    requires { ⌜ (length (now x) ≡ 16) × (rules ≤ 1024) × (symbols ≤ 2176) ⌝ }
+    ensures { λ w. ⌜ w ≡ wordFor (now (t .entry)) rules symbols (ofWords (now (x .entry))) ⌝ }
+{
+    if x[0] == 0 {
+        return rule_word(t, rules, x[1], x[2]);
+    }
+    symbol_word(t, symbols, x[1])
+}
+
+// The positions at which it is asked for, if it is passive.
+fn uses_of(t: &[u64; 2240], x: &[u64]) -> u64
+    requires { ⌜ length (now x) ≡ 16 ⌝ }
+    ensures { λ u. ⌜ u ≡ usesOf (now (t .entry)) (ofWords (now (x .entry))) ⌝ }
+{
+    if x[0] == 0 {
+        return 0;
+    }
+    symbol_word(t, 2048, x[1])
+}
+
+// The image of a word's node by the nodes of a record.
+fn image(w: u64, x: &[u64]) -> u64
+    requires { ⌜ length (now x) ≡ 16 ⌝ }
+    ensures { λ a. ⌜ a ≡ imageOf w (ofWords (now (x .entry)) .nodes) ⌝ }
+{
+    let v = w % 16;
+    if v >= 8 {
         return 64;
     }
-    x[(6 + i) as usize]
+    x[(6 + v) as usize]
+}
+
+// The key of position i of a passive record, if that is used.
+fn place_key(used: u64, tag: u64, s: u64, i: u64, a: u64) -> u64
+    ensures { λ x. ⌜ x ≡ placeKey used tag s i a ⌝ }
+{
+    if used == 0 {
+        return 0;
+    }
+    mix(base(tag, s, i), a)
 }
 
 // The keys that the partners of a record have, 0 for none. The five places are written out here and in `listing`: a function for both would hand an array over by value.
-pub fn query(wants: &[u64; 1024], pivots: &[u64; 1088], x: &[u64]) -> [u64; 5]
+pub fn query(keys: &[u64; 2240], x: &[u64]) -> [u64; 5]
     requires { ⌜ length (now x) ≡ 16 ⌝ }
-    ensures { λ ks. ⌜ ks ≡ queryOf (now (wants .entry)) (now (pivots .entry)) (ofWords (now (x .entry))) ⌝ }
+    ensures { λ ks. ⌜ ks ≡ queryOf (now (keys .entry)) (ofWords (now (x .entry))) ⌝ }
 {
-    if x[0] != 0 {
-        let s = x[1];
-        let u = uses_of(pivots, s);
-        let i = place_of(u);
-        if i < 5 {
-            return [bucket(2, s, i, node_at(x, i)), 0, 0, 0, 0];
-        }
-        return [
-            place_key(u % 2, 2, s, 0, x[6]),
-            place_key(u / 2 % 2, 2, s, 1, x[7]),
-            place_key(u / 4 % 2, 2, s, 2, x[8]),
-            place_key(u / 8 % 2, 2, s, 3, x[9]),
-            place_key(u / 16 % 2, 2, s, 4, 64),
-        ];
+    let w = word_for(keys, 1024, 2176, x);
+    if w != 0 {
+        return [mix(w / 16, image(w, x)), 0, 0, 0, 0];
     }
-    let r = x[1];
-    let p = x[2];
-    let want = rules::wants::want_of(wants, r, p);
-    let w = pivot_of(pivots, r, p);
-    let a = image(w, x);
-    let key = active_key(1, want, w, a, r, want % 64);
-    [key, 0, 0, 0, 0]
+    let u = uses_of(keys, x);
+    if u == 0 {
+        return [0, 0, 0, 0, 0];
+    }
+    let s = x[1];
+    [
+        place_key(u % 2, 2, s, 0, x[6]),
+        place_key(u / 2 % 2, 2, s, 1, x[7]),
+        place_key(u / 4 % 2, 2, s, 2, x[8]),
+        place_key(u / 8 % 2, 2, s, 3, x[9]),
+        place_key(u / 16 % 2, 2, s, 4, 64),
+    ]
 }
 
 // Whether a node stands in each of a passive record's first four places that is in u.
@@ -249,39 +303,35 @@ pub struct Entries {
     pub regular: bool,
 }
 
-// Of a record. The key of an only place comes first.
-pub fn listing(wants: &[u64; 1024], pivots: &[u64; 1088], x: &[u64]) -> Entries
+// Of a record. An only key comes first.
+pub fn listing(keys: &[u64; 2240], x: &[u64]) -> Entries
     requires { ⌜ length (now x) ≡ 16 ⌝ }
-    ensures { λ r. ⌜ (r .keys ≡ keysOf (now (wants .entry)) (now (pivots .entry)) (ofWords (now (x .entry)))) × (r .regular ≡ regularOf (now (pivots .entry)) (ofWords (now (x .entry)))) ⌝ }
+    ensures { λ r. ⌜ (r .keys ≡ keysOf (now (keys .entry)) (ofWords (now (x .entry)))) × (r .regular ≡ regularOf (now (keys .entry)) (ofWords (now (x .entry)))) ⌝ }
 {
-    let of = x[1];
-    if x[0] != 0 {
-        let u = uses_of(pivots, of);
-        let i = place_of(u);
-        if i < 5 {
-            let a = node_at(x, i);
-            return Entries {
-                keys: [bucket(1, of, i, a), 0, 0, 0, 0],
-                regular: (4 <= i) | (a < 64),
-            };
-        }
+    let w = word_for(keys, 0, 2112, x);
+    if w != 0 {
+        let a = image(w, x);
         return Entries {
-            keys: [
-                place_key(u % 2, 1, of, 0, x[6]),
-                place_key(u / 2 % 2, 1, of, 1, x[7]),
-                place_key(u / 4 % 2, 1, of, 2, x[8]),
-                place_key(u / 8 % 2, 1, of, 3, x[9]),
-                place_key(u / 16 % 2, 1, of, 4, 64),
-            ],
-            regular: all_placed(u, x),
+            keys: [mix(w / 16, a), 0, 0, 0, 0],
+            regular: (8 <= w % 16) | (a < 64),
         };
     }
-    let p = x[2];
-    let want = rules::wants::want_of(wants, of, p);
-    let w = pivot_of(pivots, of, p);
-    let a = image(w, x);
+    let u = uses_of(keys, x);
+    if u == 0 {
+        return Entries {
+            keys: [0, 0, 0, 0, 0],
+            regular: true,
+        };
+    }
+    let s = x[1];
     Entries {
-        keys: [active_key(2, want, w, a, of, p), 0, 0, 0, 0],
-        regular: (8 <= w % 16) | (a < 64),
+        keys: [
+            place_key(u % 2, 1, s, 0, x[6]),
+            place_key(u / 2 % 2, 1, s, 1, x[7]),
+            place_key(u / 4 % 2, 1, s, 2, x[8]),
+            place_key(u / 8 % 2, 1, s, 3, x[9]),
+            place_key(u / 16 % 2, 1, s, 4, 64),
+        ],
+        regular: all_placed(u, x),
     }
 }

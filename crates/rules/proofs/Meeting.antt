@@ -25,7 +25,7 @@ use Rattle.questions.proofs.WellFormedAccepted.{rules-length}
 use Rattle.joins.specs.Joins.{KnownEdge}
 use Rattle.joins.proofs.Known.{plan-ok, plan-size, plan-few}
 use Rattle.joins.proofs.EdgeMaps.{edge-ok}
-use Rattle.rules.specs.Wants.{wantsAt, wantOf, wantIn, WantTable}
+use Rattle.rules.specs.Wants.{wantsAt, wantOf}
 use Rattle.rules.proofs.Parents.{parent-found}
 use Rattle.rules.proofs.RuleItems.{guard-none, each-none, item-active, item-passive, pair-passive}
 use Rattle.rules.proofs.WantLaws.{want-at}
@@ -144,12 +144,9 @@ module _ (g : List ℕ) (checked : checkGrammar g ≡ true) where
               unwanted (omega (arith, s, few r′ q l a b e .0)) (ap₂ (λ r p. wantOf G r p) (sym t) (sym (eqb-true b p y)) ∙ want-first r′ q l a b e ∙ ap (λ n. 64 + n) s))
 
 -- ---- two records
-module _ (g : List ℕ) (checked : checkGrammar g ≡ true) (H : Graph) (t : List ℕ) (table : WantTable g t) (x y : Record) (want : ℕ) (is : want ≡ wantIn t (x .of) (x .plan)) where
+module _ (g : List ℕ) (checked : checkGrammar g ≡ true) (H : Graph) (x y : Record) (want : ℕ) (is : want ≡ wantOf (grammarOf g) (x .of) (x .plan)) where
   abbrev 𝐆 : Grammar
   𝐆 = grammarOf g
-
-  want-x : want ≡ wantOf 𝐆 (x .of) (x .plan)
-  want-x = is ∙ table .each (x .of) (x .plan)
 
   pub record Nothing : Type 0 where
     pub forth : binaryOf 𝐆 H (itemOf 𝐆 x) (itemOf 𝐆 y) ≡ []
@@ -157,14 +154,14 @@ module _ (g : List ℕ) (checked : checkGrammar g ≡ true) (H : Graph) (t : Lis
 
   with-passive : eqb (x .kind) 0 ≡ true → eqb (y .kind) 0 ≡ false → (y .of < 64 → want ≡ y .of → ⊥) → Nothing
   with-passive a b unwanted = record {
-    forth = ap₂ (binaryOf 𝐆 H) (item-active 𝐆 x a) (item-passive 𝐆 y b) ∙ passive-none g checked H _ _ _ _ (y .of) _ _ (λ l e. unwanted l (want-x ∙ e));
+    forth = ap₂ (binaryOf 𝐆 H) (item-active 𝐆 x a) (item-passive 𝐆 y b) ∙ passive-none g checked H _ _ _ _ (y .of) _ _ (λ l e. unwanted l (is ∙ e));
     back = pair-passive 𝐆 H y x b;
   }
 
   with-active : eqb (x .kind) 0 ≡ true → eqb (y .kind) 0 ≡ true → (y .plan < 16 → want ≡ 64 + y .plan → ⊥) → Nothing
   with-active a b unwanted = record {
-    forth = ap₂ (binaryOf 𝐆 H) (item-active 𝐆 x a) (item-active 𝐆 y b) ∙ second-none g checked H _ _ _ _ (y .of) (y .plan) _ _ (λ l e. unwanted l (want-x ∙ e));
-    back = ap₂ (binaryOf 𝐆 H) (item-active 𝐆 y b) (item-active 𝐆 x a) ∙ first-none g checked H _ _ _ _ (y .of) (y .plan) _ _ (λ l e. unwanted l (want-x ∙ e));
+    forth = ap₂ (binaryOf 𝐆 H) (item-active 𝐆 x a) (item-active 𝐆 y b) ∙ second-none g checked H _ _ _ _ (y .of) (y .plan) _ _ (λ l e. unwanted l (is ∙ e));
+    back = ap₂ (binaryOf 𝐆 H) (item-active 𝐆 y b) (item-active 𝐆 x a) ∙ first-none g checked H _ _ _ _ (y .of) (y .plan) _ _ (λ l e. unwanted l (is ∙ e));
   }
 
   -- an active item that wants nothing meets nothing

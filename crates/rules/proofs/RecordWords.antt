@@ -20,7 +20,7 @@ use Rattle.joins.specs.declared.Joined.{Joined}
 use Rattle.joins.specs.Joins.{Makes}
 use Rattle.rules.specs.declared.Place.{Place}
 use Rattle.rules.specs.Rules.{Rest, Into, Second, Above}
-use Rattle.joins.proofs.EdgeMaps.{as-words, set-eight}
+use Rattle.joins.proofs.EdgeMaps.{as-words}
 use Rattle.rules.proofs.RuleAnswers.{pair-both, into-made}
 
 -- ---- the map
@@ -46,13 +46,6 @@ map-word w (suc (suc (suc (suc (suc zero))))) h = refl
 map-word w (suc (suc (suc (suc (suc (suc zero)))))) h = refl
 map-word w (suc (suc (suc (suc (suc (suc (suc zero))))))) h = refl
 map-word w (suc (suc (suc (suc (suc (suc (suc (suc y)))))))) h = absurd (omega arith)
-
--- eight words copied
-pub copied-eight : (l t : List ℕ) → length l ≡ 8 → length t ≡ 8
-    → set (set (set (set (set (set (set (set t 0 (getD l 0 0)) 1 (getD l 1 0)) 2 (getD l 2 0)) 3 (getD l 3 0)) 4 (getD l 4 0)) 5 (getD l 5 0)) 6 (getD l 6 0)) 7 (getD l 7 0) ≡ l
-unfolding tabulate
-copied-eight l t size size′ =
-    set-eight t (getD l 0 0) (getD l 1 0) (getD l 2 0) (getD l 3 0) (getD l 4 0) (getD l 5 0) (getD l 6 0) (getD l 7 0) size′ ∙ as-words 8 l size
 
 -- ---- the words of a graph edge's record
 pub edge-words : (s m : ℕ) (l : List ℕ) → length l ≡ 8

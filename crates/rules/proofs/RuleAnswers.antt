@@ -223,8 +223,8 @@ module _ (g : List ℕ) (r q : ℕ) (known : KnownNode g r q) where
             ∙ ap (λ b. guard (eqb r (y .of)) (guard b (both H m f (take (rightOf G (y .of) .nodes) (y .nodes))))) (and-no (eqb (planFirst g r q) p) (eqb d (y .plan)) (ne-eqb d (y .plan) e))
             ∙ guard-none (eqb r (y .of)))
 
-        pub joined-made : y .of ≡ r → d ≡ y .plan → (places copy : List ℕ) → y .nodes ≡ places → length places ≡ 8 → copy ≡ places → (size′ : ℕ) → size′ ≡ n → t ≡ padded (take size′ copy) → Second g r q y t true
-        joined-made s e places copy nodes eight same size′ is t-is′ =
+        pub joined-made : y .of ≡ r → d ≡ y .plan → (places : List ℕ) → y .nodes ≡ places → length places ≡ 8 → (size′ : ℕ) → size′ ≡ n → t ≡ padded (take size′ places) → Second g r q y t true
+        joined-made s e places nodes eight size′ is t-is′ =
             second-some
             (λ H p m f c.
             joined-items H p m f
@@ -240,7 +240,7 @@ module _ (g : List ℕ) (r q : ℕ) (known : KnownNode g r q) where
             long = length-take-le n places (omega (arith, few))
 
             t-is : t ≡ padded (take n places)
-            t-is = t-is′ ∙ ap₂ (λ (i : ℕ) (l : List ℕ). padded (take i l)) is same
+            t-is = t-is′ ∙ ap (λ i. padded (take i places)) is
 
 pub rest-same : (x : Record) → Rest x x
 rest-same x = record { kind = refl; count = refl; handled = refl; first = refl; second = refl }

@@ -1,35 +1,34 @@
--- What an item wants is told by the one plan node above it, and read off a table word by word.
+-- What an item wants is told by the one plan node above it, and read off its word.
 use mathlib.Core.Path.{_≡_, refl, sym, ap, ap₂, _∙_}
-use mathlib.Core.Bool.{Bool, true, false, _&&_, _||_, cond, false≢true}
+use mathlib.Core.Bool.{Bool, true, false, _||_, cond, false≢true}
 use mathlib.Core.List.{List, [], _∷_, _++_}
-use Prim.Native.Nat.{ℕ, _+_, _*_, _/_, _%_, _≤_, _<_}
+use Prim.Native.Nat.{ℕ, _+_, _/_, _%_, _≤_, _<_}
 use native.Mathlib.Omega.{arith}
 use native.Mathlib.Decide.{decLt}
-use lib.ListN.{length, getD, set, replicate, getD-replicate, List·getD-eq-default}
-use lib.Seq.{getD-set-same, getD-set-other}
+use lib.ListN.{length, getD}
 use lib.Dec.{eqb, ltb}
 use borrow.Author.Tests.{eq-eqb, ne-eqb, eqb-true, eqb-false, lt-ltb, le-ltb}
 use Rattle.hrg.specs.Counts.{hit, occurs}
-use Rattle.hrg.specs.Grammars.{Rule, Grammar, noRule, PlanNode, leaf, introduce, join, rightOf, planOf, planNode, edgeAt}
+use Rattle.hrg.specs.Grammars.{Grammar, PlanNode, leaf, introduce, join, rightOf, planOf, planNode, edgeAt}
 use Rattle.hrg.specs.WellFormed.{children}
 use Rattle.hrg.specs.ClosureRun.{guard}
 use Rattle.hrg.proofs.Sums.{hit-self, none-left}
 use Rattle.hrg.proofs.Plans.{introduce-known}
-use Rattle.questions.specs.Layout.{ruleCount, ruleEdges, rulePlan, edgeLabel, planKind, planFirst, planSecond}
+use Rattle.questions.specs.Layout.{ruleCount, ruleEdges, edgeLabel, planKind, planFirst, planSecond}
 use Rattle.questions.specs.Checking.{checkGrammar}
 use Rattle.questions.specs.Abstract.{grammarOf}
 use Rattle.questions.proofs.WellFormedLent.{checked-grammar-ok}
 use Rattle.questions.proofs.WellFormedAccepted.{rules-length}
 use Rattle.joins.specs.Joins.{KnownNode}
-use Rattle.joins.proofs.Known.{plan-ok, plan-size, plan-few, rule-few}
+use Rattle.joins.proofs.Known.{plan-ok, plan-size, plan-few}
 use Rattle.joins.proofs.PlanMasks.{introduced-is, joined-is}
 use Rattle.joins.proofs.EdgeMaps.{edge-label}
 use Rattle.rules.specs.declared.Place.{Place}
 use Rattle.rules.specs.Rules.{Above}
 use Rattle.rules.specs.declared.plans.Parent.{Parent}
-use Rattle.rules.specs.Plans.{JoinAt, ParentAt, parentIn, PlanTable}
-use Rattle.rules.specs.Wants.{wantsAt, wantOf, wantBy, wantIn, WantTable}
-use Rattle.rules.proofs.Parents.{child-join, child-lower}
+use Rattle.rules.specs.Plans.{JoinAt, ParentAt}
+use Rattle.rules.specs.Wants.{wantsAt, wantOf, wantBy}
+use Rattle.rules.proofs.Parents.{child-join, above-unknown, above-past}
 use Rattle.rules.proofs.JoinWords.{child-kind, second-edge, second-other, join-first, join-later, later-joins}
 use Rattle.rules.proofs.RuleItems.{each-none, each-only}
 
@@ -55,7 +54,7 @@ module _ (G : Grammar) (r p : ℕ) where
       ap (λ (ws : List ℕ). getD ws 0 80)
       (each-only (length pl) q (λ q. wantsAt G r p (planNode pl q)) l (λ q′ k n. wants-none G r p (planNode pl q′) (only q′ k n)))
 
-  pub want-nowhere : ((q : ℕ) → q < length pl → occurs p (children (planNode pl q)) ≡ 0) → wantOf G r p ≡ 80
+  want-nowhere : ((q : ℕ) → q < length pl → occurs p (children (planNode pl q)) ≡ 0) → wantOf G r p ≡ 80
   unfolding wantOf
   want-nowhere none =
       ap (λ (ws : List ℕ). getD ws 0 80) (each-none (length pl) (λ q. wantsAt G r p (planNode pl q)) (λ q l. wants-none G r p (planNode pl q) (none q l)))
@@ -171,13 +170,6 @@ module _ (g : List ℕ) (r p : ℕ) (x : Parent) (is : ParentAt g r p x) where
       go (yes l) = rw (lt-ltb q 16 l) (kinds l (eqb (w / 32 % 4) 1) (eqb (w / 32 % 4) 3) refl refl)
       go (no l) = rw (le-ltb q 16 (omega arith)) (want-missing g r p _ (is .above) (le-ltb q 16 (omega arith)))
 
--- the same of a place of the table
-pub want-placed : (g plans : List ℕ) (i w : ℕ) → PlanTable g plans → i < 1024 → w ≡ wantBy (getD plans i 0) → w ≡ wantOf (grammarOf g) (i / 16) (i % 16)
-want-placed g plans i w table l e =
-    let s : 16 * (i / 16) + i % 16 ≡ i = omega arith in
-    e ∙ ap (λ k. wantBy (getD plans k 0)) (sym s)
-    ∙ want-told g (i / 16) (i % 16) (parentIn plans (16 * (i / 16) + i % 16)) (table .each (i / 16) (i % 16) (omega arith) (omega arith))
-
 -- what a function reads off a word
 pub by-none : (w : ℕ) → 16 ≤ w % 32 → 80 ≡ wantBy w
 unfolding wantBy
@@ -191,76 +183,17 @@ pub by-child : (w : ℕ) → w % 32 < 16 → (w / 32 % 4 ≡ 1 → ⊥) → 64 +
 unfolding wantBy
 by-child w l e = rw (lt-ltb (w % 32) 16 l, ne-eqb (w / 32 % 4) 1 e)
 
--- ---- the table
--- the words before i are told, the others are as they were made
-pub record Filled (g : List ℕ) (t : List ℕ) (i : ℕ) : Type 0 where
-  pub size : length t ≡ 1024
-  pub before : (k : ℕ) → k < i → k < 1024 → getD t k 0 ≡ wantOf (grammarOf g) (k / 16) (k % 16)
-  pub after : (k : ℕ) → i ≤ k → k < 1024 → getD t k 0 ≡ 80
-
-pub filled-none : (g : List ℕ) → Filled g (replicate 1024 80) 0
-filled-none g = record { size = refl; before = λ k l. absurd (omega arith); after = λ k l m. getD-replicate 1024 k 80 0 m }
-
-module _ (g t : List ℕ) (i w : ℕ) (f : Filled g t i) (l : i < 1024) (is : w ≡ wantOf (grammarOf g) (i / 16) (i % 16)) where
-  pub filled-more : (m : ℕ) → m ≡ i + 1 → length (set t i w) ≡ 1024 → Filled g (set t i w) m
-  filled-more m e size = record { size = size; before = λ k d b. go k d b (decLt k i); after = λ k d b. getD-set-other t i k w 0 (λ q. omega arith) ∙ f .after k (omega arith) b }
-    where
-      go : (k : ℕ) → k < m → k < 1024 → Dec (k < i) → getD (set t i w) k 0 ≡ wantOf (grammarOf g) (k / 16) (k % 16)
-      go k d b (no n) =
-          let q : k ≡ i = omega arith in
-          ap (λ n. getD (set t i w) n 0) q ∙ getD-set-same t i w 0 (omega (arith, f .size)) ∙ is ∙ ap (λ n. wantOf (grammarOf g) (n / 16) (n % 16)) (sym q)
-      go k d b (yes q) = getD-set-other t i k w 0 (λ e. omega arith) ∙ f .before k q b
-
--- no such rule or plan node
-unknown-rule : (g : List ℕ) (r p : ℕ) → ruleCount g ≤ r → wantOf (grammarOf g) r p ≡ 80
-unknown-rule g r p h =
-    want-nowhere (grammarOf g) r p
-    (λ q l. absurd (omega (arith, ap (λ (R : Rule). length (R .plan)) (List·getD-eq-default (grammarOf g .rules) noRule {n = r} (omega (arith, rules-length g))))))
+-- ---- no such rule or plan node
+pub unknown-rule : (g : List ℕ) (r p : ℕ) → ruleCount g ≤ r → wantOf (grammarOf g) r p ≡ 80
+unknown-rule g r p h = sym (want-missing g r p _ (above-unknown g r p h) refl)
 
 module _ (g : List ℕ) (checked : checkGrammar g ≡ true) where
   pub rules-few : ruleCount g ≤ 64
   rules-few = omega (arith, checked-grammar-ok g checked .rule-count .upper, rules-length g)
 
-  unknown-node : (r p : ℕ) → r < ruleCount g → rulePlan g r ≤ p → wantOf (grammarOf g) r p ≡ 80
-  unknown-node r p d h =
-      want-nowhere (grammarOf g) r p
-      (λ q l. none-left _ (λ o. omega (arith, child-lower g r p checked d q (omega (arith, plan-size g r checked d)) o, plan-size g r checked d)))
-
-  past : (r p : ℕ) → 16 ≤ p → Dec (r < ruleCount g) → wantOf (grammarOf g) r p ≡ 80
-  past r p h (yes d) = unknown-node r p d (omega (arith, plan-few g r checked d))
-  past r p h (no d) = unknown-rule g r p (omega arith)
-
-  far : (r p : ℕ) → 64 ≤ r → Dec (r < ruleCount g) → wantOf (grammarOf g) r p ≡ 80
-  far r p h (yes d) = absurd (omega (arith, rule-few g r checked d))
-  far r p h (no d) = unknown-rule g r p (omega arith)
-
-  pub filled-all : (t : List ℕ) (n i : ℕ) → n ≡ 16 * ruleCount g → n ≤ i → Filled g t i → WantTable g t
-  unfolding wantIn
-  filled-all t n i e l f = record { each = λ r p. at r p (decLt r 64) (decLt p 16) }
+  pub unknown-node : (r p : ℕ) → 16 ≤ p → wantOf (grammarOf g) r p ≡ 80
+  unknown-node r p h = go (decLt r (ruleCount g))
     where
-      word : (r p : ℕ) → r < 64 → p < 16 → Dec (16 * r + p < i) → Dec (r < ruleCount g) → getD t (16 * r + p) 0 ≡ wantOf (grammarOf g) r p
-      word r p a b (yes d) k =
-          let q : (16 * r + p) / 16 ≡ r = omega arith in
-          let s : (16 * r + p) % 16 ≡ p = omega arith in
-          f .before (16 * r + p) d (omega arith) ∙ ap₂ (λ r p. wantOf (grammarOf g) r p) q s
-      word r p a b (no d) (yes k) = absurd (omega arith)
-      word r p a b (no d) (no k) = f .after (16 * r + p) (omega arith) (omega arith) ∙ sym (unknown-rule g r p (omega arith))
-
-      at : (r p : ℕ) → Dec (r < 64) → Dec (p < 16) → cond (ltb r 64 && ltb p 16) (getD t (16 * r + p) 0) 80 ≡ wantOf (grammarOf g) r p
-      at r p (yes a) (yes b) = rw (lt-ltb r 64 a, lt-ltb p 16 b) (word r p a b (decLt (16 * r + p) i) (decLt r (ruleCount g)))
-      at r p (yes a) (no b) = rw (lt-ltb r 64 a, le-ltb p 16 (omega arith)) (sym (past r p (omega arith) (decLt r (ruleCount g))))
-      at r p (no a) b = rw (le-ltb r 64 (omega arith)) (sym (far r p (omega arith) (decLt r (ruleCount g))))
-
--- ---- a word of it
-module _ (t : List ℕ) (r p : ℕ) where
-  pub word-far : 64 ≤ r → 80 ≡ wantIn t r p
-  unfolding wantIn
-  word-far h = rw (le-ltb r 64 h)
-
-  pub word-past : r < 64 → 16 ≤ p → 80 ≡ wantIn t r p
-  unfolding wantIn
-  word-past a h = rw (lt-ltb r 64 a, le-ltb p 16 h)
-
-  pub word-there : r < 64 → p < 16 → getD t (16 * r + p) 0 ≡ wantIn t r p
-  unfolding wantIn
-  word-there a b = rw (lt-ltb r 64 a, lt-ltb p 16 b)
+      go : Dec (r < ruleCount g) → wantOf (grammarOf g) r p ≡ 80
+      go (yes d) = sym (want-missing g r p _ (above-past g r p checked d (omega (arith, plan-few g r checked d))) refl)
+      go (no d) = unknown-rule g r p (omega arith)

@@ -1,13 +1,11 @@
 -- What an active item at a plan node can be joined with above it, as one number.
-use mathlib.Core.Path.{_≡_}
-use mathlib.Core.Bool.{_&&_, cond}
+use mathlib.Core.Bool.{cond}
 use mathlib.Core.List.{List, [], _∷_, _++_}
-use Prim.Native.Nat.{ℕ, _+_, _*_, _/_, _%_}
+use Prim.Native.Nat.{ℕ, _+_, _/_, _%_}
 use lib.ListN.{length, getD}
 use lib.Dec.{eqb, ltb}
 use Rattle.hrg.specs.Grammars.{Grammar, PlanNode, leaf, introduce, join, rightOf, planOf, planNode, edgeAt}
 use Rattle.hrg.specs.ClosureRun.{guard, eachTo}
-use Rattle.questions.specs.Abstract.{grammarOf}
 
 -- where nothing can be joined: no symbol and no plan node has this number
 abbrev pub nothing : ℕ
@@ -27,11 +25,3 @@ wantOf G r p = getD (eachTo (length (planOf G r)) (λ q. wantsAt G r p (planNode
 -- what the plan node of a word (`joinWord`) wants
 unfoldable pub wantBy : ℕ → ℕ
 wantBy w = cond (ltb (w % 32) 16) (cond (eqb (w / 32 % 4) 1) (w / 32 / 4 % 64) (64 + w / 32 / 4)) nothing
-
--- the word of a table for rule r and plan node p
-unfoldable pub wantIn : List ℕ → ℕ → ℕ → ℕ
-wantIn t r p = cond (ltb r 64 && ltb p 16) (getD t (16 * r + p) 0) nothing
-
--- t is the table of g
-pub record WantTable (g t : List ℕ) : Type 0 where
-  pub each : (r p : ℕ) → wantIn t r p ≡ wantOf (grammarOf g) r p

@@ -1,12 +1,12 @@
 // What one rule of the closure makes of one or two records of a chart: at most one new active item.
 ghost use mathlib.Core.Path.{_≡_};
 ghost use mathlib.Core.Bool.{true, cond};
-ghost use Prim.Native.Nat.{_+_, _*_, _<_};
-ghost use lib.ListN.{length, getD, take};
+ghost use Prim.Native.Nat.{_+_, _*_, _≤_, _<_};
+ghost use lib.ListN.{length, getD, take, replicate};
 ghost use lib.Bits.{bitAnd};
 ghost use lib.Dec.{ltb};
 ghost use Rattle.hrg.specs.Grammars.{rightOf, edgeAt};
-ghost use Rattle.hrg.specs.Trees.{padded, images};
+ghost use Rattle.hrg.specs.Trees.{unplaced, padded, images};
 ghost use Rattle.hrg.specs.ClosureRun.{binaryOf};
 ghost use Rattle.agenda.specs.Records.{itemOf};
 ghost use Rattle.records.specs.Words.{ofWords};
@@ -67,24 +67,21 @@ pub fn edge_nodes(g: &[u64], h: &[u64], e: u64) -> [u64; 8]
 }
 
 // ---- the rules
-// Eight places, word by word.
-fn copy_map(l: &[u64], t: &mut [u64])
-    requires { ⌜ (length (now l) ≡ 8) × (length (now t) ≡ 8) ⌝ }
-    ensures { λ x. ⌜ now (t .exit) ≡ now (l .entry) ⌝ }
+// The first n places of l, into the eight of t, which has no images: none past them is touched.
+fn copy_map(n: u64, l: &[u64], t: &mut [u64])
+    requires { ⌜ (n ≤ 8) × (length (now l) ≡ 8) × (now t ≡ replicate 8 unplaced) ⌝ }
+    ensures { λ x. ⌜ now (t .exit) ≡ padded (take n (now (l .entry))) ⌝ }
 {
-    t[0] = l[0];
-    t[1] = l[1];
-    t[2] = l[2];
-    t[3] = l[3];
-    t[4] = l[4];
-    t[5] = l[5];
-    t[6] = l[6];
-    t[7] = l[7];
+    let mut i: u64 = 0;
+    while i < n {
+        t[i as usize] = l[i as usize];
+        i += 1;
+    }
 }
 
-// Whether y can be the second at plan node q of rule `of`, of which w tells what it asks for, and its map into t. By the nonterminal rule q introduces an edge and y is passive and has the edge's symbol; by the join rule y is active and at the second child. Its words past the rule's nodes may be any, and count for nothing.
+// Whether y can be the second at plan node q of rule `of`, of which w tells what it asks for, and its map into t, which has no images. By the nonterminal rule q introduces an edge and y is passive and has the edge's symbol; by the join rule y is active and at the second child. Its words past the rule's nodes may be any, and count for nothing.
 fn second_map(g: &[u64], of: u64, q: u64, w: u64, y: &[u64], t: &mut [u64]) -> bool
-    requires { ⌜ KnownNode (now g) of q × (planKind (now g) of q ≡ 0 → ⊥) × (w ≡ secondWord (now g) of q) × (length (now y) ≡ 16) × (length (now t) ≡ 8) ⌝ }
+    requires { ⌜ KnownNode (now g) of q × (planKind (now g) of q ≡ 0 → ⊥) × (w ≡ secondWord (now g) of q) × (length (now y) ≡ 16) × (now t ≡ replicate 8 unplaced) ⌝ }
     ensures { λ b. ⌜ Second (now (g .entry)) of q (ofWords (now (y .entry))) (now (t .exit)) b ⌝ }
 {
     let asked = w / 4;
@@ -108,13 +105,12 @@ fn second_map(g: &[u64], of: u64, q: u64, w: u64, y: &[u64], t: &mut [u64]) -> b
     if asked != y[2] {
         return false;
     }
-    copy_map(&y[6..14], t);
-    joins::clear_from(layout::word_in(g, 65 + 25 * of, 2), t);
+    copy_map(layout::word_in(g, 65 + 25 * of, 2), &y[6..14], t);
     true
 }
 
 // What x first and y second make, each given as its sixteen words. Records may hold any words: an unknown rule or plan node makes nothing.
-// The item goes into the words of `out`: its rule, plan node, edges and map. The other words stay.
+// The item goes into the words of `out`: its rule, plan node, edges and map. The other words stay. The map comes with no images, so that places that get none need no store.
 pub fn pair_into(
     g: &[u64],
     h: &[u64],
@@ -125,7 +121,7 @@ pub fn pair_into(
     near: u64,
     out: &mut [u64],
 ) -> Filled
-    requires { ⌜ Accepted (now g) (now h) × PlanTable (now g) (now plans) × GraphTable (now g) (now h) (now graph) × (length (now x) ≡ 16) × (length (now y) ≡ 16) × Spans (now g) (now h) (ofWords (now x) .edges) near × Spans (now g) (now h) (ofWords (now y) .edges) near × (length (now out) ≡ 16) × (ofWords (now out) .kind ≡ 0) × (ofWords (now out) .handled ≡ 0) ⌝ }
+    requires { ⌜ Accepted (now g) (now h) × PlanTable (now g) (now plans) × GraphTable (now g) (now h) (now graph) × (length (now x) ≡ 16) × (length (now y) ≡ 16) × Spans (now g) (now h) (ofWords (now x) .edges) near × Spans (now g) (now h) (ofWords (now y) .edges) near × (length (now out) ≡ 16) × (ofWords (now out) .kind ≡ 0) × (ofWords (now out) .handled ≡ 0) × (ofWords (now out) .nodes ≡ replicate 8 unplaced) ⌝ }
     ensures { λ z. ⌜ Into (now (g .entry)) (now (h .entry)) (binaryOf (grammarOf (now (g .entry))) (graphOf (now (g .entry)) (now (h .entry))) (itemOf (grammarOf (now (g .entry))) (ofWords (now (x .entry)))) (itemOf (grammarOf (now (g .entry))) (ofWords (now (y .entry))))) (now (out .entry)) z (now (out .exit)) ⌝ }
 {
     let none = Filled {
@@ -181,7 +177,7 @@ pub fn terminal_into(
     near: u64,
     out: &mut [u64],
 ) -> Filled
-    requires { ⌜ Accepted (now g) (now h) × (e < graphEdges (now h)) × PlanTable (now g) (now plans) × GraphTable (now g) (now h) (now graph) × (length (now x) ≡ 16) × Spans (now g) (now h) (ofWords (now x) .edges) near × (length (now out) ≡ 16) × (ofWords (now out) .kind ≡ 0) × (ofWords (now out) .handled ≡ 0) ⌝ }
+    requires { ⌜ Accepted (now g) (now h) × (e < graphEdges (now h)) × PlanTable (now g) (now plans) × GraphTable (now g) (now h) (now graph) × (length (now x) ≡ 16) × Spans (now g) (now h) (ofWords (now x) .edges) near × (length (now out) ≡ 16) × (ofWords (now out) .kind ≡ 0) × (ofWords (now out) .handled ≡ 0) × (ofWords (now out) .nodes ≡ replicate 8 unplaced) ⌝ }
     ensures { λ z. ⌜ Into (now (g .entry)) (now (h .entry)) (terminalItems (grammarOf (now (g .entry))) (graphOf (now (g .entry)) (now (h .entry))) (itemOf (grammarOf (now (g .entry))) (ofWords (now (x .entry)))) e) (now (out .entry)) z (now (out .exit)) ⌝ }
 {
     let none = Filled {

@@ -17,7 +17,6 @@ use Rattle.agenda.specs.Records.{isHandled}
 use Rattle.agenda.specs.Consequences.{gather, recordIn}
 use Rattle.questions.specs.Abstract.{grammarOf}
 use Rattle.questions.specs.Checking.{checkGrammar}
-use Rattle.rules.specs.Wants.{WantTable}
 use Rattle.records.specs.Words.{Fits, capacity, itemCount, recordAt, chartOf, grownBy}
 use Rattle.records.proofs.WordLaws.{field-at, length-records, edges-of, record-in}
 use Rattle.records.proofs.Grown.{Whole, whole-gather, whole-guard, grown-none, grown-flag, grown-record}
@@ -25,8 +24,7 @@ use Rattle.lists.specs.Lists.{Within}
 use Rattle.lists.specs.Cursors.{alone, startsOf, leastOf, passedOf, leftAll, Ahead, SkimsAll}
 use Rattle.lists.proofs.ListLaws.{five}
 use Rattle.lists.proofs.CursorLaws.{alone-at, alone-passed, ahead-start, ahead-within, least-none, ahead-passed, ahead-grown, left-falls, skims-by, ahead-skims, left-skims}
-use Rattle.pivots.specs.Keys.{keysOf, queryOf, regularOf}
-use Rattle.pivots.specs.Pivots.{PivotTable}
+use Rattle.pivots.specs.Keys.{KeyTable, keysOf, queryOf, regularOf}
 use Rattle.pivots.proofs.KeyLaws.{query-few}
 use Rattle.pivots.proofs.PivotLaws.{keyless}
 use Rattle.index.specs.Index.{listsOf, keysFor}
@@ -50,8 +48,8 @@ unfolding itemCount
 few-items w n l h = omega arith
 
 -- ---- the keys that are asked for
-pub query-within : (wants pivots : List ℕ) (x : Record) (q : List ℕ) → q ≡ queryOf wants pivots x → Within 2048 q
-query-within wants pivots x q e i h = rw e (query-few wants pivots x i)
+pub query-within : (keys : List ℕ) (x : Record) (q : List ℕ) → q ≡ queryOf keys x → Within 2048 q
+query-within keys x q e i h = rw e (query-few keys x i)
 
 -- one key, and four that are none
 pub alone-by : (q : List ℕ) → length q ≡ 5 → ((eqb (getD q 1 0) 0 && eqb (getD q 2 0) 0) && eqb (getD q 3 0) 0) && eqb (getD q 4 0) 0 ≡ true → q ≡ alone (getD q 0 0)
@@ -115,7 +113,7 @@ quiet-grown w v xs edges k f e p l = ap (λ (u : List ℕ). quietIn u edges k) p
     go false h = rw (grown-flag w f xs e k l ∙ h, h) (waits (disjoint edges (recordAt (grownBy w xs) k .edges)) ∙ sym (waits (disjoint edges (recordAt w k .edges))))
 
 -- ---- the loop
-module _ (g h wants pivots : List ℕ) (H : Graph) (w : List ℕ) (x : Record) (j n : ℕ) where
+module _ (g h keys : List ℕ) (H : Graph) (w : List ℕ) (x : Record) (j n : ℕ) where
   abbrev G : Grammar
   G = grammarOf g
 
@@ -127,13 +125,13 @@ module _ (g h wants pivots : List ℕ) (H : Graph) (w : List ℕ) (x : Record) (
   quiet = quietIn w (x .edges)
 
   abbrev keysIn : List ℕ → List ℕ
-  keysIn v = keysFor wants pivots (chartOf v .records)
+  keysIn v = keysFor keys (chartOf v .records)
 
   -- where the loop is: the first `done` partners are dealt with, and what is left and not quiet lies at the cursors or behind them
   pub record Going (v ix : List ℕ) (cs : List ℕ) (k done : ℕ) : Type 0 where
-    pub ready : Ready g h wants pivots v ix
+    pub ready : Ready g h keys v ix
     pub gathered : Gathered w partner v done
-    pub ahead : Ahead quiet (keysIn v) (queryOf wants pivots x) n done cs
+    pub ahead : Ahead quiet (keysIn v) (queryOf keys x) n done cs
     pub at : k ≡ leastOf cs
     pub few : k ≤ 4096
     pub low : done ≤ n
@@ -150,14 +148,14 @@ module _ (g h wants pivots : List ℕ) (H : Graph) (w : List ℕ) (x : Record) (
   partner-whole i = record-whole G H x j (recordAt w i) i
 
   module _ (f : Fits w) (all : n ≤ itemCount w) where
-    pub going-start : (ix bs cs : List ℕ) (k : ℕ) → Ready g h wants pivots w ix → bs ≡ startsOf (listsOf ix) (queryOf wants pivots x) → SkimsAll quiet (listsOf ix) n bs cs → k ≡ leastOf cs → k ≤ 4096 → Going w ix cs k 0
+    pub going-start : (ix bs cs : List ℕ) (k : ℕ) → Ready g h keys w ix → bs ≡ startsOf (listsOf ix) (queryOf keys x) → SkimsAll quiet (listsOf ix) n bs cs → k ≡ leastOf cs → k ≤ 4096 → Going w ix cs k 0
     going-start ix bs cs k R e s q l = record {
       ready = R;
       gathered = gathered-none w f partner partner-whole;
       ahead =
-          let first = ahead-start quiet (listsOf ix) (keysIn w) (queryOf wants pivots x) n bs (R .indexed .listed) (λ i h. query-few wants pivots x i)
-          (omega (arith, keys-length wants pivots (chartOf w .records), counted w)) e in
-          ahead-skims quiet (listsOf ix) (keysIn w) (queryOf wants pivots x) n 0 bs cs (R .indexed .listed) first s;
+          let first = ahead-start quiet (listsOf ix) (keysIn w) (queryOf keys x) n bs (R .indexed .listed) (λ i h. query-few keys x i)
+          (omega (arith, keys-length keys (chartOf w .records), counted w)) e in
+          ahead-skims quiet (listsOf ix) (keysIn w) (queryOf keys x) n 0 bs cs (R .indexed .listed) first s;
       at = q;
       few = l;
       low = omega arith;
@@ -168,22 +166,22 @@ module _ (g h wants pivots : List ℕ) (H : Graph) (w : List ℕ) (x : Record) (
       grown = S .gathered .is
 
       -- the key of a record of w is where it was
-      key-there : (i e : ℕ) → i < itemCount w → e < 5 → getD (keysIn v) (5 * i + e) 0 ≡ getD (keysOf wants pivots (recordAt w i)) e 0
+      key-there : (i e : ℕ) → i < itemCount w → e < 5 → getD (keysIn v) (5 * i + e) 0 ≡ getD (keysOf keys (recordAt w i)) e 0
       key-there i e l h =
-          let m = keys-grown wants pivots w v (gather done partner) f (whole-gather done partner partner-whole) grown in
-          let size = keys-length wants pivots (chartOf w .records) in
+          let m = keys-grown keys w v (gather done partner) f (whole-gather done partner partner-whole) grown in
+          let size = keys-length keys (chartOf w .records) in
           ap (λ (ks : List ℕ). getD ks (5 * i + e) 0) (m .is)
           ∙ List·getD-append (keysIn w) (m .more) 0 (5 * i + e) (omega (arith, size, counted w))
-          ∙ keys-at wants pivots (chartOf w .records) i e (omega (arith, counted w)) h
-          ∙ ap (λ (y : Record). getD (keysOf wants pivots y) e 0) (in-chart w i l)
+          ∙ keys-at keys (chartOf w .records) i e (omega (arith, counted w)) h
+          ∙ ap (λ (y : Record). getD (keysOf keys y) e 0) (in-chart w i l)
 
-      module _ (checked : checkGrammar g ≡ true) (wanted : WantTable g wants) (pivoted : PivotTable g pivots) (own : regularOf pivots x ≡ true) (others : Regular pivots (chartOf w .records)) where
+      module _ (checked : checkGrammar g ≡ true) (keyed : KeyTable g keys) (own : regularOf keys x ≡ true) (others : Regular keys (chartOf w .records)) where
         -- the records that are passed over
         unkeyed : (i : ℕ) → done ≤ i → i < k → i < n → quiet i ≡ false → partner i ≡ []
         unkeyed i a b c s =
-            let u = keyless g wants pivots checked wanted pivoted H x (recordAt w i) own
-            (subst (λ (y : Record). regularOf pivots y ≡ true) (in-chart w i (omega arith)) (others i (omega (arith, counted w))))
-            (λ q e p r pos eq. least-none quiet (keysIn v) (queryOf wants pivots x) n done cs (S .ahead) i a (omega (arith, S .at)) c s (5 * i + e) (omega arith) (omega arith) q p pos
+            let u = keyless g keys checked keyed H x (recordAt w i) own
+            (subst (λ (y : Record). regularOf keys y ≡ true) (in-chart w i (omega arith)) (others i (omega (arith, counted w))))
+            (λ q e p r pos eq. least-none quiet (keysIn v) (queryOf keys x) n done cs (S .ahead) i a (omega (arith, S .at)) c s (5 * i + e) (omega arith) (omega arith) q p pos
             (key-there i e (omega arith) r ∙ sym eq))
             in
             unjoined-none G H x (recordAt w i) j i (u .forth) (u .back)
@@ -196,7 +194,7 @@ module _ (g h wants pivots : List ℕ) (H : Graph) (w : List ℕ) (x : Record) (
             go false s = unkeyed i a b c s
 
         -- one turn: record k is dealt with unless it was, and the cursors at it go on
-        module _ (u jx : List ℕ) (later : ℕ) (l : k < n) (p : u ≡ grownBy v (guard (leb done k) (withRecord G H x j (recordAt v k) k))) (R : Ready g h wants pivots u jx) (q : later ≡ max done (k + 1)) where
+        module _ (u jx : List ℕ) (later : ℕ) (l : k < n) (p : u ≡ grownBy v (guard (leb done k) (withRecord G H x j (recordAt v k) k))) (R : Ready g h keys u jx) (q : later ≡ max done (k + 1)) where
           dealt : (b : Bool) → leb done k ≡ b → u ≡ grownBy v (guard b (withRecord G H x j (recordAt v k) k)) → Gathered w partner u later
           dealt true e h =
               let skip = gathered-skip w f partner partner-whole v done k (λ i a b. passed-over i a b (omega arith)) (leb-true done k e) (S .gathered) in
@@ -205,16 +203,16 @@ module _ (g h wants pivots : List ℕ) (H : Graph) (w : List ℕ) (x : Record) (
               let same : u ≡ v = h ∙ grown-none v (S .ready .fits) in
               subst (λ (t : List ℕ). Gathered w partner t later) (sym same) (subst (Gathered w partner v) (let o : done ≡ later = omega (arith, leb-false done k e) in o) (S .gathered))
 
-          grown-ahead : Ahead quiet (keysIn u) (queryOf wants pivots x) n done cs
+          grown-ahead : Ahead quiet (keysIn u) (queryOf keys x) n done cs
           grown-ahead =
               let ys = guard (leb done k) (withRecord G H x j (recordAt v k) k) in
-              let m = keys-grown wants pivots v u ys (S .ready .fits) (whole-guard (leb done k) (withRecord G H x j (recordAt v k) k) (record-whole G H x j (recordAt v k) k)) p in
-              subst (λ (ks : List ℕ). Ahead quiet ks (queryOf wants pivots x) n done cs) (sym (m .is)) (ahead-grown quiet (keysIn v) (m .more) (queryOf wants pivots x) n done cs (S .ahead))
+              let m = keys-grown keys v u ys (S .ready .fits) (whole-guard (leb done k) (withRecord G H x j (recordAt v k) k) (record-whole G H x j (recordAt v k) k)) p in
+              subst (λ (ks : List ℕ). Ahead quiet ks (queryOf keys x) n done cs) (sym (m .is)) (ahead-grown quiet (keysIn v) (m .more) (queryOf keys x) n done cs (S .ahead))
 
           module _ (bs ds : List ℕ) (e : bs ≡ passedOf (listsOf jx) cs k) (s : SkimsAll (quietIn u (x .edges)) (listsOf jx) n bs ds) where
             -- the cursors that pass record k
-            gone : Ahead quiet (keysIn u) (queryOf wants pivots x) n later bs
-            gone = ahead-passed quiet (listsOf jx) (keysIn u) (queryOf wants pivots x) n done later k cs bs (R .indexed .listed) grown-ahead (omega arith) (omega arith) e
+            gone : Ahead quiet (keysIn u) (queryOf keys x) n later bs
+            gone = ahead-passed quiet (listsOf jx) (keysIn u) (queryOf keys x) n done later k cs bs (R .indexed .listed) grown-ahead (omega arith) (omega arith) e
 
             skims : SkimsAll quiet (listsOf jx) n bs ds
             skims i h =
@@ -226,7 +224,7 @@ module _ (g h wants pivots : List ℕ) (H : Graph) (w : List ℕ) (x : Record) (
             going-next i a b = record {
               ready = R;
               gathered = dealt (leb done k) refl p;
-              ahead = ahead-skims quiet (listsOf jx) (keysIn u) (queryOf wants pivots x) n later bs ds (R .indexed .listed) gone skims;
+              ahead = ahead-skims quiet (listsOf jx) (keysIn u) (queryOf keys x) n later bs ds (R .indexed .listed) gone skims;
               at = a;
               few = b;
               low = omega (arith, S .low);
@@ -236,12 +234,12 @@ module _ (g h wants pivots : List ℕ) (H : Graph) (w : List ℕ) (x : Record) (
             going-less =
                 omega (
                   arith,
-                  left-skims quiet (listsOf jx) (keysIn u) (queryOf wants pivots x) n later bs ds (R .indexed .listed) gone skims,
-                  left-falls quiet (listsOf jx) (keysIn u) (queryOf wants pivots x) n done k cs bs (R .indexed .listed) grown-ahead (S .at) l e,
+                  left-skims quiet (listsOf jx) (keysIn u) (queryOf keys x) n later bs ds (R .indexed .listed) gone skims,
+                  left-falls quiet (listsOf jx) (keysIn u) (queryOf keys x) n done k cs bs (R .indexed .listed) grown-ahead (S .at) l e,
                 )
 
           pub next-within : Within 20480 cs
-          next-within = ahead-within quiet (keysIn u) (queryOf wants pivots x) n done cs grown-ahead (R .indexed .listed .few)
+          next-within = ahead-within quiet (keysIn u) (queryOf keys x) n done cs grown-ahead (R .indexed .listed .few)
 
         pub going-end : n ≤ k → v ≡ grownBy w (gather n partner)
         going-end l =

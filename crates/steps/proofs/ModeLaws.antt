@@ -40,7 +40,7 @@ left-listed : (mode n k : ℕ) (cs : List ℕ) → (mode ≡ 0 → ⊥) → left
 unfolding leftIn
 left-listed mode n k cs z = rw (ne-eqb mode 0 z)
 
-module _ (g h wants pivots : List ℕ) (H : Graph) (w : List ℕ) (j n : ℕ) where
+module _ (g h keys : List ℕ) (H : Graph) (w : List ℕ) (j n : ℕ) where
   abbrev G : Grammar
   G = grammarOf g
 
@@ -55,32 +55,32 @@ module _ (g h wants pivots : List ℕ) (H : Graph) (w : List ℕ) (j n : ℕ) wh
 
   -- where the loop is: the first `past` partners are dealt with, and record k is next
   pub record Turning (mode : ℕ) (v ix : List ℕ) (k : ℕ) (cs : List ℕ) (past : ℕ) : Type 0 where
-    pub ready : Ready g h wants pivots v ix
+    pub ready : Ready g h keys v ix
     pub gathered : Gathered w partner v past
     pub low : past ≤ n
     pub poised : Poised mode k cs
     pub each : mode ≡ 0 → past ≡ k
-    pub listed : (mode ≡ 0 → ⊥) → Going g h wants pivots H w x j n v ix cs k past
+    pub listed : (mode ≡ 0 → ⊥) → Going g h keys H w x j n v ix cs k past
 
-  module _ (plans graph ix₀ : List ℕ) (near : ℕ) (T : Tables g h wants plans pivots graph) (R₀ : Ready g h wants pivots w ix₀) (D : Handled g h w j near) (all : n ≤ itemCount w) (mode : ℕ) (M : (mode ≡ 0 → ⊥) → markOf ix₀ ≡ 0) (edges : ℕ) (same : edges ≡ x .edges) where
-    others : (mode ≡ 0 → ⊥) → Regular pivots (chartOf w .records)
+  module _ (plans graph ix₀ : List ℕ) (near : ℕ) (T : Tables g h plans keys graph) (R₀ : Ready g h keys w ix₀) (D : Handled g h w j near) (all : n ≤ itemCount w) (mode : ℕ) (M : (mode ≡ 0 → ⊥) → markOf ix₀ ≡ 0) (edges : ℕ) (same : edges ≡ x .edges) where
+    others : (mode ≡ 0 → ⊥) → Regular keys (chartOf w .records)
     others m = R₀ .indexed .regular (M m)
 
-    own : (mode ≡ 0 → ⊥) → regularOf pivots x ≡ true
+    own : (mode ≡ 0 → ⊥) → regularOf keys x ≡ true
     unfolding chartOf
-    own m = subst (λ (y : Record). regularOf pivots y ≡ true) (record-in w (itemCount w) j (D .there)) (others m j (omega (arith, D .there, length-records w (itemCount w))))
+    own m = subst (λ (y : Record). regularOf keys y ≡ true) (record-in w (itemCount w) j (D .there)) (others m j (omega (arith, D .there, length-records w (itemCount w))))
 
     skims : (v ws bs ds : List ℕ) → SkimsAll (quietIn v edges) ws n bs ds → SkimsAll (quietIn v (x .edges)) ws n bs ds
     skims v ws bs ds s = subst (λ (e : ℕ). SkimsAll (quietIn v e) ws n bs ds) same s
 
-    pub turning-start : (query : List ℕ) → query ≡ queryOf wants pivots x → (k : ℕ) (cs : List ℕ) → Opens (quietIn w edges) (listsOf ix₀) n mode query k cs → Turning mode w ix₀ k cs 0
+    pub turning-start : (query : List ℕ) → query ≡ queryOf keys x → (k : ℕ) (cs : List ℕ) → Opens (quietIn w edges) (listsOf ix₀) n mode query k cs → Turning mode w ix₀ k cs 0
     turning-start query e k cs O = record {
       ready = R₀;
       gathered = gathered-none w (R₀ .fits) partner partner-whole;
       low = omega arith;
       poised = O .poised;
       each = λ m. sym (O .each m);
-      listed = λ m. going-start g h wants pivots H w x j n (R₀ .fits) all ix₀ (startsOf (listsOf ix₀) query) cs k R₀ (ap (startsOf (listsOf ix₀)) e) (skims w (listsOf ix₀) (startsOf (listsOf ix₀) query) cs (O .listed m)) (O .poised .least m) (O .poised .few);
+      listed = λ m. going-start g h keys H w x j n (R₀ .fits) all ix₀ (startsOf (listsOf ix₀) query) cs k R₀ (ap (startsOf (listsOf ix₀)) e) (skims w (listsOf ix₀) (startsOf (listsOf ix₀) query) cs (O .listed m)) (O .poised .least m) (O .poised .few);
     }
 
     module _ (v ix : List ℕ) (k : ℕ) (cs : List ℕ) (past : ℕ) (S : Turning mode v ix k cs past) where
@@ -105,10 +105,10 @@ module _ (g h wants pivots : List ℕ) (H : Graph) (w : List ℕ) (j n : ℕ) wh
         where
           go : Dec (mode ≡ 0) → v ≡ grownBy w (gather n partner)
           go (yes z) = gathered-all w (R₀ .fits) partner partner-whole v past n (omega (arith, S .each z, S .low)) (S .gathered)
-          go (no z) = going-end g h wants pivots H w x j n (R₀ .fits) all v ix cs k past (S .listed z) (T .accepted .grammar) (T .wanted) (T .pivoted) (own z) (others z) l
+          go (no z) = going-end g h keys H w x j n (R₀ .fits) all v ix cs k past (S .listed z) (T .accepted .grammar) (T .keyed) (own z) (others z) l
 
       -- one turn: record k is dealt with unless it was
-      module _ (u jx : List ℕ) (later : ℕ) (l : k < n) (p : u ≡ grownBy v (guard (leb past k) (withRecord G H (recordAt v j) j (recordAt v k) k))) (R : Ready g h wants pivots u jx) (q : later ≡ max past (k + 1)) where
+      module _ (u jx : List ℕ) (later : ℕ) (l : k < n) (p : u ≡ grownBy v (guard (leb past k) (withRecord G H (recordAt v j) j (recordAt v k) k))) (R : Ready g h keys u jx) (q : later ≡ max past (k + 1)) where
         dealt : u ≡ grownBy v (guard (leb past k) (withRecord G H x j (recordAt v k) k))
         dealt = p ∙ ap (λ (y : Record). grownBy v (guard (leb past k) (withRecord G H y j (recordAt v k) k))) turning-record
 
@@ -116,11 +116,11 @@ module _ (g h wants pivots : List ℕ) (H : Graph) (w : List ℕ) (j n : ℕ) wh
         turn-count = omega (arith, longer, added-longer v u _ (S .ready .fits) (whole-guard (leb past k) (withRecord G H x j (recordAt v k) k) (record-whole G H x j (recordAt v k) k)) dealt)
 
         pub turn-within : (mode ≡ 0 → ⊥) → Within 20480 cs
-        turn-within z = next-within g h wants pivots H w x j n (R₀ .fits) all v ix cs k past (S .listed z) (T .accepted .grammar) (T .wanted) (T .pivoted) (own z) (others z) u jx later l dealt R q
+        turn-within z = next-within g h keys H w x j n (R₀ .fits) all v ix cs k past (S .listed z) (T .accepted .grammar) (T .keyed) (own z) (others z) u jx later l dealt R q
 
         module _ (i : ℕ) (ds : List ℕ) (O : Goes (quietIn u edges) (listsOf jx) n mode k cs i ds) where
-          goes-on : (z : mode ≡ 0 → ⊥) → Going g h wants pivots H w x j n u jx ds i later
-          goes-on z = going-next g h wants pivots H w x j n (R₀ .fits) all v ix cs k past (S .listed z) (T .accepted .grammar) (T .wanted) (T .pivoted) (own z) (others z) u jx later l dealt R q (passedOf (listsOf jx) cs k) ds refl (skims u (listsOf jx) (passedOf (listsOf jx) cs k) ds (O .listed z)) i (O .poised .least z) (O .poised .few)
+          goes-on : (z : mode ≡ 0 → ⊥) → Going g h keys H w x j n u jx ds i later
+          goes-on z = going-next g h keys H w x j n (R₀ .fits) all v ix cs k past (S .listed z) (T .accepted .grammar) (T .keyed) (own z) (others z) u jx later l dealt R q (passedOf (listsOf jx) cs k) ds refl (skims u (listsOf jx) (passedOf (listsOf jx) cs k) ds (O .listed z)) i (O .poised .least z) (O .poised .few)
 
           more : Dec (mode ≡ 0) → Gathered w partner u later
           more (no z) = goes-on z .gathered
@@ -149,5 +149,5 @@ module _ (g h wants pivots : List ℕ) (H : Graph) (w : List ℕ) (j n : ℕ) wh
                     arith,
                     left-listed mode n i ds z,
                     left-listed mode n k cs z,
-                    going-less g h wants pivots H w x j n (R₀ .fits) all v ix cs k past (S .listed z) (T .accepted .grammar) (T .wanted) (T .pivoted) (own z) (others z) u jx later l dealt R q (passedOf (listsOf jx) cs k) ds refl (skims u (listsOf jx) (passedOf (listsOf jx) cs k) ds (O .listed z)),
+                    going-less g h keys H w x j n (R₀ .fits) all v ix cs k past (S .listed z) (T .accepted .grammar) (T .keyed) (own z) (others z) u jx later l dealt R q (passedOf (listsOf jx) cs k) ds refl (skims u (listsOf jx) (passedOf (listsOf jx) cs k) ds (O .listed z)),
                   )

@@ -14,7 +14,7 @@ use Rattle.agenda.specs.Records.{recordOf, itemOf, isHandled, plus}
 use Rattle.agenda.specs.Consequences.{withTerminal, pair}
 use Rattle.questions.specs.Checking.{checkGrammar}
 use Rattle.questions.specs.Abstract.{grammarOf, graphOf}
-use Rattle.rules.specs.Wants.{wantIn, WantTable}
+use Rattle.rules.specs.Wants.{wantOf}
 use Rattle.rules.specs.Plans.{Leads}
 use Rattle.rules.proofs.RuleItems.{pair-apart}
 use Rattle.rules.specs.Rules.{terminalItems, Into}
@@ -74,12 +74,12 @@ pub waiting-none : (G : Grammar) (H : Graph) (x y : Record) (j k : ℕ) → isHa
 unfolding withRecord
 waiting-none G H x y j k h = ap (λ (b : Bool). guard b (pair G H x j y k ++ pair G H y k x j)) h
 
-module _ (g : List ℕ) (checked : checkGrammar g ≡ true) (H : Graph) (t : List ℕ) (table : WantTable g t) (x y : Record) (want : ℕ) (is : want ≡ wantIn t (x .of) (x .plan)) (j k : ℕ) where
+module _ (g : List ℕ) (checked : checkGrammar g ≡ true) (H : Graph) (x y : Record) (want : ℕ) (is : want ≡ wantOf (grammarOf g) (x .of) (x .plan)) (j k : ℕ) where
   abbrev G : Grammar
   G = grammarOf g
 
   pub unwanting-none : x .kind ≡ 0 → want ≡ 80 → withRecord G H x j y k ≡ []
-  unwanting-none a e = let n = unwanting g checked H t table x y want is a e in unjoined-none G H x y j k (n .forth) (n .back)
+  unwanting-none a e = let n = unwanting g checked H x y want is a e in unjoined-none G H x y j k (n .forth) (n .back)
 
 -- ---- a record that comes only first, or only second
 pub append-nil : (xs : List Record) → xs ++ [] ≡ xs

@@ -9,26 +9,23 @@ use Rattle.agenda.specs.Records.{isHandled}
 use Rattle.agenda.specs.Consequences.{recordIn}
 use Rattle.joins.specs.Joins.{Accepted, Spans}
 use Rattle.joins.specs.Graphs.{GraphTable}
-use Rattle.rules.specs.Wants.{WantTable}
 use Rattle.rules.specs.Plans.{PlanTable}
-use Rattle.pivots.specs.Pivots.{PivotTable}
-use Rattle.pivots.specs.Keys.{regularOf}
+use Rattle.pivots.specs.Keys.{KeyTable, regularOf}
 use Rattle.records.specs.Words.{Fits, capacity, itemCount, recordAt, chartOf}
 use Rattle.index.specs.Index.{Indexed, Spanned}
 
 -- accepted tables, and what a run works out from them once
-pub record Tables (g h wants plans pivots graph : List ℕ) : Type 0 where
+pub record Tables (g h plans keys graph : List ℕ) : Type 0 where
   pub accepted : Accepted g h
-  pub wanted : WantTable g wants
   pub planned : PlanTable g plans
-  pub pivoted : PivotTable g pivots
+  pub keyed : KeyTable g keys
   pub graphed : GraphTable g h graph
 
 -- words of a chart that question 8 passed, the index of its records, and the set beside each that spans its edges
-pub record Ready (g h wants pivots w ix : List ℕ) : Type 0 where
+pub record Ready (g h keys w ix : List ℕ) : Type 0 where
   pub fits : Fits w
   pub small : capacity w ≤ 4096
-  pub indexed : Indexed wants pivots ix (chartOf w .records)
+  pub indexed : Indexed keys ix (chartOf w .records)
   pub spanned : Spanned g h ix (chartOf w .records)
 
 -- the record at place j is handled, so that it stays as it is while others are added; the set near spans its edges
@@ -39,4 +36,4 @@ pub record Handled (g h w : List ℕ) (j near : ℕ) : Type 0 where
 
 -- records whose keys tell what they can be joined with
 abbrev pub Regular : List ℕ → List Record → Type 0
-Regular pivots rs = (j : ℕ) → j < length rs → regularOf pivots (recordIn rs j) ≡ true
+Regular keys rs = (j : ℕ) → j < length rs → regularOf keys (recordIn rs j) ≡ true

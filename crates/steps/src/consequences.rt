@@ -37,15 +37,14 @@ fn plus(a: u64, b: u64) -> u64
 pub(crate) fn add_root(
     g: &[u64],
     h: &[u64],
-    wants: &[u64; 1024],
-    pivots: &[u64; 1088],
+    keys: &[u64; 2240],
     chart: &mut [u64],
     index: &mut [u32],
     j: u64,
     near: u64,
 )
-    requires { ⌜ (checkGrammar (now g) ≡ true) × Ready (now g) (now h) (now wants) (now pivots) (now chart) (now index) × Handled (now g) (now h) (now chart) j near ⌝ }
-    ensures { λ r. ⌜ (now (chart .exit) ≡ grownBy (now (chart .entry)) (atRoot (grammarOf (now (g .entry))) (itemOf (grammarOf (now (g .entry))) (recordAt (now (chart .entry)) j)) (recordAt (now (chart .entry)) j .count) j)) × Ready (now (g .entry)) (now (h .entry)) (now (wants .entry)) (now (pivots .entry)) (now (chart .exit)) (now (index .exit)) ⌝ }
+    requires { ⌜ (checkGrammar (now g) ≡ true) × Ready (now g) (now h) (now keys) (now chart) (now index) × Handled (now g) (now h) (now chart) j near ⌝ }
+    ensures { λ r. ⌜ (now (chart .exit) ≡ grownBy (now (chart .entry)) (atRoot (grammarOf (now (g .entry))) (itemOf (grammarOf (now (g .entry))) (recordAt (now (chart .entry)) j)) (recordAt (now (chart .entry)) j .count) j)) × Ready (now (g .entry)) (now (h .entry)) (now (keys .entry)) (now (chart .exit)) (now (index .exit)) ⌝ }
 {
     let at = (2 + 16 * j) as usize;
     if chart[at] != 0 {
@@ -82,16 +81,15 @@ pub(crate) fn add_root(
         0,
     ];
     rules::root_into(g, of, &chart[at + 6..at + 14], &mut y[6..14]);
-    index::add(wants, pivots, chart, index, &y, near);
+    index::add(keys, chart, index, &y, near);
 }
 
 // What it makes with graph edge e, if that is one of the candidates m.
 fn add_candidate(
     g: &[u64],
     h: &[u64],
-    wants: &[u64; 1024],
     plans: &[u64; 2048],
-    pivots: &[u64; 1088],
+    keys: &[u64; 2240],
     graph: &[u64; 577],
     chart: &mut [u64],
     index: &mut [u32],
@@ -100,40 +98,56 @@ fn add_candidate(
     e: u64,
     near: u64,
 )
-    requires { ⌜ Tables (now g) (now h) (now wants) (now plans) (now pivots) (now graph) × Ready (now g) (now h) (now wants) (now pivots) (now chart) (now index) × Handled (now g) (now h) (now chart) j near × Candidates (now g) (now h) (recordAt (now chart) j) m × (e < graphEdges (now h)) ⌝ }
-    ensures { λ r. ⌜ (now (chart .exit) ≡ grownBy (now (chart .entry)) (withTerminal (grammarOf (now (g .entry))) (graphOf (now (g .entry)) (now (h .entry))) (itemOf (grammarOf (now (g .entry))) (recordAt (now (chart .entry)) j)) (recordAt (now (chart .entry)) j .count) j e)) × Ready (now (g .entry)) (now (h .entry)) (now (wants .entry)) (now (pivots .entry)) (now (chart .exit)) (now (index .exit)) ⌝ }
+    requires { ⌜ Tables (now g) (now h) (now plans) (now keys) (now graph) × Ready (now g) (now h) (now keys) (now chart) (now index) × Handled (now g) (now h) (now chart) j near × Candidates (now g) (now h) (recordAt (now chart) j) m × (e < graphEdges (now h)) ⌝ }
+    ensures { λ r. ⌜ (now (chart .exit) ≡ grownBy (now (chart .entry)) (withTerminal (grammarOf (now (g .entry))) (graphOf (now (g .entry)) (now (h .entry))) (itemOf (grammarOf (now (g .entry))) (recordAt (now (chart .entry)) j)) (recordAt (now (chart .entry)) j .count) j e)) × Ready (now (g .entry)) (now (h .entry)) (now (keys .entry)) (now (chart .exit)) (now (index .exit)) ⌝ }
 {
     if !masks::has(m, e) {
         return;
     }
     let at = (2 + 16 * j) as usize;
-    // The rule puts every word of the map before it is read: they are 0, here and in add_pair, so that wide stores can clear them.
-    let mut out = [0, 0, 0, 0, chart[at + 4], 0, 0, 0, 0, 0, 0, 0, 0, 0, j, e];
+    // The map has no images yet, here and in add_pair: the rule puts those of the rule's nodes.
+    let mut out = [
+        0,
+        0,
+        0,
+        0,
+        chart[at + 4],
+        0,
+        64,
+        64,
+        64,
+        64,
+        64,
+        64,
+        64,
+        64,
+        j,
+        e,
+    ];
     let made = rules::terminal_into(g, h, plans, graph, &chart[at..at + 16], e, near, &mut out);
     if !made.found {
         return;
     }
-    index::add(wants, pivots, chart, index, &out, made.images);
+    index::add(keys, chart, index, &out, made.images);
 }
 
 // What it makes with each graph edge: only those of the label that it wants, and that fit its map, are tried.
 pub(crate) fn add_terminals(
     g: &[u64],
     h: &[u64],
-    wants: &[u64; 1024],
     plans: &[u64; 2048],
-    pivots: &[u64; 1088],
+    keys: &[u64; 2240],
     graph: &[u64; 577],
     chart: &mut [u64],
     index: &mut [u32],
     j: u64,
     near: u64,
 )
-    requires { ⌜ Tables (now g) (now h) (now wants) (now plans) (now pivots) (now graph) × Ready (now g) (now h) (now wants) (now pivots) (now chart) (now index) × Handled (now g) (now h) (now chart) j near ⌝ }
-    ensures { λ r. ⌜ (now (chart .exit) ≡ grownBy (now (chart .entry)) (gather (length (graphOf (now (g .entry)) (now (h .entry)) .edges)) (λ e. withTerminal (grammarOf (now (g .entry))) (graphOf (now (g .entry)) (now (h .entry))) (itemOf (grammarOf (now (g .entry))) (recordAt (now (chart .entry)) j)) (recordAt (now (chart .entry)) j .count) j e))) × Ready (now (g .entry)) (now (h .entry)) (now (wants .entry)) (now (pivots .entry)) (now (chart .exit)) (now (index .exit)) ⌝ }
+    requires { ⌜ Tables (now g) (now h) (now plans) (now keys) (now graph) × Ready (now g) (now h) (now keys) (now chart) (now index) × Handled (now g) (now h) (now chart) j near ⌝ }
+    ensures { λ r. ⌜ (now (chart .exit) ≡ grownBy (now (chart .entry)) (gather (length (graphOf (now (g .entry)) (now (h .entry)) .edges)) (λ e. withTerminal (grammarOf (now (g .entry))) (graphOf (now (g .entry)) (now (h .entry))) (itemOf (grammarOf (now (g .entry))) (recordAt (now (chart .entry)) j)) (recordAt (now (chart .entry)) j .count) j e))) × Ready (now (g .entry)) (now (h .entry)) (now (keys .entry)) (now (chart .exit)) (now (index .exit)) ⌝ }
 {
     let at = (2 + 16 * j) as usize;
-    let want = wants::want_of(wants, chart[at + 1], chart[at + 2]);
+    let want = wants::want_of(g, plans, chart[at + 1], chart[at + 2]);
     let m = rules::candidates(g, h, plans, graph, want, &chart[at..at + 16]);
     if m == 0 {
         return;
@@ -141,20 +155,7 @@ pub(crate) fn add_terminals(
     let n = layout::graph_edges(h);
     let mut e: u64 = 0;
     while e < n {
-        add_candidate(
-            g,
-            h,
-            wants,
-            plans,
-            pivots,
-            graph,
-            chart,
-            index,
-            j,
-            m,
-            e,
-            near,
-        );
+        add_candidate(g, h, plans, keys, graph, chart, index, j, m, e, near);
         e += 1;
     }
 }
@@ -163,9 +164,8 @@ pub(crate) fn add_terminals(
 fn add_pair(
     g: &[u64],
     h: &[u64],
-    wants: &[u64; 1024],
     plans: &[u64; 2048],
-    pivots: &[u64; 1088],
+    keys: &[u64; 2240],
     graph: &[u64; 577],
     chart: &mut [u64],
     index: &mut [u32],
@@ -173,8 +173,8 @@ fn add_pair(
     k: u64,
     near: u64,
 )
-    requires { ⌜ Tables (now g) (now h) (now wants) (now plans) (now pivots) (now graph) × Ready (now g) (now h) (now wants) (now pivots) (now chart) (now index) × (j < itemCount (now chart)) × (k < itemCount (now chart)) × Spans (now g) (now h) (recordAt (now chart) j .edges) near × Spans (now g) (now h) (recordAt (now chart) k .edges) near ⌝ }
-    ensures { λ r. ⌜ (now (chart .exit) ≡ grownBy (now (chart .entry)) (pair (grammarOf (now (g .entry))) (graphOf (now (g .entry)) (now (h .entry))) (recordAt (now (chart .entry)) j) j (recordAt (now (chart .entry)) k) k)) × Ready (now (g .entry)) (now (h .entry)) (now (wants .entry)) (now (pivots .entry)) (now (chart .exit)) (now (index .exit)) ⌝ }
+    requires { ⌜ Tables (now g) (now h) (now plans) (now keys) (now graph) × Ready (now g) (now h) (now keys) (now chart) (now index) × (j < itemCount (now chart)) × (k < itemCount (now chart)) × Spans (now g) (now h) (recordAt (now chart) j .edges) near × Spans (now g) (now h) (recordAt (now chart) k .edges) near ⌝ }
+    ensures { λ r. ⌜ (now (chart .exit) ≡ grownBy (now (chart .entry)) (pair (grammarOf (now (g .entry))) (graphOf (now (g .entry)) (now (h .entry))) (recordAt (now (chart .entry)) j) j (recordAt (now (chart .entry)) k) k)) × Ready (now (g .entry)) (now (h .entry)) (now (keys .entry)) (now (chart .exit)) (now (index .exit)) ⌝ }
 {
     let a = (2 + 16 * j) as usize;
     let b = (2 + 16 * k) as usize;
@@ -185,14 +185,14 @@ fn add_pair(
         0,
         plus(chart[a + 4], chart[b + 4]),
         0,
-        0,
-        0,
-        0,
-        0,
-        0,
-        0,
-        0,
-        0,
+        64,
+        64,
+        64,
+        64,
+        64,
+        64,
+        64,
+        64,
         j,
         k,
     ];
@@ -209,7 +209,7 @@ fn add_pair(
     if !made.found {
         return;
     }
-    index::add(wants, pivots, chart, index, &out, made.images);
+    index::add(keys, chart, index, &out, made.images);
 }
 
 // The one of two that comes first.
@@ -226,9 +226,8 @@ fn pick(lead: bool, j: u64, k: u64) -> u64
 fn add_partner(
     g: &[u64],
     h: &[u64],
-    wants: &[u64; 1024],
     plans: &[u64; 2048],
-    pivots: &[u64; 1088],
+    keys: &[u64; 2240],
     graph: &[u64; 577],
     chart: &mut [u64],
     index: &mut [u32],
@@ -237,8 +236,8 @@ fn add_partner(
     k: u64,
     near: u64,
 )
-    requires { ⌜ Tables (now g) (now h) (now wants) (now plans) (now pivots) (now graph) × Ready (now g) (now h) (now wants) (now pivots) (now chart) (now index) × Handled (now g) (now h) (now chart) j near × Leads (now g) (recordAt (now chart) j) lead × (k < itemCount (now chart)) ⌝ }
-    ensures { λ r. ⌜ (now (chart .exit) ≡ grownBy (now (chart .entry)) (withRecord (grammarOf (now (g .entry))) (graphOf (now (g .entry)) (now (h .entry))) (recordAt (now (chart .entry)) j) j (recordAt (now (chart .entry)) k) k)) × Ready (now (g .entry)) (now (h .entry)) (now (wants .entry)) (now (pivots .entry)) (now (chart .exit)) (now (index .exit)) ⌝ }
+    requires { ⌜ Tables (now g) (now h) (now plans) (now keys) (now graph) × Ready (now g) (now h) (now keys) (now chart) (now index) × Handled (now g) (now h) (now chart) j near × Leads (now g) (recordAt (now chart) j) lead × (k < itemCount (now chart)) ⌝ }
+    ensures { λ r. ⌜ (now (chart .exit) ≡ grownBy (now (chart .entry)) (withRecord (grammarOf (now (g .entry))) (graphOf (now (g .entry)) (now (h .entry))) (recordAt (now (chart .entry)) j) j (recordAt (now (chart .entry)) k) k)) × Ready (now (g .entry)) (now (h .entry)) (now (keys .entry)) (now (chart .exit)) (now (index .exit)) ⌝ }
 {
     let own = (2 + 16 * j) as usize;
     if index::quiet(chart, chart[own + 3], k) {
@@ -247,28 +246,15 @@ fn add_partner(
     let both = masks::union(near, index::near(index, k));
     let first = pick(lead, j, k);
     let second = pick(lead, k, j);
-    add_pair(
-        g,
-        h,
-        wants,
-        plans,
-        pivots,
-        graph,
-        chart,
-        index,
-        first,
-        second,
-        both,
-    );
+    add_pair(g, h, plans, keys, graph, chart, index, first, second, both);
 }
 
 // The same, where k is not among the first `past` records; how many are past then.
 fn add_next(
     g: &[u64],
     h: &[u64],
-    wants: &[u64; 1024],
     plans: &[u64; 2048],
-    pivots: &[u64; 1088],
+    keys: &[u64; 2240],
     graph: &[u64; 577],
     chart: &mut [u64],
     index: &mut [u32],
@@ -278,26 +264,13 @@ fn add_next(
     past: u64,
     near: u64,
 ) -> u64
-    requires { ⌜ Tables (now g) (now h) (now wants) (now plans) (now pivots) (now graph) × Ready (now g) (now h) (now wants) (now pivots) (now chart) (now index) × Handled (now g) (now h) (now chart) j near × Leads (now g) (recordAt (now chart) j) lead × (k < itemCount (now chart)) ⌝ }
-    ensures { λ r. ⌜ (now (chart .exit) ≡ grownBy (now (chart .entry)) (guard (leb past k) (withRecord (grammarOf (now (g .entry))) (graphOf (now (g .entry)) (now (h .entry))) (recordAt (now (chart .entry)) j) j (recordAt (now (chart .entry)) k) k))) × Ready (now (g .entry)) (now (h .entry)) (now (wants .entry)) (now (pivots .entry)) (now (chart .exit)) (now (index .exit)) × (r ≡ max past (k + 1)) ⌝ }
+    requires { ⌜ Tables (now g) (now h) (now plans) (now keys) (now graph) × Ready (now g) (now h) (now keys) (now chart) (now index) × Handled (now g) (now h) (now chart) j near × Leads (now g) (recordAt (now chart) j) lead × (k < itemCount (now chart)) ⌝ }
+    ensures { λ r. ⌜ (now (chart .exit) ≡ grownBy (now (chart .entry)) (guard (leb past k) (withRecord (grammarOf (now (g .entry))) (graphOf (now (g .entry)) (now (h .entry))) (recordAt (now (chart .entry)) j) j (recordAt (now (chart .entry)) k) k))) × Ready (now (g .entry)) (now (h .entry)) (now (keys .entry)) (now (chart .exit)) (now (index .exit)) × (r ≡ max past (k + 1)) ⌝ }
 {
     if k < past {
         return past;
     }
-    add_partner(
-        g,
-        h,
-        wants,
-        plans,
-        pivots,
-        graph,
-        chart,
-        index,
-        lead,
-        j,
-        k,
-        near,
-    );
+    add_partner(g, h, plans, keys, graph, chart, index, lead, j, k, near);
     k + 1
 }
 
@@ -377,9 +350,8 @@ fn onward(chart: &[u64], index: &[u32], edges: u64, n: u64, mode: u64, at: Curso
 fn add_each(
     g: &[u64],
     h: &[u64],
-    wants: &[u64; 1024],
     plans: &[u64; 2048],
-    pivots: &[u64; 1088],
+    keys: &[u64; 2240],
     graph: &[u64; 577],
     chart: &mut [u64],
     index: &mut [u32],
@@ -388,12 +360,12 @@ fn add_each(
     n: u64,
     near: u64,
 )
-    requires { ⌜ Tables (now g) (now h) (now wants) (now plans) (now pivots) (now graph) × Ready (now g) (now h) (now wants) (now pivots) (now chart) (now index) × Handled (now g) (now h) (now chart) j near × Leads (now g) (recordAt (now chart) j) lead × (n ≤ itemCount (now chart)) ⌝ }
-    ensures { λ r. ⌜ (now (chart .exit) ≡ grownBy (now (chart .entry)) (gather n (λ k. withRecord (grammarOf (now (g .entry))) (graphOf (now (g .entry)) (now (h .entry))) (recordAt (now (chart .entry)) j) j (recordAt (now (chart .entry)) k) k))) × Ready (now (g .entry)) (now (h .entry)) (now (wants .entry)) (now (pivots .entry)) (now (chart .exit)) (now (index .exit)) ⌝ }
+    requires { ⌜ Tables (now g) (now h) (now plans) (now keys) (now graph) × Ready (now g) (now h) (now keys) (now chart) (now index) × Handled (now g) (now h) (now chart) j near × Leads (now g) (recordAt (now chart) j) lead × (n ≤ itemCount (now chart)) ⌝ }
+    ensures { λ r. ⌜ (now (chart .exit) ≡ grownBy (now (chart .entry)) (gather n (λ k. withRecord (grammarOf (now (g .entry))) (graphOf (now (g .entry)) (now (h .entry))) (recordAt (now (chart .entry)) j) j (recordAt (now (chart .entry)) k) k))) × Ready (now (g .entry)) (now (h .entry)) (now (keys .entry)) (now (chart .exit)) (now (index .exit)) ⌝ }
 {
     let own = (2 + 16 * j) as usize;
     let edges = chart[own + 3];
-    let query = pivots::query(wants, pivots, &chart[own..own + 16]);
+    let query = pivots::query(keys, &chart[own..own + 16]);
     let mode = mode_of(index, query);
     let mut at = opening(chart, index, edges, n, mode, query);
     let mut past: u64 = 0;
@@ -401,9 +373,8 @@ fn add_each(
         past = add_next(
             g,
             h,
-            wants,
             plans,
-            pivots,
+            keys,
             graph,
             chart,
             index,
@@ -421,9 +392,8 @@ fn add_each(
 pub(crate) fn add_partners(
     g: &[u64],
     h: &[u64],
-    wants: &[u64; 1024],
     plans: &[u64; 2048],
-    pivots: &[u64; 1088],
+    keys: &[u64; 2240],
     graph: &[u64; 577],
     chart: &mut [u64],
     index: &mut [u32],
@@ -431,27 +401,14 @@ pub(crate) fn add_partners(
     n: u64,
     near: u64,
 )
-    requires { ⌜ Tables (now g) (now h) (now wants) (now plans) (now pivots) (now graph) × Ready (now g) (now h) (now wants) (now pivots) (now chart) (now index) × Handled (now g) (now h) (now chart) j near × (n ≤ itemCount (now chart)) ⌝ }
-    ensures { λ r. ⌜ (now (chart .exit) ≡ grownBy (now (chart .entry)) (gather n (λ k. withRecord (grammarOf (now (g .entry))) (graphOf (now (g .entry)) (now (h .entry))) (recordAt (now (chart .entry)) j) j (recordAt (now (chart .entry)) k) k))) × Ready (now (g .entry)) (now (h .entry)) (now (wants .entry)) (now (pivots .entry)) (now (chart .exit)) (now (index .exit)) ⌝ }
+    requires { ⌜ Tables (now g) (now h) (now plans) (now keys) (now graph) × Ready (now g) (now h) (now keys) (now chart) (now index) × Handled (now g) (now h) (now chart) j near × (n ≤ itemCount (now chart)) ⌝ }
+    ensures { λ r. ⌜ (now (chart .exit) ≡ grownBy (now (chart .entry)) (gather n (λ k. withRecord (grammarOf (now (g .entry))) (graphOf (now (g .entry)) (now (h .entry))) (recordAt (now (chart .entry)) j) j (recordAt (now (chart .entry)) k) k))) × Ready (now (g .entry)) (now (h .entry)) (now (keys .entry)) (now (chart .exit)) (now (index .exit)) ⌝ }
 {
     let own = (2 + 16 * j) as usize;
-    let want = wants::want_of(wants, chart[own + 1], chart[own + 2]);
+    let want = wants::want_of(g, plans, chart[own + 1], chart[own + 2]);
     if (chart[own] == 0) & (want == 80) {
         return;
     }
     let lead = rules::plans::leads(g, plans, &chart[own..own + 16]);
-    add_each(
-        g,
-        h,
-        wants,
-        plans,
-        pivots,
-        graph,
-        chart,
-        index,
-        lead,
-        j,
-        n,
-        near,
-    );
+    add_each(g, h, plans, keys, graph, chart, index, lead, j, n, near);
 }

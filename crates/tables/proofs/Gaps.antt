@@ -7,6 +7,8 @@ use mathlib.Core.Bool.{Bool, true, false, false≢true}
 use mathlib.Core.List.{List}
 use lib.Bits.{bitOr, or-add-and, and-le-l, and-le-r}
 use lib.ListN.{getD}
+use lib.Dec.{eqb}
+use borrow.Author.Tests.{eqb-true, eqb-false}
 use Rattle.tables.specs.Concluding.{Zero, Zeros, Gathered, eightFrom}
 
 -- ---- one by one
@@ -61,6 +63,31 @@ gathered-eight t a i any r G l e =
     let six = gathered-on t a (i + 5) (i + 6) _ five (omega arith) (omega arith) in
     let seven = gathered-on t a (i + 6) (i + 7) _ six (omega arith) (omega arith) in
     subst (Gathered t a (i + 8)) (sym e) (gathered-on t a (i + 7) (i + 8) _ seven (omega arith) (omega arith))
+
+-- the six words behind three fields
+module _ (t : List ℕ) (at : ℕ) where
+  abbrev six : ℕ
+  six = bitOr (bitOr (bitOr (bitOr (bitOr (getD t (at + 3) 0) (getD t (at + 4) 0)) (getD t (at + 5) 0)) (getD t (at + 6) 0)) (getD t (at + 7) 0)) (getD t (at + 8) 0)
+
+  gathered-one : Gathered t (at + 3) (at + 4) (getD t (at + 3) 0)
+  gathered-one = record {
+    yes = λ h k b e. let same : k ≡ at + 3 = omega arith in rw same h;
+    no = λ z. z (at + 3) (omega arith) (omega arith);
+  }
+
+  gathered-six : Gathered t (at + 3) (at + 9) six
+  gathered-six =
+      let two = gathered-on t (at + 3) (at + 4) (at + 5) _ gathered-one (omega arith) (omega arith) in
+      let three = gathered-on t (at + 3) (at + 5) (at + 6) _ two (omega arith) (omega arith) in
+      let four = gathered-on t (at + 3) (at + 6) (at + 7) _ three (omega arith) (omega arith) in
+      let five = gathered-on t (at + 3) (at + 7) (at + 8) _ four (omega arith) (omega arith) in
+      gathered-on t (at + 3) (at + 8) (at + 9) _ five (omega arith) (omega arith)
+
+  pub zeros-six : Zeros t (at + 3) (at + 9) (eqb six 0)
+  zeros-six = record {
+    yes = λ y. gathered-six .yes (eqb-true six 0 y);
+    no = λ y z. eqb-false six 0 y (gathered-six .no z);
+  }
 
 pub gathered-turn : (t : List ℕ) (a i any p q r s : ℕ) → Gathered t a i any → a ≤ i → p ≡ eightFrom t i any → q ≡ eightFrom t (i + 8) p → r ≡ eightFrom t (i + 16) q
     → s ≡ eightFrom t (i + 24) r → Gathered t a (i + 32) s

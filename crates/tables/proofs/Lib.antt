@@ -6,4 +6,5 @@ pub mod Planning
 pub mod LineFields
 pub mod Gaps
 pub mod OnePass
+pub mod Leading
 pub mod LineAnswers

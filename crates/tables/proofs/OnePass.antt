@@ -4,25 +4,25 @@ use native.Mathlib.Omega.{arith}
 use native.Mathlib.Decide.{decLt, ℕ-discrete}
 use mathlib.Core.Path.{_≡_, refl, sym, ap, ap₂, _∙_, subst}
 use mathlib.Core.Logic.{_⊎_, inl, inr}
-use mathlib.Core.Bool.{Bool, true, false, not, cond, false≢true}
+use mathlib.Core.Bool.{Bool, true, false, false≢true}
 use mathlib.Core.List.{List, []}
 use lib.ListN.{length, getD, take, replicate, length-take, length-replicate, List·getD-eq-default}
-use borrow.Author.Tests.{lt-leb, not-true, not-false}
+use borrow.Author.Tests.{lt-leb}
 use Rattle.hrg.specs.Counts.{tabulate}
 use Rattle.hrg.proofs.Sums.{length-tabulate}
 use Rattle.questions.specs.declared.Due.{Due}
 use Rattle.questions.specs.declared.Due.the-variants.{Grammar, Symbol, Rule, RuleEdge, PlanLine, Graph, GraphEdge, Nothing}
-use Rattle.questions.specs.Layout.{placeOf, inTable, word, stored, symbolCount, rankAt}
+use Rattle.questions.specs.Layout.{placeOf, word, stored, symbolCount, rankAt}
 use Rattle.questions.specs.Questions.{judgeRule, judgeRuleEdge, judge}
 use Rattle.questions.specs.Reading.{Verdict, refused, accepted, whenDone, goOn, next}
 use Rattle.questions.specs.Checking.{fieldsDue, storedFields, checkLines, filledBy, checkGrammar, checkGraph}
 use Rattle.questions.specs.Walk.{Room}
 use Rattle.questions.proofs.StoredLaws.{getD-tabulate, length-stored, word-stored-same, word-stored-other, word-cleared, table-ext}
 use Rattle.questions.proofs.WellFormedQuestions.{passes-rule, passes-edge}
-use Rattle.questions.proofs.WellFormedWalk.{IsLine, reach, reach-line, room-in, room-place, room-next, next-forward, Agree, Before, next-agree, judge-agree, before-next, walk-onward}
+use Rattle.questions.proofs.WellFormedWalk.{IsLine, reach, reach-line, room-place, room-next, next-forward, judged-line, Agree, Before, next-agree, judge-agree, before-next, walk-onward}
 use Rattle.questions.proofs.WellFormedReading.{check-walk}
 use Rattle.questions.proofs.Filled.{when-line, filled-by, by-filled, word-take}
-use Rattle.tables.specs.Concluding.{nothingDue, Opens, Zero, Zeros, Stands}
+use Rattle.tables.specs.Concluding.{Zero, Rest, last, line, Concludes}
 
 -- a table that is too short
 short-filled : (size : ℕ) (t : List ℕ) (v : Verdict) → length t < size → false ≡ filledBy size t v
@@ -30,74 +30,49 @@ short-filled size t (refused k) h = refl
 short-filled size t (accepted c) h = rw (lt-leb size (length t) h)
 
 -- ---- the lines passed
-line-due : (d : Due) → nothingDue d ≡ false → IsLine d
-line-due Grammar h = tt
-line-due (Symbol s) h = tt
-line-due (Rule r) h = tt
-line-due (RuleEdge r i) h = tt
-line-due (PlanLine r q) h = tt
-line-due Graph h = tt
-line-due (GraphEdge e) h = tt
-line-due Nothing h = absurd (false≢true (sym h))
+line-or-none : (d : Due) → IsLine d ⊎ (d ≡ Nothing)
+line-or-none Grammar = inl tt
+line-or-none (Symbol s) = inl tt
+line-or-none (Rule r) = inl tt
+line-or-none (RuleEdge r i) = inl tt
+line-or-none (PlanLine r q) = inl tt
+line-or-none Graph = inl tt
+line-or-none (GraphEdge e) = inl tt
+line-or-none Nothing = inr refl
 
-when-nothing : (d : Due) (v w : Verdict) → nothingDue d ≡ true → whenDone d v w ≡ v
-when-nothing Grammar v w h = absurd (false≢true h)
-when-nothing (Symbol s) v w h = absurd (false≢true h)
-when-nothing (Rule r) v w h = absurd (false≢true h)
-when-nothing (RuleEdge r i) v w h = absurd (false≢true h)
-when-nothing (PlanLine r q) v w h = absurd (false≢true h)
-when-nothing Graph v w h = absurd (false≢true h)
-when-nothing (GraphEdge e) v w h = absurd (false≢true h)
-when-nothing Nothing v w h = refl
+when-none : (d : Due) → d ≡ Nothing → (v w : Verdict) → whenDone d v w ≡ v
+when-none d n v w = ap (λ (e : Due). whenDone e v w) n
 
--- a longer table has room for the same lines
-pub room-more : (a b : ℕ) (d : Due) → a ≤ b → Room a d → Room b d
-room-more a b Grammar l r = omega arith
-room-more a b (Symbol s) l r = (r .0, omega arith)
-room-more a b (Rule k) l r = (r .0, omega arith)
-room-more a b (RuleEdge k i) l r = (r .0, r .1, omega arith)
-room-more a b (PlanLine k q) l r = (r .0, r .1, omega arith)
-room-more a b Graph l r = omega arith
-room-more a b (GraphEdge e) l r = (r .0, omega arith)
-room-more a b Nothing l r = omega arith
+-- The lines before `due` stand in t as in the table c of the definition, whose other words are 0; `from` is the first word behind them, and `left` counts
+-- a line for each place from there on, and one more.
+record Passing (size : ℕ) (g t : List ℕ) (goal : Bool) (left : ℕ) (due : Due) (from : ℕ) : Type 0 where
+  c : List ℕ
+  p : ℕ
+  place : from ≡ 9 * p
+  inside : 9 * p ≤ size
+  long : length c ≡ size
+  room : Room size due
+  before : Before c due
+  agree : Agree c t p
+  clear : (q j : ℕ) → p ≤ q → j < 9 → word c q j ≡ 0
+  low : p ≤ reach due
+  enough : size + 9 ≤ 9 * left + from
+  verdict : filledBy size t (checkLines left g t c due) ≡ goal
 
--- The lines before `due` stand in t as in the table c of the definition, whose other words are 0; `from` is the first word behind them.
-pub record Passing (size : ℕ) (g t : List ℕ) (goal : Bool) (left : ℕ) (due : Due) (from : ℕ) : Type 0 where
-  pub c : List ℕ
-  pub p : ℕ
-  pub place : from ≡ 9 * p
-  pub inside : 9 * p ≤ size
-  pub long : length c ≡ size
-  pub room : Room size due
-  pub before : Before c due
-  pub agree : Agree c t p
-  pub clear : (q j : ℕ) → p ≤ q → j < 9 → word c q j ≡ 0
-  pub low : p ≤ reach due
-  pub verdict : filledBy size t (checkLines left g t c due) ≡ goal
-
-none-before : (size : ℕ) (d : Due) → Opens d → Before (replicate size 0) d
-none-before size Grammar o = tt
-none-before size (Symbol s) o = absurd o
-none-before size (Rule r) o = absurd o
-none-before size (RuleEdge r i) o = absurd o
-none-before size (PlanLine r q) o = absurd o
-none-before size Graph o = tt
-none-before size (GraphEdge e) o = absurd o
-none-before size Nothing o = absurd o
-
-pub pass-start : (size : ℕ) (g t : List ℕ) (left : ℕ) (first : Due) → Room size first → Opens first
+pass-start : (size : ℕ) (g t : List ℕ) (left : ℕ) (first : Due) → Room size first → Before (replicate size 0) first → size + 9 ≤ 9 * left
     → Passing size g t (filledBy size t (checkLines left g t (replicate size 0) first)) left first 0
-pass-start size g t left first room e = record {
+pass-start size g t left first room b e = record {
   c = replicate size 0;
   p = 0;
   place = refl;
   inside = omega arith;
   long = length-replicate {A = ℕ} size 0;
   room = room;
-  before = none-before size first e;
+  before = b;
   agree = λ q j l b. absurd (omega arith);
   clear = λ q j l b. word-cleared size q j;
   low = omega arith;
+  enough = omega arith;
   verdict = refl;
 }
 
@@ -114,26 +89,16 @@ at-word : (t : List ℕ) (q j n : ℕ) → getD t (9 * q + j) 0 ≡ n → word t
 unfolding word
 at-word t q j n h = h
 
--- the lines left, by a number that is not 0
-one-turn : (k : ℕ) (g t c : List ℕ) (due : Due) → 0 < k
-    → checkLines k g t c due
+one-turn : (k : ℕ) (g t c : List ℕ) (due : Due)
+    → checkLines (suc k) g t c due
     ≡ whenDone due (accepted c) (goOn (judge g c due (storedFields g c t due))
-    (checkLines (k - 1) g t (stored c (placeOf due) (storedFields g c t due)) (next (stored c (placeOf due) (storedFields g c t due)) due)))
-one-turn k g t c due h =
-    ap (λ n. checkLines n g t c due) (let e : k ≡ suc (k - 1) = omega arith in e) ∙ step (k - 1) g t c due
-  where
-    step : (n : ℕ) (g′ t′ c′ : List ℕ) (d : Due) → checkLines (suc n) g′ t′ c′ d
-        ≡ whenDone d (accepted c′) (goOn (judge g′ c′ d (storedFields g′ c′ t′ d))
-        (checkLines n g′ t′ (stored c′ (placeOf d) (storedFields g′ c′ t′ d)) (next (stored c′ (placeOf d) (storedFields g′ c′ t′ d)) d)))
-    step n g′ t′ c′ d = unfold checkLines in refl
+    (checkLines k g t (stored c (placeOf due) (storedFields g c t due)) (next (stored c (placeOf due) (storedFields g c t due)) due)))
+unfolding checkLines
+one-turn k g t c due = refl
 
 filled-refused : (size : ℕ) (t : List ℕ) (k : ℕ) (v : Verdict) → (k ≡ 0 → ⊥) → filledBy size t (goOn k v) ≡ false
 filled-refused size t zero v h = absurd (h refl)
 filled-refused size t (suc k) v h = refl
-
-none-lines : (g t c : List ℕ) (due : Due) → checkLines 0 g t c due ≡ refused 8
-unfolding checkLines
-none-lines g t c due = refl
 
 -- ---- the fields of a line, by the ranks of c or by those of t: alike, or the line is refused by both
 rule-far : (k : List ℕ) (r n : ℕ) (f : ℕ → ℕ) → symbolCount k ≤ 64 → 64 ≤ f 1 → judgeRule k r (tabulate (5 + n) f) ≡ 0 → ⊥
@@ -179,22 +144,19 @@ module _ (g c t : List ℕ) where
   fields-alike Nothing b a = inl refl
 
 -- ---- one turn
-module _ (size : ℕ) (g t : List ℕ) (goal : Bool) (fits : size ≤ length t) (left : ℕ) (due : Due) (from : ℕ) (P : Passing size g t goal left due from) where
+module _ (size : ℕ) (g t : List ℕ) (goal : Bool) (fits : size ≤ length t) (left : ℕ) (due : Due) (from : ℕ) (P : Passing size g t goal (suc left) due from) where
   abbrev c : List ℕ
   c = P .c
 
-  pub pass-none : left ≤ 0 → false ≡ goal
-  pass-none h = sym (ap (λ n. filledBy size t (checkLines n g t c due)) (let e : left ≡ 0 = omega arith in e) ∙ ap (filledBy size t) (none-lines g t c due)) ∙ P .verdict
-
   -- where the table is one that a text filled, the words of t are those of c before the line that is due
   module _ (yes : goal ≡ true) where
-    final : (u : List ℕ) × (checkLines left g t c due ≡ accepted u) × (size ≤ length t) × (u ≡ take size t)
-    final = filled-by size t (checkLines left g t c due) (P .verdict ∙ yes)
+    final : (u : List ℕ) × (checkLines (suc left) g t c due ≡ accepted u) × (size ≤ length t) × (u ≡ take size t)
+    final = filled-by size t (checkLines (suc left) g t c due) (P .verdict ∙ yes)
 
     as-before : (q j : ℕ) → q < reach due → 9 * q + j < size → j < 9 → word t q j ≡ word c q j
     as-before q j l f b =
         sym (word-take size t q j f) ∙ ap (λ (u : List ℕ). word u q j) (sym (final .3))
-        ∙ sym (walk-onward (check-walk left g t c (final .0) due (final .1) .1) (subst (λ n. Room n due) (sym (P .long)) (P .room)) .same-words q j l b)
+        ∙ sym (walk-onward (check-walk (suc left) g t c (final .0) due (final .1) .1) (subst (λ n. Room n due) (sym (P .long)) (P .room)) .same-words q j l b)
 
   -- t is 0 where c is
   clear-before : goal ≡ true → (i : ℕ) → from ≤ i → i < 9 * reach due → i < size → getD t i 0 ≡ 0
@@ -202,9 +164,9 @@ module _ (size : ℕ) (g t : List ℕ) (goal : Bool) (fits : size ≤ length t) 
       word-at t i 0 (as-before y (i / 9) (i % 9) (omega arith) (omega arith) (omega arith) ∙ P .clear (i / 9) (i % 9) (omega (arith, P .place)) (omega arith))
 
   -- nothing is due
-  module _ (l : 0 < left) (n : nothingDue due ≡ true) where
+  module _ (n : due ≡ Nothing) where
     ended : filledBy size t (accepted c) ≡ goal
-    ended = sym (ap (filledBy size t) (one-turn left g t c due l ∙ when-nothing due _ _ n)) ∙ P .verdict
+    ended = sym (ap (filledBy size t) (one-turn left g t c due ∙ when-none due n _ _)) ∙ P .verdict
 
     same-word : Zero t from size → (q j : ℕ) → 9 * q + j < size → j < 9 → Dec (q < P .p) → word c q j ≡ word t q j
     same-word z q j f b (yes d) = P .agree q j d b
@@ -225,27 +187,19 @@ module _ (size : ℕ) (g t : List ℕ) (goal : Bool) (fits : size ≤ length t) 
         same : (u : List ℕ) → accepted c ≡ accepted u → c ≡ u
         same u e = cc
 
-    pub pass-end : (b : Bool) → Zeros t from size b → b ≡ goal
-    pass-end true z = sym (by-filled size t c fits (whole (z .yes refl))) ∙ ended
-    pass-end false z = not-goal goal (λ y. z .no refl (cleared (own y)))
+    pass-last : goal ≡ true → Zero t from size
+    pass-last y = cleared (own y)
+
+    pass-whole : Zero t from size → goal ≡ true
+    pass-whole z = sym ended ∙ by-filled size t c fits (whole z)
 
   -- a line is due
-  module _ (l : 0 < left) (n : nothingDue due ≡ false) where
-    isLine : IsLine due
-    isLine = line-due due n
-
-    pub pass-at : 9 * placeOf due + 9 ≤ size
+  module _ (isLine : IsLine due) where
+    pass-at : 9 * placeOf due + 9 ≤ size
     pass-at = room-place size due (P .room)
 
-    pub pass-from : from ≤ 9 * placeOf due
-    pass-from = omega (arith, P .place, P .low, reach-line due isLine)
-
-    pub pass-in : inTable due ≡ true
-    pass-in = room-in size due (P .room)
-
-    -- words before the line that are not 0
-    pub pass-gap : (b : Bool) → b ≡ false → Zeros t from (9 * placeOf due) b → false ≡ goal
-    pass-gap b e z = not-goal goal (λ y. z .no e (λ i a k. clear-before y i a (omega (arith, reach-line due isLine)) (omega (arith, pass-at))))
+    pass-clear : goal ≡ true → Zero t from (9 * placeOf due)
+    pass-clear y i a k = clear-before y i a (omega (arith, reach-line due isLine)) (omega (arith, pass-at))
 
     module _ (z : Zero t from (9 * placeOf due)) where
       agree : Agree c t (placeOf due)
@@ -265,18 +219,25 @@ module _ (size : ℕ) (g t : List ℕ) (goal : Bool) (fits : size ≤ length t) 
       judged-c : (gs : List ℕ) → judge g c due gs ≡ judge g t due gs
       judged-c gs = judge-agree g c t due gs (P .before) agree
 
-      turned : filledBy size t (goOn (judge g c due fsc) (checkLines (left - 1) g t (stored c (placeOf due) fsc) (next (stored c (placeOf due) fsc) due))) ≡ goal
-      turned = sym (ap (filledBy size t) (one-turn left g t c due l ∙ when-line due isLine _ _)) ∙ P .verdict
+      turned : filledBy size t (goOn (judge g c due fsc) (checkLines left g t (stored c (placeOf due) fsc) (next (stored c (placeOf due) fsc) due))) ≡ goal
+      turned = sym (ap (filledBy size t) (one-turn left g t c due ∙ when-line due isLine _ _)) ∙ P .verdict
 
       refused-c : (judge g c due fsc ≡ 0 → ⊥) → false ≡ goal
       refused-c h = sym (filled-refused size t (judge g c due fsc) _ h) ∙ turned
 
-      pub pass-no : (judge g t due (storedFields g t t due) ≡ 0 → ⊥) → false ≡ goal
+      pass-no : (judge g t due (storedFields g t t due) ≡ 0 → ⊥) → false ≡ goal
       pass-no h = go (fields-alike g c t due (P .before) agree)
         where
           go : Alike g c t due → false ≡ goal
           go (inl a) = refused-c (λ y. h (sym (judged-c (storedFields g t t due)) ∙ ap (judge g c due) (sym a) ∙ y))
           go (inr a) = refused-c (a .0)
+
+      pass-judged : goal ≡ true → judge g t due (storedFields g t t due) ≡ 0
+      pass-judged y = go (ℕ-discrete (judge g t due (storedFields g t t due)) 0)
+        where
+          go : Dec (judge g t due (storedFields g t t due) ≡ 0) → judge g t due (storedFields g t t due) ≡ 0
+          go (yes e) = e
+          go (no n) = absurd (false≢true (pass-no n ∙ y))
 
       -- a line that passes
       module _ (passed : judge g t due (storedFields g t t due) ≡ 0) where
@@ -300,10 +261,10 @@ module _ (size : ℕ) (g t : List ℕ) (goal : Bool) (fits : size ≤ length t) 
         long-c : length c′ ≡ size
         long-c = length-stored c (placeOf due) fs fits-c ∙ P .long
 
-        onward : filledBy size t (checkLines (left - 1) g t c′ (next c′ due)) ≡ goal
+        onward : filledBy size t (checkLines left g t c′ (next c′ due)) ≡ goal
         onward =
-            sym (ap (λ (hs : List ℕ). filledBy size t (goOn (judge g c due hs) (checkLines (left - 1) g t (stored c (placeOf due) hs) (next (stored c (placeOf due) hs) due)))) same-fields
-            ∙ ap (λ (m : ℕ). filledBy size t (goOn m (checkLines (left - 1) g t c′ (next c′ due)))) passed-c)
+            sym (ap (λ (hs : List ℕ). filledBy size t (goOn (judge g c due hs) (checkLines left g t (stored c (placeOf due) hs) (next (stored c (placeOf due) hs) due)))) same-fields
+            ∙ ap (λ (m : ℕ). filledBy size t (goOn m (checkLines left g t c′ (next c′ due)))) passed-c)
             ∙ turned
 
         room-c : (u : List ℕ) → Room size (next u due)
@@ -319,17 +280,17 @@ module _ (size : ℕ) (g t : List ℕ) (goal : Bool) (fits : size ≤ length t) 
         -- behind the fields of the line c has zeros
         behind : goal ≡ true → (j : ℕ) → length fs ≤ j → j < 9 → word t (placeOf due) j ≡ 0
         behind y j a b =
-            let f = filled-by size t (checkLines (left - 1) g t c′ (next c′ due)) (onward ∙ y) in
-            let w = check-walk (left - 1) g t c′ (f .0) (next c′ due) (f .1) .1 in
+            let f = filled-by size t (checkLines left g t c′ (next c′ due)) (onward ∙ y) in
+            let w = check-walk left g t c′ (f .0) (next c′ due) (f .1) .1 in
             sym (word-take size t (placeOf due) j (omega (arith, pass-at))) ∙ ap (λ (u : List ℕ). word u (placeOf due) j) (sym (f .3))
             ∙ sym (walk-onward w (subst (λ m. Room m (next c′ due)) (sym long-c) (room-c c′)) .same-words (placeOf due) j (forward c′) b)
             ∙ word-stored-same c (placeOf due) fs fits-c j b
             ∙ List·getD-eq-default fs 0 {n = j} a
 
-        pub pass-tail : (Zero t (9 * placeOf due + fieldsDue g t t due) (9 * placeOf due + 9) → ⊥) → false ≡ goal
-        pass-tail n = not-goal goal (λ y. n (λ i a f.
+        pass-behind : goal ≡ true → Zero t (9 * placeOf due + fieldsDue g t t due) (9 * placeOf due + 9)
+        pass-behind y i a f =
             word-at t i 0 (ap₂ (word t) (let e : i / 9 ≡ placeOf due = omega arith in e) (let e : i % 9 ≡ i - 9 * placeOf due = omega arith in e)
-            ∙ behind y (i - 9 * placeOf due) (omega (arith, length-fs)) (omega arith))))
+            ∙ behind y (i - 9 * placeOf due) (omega (arith, length-fs)) (omega arith))
 
         module _ (tail : Zero t (9 * placeOf due + fieldsDue g t t due) (9 * placeOf due + 9)) where
           own-line : (j : ℕ) → j < 9 → Dec (j < fieldsDue g t t due) → getD fs j 0 ≡ word t (placeOf due) j
@@ -349,8 +310,8 @@ module _ (size : ℕ) (g t : List ℕ) (goal : Bool) (fits : size ≤ length t) 
           next-c : next c′ due ≡ next t due
           next-c = next-agree c′ t due agree-c
 
-          pub pass-next : (d : Due) → d ≡ next t due → Passing size g t goal (left - 1) d (9 * placeOf due + 9)
-          pass-next d x = subst (λ (d : Due). Passing size g t goal (left - 1) d (9 * placeOf due + 9)) (next-c ∙ sym x) (record {
+          pass-next : Passing size g t goal left (next t due) (9 * placeOf due + 9)
+          pass-next = subst (λ (d : Due). Passing size g t goal left d (9 * placeOf due + 9)) next-c (record {
             c = c′;
             p = suc (placeOf due);
             place = omega arith;
@@ -361,63 +322,55 @@ module _ (size : ℕ) (g t : List ℕ) (goal : Bool) (fits : size ≤ length t) 
             agree = agree-c;
             clear = λ o j a b. word-stored-other c (placeOf due) fs fits-c o j (λ x. omega arith) b ∙ P .clear o j (omega (arith, P .low, reach-line due isLine)) b;
             low = forward c′;
+            enough = omega (arith, P .enough, P .place, P .low, reach-line due isLine);
             verdict = onward;
           })
 
--- ---- one turn, by what the functions answer
-module _ (size : ℕ) (g t : List ℕ) (goal : Bool) (fits : size ≤ length t) (left : ℕ) (due : Due) (from : ℕ) (P : Passing size g t goal left due from)
-    (l : 0 < left) (b : Bool) (is : b ≡ nothingDue due) (some : b ≡ false) (pl : ℕ) (ep : pl ≡ cond (inTable due) (placeOf due) 0) where
-  line : nothingDue due ≡ false
-  line = sym is ∙ some
+-- ---- the verdict, and what stands in t
+module _ (size : ℕ) (g t : List ℕ) (goal : Bool) (fits : size ≤ length t) where
+  one-more : (left : ℕ) (due : Due) (from : ℕ) (P : Passing size g t goal (suc left) due from) → goal ≡ true
+      → ((d : Due) (f : ℕ) → Passing size g t goal left d f → Rest size g t d f) → Rest size g t due from
+  one-more left due from P y more = go (line-or-none due)
+    where
+      go : IsLine due ⊎ (due ≡ Nothing) → Rest size g t due from
+      go (inl l) =
+          let z = pass-clear size g t goal fits left due from P l y in
+          let passed = pass-judged size g t goal fits left due from P l z y in
+          let tail = pass-behind size g t goal fits left due from P l z passed y in
+          line z (record { passed = passed; rest = tail }) (more (next t due) (9 * placeOf due + 9) (pass-next size g t goal fits left due from P l z passed tail))
+      go (inr n) = subst (λ (d : Due). Rest size g t d from) (sym n) (last (pass-last size g t goal fits left due from P n y))
 
-  inside : inTable due ≡ true
-  inside = pass-in size g t goal fits left due from P l line
+  stands-in : (left : ℕ) (due : Due) (from : ℕ) → Passing size g t goal left due from → goal ≡ true → Rest size g t due from
+  stands-in zero due from P y = absurd (omega (arith, P .enough, P .inside, P .place))
+  stands-in (suc left) due from P y = one-more left due from P y (λ d f Q. stands-in left d f Q y)
 
-  here : placeOf due ≡ pl
-  here = sym (ep ∙ ap (λ a. cond a (placeOf due) 0) inside)
+  in-order : (left : ℕ) (due : Due) (from : ℕ) → Rest size g t due from → Passing size g t goal left due from → goal ≡ true
+  in-order zero due from r P = absurd (omega (arith, P .enough, P .inside, P .place))
+  in-order (suc left) due from (last z) P = pass-whole size g t goal fits left due from P refl z
+  in-order (suc left) due from (line z s r) P =
+      in-order left (next t due) (9 * placeOf due + 9) r
+      (pass-next size g t goal fits left due from P (judged-line g t due (storedFields g t t due) (s .passed)) z (s .passed) (s .rest))
 
-  pub turn-from : from ≤ 9 * pl
-  turn-from = omega (arith, here, pass-from size g t goal fits left due from P l line)
-
-  pub turn-fits : 9 * pl + 9 ≤ size
-  turn-fits = omega (arith, here, pass-at size g t goal fits left due from P l line)
-
-  pub turn-gap : (z : Bool) → Zeros t from (9 * pl) z → not z ≡ true → false ≡ goal
-  turn-gap z zs h = pass-gap size g t goal fits left due from P l line z (not-true z h) (subst (λ n. Zeros t from (9 * n) z) (sym here) zs)
-
-  pub turn-here : 9 * pl ≡ 9 * placeOf due
-  turn-here = ap (λ n. 9 * n) (sym here)
-
-  module _ (z : Bool) (zs : Zeros t from (9 * pl) z) (ok : not z ≡ false) (v : Bool) (stands : Stands g t due v) where
-    gap : Zero t from (9 * placeOf due)
-    gap = subst (λ n. Zero t from (9 * n)) (sym here) (zs .yes (not-false z ok))
-
-    pub turn-no : not v ≡ true → false ≡ goal
-    turn-no h = go (ℕ-discrete (judge g t due (storedFields g t t due)) 0)
-      where
-        go : Dec (judge g t due (storedFields g t t due) ≡ 0) → false ≡ goal
-        go (yes e) = pass-tail size g t goal fits left due from P l line gap e (stands .no (not-true v h) e)
-        go (no n) = pass-no size g t goal fits left due from P l line gap n
-
-    pub turn-next : not v ≡ false → (d : Due) → d ≡ cond (inTable due) (next t due) Nothing → Passing size g t goal (left - 1) d (9 * pl + 9)
-    turn-next h d e =
-        let both = stands .yes (not-false v h) in
-        subst (λ n. Passing size g t goal (left - 1) d (9 * n + 9)) here
-        (pass-next size g t goal fits left due from P l line gap (both .0) (both .1) d (e ∙ ap (λ a. cond a (next t due) Nothing) inside))
+-- the answer by what stands in t is the definition's
+verdict-is : (size : ℕ) (g t : List ℕ) (left : ℕ) (first : Due) → size ≤ length t → Room size first → Before (replicate size 0) first → size + 9 ≤ 9 * left
+    → (b : Bool) → Concludes size g t first 0 b → b ≡ filledBy size t (checkLines left g t (replicate size 0) first)
+verdict-is size g t left first fits room before e true C = sym (in-order size g t _ fits left first 0 (C .yes refl) (pass-start size g t left first room before e))
+verdict-is size g t left first fits room before e false C =
+    not-goal _ (λ y. C .no refl (stands-in size g t _ fits left first 0 (pass-start size g t left first room before e) y))
 
 -- ---- the two tables
 pub grammar-short : (t : List ℕ) → length t < 14985 → false ≡ checkGrammar t
 unfolding checkGrammar
 grammar-short t h = short-filled 14985 t (checkLines 1666 [] t (replicate 14985 0) Grammar) h
 
-pub grammar-is : (t : List ℕ) (b : Bool) → b ≡ filledBy 14985 t (checkLines 1666 [] t (replicate 14985 0) Grammar) → b ≡ checkGrammar t
+pub grammar-is : (t : List ℕ) → 14985 ≤ length t → (b : Bool) → Concludes 14985 [] t Grammar 0 b → b ≡ checkGrammar t
 unfolding checkGrammar
-grammar-is t b e = e
+grammar-is t fits b C = verdict-is 14985 [] t 1666 Grammar fits (omega arith) tt (omega arith) b C
 
 pub graph-short : (g t : List ℕ) → length t < 585 → false ≡ checkGraph g t
 unfolding checkGraph
 graph-short g t h = short-filled 585 t (checkLines 66 g t (replicate 585 0) Graph) h
 
-pub graph-is : (g t : List ℕ) (b : Bool) → b ≡ filledBy 585 t (checkLines 66 g t (replicate 585 0) Graph) → b ≡ checkGraph g t
+pub graph-is : (g t : List ℕ) → 585 ≤ length t → (b : Bool) → Concludes 585 g t Graph 0 b → b ≡ checkGraph g t
 unfolding checkGraph
-graph-is g t b e = e
+graph-is g t fits b C = verdict-is 585 g t 66 Graph fits (omega arith) tt (omega arith) b C

@@ -1,37 +1,17 @@
 -- What the functions of question 8's check promise one another.
 use mathlib.Core.Path.{_≡_}
-use mathlib.Core.Bool.{Bool, true, false}
+use mathlib.Core.Bool.{Bool, true, false, cond}
 use mathlib.Core.List.{List}
-use Prim.Native.Nat.{ℕ, _+_, _*_, _≤_, _<_}
+use Prim.Native.Nat.{ℕ, _+_, _*_, _≤_, _<_, min}
 use lib.Bits.{bitOr}
 use lib.ListN.{getD}
-use Rattle.questions.specs.Layout.{placeOf}
+use lib.Dec.{ltb}
+use Rattle.questions.specs.Layout.{placeOf, ruleCount}
 use Rattle.questions.specs.Questions.{judge}
+use Rattle.questions.specs.Reading.{next}
 use Rattle.questions.specs.Checking.{fieldsDue, storedFields}
 use Rattle.questions.specs.declared.Due.{Due}
-use Rattle.questions.specs.declared.Due.the-variants.{Grammar, Symbol, Rule, RuleEdge, PlanLine, Graph, GraphEdge, Nothing}
-
--- whether the lines end here
-abbrev pub nothingDue : Due → Bool
-nothingDue Grammar = false
-nothingDue (Symbol s) = false
-nothingDue (Rule r) = false
-nothingDue (RuleEdge r i) = false
-nothingDue (PlanLine r q) = false
-nothingDue Graph = false
-nothingDue (GraphEdge e) = false
-nothingDue Nothing = true
-
--- the first line of a file
-abbrev pub Opens : Due → Type 0
-Opens Grammar = Unit {0}
-Opens (Symbol s) = ⊥
-Opens (Rule r) = ⊥
-Opens (RuleEdge r i) = ⊥
-Opens (PlanLine r q) = ⊥
-Opens Graph = Unit {0}
-Opens (GraphEdge e) = ⊥
-Opens Nothing = ⊥
+use Rattle.questions.specs.declared.Due.the-variants.{Rule, Nothing}
 
 -- the words from a on are 0, as far as b
 abbrev pub Zero : List ℕ → ℕ → ℕ → Type 0
@@ -54,7 +34,42 @@ eightFrom t i any =
     (bitOr (bitOr (bitOr (bitOr any (getD t i 0)) (getD t (i + 1) 0)) (getD t (i + 2) 0)) (getD t (i + 3) 0))
     (getD t (i + 4) 0)) (getD t (i + 5) 0)) (getD t (i + 6) 0)) (getD t (i + 7) 0)
 
--- r says whether the line that is due stands in t: it passes, and the words behind its fields are 0
+-- the line that is due stands in t: it passes, and the words behind its fields are 0
+pub record Standing (g t : List ℕ) (due : Due) : Type 0 where
+  pub passed : judge g t due (storedFields g t t due) ≡ 0
+  pub rest : Zero t (9 * placeOf due + fieldsDue g t t due) (9 * placeOf due + 9)
+
+-- r says whether it does
 pub record Stands (g t : List ℕ) (due : Due) (r : Bool) : Type 0 where
-  pub yes : r ≡ true → (judge g t due (storedFields g t t due) ≡ 0) × Zero t (9 * placeOf due + fieldsDue g t t due) (9 * placeOf due + 9)
-  pub no : r ≡ false → judge g t due (storedFields g t t due) ≡ 0 → Zero t (9 * placeOf due + fieldsDue g t t due) (9 * placeOf due + 9) → ⊥
+  pub yes : r ≡ true → Standing g t due
+  pub no : r ≡ false → Standing g t due → ⊥
+
+-- From `due` on the lines stand in t one after the other, and the words between them, from `from` on as far as `size`, are 0.
+pub data Rest (size : ℕ) (g t : List ℕ) : Due → ℕ → Type 0 where
+  last : {from : ℕ} → Zero t from size → Rest size g t Nothing from
+  line : {due : Due} {from : ℕ} → Zero t from (9 * placeOf due) → Standing g t due → Rest size g t (next t due) (9 * placeOf due + 9) → Rest size g t due from
+
+-- r says whether it is so
+pub record Concludes (size : ℕ) (g t : List ℕ) (due : Due) (from : ℕ) (r : Bool) : Type 0 where
+  pub yes : r ≡ true → Rest size g t due from
+  pub no : r ≡ false → Rest size g t due from → ⊥
+
+-- From `due` on the table is in order exactly where it is so from `then` on: the lines between stand, and the words between them are 0.
+pub record Leads (size : ℕ) (g t : List ℕ) (due : Due) (from : ℕ) (then : Due) (to : ℕ) : Type 0 where
+  pub onward : Rest size g t due from → Rest size g t then to
+  pub back : Rest size g t then to → Rest size g t due from
+
+-- r says whether it is so; where it is not, the table is not in order
+pub record Reaches (size : ℕ) (g t : List ℕ) (due : Due) (from : ℕ) (then : Due) (to : ℕ) (r : Bool) : Type 0 where
+  pub yes : r ≡ true → Leads size g t due from then to
+  pub no : r ≡ false → Rest size g t due from → ⊥
+
+-- n is the count that stands in a table, and neither 0 nor above `most`
+pub record Count (n word most : ℕ) : Type 0 where
+  pub same : n ≡ word
+  pub some : 1 ≤ n
+  pub few : n ≤ most
+
+-- what is due after the last plan line of rule r
+abbrev pub ruleAfter : List ℕ → ℕ → Due
+ruleAfter t r = cond (ltb (r + 1) (min 64 (ruleCount t))) (Rule (r + 1)) Nothing

@@ -1,50 +1,20 @@
 // Question 8 for tables, in one pass: the lines that a table holds are judged where they stand, and the words between them must be 0.
 ghost use mathlib.Core.Path.{_≡_};
+ghost use mathlib.Core.Bool.{true};
+ghost use mathlib.Core.List.{[]};
 ghost use Prim.Native.Nat.{_+_, _*_, _≤_};
-ghost use lib.ListN.{length, replicate};
-ghost use Rattle.questions.specs.Layout.{placeOf};
+ghost use lib.ListN.{length};
+ghost use Rattle.questions.specs.declared.Due.the-variants.{Grammar, Symbol, Rule, RuleEdge, PlanLine, Graph, GraphEdge};
+ghost use Rattle.questions.specs.Layout.{grammarWords, graphWords, symbolCount, ruleCount, ruleEdges, rulePlan, graphEdges};
 ghost use Rattle.questions.specs.Walk.{Room};
-ghost use Rattle.tables.specs.Concluding.{nothingDue, Opens, Zeros, Gathered, eightFrom, Stands};
-ghost use Rattle.questions.specs.Checking.{fieldsDue, checkLines, filledBy, checkGrammar, checkGraph};
+ghost use Rattle.questions.specs.Checking.{checkGrammar, checkGraph};
+ghost use Rattle.tables.specs.Concluding.{Zeros, Gathered, eightFrom, Stands, Count, ruleAfter, Reaches, Concludes};
 use crate::judging;
-use questions::Due;
 
 // How far words were gathered, and the one word made of them.
 struct Gathering {
     from: u64,
     any: u64,
-}
-
-// How many fields the line at a place of t has, by the ranks in t, or in the grammar g for a graph's lines.
-fn fields_due(g: &[u64], t: &[u64], due: Due) -> u64
-    ensures { λ x. ⌜ (x ≡ fieldsDue (now (g .entry)) (now (t .entry)) (now (t .entry)) due) × (x ≤ 9) ⌝ }
-{
-    match due {
-        Due::Grammar => 3,
-        Due::Symbol(_) => 3,
-        Due::Rule(r) => 5 + layout::rank_at(t, layout::rule_symbol(t, r)),
-        Due::RuleEdge(r, i) => 1 + layout::rank_at(t, layout::edge_label(t, r, i)),
-        Due::PlanLine(_, _) => 3,
-        Due::Graph => 2 + layout::rank_at(g, layout::start_symbol(g)),
-        Due::GraphEdge(e) => 1 + layout::rank_at(g, layout::graph_label(t, e)),
-        Due::Nothing => 0,
-    }
-}
-
-// Whether nothing is due any more.
-fn is_nothing(due: Due) -> bool
-    ensures { λ x. ⌜ x ≡ nothingDue due ⌝ }
-{
-    match due {
-        Due::Grammar => false,
-        Due::Symbol(_) => false,
-        Due::Rule(_) => false,
-        Due::RuleEdge(_, _) => false,
-        Due::PlanLine(_, _) => false,
-        Due::Graph => false,
-        Due::GraphEdge(_) => false,
-        Due::Nothing => true,
-    }
 }
 
 // One word made of eight from i on, and of `any`.
@@ -102,43 +72,179 @@ fn zeros(t: &[u64], a: u64, b: u64) -> bool
     few_zeros(t, gathered.from, b)
 }
 
-// Whether the line that is due passes where it stands in t, from word `at` on, and the words behind its fields are 0.
-fn check_line(g: &[u64], t: &[u64], due: Due, at: u64) -> bool
-    requires { ⌜ Room (length (now t)) due × (at ≡ 9 * placeOf due) ⌝ }
-    ensures { λ x. ⌜ Stands (now (g .entry)) (now (t .entry)) due x ⌝ }
+// The same for the six words behind the fields of a line with three, which stands from word `at` on.
+fn six_zeros(t: &[u64], at: usize) -> bool
+    requires { ⌜ at + 9 ≤ length (now t) ⌝ }
+    ensures { λ x. ⌜ Zeros (now (t .entry)) (at + 3) (at + 9) x ⌝ }
 {
-    let end = at + fields_due(g, t, due);
-    if judging::judge(g, t, due, &t[at as usize..end as usize]) != 0 {
+    t[at + 3] | t[at + 4] | t[at + 5] | t[at + 6] | t[at + 7] | t[at + 8] == 0
+}
+
+// ---- a line, one function for each kind: whether it passes where it stands in t, and the words behind its fields are 0
+fn grammar_stands(t: &[u64]) -> bool
+    requires { ⌜ Room (length (now t)) Grammar ⌝ }
+    ensures { λ x. ⌜ Stands [] (now (t .entry)) Grammar x ⌝ }
+{
+    if judging::judge_grammar(&t[0..3]) != 0 {
+        return false;
+    }
+    six_zeros(t, 0)
+}
+
+fn symbol_stands(t: &[u64], s: u64) -> bool
+    requires { ⌜ Room (length (now t)) (Symbol s) ⌝ }
+    ensures { λ x. ⌜ Stands [] (now (t .entry)) (Symbol s) x ⌝ }
+{
+    let at = (9 * (1 + s)) as usize;
+    if judging::judge_symbol(t, s, &t[at..at + 3]) != 0 {
+        return false;
+    }
+    six_zeros(t, at)
+}
+
+fn rule_stands(t: &[u64], r: u64) -> bool
+    requires { ⌜ Room (length (now t)) (Rule r) ⌝ }
+    ensures { λ x. ⌜ Stands [] (now (t .entry)) (Rule r) x ⌝ }
+{
+    let p = 65 + 25 * r;
+    let at = 9 * p;
+    let end = at + (5 + layout::rank_at(t, layout::word_in(t, p, 1)));
+    if judging::judge_rule(t, r, &t[at as usize..end as usize]) != 0 {
         return false;
     }
     few_zeros(t, end, at + 9)
 }
 
-// The lines of t from `first` on, at most `lines` of them, judged in t itself; the words between their fields, as far as `size`, are 0.
-// Lines stand in the order of their places, so one pass is enough, and a line reads only those before it.
-fn check_lines(g: &[u64], t: &[u64], first: Due, lines: u64, size: u64) -> bool
-    requires { ⌜ Opens first × Room size first × (size ≤ length (now t)) ⌝ }
-    ensures { λ x. ⌜ x ≡ filledBy size (now (t .entry)) (checkLines lines (now (g .entry)) (now (t .entry)) (replicate size 0) first) ⌝ }
+fn rule_edge_stands(t: &[u64], r: u64, i: u64) -> bool
+    requires { ⌜ Room (length (now t)) (RuleEdge r i) ⌝ }
+    ensures { λ x. ⌜ Stands [] (now (t .entry)) (RuleEdge r i) x ⌝ }
 {
-    let mut due = first;
-    let mut left = lines;
-    let mut from: u64 = 0;
-    while 0 < left {
-        if is_nothing(due) {
-            return zeros(t, from, size);
-        }
-        let at = 9 * layout::place_of(due);
-        if !zeros(t, from, at) {
-            return false;
-        }
-        if !check_line(g, t, due, at) {
-            return false;
-        }
-        due = layout::next_due(t, due);
-        from = at + 9;
-        left -= 1;
+    let p = 66 + 25 * r + i;
+    let at = 9 * p;
+    let end = at + (1 + layout::rank_at(t, layout::word_in(t, p, 0)));
+    if judging::judge_rule_edge(t, r, i, &t[at as usize..end as usize]) != 0 {
+        return false;
     }
-    false
+    few_zeros(t, end, at + 9)
+}
+
+fn plan_line_stands(t: &[u64], r: u64, q: u64) -> bool
+    requires { ⌜ Room (length (now t)) (PlanLine r q) ⌝ }
+    ensures { λ x. ⌜ Stands [] (now (t .entry)) (PlanLine r q) x ⌝ }
+{
+    let at = (9 * (74 + 25 * r + q)) as usize;
+    if judging::judge_plan(t, r, q, &t[at..at + 3]) != 0 {
+        return false;
+    }
+    six_zeros(t, at)
+}
+
+fn graph_stands(g: &[u64], t: &[u64]) -> bool
+    requires { ⌜ Room (length (now t)) Graph ⌝ }
+    ensures { λ x. ⌜ Stands (now (g .entry)) (now (t .entry)) Graph x ⌝ }
+{
+    let end = 2 + layout::rank_at(g, layout::start_symbol(g));
+    if judging::judge_graph(g, &t[0..end as usize]) != 0 {
+        return false;
+    }
+    few_zeros(t, end, 9)
+}
+
+fn graph_edge_stands(g: &[u64], t: &[u64], e: u64) -> bool
+    requires { ⌜ Room (length (now t)) (GraphEdge e) ⌝ }
+    ensures { λ x. ⌜ Stands (now (g .entry)) (now (t .entry)) (GraphEdge e) x ⌝ }
+{
+    let p = 1 + e;
+    let at = 9 * p;
+    let end = at + (1 + layout::rank_at(g, layout::word_in(t, p, 0)));
+    if judging::judge_graph_edge(g, t, e, &t[at as usize..end as usize]) != 0 {
+        return false;
+    }
+    few_zeros(t, end, at + 9)
+}
+
+// ---- the lines in their order. They stand in the order of their places, so one pass is enough, and a line reads only those before it.
+// The lines of the n symbols.
+fn check_symbols(t: &[u64], n: u64) -> bool
+    requires { ⌜ Room (length (now t)) Grammar × Count n (symbolCount (now t)) 64 ⌝ }
+    ensures { λ x. ⌜ Reaches grammarWords [] (now (t .entry)) (Symbol 0) 9 (Rule 0) (9 * (1 + n)) x ⌝ }
+{
+    let mut s: u64 = 0;
+    while s < n {
+        if !symbol_stands(t, s) {
+            return false;
+        }
+        s += 1;
+    }
+    true
+}
+
+// The lines of the n edges of rule r.
+fn check_edges(t: &[u64], r: u64, n: u64) -> bool
+    requires { ⌜ Room (length (now t)) (Rule r) × Count n (ruleEdges (now t) r) 8 ⌝ }
+    ensures { λ x. ⌜ Reaches grammarWords [] (now (t .entry)) (RuleEdge r 0) (9 * (66 + 25 * r)) (PlanLine r 0) (9 * (66 + 25 * r + n)) x ⌝ }
+{
+    let mut i: u64 = 0;
+    while i < n {
+        if !rule_edge_stands(t, r, i) {
+            return false;
+        }
+        i += 1;
+    }
+    true
+}
+
+// The n plan lines of rule r.
+fn check_plan(t: &[u64], r: u64, n: u64) -> bool
+    requires { ⌜ Room (length (now t)) (Rule r) × Count n (rulePlan (now t) r) 16 ⌝ }
+    ensures { λ x. ⌜ Reaches grammarWords [] (now (t .entry)) (PlanLine r 0) (9 * (74 + 25 * r)) (ruleAfter (now (t .entry)) r) (9 * (74 + 25 * r + n)) x ⌝ }
+{
+    let mut q: u64 = 0;
+    while q < n {
+        if !plan_line_stands(t, r, q) {
+            return false;
+        }
+        q += 1;
+    }
+    true
+}
+
+// The lines of rule r, and the words between its edges and its plan.
+fn check_rule(t: &[u64], r: u64) -> bool
+    requires { ⌜ Room (length (now t)) (Rule r) ⌝ }
+    ensures { λ x. ⌜ (x ≡ true → rulePlan (now (t .entry)) r ≤ 16) × Reaches grammarWords [] (now (t .entry)) (Rule r) (9 * (65 + 25 * r)) (ruleAfter (now (t .entry)) r) (9 * (74 + 25 * r + rulePlan (now (t .entry)) r)) x ⌝ }
+{
+    if !rule_stands(t, r) {
+        return false;
+    }
+    let edges = layout::word_in(t, 65 + 25 * r, 3);
+    if !check_edges(t, r, edges) {
+        return false;
+    }
+    if !zeros(t, 9 * (66 + 25 * r + edges), 9 * (74 + 25 * r)) {
+        return false;
+    }
+    check_plan(t, r, layout::word_in(t, 65 + 25 * r, 4))
+}
+
+// The n rules, the words before each from `first` on, and those behind the last.
+fn check_rules(t: &[u64], first: u64, n: u64) -> bool
+    requires { ⌜ Room (length (now t)) Grammar × Count n (ruleCount (now t)) 64 × (first ≤ 585) ⌝ }
+    ensures { λ x. ⌜ Concludes grammarWords [] (now (t .entry)) (Rule 0) first x ⌝ }
+{
+    let mut from = first;
+    let mut r: u64 = 0;
+    while r < n {
+        if !zeros(t, from, 9 * (65 + 25 * r)) {
+            return false;
+        }
+        if !check_rule(t, r) {
+            return false;
+        }
+        from = 9 * (74 + 25 * r + layout::word_in(t, 65 + 25 * r, 4));
+        r += 1;
+    }
+    zeros(t, from, 14985)
 }
 
 // Could a grammar text have filled this table?
@@ -148,7 +254,29 @@ pub fn check_grammar(t: &[u64]) -> bool
     if t.len() < 14985 {
         return false;
     }
-    check_lines(&t[..0], t, Due::Grammar, 1666, 14985)
+    if !grammar_stands(t) {
+        return false;
+    }
+    let symbols = layout::word_in(t, 0, 0);
+    if !check_symbols(t, symbols) {
+        return false;
+    }
+    check_rules(t, 9 * (1 + symbols), layout::word_in(t, 0, 1))
+}
+
+// The lines of the n edges of a graph, and the words behind them.
+fn check_graph_edges(g: &[u64], t: &[u64], n: u64) -> bool
+    requires { ⌜ Room (length (now t)) Graph × Count n (graphEdges (now t)) 64 ⌝ }
+    ensures { λ x. ⌜ Concludes graphWords (now (g .entry)) (now (t .entry)) (GraphEdge 0) 9 x ⌝ }
+{
+    let mut e: u64 = 0;
+    while e < n {
+        if !graph_edge_stands(g, t, e) {
+            return false;
+        }
+        e += 1;
+    }
+    zeros(t, 9 * (1 + n), 585)
 }
 
 // Could a graph text read with the grammar table g have filled this table?
@@ -158,5 +286,8 @@ pub fn check_graph(g: &[u64], t: &[u64]) -> bool
     if t.len() < 585 {
         return false;
     }
-    check_lines(g, t, Due::Graph, 66, 585)
+    if !graph_stands(g, t) {
+        return false;
+    }
+    check_graph_edges(g, t, layout::word_in(t, 0, 1))
 }

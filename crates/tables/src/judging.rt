@@ -13,7 +13,7 @@ use crate::plans;
 use questions::Due;
 
 // `G`: symbols (1-64), rules (1-64), start symbol.
-fn judge_grammar(f: &[u64]) -> u64
+pub(crate) fn judge_grammar(f: &[u64]) -> u64
     ensures { λ x. ⌜ x ≡ judgeGrammar (now (f .entry)) ⌝ }
 {
     let n = f.len() as u64;
@@ -34,7 +34,7 @@ fn judge_grammar(f: &[u64]) -> u64
 }
 
 // `S`: its number, kind, rank.
-fn judge_symbol(g: &[u64], s: u64, f: &[u64]) -> u64
+pub(crate) fn judge_symbol(g: &[u64], s: u64, f: &[u64]) -> u64
     ensures { λ x. ⌜ x ≡ judgeSymbol (now (g .entry)) s (now (f .entry)) ⌝ }
 {
     let n = f.len() as u64;
@@ -58,7 +58,7 @@ fn judge_symbol(g: &[u64], s: u64, f: &[u64]) -> u64
 }
 
 // `R`: its number, its nonterminal, nodes (1-8), edges (1-8), plan nodes (2-16), then its external nodes.
-fn judge_rule(g: &[u64], r: u64, f: &[u64]) -> u64
+pub(crate) fn judge_rule(g: &[u64], r: u64, f: &[u64]) -> u64
     ensures { λ x. ⌜ x ≡ judgeRule (now (g .entry)) r (now (f .entry)) ⌝ }
 {
     let n = f.len() as u64;
@@ -90,7 +90,7 @@ fn judge_rule(g: &[u64], r: u64, f: &[u64]) -> u64
 }
 
 // `E` of a rule: symbol of rank 1 or more, then that many nodes; with the last one, is every node on an edge?
-fn judge_rule_edge(g: &[u64], r: u64, i: u64, f: &[u64]) -> u64
+pub(crate) fn judge_rule_edge(g: &[u64], r: u64, i: u64, f: &[u64]) -> u64
     requires { ⌜ (r ≤ 63) × (i ≤ 7) ⌝ }
     ensures { λ x. ⌜ x ≡ judgeRuleEdge (now (g .entry)) r i (now (f .entry)) ⌝ }
 {
@@ -148,7 +148,7 @@ fn judge_known_plan(
 }
 
 // `P`: kind, first, second.
-fn judge_plan(g: &[u64], r: u64, q: u64, f: &[u64]) -> u64
+pub(crate) fn judge_plan(g: &[u64], r: u64, q: u64, f: &[u64]) -> u64
     requires { ⌜ PlanRoom (now g) r q ⌝ }
     ensures { λ x. ⌜ x ≡ judgePlan (now (g .entry)) r q (now (f .entry)) ⌝ }
 {
@@ -177,7 +177,7 @@ fn judge_plan(g: &[u64], r: u64, q: u64, f: &[u64]) -> u64
 }
 
 // `H`: nodes (1-64), edges (1-64), then external nodes, as many as the start's rank.
-fn judge_graph(g: &[u64], f: &[u64]) -> u64
+pub(crate) fn judge_graph(g: &[u64], f: &[u64]) -> u64
     ensures { λ x. ⌜ x ≡ judgeGraph (now (g .entry)) (now (f .entry)) ⌝ }
 {
     let n = f.len() as u64;
@@ -198,7 +198,7 @@ fn judge_graph(g: &[u64], f: &[u64]) -> u64
 }
 
 // `E` of a graph: a terminal symbol, then as many nodes as its rank; with the last one, is every node on an edge?
-fn judge_graph_edge(g: &[u64], h: &[u64], e: u64, f: &[u64]) -> u64
+pub(crate) fn judge_graph_edge(g: &[u64], h: &[u64], e: u64, f: &[u64]) -> u64
     requires { ⌜ e ≤ 63 ⌝ }
     ensures { λ x. ⌜ x ≡ judgeGraphEdge (now (g .entry)) (now (h .entry)) e (now (f .entry)) ⌝ }
 {

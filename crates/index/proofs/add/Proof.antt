@@ -45,7 +45,7 @@ again-requires : tie.Need-again-requires
 again-requires c κs =
     let s = c .before .before .before .before .before .before .before .before .before .before .before .before .before .before .before .before .args in
     let l = found-inside (s .chart .now) (ofWords (s .x .now)) (c .before .before .before .before .before .find .result) (c .before .before .before .before .before .find .ensures) _ (c .before .before .before .j .given .1) in
-    (c .before .before .before .before .before .before .before .before .before .before .before .before .before .before .before .before .pre .0 .size, l, small (s .wants .now) (s .pivots .now) (s .chart .now) (s .index .now) _ (c .before .before .before .before .before .before .before .before .before .before .before .before .before .before .before .before .pre .0) l, c .before .before .before .before .before .before .before .before .before .before .before .before .before .before .before .before .pre .3)
+    (c .before .before .before .before .before .before .before .before .before .before .before .before .before .before .before .before .pre .0 .size, l, small (s .keys .now) (s .chart .now) (s .index .now) _ (c .before .before .before .before .before .before .before .before .before .before .before .before .before .before .before .before .pre .0) l, c .before .before .before .before .before .before .before .before .before .before .before .before .before .before .before .before .pre .3)
 
 enum-told : tie.Need-enum-told
 enum-told c = search needs
@@ -62,8 +62,8 @@ same-length-3 c = search needs
 returns-2 : tie.Need-returns-2
 returns-2 c =
     let s = c .before .before .before .before .before .before .before .before .before .before .before .before .before .before .before .before .before .before .before .before .before .args in
-    let r = add-again (s .chart .now) (ofWords (s .x .now)) (c .before .before .before .before .before .before .before .before .before .before .find .result) (c .before .before .before .before .before .before .before .before .before .before .find .ensures) (s .wants .now) (s .pivots .now) (c .before .before .before .before .before .before .before .before .before .before .before .before .before .before .before .before .before .before .before .before .before .pre .1) (eight-words (s .x .now)) _ (c .before .before .before .before .before .before .before .before .before .before .before .before .before .before .before .before .mark-of .ensures) (c .before .before .before .before .before .before .before .before .before .before .before .before .before .before .before .if1 .left) _ (c .before .before .before .before .again .last .1 .0) _ (c .before .before .before .before .before .before .before .before .j .given .1) (c .before .before .before .before .again .ensures .0) (c .before .before .before .before .again .ensures .1 (s .wants .now) (s .pivots .now) (c .before .before .before .before .before .before .before .before .before .before .before .before .before .before .before .before .before .before .before .before .before .pre .0)) in
-    (r .0, r .1, λ g h S u. again-spanned (s .chart .now) (ofWords (s .x .now)) (c .before .before .before .before .before .before .before .before .before .before .find .result) (c .before .before .before .before .before .before .before .before .before .before .find .ensures) (s .wants .now) (s .pivots .now) (c .before .before .before .before .before .before .before .before .before .before .before .before .before .before .before .before .before .before .before .before .before .pre .1) (eight-words (s .x .now)) _ (c .before .before .before .before .before .before .before .before .before .before .before .before .before .before .before .before .mark-of .ensures) (c .before .before .before .before .before .before .before .before .before .before .before .before .before .before .before .if1 .left) _ (s .index .now) (c .before .before .before .before .again .last .1 .0) _ (c .before .before .before .before .before .before .before .before .j .given .1) (r .0) (c .before .before .before .before .again .ensures .2) g h S)
+    let r = add-again (s .chart .now) (ofWords (s .x .now)) (c .before .before .before .before .before .before .before .before .before .before .find .result) (c .before .before .before .before .before .before .before .before .before .before .find .ensures) (s .keys .now) (c .before .before .before .before .before .before .before .before .before .before .before .before .before .before .before .before .before .before .before .before .before .pre .1) (eight-words (s .x .now)) _ (c .before .before .before .before .before .before .before .before .before .before .before .before .before .before .before .before .mark-of .ensures) (c .before .before .before .before .before .before .before .before .before .before .before .before .before .before .before .if1 .left) _ (c .before .before .before .before .again .last .1 .0) _ (c .before .before .before .before .before .before .before .before .j .given .1) (c .before .before .before .before .again .ensures .0) (c .before .before .before .before .again .ensures .1 (s .keys .now) (c .before .before .before .before .before .before .before .before .before .before .before .before .before .before .before .before .before .before .before .before .before .pre .0)) in
+    (r .0, r .1, λ g h S u. again-spanned (s .chart .now) (ofWords (s .x .now)) (c .before .before .before .before .before .before .before .before .before .before .find .result) (c .before .before .before .before .before .before .before .before .before .before .find .ensures) (s .keys .now) (c .before .before .before .before .before .before .before .before .before .before .before .before .before .before .before .before .before .before .before .before .before .pre .1) (eight-words (s .x .now)) _ (c .before .before .before .before .before .before .before .before .before .before .before .before .before .before .before .before .mark-of .ensures) (c .before .before .before .before .before .before .before .before .before .before .before .before .before .before .before .if1 .left) _ (s .index .now) (c .before .before .before .before .again .last .1 .0) _ (c .before .before .before .before .before .before .before .before .j .given .1) (r .0) (c .before .before .before .before .again .ensures .2) g h S)
 
 same-length-4 : tie.Need-same-length-4
 same-length-4 c = search needs
@@ -74,8 +74,8 @@ same-length-5 c = search needs
 returns-3 : tie.Need-returns-3
 returns-3 c =
     let s = c .before .before .before .before .before .before .before .before .before .before .before .before .before .before .before .before .before .before .before .before .args in
-    let r = add-behind (s .chart .now) (ofWords (s .x .now)) (c .before .before .before .before .before .before .before .before .before .find .result) (c .before .before .before .before .before .before .before .before .before .find .ensures) (s .wants .now) (s .pivots .now) (c .before .before .before .before .before .before .before .before .before .before .before .before .before .before .before .before .before .before .before .before .pre .1) (eight-words (s .x .now)) _ (c .before .before .before .before .before .before .before .before .before .before .before .before .before .before .before .mark-of .ensures) (c .before .before .before .before .before .before .before .before .before .before .before .before .before .before .if1 .left) _ (c .before .before .before .before .behind .last .1 .1 .1 .0) (c .before .before .before .before .before .before .before .enum-told .given .1) (c .before .before .before .before .behind .ensures .0) (c .before .before .before .before .behind .ensures .1) in
-    (r .0, r .1, λ g h S u. behind-spanned (s .chart .now) (ofWords (s .x .now)) (c .before .before .before .before .before .before .before .before .before .find .result) (c .before .before .before .before .before .before .before .before .before .find .ensures) (s .wants .now) (s .pivots .now) (c .before .before .before .before .before .before .before .before .before .before .before .before .before .before .before .before .before .before .before .before .pre .1) (eight-words (s .x .now)) _ (c .before .before .before .before .before .before .before .before .before .before .before .before .before .before .before .mark-of .ensures) (c .before .before .before .before .before .before .before .before .before .before .before .before .before .before .if1 .left) _ (c .before .before .before .before .behind .last .1 .1 .1 .0) (c .before .before .before .before .before .before .before .enum-told .given .1) (r .0) g h (c .before .before .before .before .behind .ensures .2 g h S u))
+    let r = add-behind (s .chart .now) (ofWords (s .x .now)) (c .before .before .before .before .before .before .before .before .before .find .result) (c .before .before .before .before .before .before .before .before .before .find .ensures) (s .keys .now) (c .before .before .before .before .before .before .before .before .before .before .before .before .before .before .before .before .before .before .before .before .pre .1) (eight-words (s .x .now)) _ (c .before .before .before .before .before .before .before .before .before .before .before .before .before .before .before .mark-of .ensures) (c .before .before .before .before .before .before .before .before .before .before .before .before .before .before .if1 .left) _ (c .before .before .before .before .behind .last .1 .1 .0) (c .before .before .before .before .before .before .before .enum-told .given .1) (c .before .before .before .before .behind .ensures .0) (c .before .before .before .before .behind .ensures .1) in
+    (r .0, r .1, λ g h S u. behind-spanned (s .chart .now) (ofWords (s .x .now)) (c .before .before .before .before .before .before .before .before .before .find .result) (c .before .before .before .before .before .before .before .before .before .find .ensures) (s .keys .now) (c .before .before .before .before .before .before .before .before .before .before .before .before .before .before .before .before .before .before .before .before .pre .1) (eight-words (s .x .now)) _ (c .before .before .before .before .before .before .before .before .before .before .before .before .before .before .before .mark-of .ensures) (c .before .before .before .before .before .before .before .before .before .before .before .before .before .before .if1 .left) _ (c .before .before .before .before .behind .last .1 .1 .0) (c .before .before .before .before .before .before .before .enum-told .given .1) (r .0) g h (c .before .before .before .before .behind .ensures .2 g h S u))
 
 pub add-spec : {M : Type 1} → statement M
 add-spec =

@@ -29,8 +29,8 @@ enter-requires : tie.Need-enter-requires
 enter-requires c κs =
     let s = c .before .before .before .before .before .before .before .before .before .before .before .before .before .args in
     let rs = chartOf (s .chart .now) .records in
-    let I = indexed-put (s .index .now) (c .before .before .before .before .before .before .before .before .item-count .result) (s .o) (c .before .before .before .put-near .last .0) (s .wants .now) (s .pivots .now) rs (c .before .before .before .put-near .ensures) (c .before .before .before .before .before .before .before .before .before .before .before .before .before .pre .0) in
-    (I .size, indexed-ready (s .wants .now) (s .pivots .now) (c .before .before .before .put-near .last .0) rs I, omega (arith, c .before .before .before .before .before .if1 .taken, c .before .before .before .before .before .before .capacity-of .ensures, c .before .before .before .before .before .before .before .before .before .before .before .before .before .pre .1), c .before .before .before .before .before .before .before .before .before .before .before .before .before .pre .2, c .before .before .before .before .before .before .before .before .before .before .before .before .before .pre .3, c .before .before .before .before .before .before .before .before .before .before .before .before .before .pre .4)
+    let I = indexed-put (s .index .now) (c .before .before .before .before .before .before .before .before .item-count .result) (s .o) (c .before .before .before .put-near .last .0) (s .keys .now) rs (c .before .before .before .put-near .ensures) (c .before .before .before .before .before .before .before .before .before .before .before .before .before .pre .0) in
+    (I .size, indexed-ready (s .keys .now) (c .before .before .before .put-near .last .0) rs I, omega (arith, c .before .before .before .before .before .if1 .taken, c .before .before .before .before .before .before .capacity-of .ensures, c .before .before .before .before .before .before .before .before .before .before .before .before .before .pre .1), c .before .before .before .before .before .before .before .before .before .before .before .before .before .pre .2, c .before .before .before .before .before .before .before .before .before .before .before .before .before .pre .3, c .before .before .before .before .before .before .before .before .before .before .before .before .before .pre .4)
 
 append-words-requires : tie.Need-append-words-requires
 append-words-requires c κs = c .before .before .before .before .before .before .before .before .before .before .before .before .before .before .before .before .before .pre .2
@@ -50,9 +50,9 @@ returns c =
     let near = c .before .before .before .before .before .before .before .before .before .before .put-near in
     let t = c .before .before .before .before .before .before .enter in
     let cap = c .before .before .before .before .before .before .before .before .before .before .before .before .before .capacity-of in
-    let I = indexed-put (s .index .now) (n .result) (s .o) (near .last .0) (s .wants .now) (s .pivots .now) rs (near .ensures) (c .before .before .before .before .before .before .before .before .before .before .before .before .before .before .before .before .before .before .before .before .pre .0) in
+    let I = indexed-put (s .index .now) (n .result) (s .o) (near .last .0) (s .keys .now) rs (near .ensures) (c .before .before .before .before .before .before .before .before .before .before .before .before .before .before .before .before .before .before .before .before .pre .0) in
     let both = t .ensures rs I (number (s .chart .now) (n .result) (n .ensures)) in
-    (c .before .before .append-words .ensures ∙ ap (λ k. appendedTo (s .chart .now) k x) (n .ensures), behind-room (s .wants .now) (s .pivots .now) (s .chart .now) (t .last .1 .1 .0) x (n .result) (cap .result) (n .ensures) (cap .ensures) (c .before .before .before .before .before .before .before .before .before .before .before .before .if1 .taken) (both .0), λ g h S u. room-spanned (s .wants .now) (s .pivots .now) (s .chart .now) (s .index .now) x (n .result) (cap .result) (n .ensures) (cap .ensures) g h (near .last .0) (t .last .1 .1 .0) (s .o) (c .before .before .before .before .before .before .before .before .before .before .before .before .before .before .before .before .before .before .before .before .pre .0 .size) (omega (arith, c .before .before .before .before .before .before .before .before .before .before .before .before .if1 .taken, cap .ensures, c .before .before .before .before .before .before .before .before .before .before .before .before .before .before .before .before .before .before .before .before .pre .1)) (c .before .before .before .before .before .before .before .before .before .before .before .before .if1 .taken) (near .ensures) (both .1) S u)
+    (c .before .before .append-words .ensures ∙ ap (λ k. appendedTo (s .chart .now) k x) (n .ensures), behind-room (s .keys .now) (s .chart .now) (t .last .1 .0) x (n .result) (cap .result) (n .ensures) (cap .ensures) (c .before .before .before .before .before .before .before .before .before .before .before .before .if1 .taken) (both .0), λ g h S u. room-spanned (s .keys .now) (s .chart .now) (s .index .now) x (n .result) (cap .result) (n .ensures) (cap .ensures) g h (near .last .0) (t .last .1 .0) (s .o) (c .before .before .before .before .before .before .before .before .before .before .before .before .before .before .before .before .before .before .before .before .pre .0 .size) (omega (arith, c .before .before .before .before .before .before .before .before .before .before .before .before .if1 .taken, cap .ensures, c .before .before .before .before .before .before .before .before .before .before .before .before .before .before .before .before .before .before .before .before .pre .1)) (c .before .before .before .before .before .before .before .before .before .before .before .before .if1 .taken) (near .ensures) (both .1) S u)
 
 append-words-requires-2 : tie.Need-append-words-requires-2
 append-words-requires-2 c κs = c .before .before .before .before .before .before .before .before .before .pre .2
@@ -65,7 +65,7 @@ returns-2 c =
     let s = c .before .before .before .before .before .before .before .before .before .before .before .before .args in
     let n = c .before .before .before .before .before .before .before .item-count in
     let cap = c .before .before .before .before .before .capacity-of in
-    (c .before .before .append-words2 .ensures ∙ ap (λ k. appendedTo (s .chart .now) k (ofWords (s .x .now))) (n .ensures), behind-full (s .wants .now) (s .pivots .now) (s .chart .now) (s .index .now) (ofWords (s .x .now)) (n .result) (cap .result) (n .ensures) (cap .ensures) (c .before .before .before .before .if1 .left) (c .before .before .before .before .before .before .before .before .before .before .before .before .pre .0), λ g h S u. full-spanned (s .wants .now) (s .pivots .now) (s .chart .now) (s .index .now) (ofWords (s .x .now)) (n .result) (cap .result) (n .ensures) (cap .ensures) g h (c .before .before .before .before .if1 .left) S)
+    (c .before .before .append-words2 .ensures ∙ ap (λ k. appendedTo (s .chart .now) k (ofWords (s .x .now))) (n .ensures), behind-full (s .keys .now) (s .chart .now) (s .index .now) (ofWords (s .x .now)) (n .result) (cap .result) (n .ensures) (cap .ensures) (c .before .before .before .before .if1 .left) (c .before .before .before .before .before .before .before .before .before .before .before .before .pre .0), λ g h S u. full-spanned (s .keys .now) (s .chart .now) (s .index .now) (ofWords (s .x .now)) (n .result) (cap .result) (n .ensures) (cap .ensures) g h (c .before .before .before .before .if1 .left) S)
 
 pub behind-spec : {M : Type 1} → statement M
 behind-spec =

@@ -48,8 +48,8 @@ returns : tie.Need-returns
 returns c =
     let s = c .before .before .before .before .before .before .before .before .before .before .before .before .before .before .before .before .before .before .before .before .args in
     let rs = chartOf (s .chart .now) .records in
-    let I = built (s .index .now) _ (chartOf (s .chart .now) .records) (c .before .before .before .before .before .before .before .before .before .before .before .before .before .before .before .before .before .before .before .before .pre .0) (c .before .before .before .before .before .before .before .before .before .before .before .before .before .before .build .ensures) _ (c .before .before .before .before .before .before .before .before .before .before .build2 .ensures rs) (s .wants .now) (s .pivots .now) _ (c .before .before .before .before .before .before .list-all .ensures .0) (c .before .before .before .before .before .before .list-all .ensures .1) in
-    (c .before .before .span-all .ensures .1 (s .wants .now) (s .pivots .now) rs I, c .before .before .span-all .ensures .0)
+    let I = built (s .index .now) _ (chartOf (s .chart .now) .records) (c .before .before .before .before .before .before .before .before .before .before .before .before .before .before .before .before .before .before .before .before .pre .0) (c .before .before .before .before .before .before .before .before .before .before .before .before .before .before .build .ensures) _ (c .before .before .before .before .before .before .before .before .before .before .build2 .ensures rs) (s .keys .now) _ (c .before .before .before .before .before .before .list-all .ensures .0) (c .before .before .before .before .before .before .list-all .ensures .1) in
+    (c .before .before .span-all .ensures .1 (s .keys .now) rs I, c .before .before .span-all .ensures .0)
 
 pub build-spec : {M : Type 1} → statement M
 build-spec =

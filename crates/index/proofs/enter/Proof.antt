@@ -53,7 +53,7 @@ same-length c =
     let a = c .before .before .before .before .before .before .before .before .before .before .before .before .list .kept in
     let b = c .before .before .before .before .before .before .before .before .link .kept in
     let d = c .before .before .place .kept in
-    length-both (s .index .now) (c .before .before .before .before .before .before .before .before .before .before .before .before .list .last .1 .1 .0) (c .before .before .before .before .before .before .before .before .link .last .0) (c .before .before .place .last .0) (c .before .before .before .before .before .before .before .before .before .before .before .before .before .before .before .before .pre .0) (omega arith) (omega arith) (omega arith)
+    length-both (s .index .now) (c .before .before .before .before .before .before .before .before .before .before .before .before .list .last .1 .0) (c .before .before .before .before .before .before .before .before .link .last .0) (c .before .before .place .last .0) (c .before .before .before .before .before .before .before .before .before .before .before .before .before .before .before .before .pre .0) (omega arith) (omega arith) (omega arith)
 
 returns : tie.Need-returns
 unfolding ofWords
@@ -64,7 +64,7 @@ returns c =
     let d = c .before .before .place .kept in
     let p : length (c .before .before .before .before .before .before .before .before .link .last .0) ≡ 12288 = omega arith in
     let q : length (c .before .before .place .last .0) ≡ 4231 = omega arith in
-    λ rs I e. (entered (s .wants .now) (s .pivots .now) (s .index .now) _ (c .before .before .before .before .before .before .before .before .link .last .0) (c .before .before .place .last .0) (s .n) (s .h) (ofWords (s .x .now)) rs I e (c .before .before .before .before .before .before .before .before .before .before .before .before .before .before .before .before .pre .2) (c .before .before .before .before .before .before .before .before .before .before .before .before .list .ensures) (c .before .before .before .before .before .before .before .before .before .before .before .before .before .before .before .before .pre .4) (c .before .before .before .before .before .before .before .before .link .ensures) (c .before .before .place .ensures rs (rs ++ ((ofWords (s .x .now)) ∷ []))), entered-near (s .wants .now) (s .pivots .now) (s .index .now) _ (c .before .before .before .before .before .before .before .before .link .last .0) (c .before .before .place .last .0) (s .n) (s .h) (ofWords (s .x .now)) rs I e (c .before .before .before .before .before .before .before .before .before .before .before .before .before .before .before .before .pre .2) (c .before .before .before .before .before .before .before .before .before .before .before .before .list .ensures) p q)
+    λ rs I e. (entered (s .keys .now) (s .index .now) _ (c .before .before .before .before .before .before .before .before .link .last .0) (c .before .before .place .last .0) (s .n) (s .h) (ofWords (s .x .now)) rs I e (c .before .before .before .before .before .before .before .before .before .before .before .before .before .before .before .before .pre .2) (c .before .before .before .before .before .before .before .before .before .before .before .before .list .ensures) (c .before .before .before .before .before .before .before .before .before .before .before .before .before .before .before .before .pre .4) (c .before .before .before .before .before .before .before .before .link .ensures) (c .before .before .place .ensures rs (rs ++ ((ofWords (s .x .now)) ∷ []))), entered-near (s .keys .now) (s .index .now) _ (c .before .before .before .before .before .before .before .before .link .last .0) (c .before .before .place .last .0) (s .n) (s .h) (ofWords (s .x .now)) rs I e (c .before .before .before .before .before .before .before .before .before .before .before .before .before .before .before .before .pre .2) (c .before .before .before .before .before .before .before .before .before .before .before .before .list .ensures) p q)
 
 pub enter-spec : {M : Type 1} → statement M
 enter-spec =

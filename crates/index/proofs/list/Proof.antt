@@ -27,7 +27,7 @@ enter-all-requires c κs =
     let s = c .before .before .before .before .before .args in
     let p = c .before .before .before .before .before .pre in
     let l = c .before .before .listing in
-    (p .1, omega arith, keys-within (s .wants .now) (s .pivots .now) (ofWords (s .x .now)) (l .result .keys) (l .ensures .0))
+    (p .1, omega arith, keys-within (s .keys .now) (ofWords (s .x .now)) (l .result .keys) (l .ensures .0))
 
 same-length : tie.Need-same-length
 same-length c = search needs
@@ -36,7 +36,7 @@ returns : tie.Need-returns
 returns c =
     let s = c .before .before .before .before .before .before .before .before .before .args in
     let l = c .before .before .before .before .before .before .listing in
-    list-regular (s .wants .now) (s .pivots .now) (s .index .now) _ (l .result .keys) (s .n) (ofWords (s .x .now)) (l .result .regular) (l .ensures .0) (c .before .before .before .enter-all .ensures) (l .ensures .1) (c .if1 .taken)
+    list-regular (s .keys .now) (s .index .now) _ (l .result .keys) (s .n) (ofWords (s .x .now)) (l .result .regular) (l .ensures .0) (c .before .before .before .enter-all .ensures) (l .ensures .1) (c .if1 .taken)
 
 slice-write-index : tie.Need-slice-write-index
 slice-write-index c = search needs
@@ -48,7 +48,7 @@ returns-2 : tie.Need-returns-2
 returns-2 c =
     let s = c .before .before .before .before .before .before .before .before .before .args in
     let l = c .before .before .before .before .before .before .listing in
-    list-irregular (s .wants .now) (s .pivots .now) (s .index .now) _ (l .result .keys) (s .n) (ofWords (s .x .now)) (l .result .regular) (l .ensures .0) (c .before .before .before .enter-all .ensures) (l .ensures .1) (c .if1 .left)
+    list-irregular (s .keys .now) (s .index .now) _ (l .result .keys) (s .n) (ofWords (s .x .now)) (l .result .regular) (l .ensures .0) (c .before .before .before .enter-all .ensures) (l .ensures .1) (c .if1 .left)
 
 pub list-spec : {M : Type 1} → statement M
 list-spec =

@@ -11,10 +11,10 @@ use Rattle.index.proofs.list_all.Statement.{statement}
 use Rattle.index.proofs.list_all.Tie as tie
 
 abbrev Inv-loop : tie.InvT-loop
-Inv-loop wants pivots chart index₀ n j₀ index j = (j ≤ n) × Keyed wants pivots index (recordsAt chart j) × Kept index₀ index
+Inv-loop keys chart index₀ n j₀ index j = (j ≤ n) × Keyed keys index (recordsAt chart j) × Kept index₀ index
 
 abbrev μ-loop : tie.MeasureT-loop
-μ-loop wants pivots chart index₀ n j₀ index j = n - j
+μ-loop keys chart index₀ n j₀ index j = n - j
 
 item-count-requires : tie.Need-item-count-requires Inv-loop μ-loop
 item-count-requires c κs = search needs
@@ -22,7 +22,7 @@ item-count-requires c κs = search needs
 loop-holds : tie.Need-loop-holds Inv-loop μ-loop
 loop-holds c =
     let s = c .before .before .before .args in
-    (omega arith, keyed-first (s .wants .now) (s .pivots .now) (s .chart .now) (s .index .now) (c .before .before .before .pre .0) (c .before .before .before .pre .1), kept-same (s .index .now))
+    (omega arith, keyed-first (s .keys .now) (s .chart .now) (s .index .now) (c .before .before .before .pre .0) (c .before .before .before .pre .1), kept-same (s .index .now))
 
 mul-at : tie.Need-mul-at Inv-loop μ-loop
 mul-at c = omega (arith, item-fits (c .before .before .before .before .before .args .chart .now) (c .before .loop .j) (omega (arith, c .loop-test .taken, c .before .before .item-count .ensures)))
@@ -51,7 +51,7 @@ list-requires c κs =
     let l = c .before .before .before .loop in
     let n = c .before .before .before .before .item-count in (
       l .inv .1 .size,
-      keyed-ready (s .wants .now) (s .pivots .now) (l .index) (recordsAt (s .chart .now) (l .j)) (l .inv .1),
+      keyed-ready (s .keys .now) (l .index) (recordsAt (s .chart .now) (l .j)) (l .inv .1),
       omega (arith, c .before .before .loop-test .taken, c .before .before .before .before .before .before .before .pre .2, n .ensures),
       part-length (s .chart .now) (l .j) (2 + 16 * l .j) (2 + 16 * l .j + 16 - (2 + 16 * l .j)) refl (omega arith) (item-fits (s .chart .now) (l .j) (omega (arith, c .before .before .loop-test .taken, n .ensures))),
     )
@@ -69,7 +69,7 @@ loop-again c =
     let n = c .before .before .before .before .before .before .before .item-count in
     let fits = item-fits (s .chart .now) (l .j) (omega (arith, c .before .before .before .before .before .loop-test .taken, n .ensures)) in
     let own = part-record-at (s .chart .now) (l .j) (2 + 16 * l .j) (2 + 16 * l .j + 16 - (2 + 16 * l .j)) refl (omega arith) fits in
-    let r = keyed-next (s .wants .now) (s .pivots .now) (s .chart .now) (l .index) _ (l .j) _ (l .inv .1) (omega (arith, c .before .before .before .before .before .loop-test .taken, c .before .before .before .before .before .before .before .before .before .before .pre .2, n .ensures)) own (c .before .before .list .ensures) in
+    let r = keyed-next (s .keys .now) (s .chart .now) (l .index) _ (l .j) _ (l .inv .1) (omega (arith, c .before .before .before .before .before .loop-test .taken, c .before .before .before .before .before .before .before .before .before .before .pre .2, n .ensures)) own (c .before .before .list .ensures) in
     (omega arith, r .0, kept-on (s .index .now) (l .index) _ (l .inv .2) (r .1))
 
 same-length : tie.Need-same-length Inv-loop μ-loop
@@ -79,7 +79,7 @@ returns : tie.Need-returns Inv-loop μ-loop
 returns c =
     let s = c .before .before .before .before .before .args in
     let l = c .before .loop in
-    (keyed-all (s .wants .now) (s .pivots .now) (s .chart .now) (l .index) (c .before .before .item-count .result) (l .j) (c .before .before .item-count .ensures) (l .inv .0) (c .loop-test .left) (l .inv .1), l .inv .2)
+    (keyed-all (s .keys .now) (s .chart .now) (l .index) (c .before .before .item-count .result) (l .j) (c .before .before .item-count .ensures) (l .inv .0) (c .loop-test .left) (l .inv .1), l .inv .2)
 
 pub list-all-spec : {M : Type 1} → statement M
 list-all-spec =

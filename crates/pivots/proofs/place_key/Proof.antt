@@ -8,16 +8,14 @@ use Rattle.pivots.proofs.place_key.Tie as tie
 returns : tie.Need-returns
 returns c = place-unused _ _ _ _ _ (c .if1 .taken)
 
-bucket-requires : tie.Need-bucket-requires
-bucket-requires c κs = search needs
+base-requires : tie.Need-base-requires
+base-requires c κs = search needs
+
+mix-requires : tie.Need-mix-requires
+mix-requires c κs = search needs
 
 returns-2 : tie.Need-returns-2
-returns-2 c = place-key _ _ _ _ _ _ (c .before .if1 .left) (c .bucket .ensures)
+returns-2 c = place-key _ _ _ _ _ _ _ (c .before .before .if1 .left) (c .before .base .ensures .0) (c .mix .ensures)
 
 pub place-key-spec : {M : Type 1} → statement M
-place-key-spec =
-    tie.close
-    (tie.spec
-    returns
-    bucket-requires
-    returns-2)
+place-key-spec = tie.close (tie.spec returns base-requires mix-requires returns-2)

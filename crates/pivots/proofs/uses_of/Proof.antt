@@ -1,32 +1,31 @@
--- A law for each test.
-use native.Mathlib.Omega.{arith}
+-- By the kind of the record.
 use Prim.Native.Nat.{_-_}
 use borrow.Author.Needs.{needs}
-use Rattle.pivots.proofs.TableLaws.{uses-far, uses-there}
+use Rattle.pivots.proofs.Answers.{uses-active, uses-passive}
 use Rattle.pivots.proofs.uses_of.Statement.{statement}
 use Rattle.pivots.proofs.uses_of.Tie as tie
 
+shared-slice-read-if1 : tie.Need-shared-slice-read-if1
+shared-slice-read-if1 c = search needs
+
 returns : tie.Need-returns
-returns c = uses-far _ _ (c .if1 .taken)
+returns c = uses-active _ _ (c .if1 .taken)
 
-add-result : tie.Need-add-result
-add-result c = search needs
+shared-slice-read-symbol-word : tie.Need-shared-slice-read-symbol-word
+shared-slice-read-symbol-word c = search needs
 
-mul-result : tie.Need-mul-result
-mul-result c = search needs
-
-element-copy-out-result : tie.Need-element-copy-out-result
-element-copy-out-result c = search needs
+symbol-word-requires : tie.Need-symbol-word-requires
+symbol-word-requires c κs = search needs
 
 returns-2 : tie.Need-returns-2
-returns-2 c = uses-there _ _ (omega (arith, c .before .if1 .left))
+returns-2 c = uses-passive _ _ _ (c .before .before .if1 .left) (c .symbol-word .ensures)
 
 pub uses-of-spec : {M : Type 1} → statement M
 uses-of-spec =
     tie.close
     (tie.spec
+    shared-slice-read-if1
     returns
-    add-result
-    mul-result
-    element-copy-out-result
+    shared-slice-read-symbol-word
+    symbol-word-requires
     returns-2)

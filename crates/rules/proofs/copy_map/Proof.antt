@@ -1,83 +1,64 @@
--- The eight stores.
+-- The places passed have the images of the map, the others none.
 use native.Mathlib.Omega.{arith}
-use lib.ListN.{length-set}
-use Rattle.rules.proofs.RecordWords.{copied-eight}
+use borrow.Author.Needs.{needs}
+use Prim.Native.Nat.{_-_, _≤_}
+use mathlib.Core.Path.{sym, ap, _∙_}
+use lib.ListN.{length}
+use Rattle.hrg.specs.Trees.{at}
+use Rattle.joins.proofs.MapLaws.{Placed}
+use Rattle.rules.proofs.NodeLists.{copied-none, copied-next, copied-all}
 use Rattle.rules.proofs.copy_map.Statement.{statement}
 use Rattle.rules.proofs.copy_map.Tie as tie
 
-shared-slice-read-t : tie.Need-shared-slice-read-t
-shared-slice-read-t c = omega (arith, c .before .pre .0)
+abbrev Inv-loop : tie.InvT-loop
+Inv-loop n l t₀ i₀ t i = (i ≤ n) × Placed (λ x. at l x) i t
 
-slice-write-t : tie.Need-slice-write-t
-slice-write-t c = omega (arith, c .before .pre .1)
+abbrev μ-loop : tie.MeasureT-loop
+μ-loop n l t₀ i₀ t i = n - i
 
-shared-slice-read-t-2 : tie.Need-shared-slice-read-t-2
-shared-slice-read-t-2 c = omega (arith, c .before .before .pre .0)
+loop-holds : tie.Need-loop-holds Inv-loop μ-loop
+loop-holds c = (omega arith, copied-none (c .args .l .now) _ (c .pre .2))
 
-slice-write-t-2 : tie.Need-slice-write-t-2
-slice-write-t-2 c = simp length-set (omega (arith, c .before .before .pre .1))
+mul-t : tie.Need-mul-t Inv-loop μ-loop
+mul-t c = omega (arith, c .before .before .pre .0)
 
-shared-slice-read-t-3 : tie.Need-shared-slice-read-t-3
-shared-slice-read-t-3 c = omega (arith, c .before .before .before .pre .0)
+shared-slice-read-t : tie.Need-shared-slice-read-t Inv-loop μ-loop
+shared-slice-read-t c = omega (arith, c .before .before .before .pre .0, c .before .before .before .pre .1)
 
-slice-write-t-3 : tie.Need-slice-write-t-3
-slice-write-t-3 c = simp length-set (omega (arith, c .before .before .before .pre .1))
+mul-t-2 : tie.Need-mul-t-2 Inv-loop μ-loop
+mul-t-2 c = omega (arith, c .before .before .before .pre .0)
 
-shared-slice-read-t-4 : tie.Need-shared-slice-read-t-4
-shared-slice-read-t-4 c = omega (arith, c .before .before .before .before .pre .0)
+slice-write-t : tie.Need-slice-write-t Inv-loop μ-loop
+slice-write-t c = omega (arith, c .before .before .before .pre .0, c .before .before .loop .inv .1 .size)
 
-slice-write-t-4 : tie.Need-slice-write-t-4
-slice-write-t-4 c = simp length-set (omega (arith, c .before .before .before .before .pre .1))
+add-i : tie.Need-add-i Inv-loop μ-loop
+add-i c = search needs
 
-shared-slice-read-t-5 : tie.Need-shared-slice-read-t-5
-shared-slice-read-t-5 c = omega (arith, c .before .before .before .before .before .pre .0)
+loop-less : tie.Need-loop-less Inv-loop μ-loop
+loop-less c = omega arith
 
-slice-write-t-5 : tie.Need-slice-write-t-5
-slice-write-t-5 c = simp length-set (omega (arith, c .before .before .before .before .before .pre .1))
+loop-again : tie.Need-loop-again Inv-loop μ-loop
+loop-again c = (omega arith, copied-next (c .before .before .before .args .l .now) (c .before .before .before .pre .1) _ _ (omega (arith, c .before .before .before .pre .0)) (c .before .before .loop .inv .1))
 
-shared-slice-read-t-6 : tie.Need-shared-slice-read-t-6
-shared-slice-read-t-6 c = omega (arith, c .before .before .before .before .before .before .pre .0)
+same-length : tie.Need-same-length Inv-loop μ-loop
+same-length c = c .before .loop .inv .1 .size ∙ sym (ap length (c .before .before .pre .2))
 
-slice-write-t-6 : tie.Need-slice-write-t-6
-slice-write-t-6 c = simp length-set (omega (arith, c .before .before .before .before .before .before .pre .1))
-
-shared-slice-read-t-7 : tie.Need-shared-slice-read-t-7
-shared-slice-read-t-7 c = omega (arith, c .before .before .before .before .before .before .before .pre .0)
-
-slice-write-t-7 : tie.Need-slice-write-t-7
-slice-write-t-7 c = simp length-set (omega (arith, c .before .before .before .before .before .before .before .pre .1))
-
-shared-slice-read-t-8 : tie.Need-shared-slice-read-t-8
-shared-slice-read-t-8 c = omega (arith, c .before .before .before .before .before .before .before .before .pre .0)
-
-slice-write-t-8 : tie.Need-slice-write-t-8
-slice-write-t-8 c = simp length-set (omega (arith, c .before .before .before .before .before .before .before .before .pre .1))
-
-same-length : tie.Need-same-length
-same-length c = simp length-set
-
-returns : tie.Need-returns
-returns c = copied-eight (c .before .before .before .before .before .before .before .before .args .l .now) (c .before .before .before .before .before .before .before .before .args .t .now) (c .before .before .before .before .before .before .before .before .pre .0) (c .before .before .before .before .before .before .before .before .pre .1)
+returns : tie.Need-returns Inv-loop μ-loop
+returns c = copied-all (c .before .before .args .l .now) (c .before .before .pre .1) _ _ _ (c .before .before .pre .0) (c .before .loop .inv .0) (c .loop-test .left) (c .before .loop .inv .1)
 
 pub copy-map-spec : {M : Type 1} → statement M
 copy-map-spec =
     tie.close
     (tie.spec
+    Inv-loop
+    μ-loop
+    loop-holds
+    mul-t
     shared-slice-read-t
+    mul-t-2
     slice-write-t
-    shared-slice-read-t-2
-    slice-write-t-2
-    shared-slice-read-t-3
-    slice-write-t-3
-    shared-slice-read-t-4
-    slice-write-t-4
-    shared-slice-read-t-5
-    slice-write-t-5
-    shared-slice-read-t-6
-    slice-write-t-6
-    shared-slice-read-t-7
-    slice-write-t-7
-    shared-slice-read-t-8
-    slice-write-t-8
+    add-i
+    loop-less
+    loop-again
     same-length
     returns)

@@ -10,7 +10,7 @@ use Rattle.records.specs.Words.{ofWords}
 use Rattle.joins.proofs.EdgeMaps.{same-bare}
 use Rattle.rules.proofs.JoinWords.{child-kind, join-first, join-later}
 use Rattle.rules.proofs.RuleAnswers.{into-none, rest-same, pair-not, pair-nowhere, pair-other, pair-neither}
-use Rattle.rules.proofs.RecordWords.{map-size, put-size, put-rest, withItem, item-size, item-map, pair-into-made}
+use Rattle.rules.proofs.RecordWords.{map-words, map-size, put-size, put-rest, withItem, item-size, item-map, pair-into-made}
 use Rattle.rules.proofs.pair_into.Statement.{statement}
 use Rattle.rules.proofs.pair_into.Tie as tie
 
@@ -48,7 +48,7 @@ part-second-map-end : tie.Need-part-second-map-end
 part-second-map-end c = omega (arith, c .before .before .before .before .before .before .before .before .before .before .before .before .before .before .pre .7)
 
 second-map-requires : tie.Need-second-map-requires
-second-map-requires c κs = (c .before .before .before .before .before .parent-in .ensures .above .known (lt-ltb _ _ (c .before .before .before .if2 .left)), child-kind _ _ _ (c .before .before .before .before .before .parent-in .ensures .above .known (lt-ltb _ _ (c .before .before .before .if2 .left))) _ (c .before .before .before .before .before .parent-in .ensures .join (c .before .before .before .if2 .left) .child), join-first _ _ _ _ (c .before .before .before .before .before .parent-in .ensures .join (c .before .before .before .if2 .left)) (c .before .if3 .left) .1, c .before .before .before .before .before .before .before .before .before .before .before .before .before .before .before .pre .4, map-size (c .before .before .before .before .before .before .before .before .before .before .before .before .before .before .before .args .out .now) (c .before .before .before .before .before .before .before .before .before .before .before .before .before .before .before .pre .7))
+second-map-requires c κs = (c .before .before .before .before .before .parent-in .ensures .above .known (lt-ltb _ _ (c .before .before .before .if2 .left)), child-kind _ _ _ (c .before .before .before .before .before .parent-in .ensures .above .known (lt-ltb _ _ (c .before .before .before .if2 .left))) _ (c .before .before .before .before .before .parent-in .ensures .join (c .before .before .before .if2 .left) .child), join-first _ _ _ _ (c .before .before .before .before .before .parent-in .ensures .join (c .before .before .before .if2 .left)) (c .before .if3 .left) .1, c .before .before .before .before .before .before .before .before .before .before .before .before .before .before .before .pre .4, sym (map-words (c .before .before .before .before .before .before .before .before .before .before .before .before .before .before .before .args .out .now) (c .before .before .before .before .before .before .before .before .before .before .before .before .before .before .before .pre .7)) ∙ c .before .before .before .before .before .before .before .before .before .before .before .before .before .before .before .pre .10)
 
 same-length : tie.Need-same-length
 same-length c = put-size (c .before .before .before .before .before .before .before .before .before .before .before .before .before .before .before .before .before .before .before .args .out .now) (c .before .before .before .second-map .last .1 .1 .1 .1 .1 .0) (c .before .before .before .before .before .before .before .before .before .before .before .before .before .before .before .before .before .before .before .pre .7) (c .before .before .before .second-map .kept .1 .1 .1 .1 .1 .0) ∙ sym (c .before .before .before .before .before .before .before .before .before .before .before .before .before .before .before .before .before .before .before .pre .7)

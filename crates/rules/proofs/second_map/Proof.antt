@@ -67,6 +67,15 @@ returns-6 : tie.Need-returns-6
 unfolding ofWords
 returns-6 c = joined-second _ _ _ (c .before .before .before .before .before .before .before .before .before .before .pre .0) _ _ _ (c .before .before .before .before .before .before .before .before .before .before .pre .2) (c .before .before .before .before .before .before .before .before .before .before .pre .1) (c .before .before .before .before .before .before .if1 .left) (c .before .before .before .before .if4 .left) (c .if6 .taken)
 
+mul-word-in : tie.Need-mul-word-in
+mul-word-in c = omega (arith, rule-few _ _ (c .before .before .before .before .before .before .before .before .before .before .pre .0 .grammar) (c .before .before .before .before .before .before .before .before .before .before .pre .0 .rule))
+
+add-word-in : tie.Need-add-word-in
+add-word-in c = omega (arith, rule-few _ _ (c .before .before .before .before .before .before .before .before .before .before .pre .0 .grammar) (c .before .before .before .before .before .before .before .before .before .before .pre .0 .rule))
+
+word-in-requires : tie.Need-word-in-requires
+word-in-requires c κs = omega (arith, rule-few _ _ (c .before .before .before .before .before .before .before .before .before .before .pre .0 .grammar) (c .before .before .before .before .before .before .before .before .before .before .pre .0 .rule), grammar-long _ (c .before .before .before .before .before .before .before .before .before .before .pre .0 .grammar))
+
 sub-copy-map : tie.Need-sub-copy-map
 sub-copy-map c = search needs
 
@@ -74,29 +83,17 @@ part-copy-map-start : tie.Need-part-copy-map-start
 part-copy-map-start c = search needs
 
 part-copy-map-end : tie.Need-part-copy-map-end
-part-copy-map-end c = omega (arith, c .before .before .before .before .before .before .before .before .before .before .pre .3)
+part-copy-map-end c = omega (arith, c .before .before .before .before .before .before .before .before .before .before .before .pre .3)
 
 copy-map-requires : tie.Need-copy-map-requires
-copy-map-requires c κs = (map-size (c .before .before .before .before .before .before .before .before .before .before .before .before .args .y .now) (c .before .before .before .before .before .before .before .before .before .before .before .before .pre .3), c .before .before .before .before .before .before .before .before .before .before .before .before .pre .4)
-
-mul-word-in : tie.Need-mul-word-in
-mul-word-in c = omega (arith, rule-few _ _ (c .before .before .before .before .before .before .before .before .before .before .before .before .before .before .before .pre .0 .grammar) (c .before .before .before .before .before .before .before .before .before .before .before .before .before .before .before .pre .0 .rule))
-
-add-word-in : tie.Need-add-word-in
-add-word-in c = omega (arith, rule-few _ _ (c .before .before .before .before .before .before .before .before .before .before .before .before .before .before .before .pre .0 .grammar) (c .before .before .before .before .before .before .before .before .before .before .before .before .before .before .before .pre .0 .rule))
-
-word-in-requires : tie.Need-word-in-requires
-word-in-requires c κs = omega (arith, rule-few _ _ (c .before .before .before .before .before .before .before .before .before .before .before .before .before .before .before .pre .0 .grammar) (c .before .before .before .before .before .before .before .before .before .before .before .before .before .before .before .pre .0 .rule), grammar-long _ (c .before .before .before .before .before .before .before .before .before .before .before .before .before .before .before .pre .0 .grammar))
-
-clear-from-requires : tie.Need-clear-from-requires
-clear-from-requires c κs = (omega (arith, c .before .word-in .ensures, nodes-few _ _ (c .before .before .before .before .before .before .before .before .before .before .before .before .before .before .before .before .before .pre .0 .grammar) (c .before .before .before .before .before .before .before .before .before .before .before .before .before .before .before .before .before .pre .0 .rule)), omega (arith, c .before .before .before .before .copy-map .kept, c .before .before .before .before .before .before .before .before .before .before .before .before .before .before .before .before .before .pre .4))
+copy-map-requires c κs = (omega (arith, c .before .before .word-in .ensures, nodes-few _ _ (c .before .before .before .before .before .before .before .before .before .before .before .before .before .pre .0 .grammar) (c .before .before .before .before .before .before .before .before .before .before .before .before .before .pre .0 .rule)), map-size (c .before .before .before .before .before .before .before .before .before .before .before .before .before .args .y .now) (c .before .before .before .before .before .before .before .before .before .before .before .before .before .pre .3), c .before .before .before .before .before .before .before .before .before .before .before .before .before .pre .4)
 
 same-length-2 : tie.Need-same-length-2
 same-length-2 c = search needs
 
 returns-7 : tie.Need-returns-7
 unfolding ofWords
-returns-7 c = joined-made _ _ _ (c .before .before .before .before .before .before .before .before .before .before .before .before .before .before .before .before .before .before .before .before .pre .0) _ _ _ (c .before .before .before .before .before .before .before .before .before .before .before .before .before .before .before .before .before .before .before .before .pre .2) (c .before .before .before .before .before .before .before .before .before .before .before .before .before .before .before .before .before .before .before .before .pre .1) (c .before .before .before .before .before .before .before .before .before .before .before .before .before .before .before .before .if1 .left) (c .before .before .before .before .before .before .before .before .before .before .before .before .before .before .if4 .left) (c .before .before .before .before .before .before .before .before .before .before .before .before .if5 .left) (c .before .before .before .before .before .before .before .before .before .before .if6 .left) _ _ (map-words (c .before .before .before .before .before .before .before .before .before .before .before .before .before .before .before .before .before .before .before .before .args .y .now) (c .before .before .before .before .before .before .before .before .before .before .before .before .before .before .before .before .before .before .before .before .pre .3)) (map-size (c .before .before .before .before .before .before .before .before .before .before .before .before .before .before .before .before .before .before .before .before .args .y .now) (c .before .before .before .before .before .before .before .before .before .before .before .before .before .before .before .before .before .before .before .before .pre .3)) (c .before .before .before .before .before .before .before .copy-map .ensures) _ (c .before .before .before .before .word-in .ensures) (c .before .before .clear-from .ensures)
+returns-7 c = joined-made _ _ _ (c .before .before .before .before .before .before .before .before .before .before .before .before .before .before .before .before .pre .0) _ _ _ (c .before .before .before .before .before .before .before .before .before .before .before .before .before .before .before .before .pre .2) (c .before .before .before .before .before .before .before .before .before .before .before .before .before .before .before .before .pre .1) (c .before .before .before .before .before .before .before .before .before .before .before .before .if1 .left) (c .before .before .before .before .before .before .before .before .before .before .if4 .left) (c .before .before .before .before .before .before .before .before .if5 .left) (c .before .before .before .before .before .before .if6 .left) _ (map-words (c .before .before .before .before .before .before .before .before .before .before .before .before .before .before .before .before .args .y .now) (c .before .before .before .before .before .before .before .before .before .before .before .before .before .before .before .before .pre .3)) (map-size (c .before .before .before .before .before .before .before .before .before .before .before .before .before .before .before .before .args .y .now) (c .before .before .before .before .before .before .before .before .before .before .before .before .before .before .before .before .pre .3)) _ (c .before .before .before .before .before .word-in .ensures) (c .before .before .copy-map .ensures)
 
 pub second-map-spec : {M : Type 1} → statement M
 second-map-spec =
@@ -119,13 +116,12 @@ second-map-spec =
     returns-5
     shared-slice-read-if6
     returns-6
+    mul-word-in
+    add-word-in
+    word-in-requires
     sub-copy-map
     part-copy-map-start
     part-copy-map-end
     copy-map-requires
-    mul-word-in
-    add-word-in
-    word-in-requires
-    clear-from-requires
     same-length-2
     returns-7)

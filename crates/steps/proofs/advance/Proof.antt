@@ -23,23 +23,17 @@ slice-aggregate-fill-3 c = search needs
 fill-requires-3 : tie.Need-fill-requires-3
 fill-requires-3 c κs = search needs
 
-slice-aggregate-fill-4 : tie.Need-slice-aggregate-fill-4
-slice-aggregate-fill-4 c = search needs
-
-fill-requires-4 : tie.Need-fill-requires-4
-fill-requires-4 c κs = search needs
-
 slice-aggregate-build : tie.Need-slice-aggregate-build
 slice-aggregate-build c = search needs
 
 build-requires : tie.Need-build-requires
-build-requires c κs = (empty-zeros, count-small _ (c .before .before .before .before .before .before .before .before .before .before .before .before .before .before .before .before .before .before .before .before .before .before .before .pre .2), c .before .before .before .before .before .before .before .before .before .before .before .before .before .before .before .before .before .before .before .before .before .before .before .pre .0, c .before .before .before .before .before .before .fill4 .ensures)
+build-requires c κs = (empty-zeros, count-small _ (c .before .before .before .before .before .before .before .before .before .before .before .before .before .before .before .before .before .pre .2), c .before .before .before .before .before .before .before .before .before .before .before .before .before .before .before .before .before .pre .0, c .before .before .before .before .before .fill3 .ensures)
 
 slice-aggregate-advance-by : tie.Need-slice-aggregate-advance-by
 slice-aggregate-advance-by c = search needs
 
 advance-by-requires : tie.Need-advance-by-requires
-advance-by-requires c κs = (record { accepted = c .before .before .before .before .before .before .before .before .before .before .before .before .before .before .before .before .before .before .before .before .before .before .before .before .before .before .before .before .before .before .before .pre .0; wanted = c .before .before .before .before .before .before .before .before .before .before .before .before .before .before .before .before .before .before .before .before .before .before .fill2 .ensures; planned = c .before .before .before .before .before .before .before .before .before .before .before .before .before .before .before .before .before .before .before .before .before .before .before .before .before .before .fill .ensures; pivoted = c .before .before .before .before .before .before .before .before .before .before .before .before .before .before .before .before .before .fill3 .ensures; graphed = c .before .before .before .before .before .before .before .before .before .before .before .before .before .before .fill4 .ensures }, built-ready _ _ _ _ _ _ (c .before .before .before .before .before .before .before .before .before .before .before .before .before .before .before .before .before .before .before .before .before .before .before .before .before .before .before .before .before .before .before .pre .1) (c .before .before .before .before .before .before .before .before .before .before .before .before .before .before .before .before .before .before .before .before .before .before .before .before .before .before .before .before .before .before .before .pre .2) (c .before .before .before .before .before .before .before .build .ensures .0) (c .before .before .before .before .before .before .before .build .ensures .1))
+advance-by-requires c κs = (record { accepted = c .before .before .before .before .before .before .before .before .before .before .before .before .before .before .before .before .before .before .before .before .before .before .before .before .pre .0; planned = c .before .before .before .before .before .before .before .before .before .before .before .before .before .before .before .before .before .before .before .fill .ensures; keyed = c .before .before .before .before .before .before .before .before .before .before .before .before .before .before .before .fill2 .ensures; graphed = c .before .before .before .before .before .before .before .before .before .before .before .before .fill3 .ensures }, built-ready _ _ _ _ _ (c .before .before .before .before .before .before .before .before .before .before .before .before .before .before .before .before .before .before .before .before .before .before .before .before .pre .1) (c .before .before .before .before .before .before .before .before .before .before .before .before .before .before .before .before .before .before .before .before .before .before .before .before .pre .2) (c .before .before .before .before .before .before .build .ensures .0) (c .before .before .before .before .before .before .build .ensures .1))
 
 same-length : tie.Need-same-length
 same-length c = search needs
@@ -57,8 +51,6 @@ advance-spec =
     fill-requires-2
     slice-aggregate-fill-3
     fill-requires-3
-    slice-aggregate-fill-4
-    fill-requires-4
     slice-aggregate-build
     build-requires
     slice-aggregate-advance-by

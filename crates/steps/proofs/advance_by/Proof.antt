@@ -11,10 +11,10 @@ use Rattle.steps.proofs.advance_by.Statement.{statement}
 use Rattle.steps.proofs.advance_by.Tie as tie
 
 abbrev Inv-loop : tie.InvT-loop
-Inv-loop g h wants plans pivots graph chart₀ index₀ steps i₀ chart index i = (i ≤ steps) × (length chart ≡ length chart₀) × Ran (grammarOf g) (graphOf g h) chart₀ i chart × (length index ≡ length index₀) × Ready g h wants pivots chart index
+Inv-loop g h plans keys graph chart₀ index₀ steps i₀ chart index i = (i ≤ steps) × (length chart ≡ length chart₀) × Ran (grammarOf g) (graphOf g h) chart₀ i chart × (length index ≡ length index₀) × Ready g h keys chart index
 
 abbrev μ-loop : tie.MeasureT-loop
-μ-loop g h wants plans pivots graph chart₀ index₀ steps i₀ chart index i = steps - i
+μ-loop g h plans keys graph chart₀ index₀ steps i₀ chart index i = steps - i
 
 loop-holds : tie.Need-loop-holds Inv-loop μ-loop
 loop-holds c =
@@ -27,10 +27,10 @@ step-requires : tie.Need-step-requires Inv-loop μ-loop
 step-requires c κs = (c .before .before .before .before .before .before .before .before .pre .0, c .before .before .before .loop .inv .4)
 
 same-length : tie.Need-same-length Inv-loop μ-loop
-same-length c = c .before .before .before .before .before .step .kept .1 .1 .1 .1 .1 .1 .0 ∙ c .before .before .before .before .before .before .before .before .before .loop .inv .1
+same-length c = c .before .before .before .before .before .step .kept .1 .1 .1 .1 .1 .0 ∙ c .before .before .before .before .before .before .before .before .before .loop .inv .1
 
 same-length-2 : tie.Need-same-length-2 Inv-loop μ-loop
-same-length-2 c = c .before .before .before .before .before .step .kept .1 .1 .1 .1 .1 .1 .1 .0 ∙ c .before .before .before .before .before .before .before .before .before .loop .inv .3
+same-length-2 c = c .before .before .before .before .before .step .kept .1 .1 .1 .1 .1 .1 .0 ∙ c .before .before .before .before .before .before .before .before .before .loop .inv .3
 
 returns : tie.Need-returns Inv-loop μ-loop
 returns c =
@@ -50,7 +50,7 @@ loop-again c =
     let s = c .before .before .before .before .before .before .before .before .before .before .before .before .before .before .args in
     let G = grammarOf (s .g .now) in
     let H = graphOf (s .g .now) (s .h .now) in
-    (omega (arith, c .before .before .before .before .before .before .before .before .loop-test .taken), c .before .before .before .before .before .step .kept .1 .1 .1 .1 .1 .1 .0 ∙ c .before .before .before .before .before .before .before .before .before .loop .inv .1, ran-step G H (s .chart .now) (c .before .before .before .before .before .before .before .before .before .loop .i) (c .before .before .before .before .before .before .before .before .before .loop .chart) (c .before .before .before .before .before .before .before .before .before .loop .inv .2) _ _ (omega arith) (c .before .before .before .before .before .step .ensures .1), c .before .before .before .before .before .step .kept .1 .1 .1 .1 .1 .1 .1 .0 ∙ c .before .before .before .before .before .before .before .before .before .loop .inv .3, c .before .before .before .before .before .step .ensures .2)
+    (omega (arith, c .before .before .before .before .before .before .before .before .loop-test .taken), c .before .before .before .before .before .step .kept .1 .1 .1 .1 .1 .0 ∙ c .before .before .before .before .before .before .before .before .before .loop .inv .1, ran-step G H (s .chart .now) (c .before .before .before .before .before .before .before .before .before .loop .i) (c .before .before .before .before .before .before .before .before .before .loop .chart) (c .before .before .before .before .before .before .before .before .before .loop .inv .2) _ _ (omega arith) (c .before .before .before .before .before .step .ensures .1), c .before .before .before .before .before .step .kept .1 .1 .1 .1 .1 .1 .0 ∙ c .before .before .before .before .before .before .before .before .before .loop .inv .3, c .before .before .before .before .before .step .ensures .2)
 
 same-length-3 : tie.Need-same-length-3 Inv-loop μ-loop
 same-length-3 c = c .before .loop .inv .1

@@ -27,7 +27,7 @@ near-requires c κs =
     let t = c .before .before .before .before .before .before .before .before .before .before .take in
     let e = c .before .before .before .before .j .given .1 in
     let l = next-known (s .chart .now) _ (t .result) e (t .ensures .0) in
-    let R = t .ensures .2 (s .g .now) (s .h .now) (s .wants .now) (s .pivots .now) (p .1) in
+    let R = t .ensures .2 (s .g .now) (s .h .now) (s .keys .now) (p .1) in
     (R .indexed .size, handled-small _ _ (p .1 .small) l)
 
 add-root-requires : tie.Need-add-root-requires
@@ -37,7 +37,7 @@ add-root-requires c κs =
     let t = c .before .before .before .before .before .before .before .before .before .before .before .before .before .take in
     let e = c .before .before .before .before .before .before .before .j .given .1 in
     let l = next-known (s .chart .now) _ (t .result) e (t .ensures .0) in
-    let R = t .ensures .2 (s .g .now) (s .h .now) (s .wants .now) (s .pivots .now) (p .1) in
+    let R = t .ensures .2 (s .g .now) (s .h .now) (s .keys .now) (p .1) in
     let q = step-marked (s .chart .now) _ (t .result) _ e (t .ensures .1) in
     let D = handled-now (s .g .now) (s .h .now) (s .chart .now) _ _ _ _ l q (R .spanned) (c .before .before .near .ensures) in
     (p .0 .accepted .grammar, R, D)
@@ -49,7 +49,7 @@ add-terminals-requires c κs =
     let t = c .before .before .before .before .before .before .before .before .before .before .before .before .before .before .before .before .before .before .before .before .take in
     let e = c .before .before .before .before .before .before .before .before .before .before .before .before .before .before .j .given .1 in
     let l = next-known (s .chart .now) _ (t .result) e (t .ensures .0) in
-    let R = t .ensures .2 (s .g .now) (s .h .now) (s .wants .now) (s .pivots .now) (p .1) in
+    let R = t .ensures .2 (s .g .now) (s .h .now) (s .keys .now) (p .1) in
     let q = step-marked (s .chart .now) _ (t .result) _ e (t .ensures .1) in
     let D = handled-now (s .g .now) (s .h .now) (s .chart .now) _ _ _ _ l q (R .spanned) (c .before .before .before .before .before .before .before .before .before .near .ensures) in
     let G = grammarOf (s .g .now) in
@@ -63,7 +63,7 @@ add-partners-requires c κs =
     let t = c .before .before .before .before .before .before .before .before .before .before .before .before .before .before .before .before .before .before .before .before .before .before .before .before .before .before .before .take in
     let e = c .before .before .before .before .before .before .before .before .before .before .before .before .before .before .before .before .before .before .before .before .before .j .given .1 in
     let l = next-known (s .chart .now) _ (t .result) e (t .ensures .0) in
-    let R = t .ensures .2 (s .g .now) (s .h .now) (s .wants .now) (s .pivots .now) (p .1) in
+    let R = t .ensures .2 (s .g .now) (s .h .now) (s .keys .now) (p .1) in
     let q = step-marked (s .chart .now) _ (t .result) _ e (t .ensures .1) in
     let D = handled-now (s .g .now) (s .h .now) (s .chart .now) _ _ _ _ l q (R .spanned) (c .before .before .before .before .before .before .before .before .before .before .before .before .before .before .before .before .near .ensures) in
     let G = grammarOf (s .g .now) in
@@ -86,13 +86,13 @@ returns c =
     let G = grammarOf (s .g .now) in
     let H = graphOf (s .g .now) (s .h .now) in
     let r = step-none G H (s .chart .now) _ (t .result) (t .ensures .0) (p .1 .fits) (c .enum-told .given .1) (t .ensures .1) in
-    (r .0, r .1, t .ensures .2 (s .g .now) (s .h .now) (s .wants .now) (s .pivots .now) (p .1))
+    (r .0, r .1, t .ensures .2 (s .g .now) (s .h .now) (s .keys .now) (p .1))
 
 same-length-3 : tie.Need-same-length-3
-same-length-3 c = c .before .before .before .before .add-partners .kept .1 .1 .1 .1 .1 .1 .0 ∙ c .before .before .before .before .before .before .before .before .before .before .before .add-terminals .kept .1 .1 .1 .1 .1 .1 .0 ∙ c .before .before .before .before .before .before .before .before .before .before .before .before .before .before .before .before .before .before .add-root .kept .1 .1 .1 .1 .0 ∙ c .before .before .before .before .before .before .before .before .before .before .before .before .before .before .before .before .before .before .before .before .before .before .before .before .before .before .before .before .before .before .before .before .take .kept .0
+same-length-3 c = c .before .before .before .before .add-partners .kept .1 .1 .1 .1 .1 .0 ∙ c .before .before .before .before .before .before .before .before .before .before .before .add-terminals .kept .1 .1 .1 .1 .1 .0 ∙ c .before .before .before .before .before .before .before .before .before .before .before .before .before .before .before .before .before .before .add-root .kept .1 .1 .1 .0 ∙ c .before .before .before .before .before .before .before .before .before .before .before .before .before .before .before .before .before .before .before .before .before .before .before .before .before .before .before .before .before .before .before .before .take .kept .0
 
 same-length-4 : tie.Need-same-length-4
-same-length-4 c = c .before .before .before .before .add-partners .kept .1 .1 .1 .1 .1 .1 .1 .0 ∙ c .before .before .before .before .before .before .before .before .before .before .before .add-terminals .kept .1 .1 .1 .1 .1 .1 .1 .0 ∙ c .before .before .before .before .before .before .before .before .before .before .before .before .before .before .before .before .before .before .add-root .kept .1 .1 .1 .1 .1 .0 ∙ c .before .before .before .before .before .before .before .before .before .before .before .before .before .before .before .before .before .before .before .before .before .before .before .before .before .before .before .before .before .before .before .before .take .kept .1 .0
+same-length-4 c = c .before .before .before .before .add-partners .kept .1 .1 .1 .1 .1 .1 .0 ∙ c .before .before .before .before .before .before .before .before .before .before .before .add-terminals .kept .1 .1 .1 .1 .1 .1 .0 ∙ c .before .before .before .before .before .before .before .before .before .before .before .before .before .before .before .before .before .before .add-root .kept .1 .1 .1 .1 .0 ∙ c .before .before .before .before .before .before .before .before .before .before .before .before .before .before .before .before .before .before .before .before .before .before .before .before .before .before .before .before .before .before .before .before .take .kept .1 .0
 
 returns-2 : tie.Need-returns-2
 returns-2 c =
@@ -101,7 +101,7 @@ returns-2 c =
     let t = c .before .before .before .before .before .before .before .before .before .before .before .before .before .before .before .before .before .before .before .before .before .before .before .before .before .before .before .before .before .before .before .before .take in
     let e = c .before .before .before .before .before .before .before .before .before .before .before .before .before .before .before .before .before .before .before .before .before .before .before .before .before .before .j .given .1 in
     let l = next-known (s .chart .now) _ (t .result) e (t .ensures .0) in
-    let R = t .ensures .2 (s .g .now) (s .h .now) (s .wants .now) (s .pivots .now) (p .1) in
+    let R = t .ensures .2 (s .g .now) (s .h .now) (s .keys .now) (p .1) in
     let q = step-marked (s .chart .now) _ (t .result) _ e (t .ensures .1) in
     let D = handled-now (s .g .now) (s .h .now) (s .chart .now) _ _ _ _ l q (R .spanned) (c .before .before .before .before .before .before .before .before .before .before .before .before .before .before .before .before .before .before .before .before .before .near .ensures) in
     let G = grammarOf (s .g .now) in

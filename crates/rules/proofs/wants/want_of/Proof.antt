@@ -1,40 +1,18 @@
--- A law for each test.
-use native.Mathlib.Omega.{arith}
-use Prim.Native.Nat.{_-_}
+-- The word of the plan node above tells it.
+use mathlib.Core.Path.{_∙_}
 use borrow.Author.Needs.{needs}
-use Rattle.rules.proofs.WantLaws.{word-far, word-past, word-there}
+use Rattle.rules.proofs.WantLaws.{want-told}
 use Rattle.rules.proofs.wants.want_of.Statement.{statement}
 use Rattle.rules.proofs.wants.want_of.Tie as tie
 
+parent-in-requires : tie.Need-parent-in-requires
+parent-in-requires c κs = search needs
+
+wanted-requires : tie.Need-wanted-requires
+wanted-requires c κs = search needs
+
 returns : tie.Need-returns
-returns c = word-far _ _ _ (c .if1 .taken)
-
-returns-2 : tie.Need-returns-2
-returns-2 c = word-past _ _ _ (omega (arith, c .before .if1 .left)) (c .if2 .taken)
-
-mul-result : tie.Need-mul-result
-mul-result c = search needs
-
-add-result : tie.Need-add-result
-add-result c = search needs
-
-mul-result-2 : tie.Need-mul-result-2
-mul-result-2 c = search needs
-
-element-copy-out-result : tie.Need-element-copy-out-result
-element-copy-out-result c = search needs
-
-returns-3 : tie.Need-returns-3
-returns-3 c = word-there _ _ _ (omega (arith, c .before .before .if1 .left)) (omega (arith, c .before .if2 .left))
+returns c = c .wanted .ensures ∙ want-told _ _ _ _ (c .before .parent-in .ensures)
 
 pub want-of-spec : {M : Type 1} → statement M
-want-of-spec =
-    tie.close
-    (tie.spec
-    returns
-    returns-2
-    mul-result
-    add-result
-    mul-result-2
-    element-copy-out-result
-    returns-3)
+want-of-spec = tie.close (tie.spec parent-in-requires wanted-requires returns)

@@ -33,14 +33,14 @@ mul-at c = omega (arith, handled-small _ _ (c .before .before .before .before .b
 add-at : tie.Need-add-at
 add-at c = omega (arith, handled-small _ _ (c .before .before .before .before .before .before .pre .1 .small) (c .before .before .before .before .before .before .pre .2 .there))
 
-add-t20 : tie.Need-add-t20
-add-t20 c = omega (arith, handled-small _ _ (c .before .before .before .before .before .before .pre .1 .small) (c .before .before .before .before .before .before .pre .2 .there))
+add-t19 : tie.Need-add-t19
+add-t19 c = omega (arith, handled-small _ _ (c .before .before .before .before .before .before .pre .1 .small) (c .before .before .before .before .before .before .pre .2 .there))
 
-mul-t21 : tie.Need-mul-t21
-mul-t21 c = omega (arith, handled-small _ _ (c .before .before .before .before .before .before .pre .1 .small) (c .before .before .before .before .before .before .pre .2 .there))
+mul-t20 : tie.Need-mul-t20
+mul-t20 c = omega (arith, handled-small _ _ (c .before .before .before .before .before .before .pre .1 .small) (c .before .before .before .before .before .before .pre .2 .there))
 
-slice-read-t18 : tie.Need-slice-read-t18
-slice-read-t18 c = omega (arith, item-fits (c .before .before .before .before .before .before .before .args .chart .now) (c .before .before .before .before .before .before .before .args .j) (c .before .before .before .before .before .before .before .pre .2 .there))
+slice-read-t17 : tie.Need-slice-read-t17
+slice-read-t17 c = omega (arith, item-fits (c .before .before .before .before .before .before .before .args .chart .now) (c .before .before .before .before .before .before .before .args .j) (c .before .before .before .before .before .before .before .pre .2 .there))
 
 add-terminal-into : tie.Need-add-terminal-into
 add-terminal-into c = omega (arith, handled-small _ _ (c .before .before .before .before .before .before .before .pre .1 .small) (c .before .before .before .before .before .before .before .pre .2 .there))
@@ -62,7 +62,7 @@ slice-aggregate-terminal-into c = search needs
 
 terminal-into-requires : tie.Need-terminal-into-requires
 unfolding ofWords
-terminal-into-requires c κs = (c .before .before .before .before .before .before .before .before .before .before .pre .0 .accepted, c .before .before .before .before .before .before .before .before .before .before .pre .4, c .before .before .before .before .before .before .before .before .before .before .pre .0 .planned, c .before .before .before .before .before .before .before .before .before .before .pre .0 .graphed, part-length (c .before .before .before .before .before .before .before .before .before .before .args .chart .now) (c .before .before .before .before .before .before .before .before .before .before .args .j) (2 + 16 * c .before .before .before .before .before .before .before .before .before .before .args .j) (2 + 16 * c .before .before .before .before .before .before .before .before .before .before .args .j + 16 - (2 + 16 * c .before .before .before .before .before .before .before .before .before .before .args .j)) refl (omega arith) (item-fits (c .before .before .before .before .before .before .before .before .before .before .args .chart .now) (c .before .before .before .before .before .before .before .before .before .before .args .j) (c .before .before .before .before .before .before .before .before .before .before .pre .2 .there)), span-same _ _ _ _ _ (part-record-at (c .before .before .before .before .before .before .before .before .before .before .args .chart .now) (c .before .before .before .before .before .before .before .before .before .before .args .j) (2 + 16 * c .before .before .before .before .before .before .before .before .before .before .args .j) (2 + 16 * c .before .before .before .before .before .before .before .before .before .before .args .j + 16 - (2 + 16 * c .before .before .before .before .before .before .before .before .before .before .args .j)) refl (omega arith) (item-fits (c .before .before .before .before .before .before .before .before .before .before .args .chart .now) (c .before .before .before .before .before .before .before .before .before .before .args .j) (c .before .before .before .before .before .before .before .before .before .before .pre .2 .there))) (c .before .before .before .before .before .before .before .before .before .before .pre .2 .spans), search needs, refl, refl)
+terminal-into-requires c κs = (c .before .before .before .before .before .before .before .before .before .before .pre .0 .accepted, c .before .before .before .before .before .before .before .before .before .before .pre .4, c .before .before .before .before .before .before .before .before .before .before .pre .0 .planned, c .before .before .before .before .before .before .before .before .before .before .pre .0 .graphed, part-length (c .before .before .before .before .before .before .before .before .before .before .args .chart .now) (c .before .before .before .before .before .before .before .before .before .before .args .j) (2 + 16 * c .before .before .before .before .before .before .before .before .before .before .args .j) (2 + 16 * c .before .before .before .before .before .before .before .before .before .before .args .j + 16 - (2 + 16 * c .before .before .before .before .before .before .before .before .before .before .args .j)) refl (omega arith) (item-fits (c .before .before .before .before .before .before .before .before .before .before .args .chart .now) (c .before .before .before .before .before .before .before .before .before .before .args .j) (c .before .before .before .before .before .before .before .before .before .before .pre .2 .there)), span-same _ _ _ _ _ (part-record-at (c .before .before .before .before .before .before .before .before .before .before .args .chart .now) (c .before .before .before .before .before .before .before .before .before .before .args .j) (2 + 16 * c .before .before .before .before .before .before .before .before .before .before .args .j) (2 + 16 * c .before .before .before .before .before .before .before .before .before .before .args .j + 16 - (2 + 16 * c .before .before .before .before .before .before .before .before .before .before .args .j)) refl (omega arith) (item-fits (c .before .before .before .before .before .before .before .before .before .before .args .chart .now) (c .before .before .before .before .before .before .before .before .before .before .args .j) (c .before .before .before .before .before .before .before .before .before .before .pre .2 .there))) (c .before .before .before .before .before .before .before .before .before .before .pre .2 .spans), search needs, refl, refl, refl)
 
 same-length : tie.Need-same-length
 same-length c = search needs
@@ -97,7 +97,7 @@ returns-3 c =
     let x = recordAt (s .chart .now) (s .j) in
     let found = not-false _ (c .before .before .before .before .before .before .before .before .if2 .left) in (
       terminal-added g h x _ _ _ (s .chart .now) _ (c .before .before .before .before .before .before .before .before .before .before .before .before .before .before .before .before .before .before .before .before .before .before .pre .1 .fits) (x .count) (s .j) (s .e) (into-same g h _ _ _ _ _ (ap (λ (z : Record). terminalItems (grammarOf g) (graphOf g h) (itemOf (grammarOf g) z) (s .e)) (part-record-at (c .before .before .before .before .before .before .before .before .before .before .before .before .before .before .before .before .before .before .before .before .before .before .args .chart .now) (c .before .before .before .before .before .before .before .before .before .before .before .before .before .before .before .before .before .before .before .before .before .before .args .j) (2 + 16 * c .before .before .before .before .before .before .before .before .before .before .before .before .before .before .before .before .before .before .before .before .before .before .args .j) (2 + 16 * c .before .before .before .before .before .before .before .before .before .before .before .before .before .before .before .before .before .before .before .before .before .before .args .j + 16 - (2 + 16 * c .before .before .before .before .before .before .before .before .before .before .before .before .before .before .before .before .before .before .before .before .before .before .args .j)) refl (omega arith) (item-fits (c .before .before .before .before .before .before .before .before .before .before .before .before .before .before .before .before .before .before .before .before .before .before .args .chart .now) (c .before .before .before .before .before .before .before .before .before .before .before .before .before .before .before .before .before .before .before .before .before .before .args .j) (c .before .before .before .before .before .before .before .before .before .before .before .before .before .before .before .before .before .before .before .before .before .before .pre .2 .there)))) (c .before .before .before .before .before .before .before .before .before .before .before .terminal-into .ensures)) found refl refl refl (c .before .before .before .before .add .ensures .0),
-      into-ready g h (s .wants .now) (s .pivots .now) (s .chart .now) (s .index .now) (c .before .before .before .before .before .before .before .before .before .before .before .before .before .before .before .before .before .before .before .before .before .before .pre .1) _ _ (c .before .before .before .before .add .ensures .1) (c .before .before .before .before .add .ensures .2 g h (c .before .before .before .before .before .before .before .before .before .before .before .before .before .before .before .before .before .before .before .before .before .before .pre .1 .spanned) (c .before .before .before .before .before .before .before .before .before .before .before .terminal-into .ensures .spans found)) _ _ _ _ (c .before .before .before .before .before .before .before .before .before .before .before .terminal-into .ensures) (c .before .before .before .before .add .ensures .0),
+      into-ready g h (s .keys .now) (s .chart .now) (s .index .now) (c .before .before .before .before .before .before .before .before .before .before .before .before .before .before .before .before .before .before .before .before .before .before .pre .1) _ _ (c .before .before .before .before .add .ensures .1) (c .before .before .before .before .add .ensures .2 g h (c .before .before .before .before .before .before .before .before .before .before .before .before .before .before .before .before .before .before .before .before .before .before .pre .1 .spanned) (c .before .before .before .before .before .before .before .before .before .before .before .terminal-into .ensures .spans found)) _ _ _ _ (c .before .before .before .before .before .before .before .before .before .before .before .terminal-into .ensures) (c .before .before .before .before .add .ensures .0),
     )
 
 pub add-candidate-spec : {M : Type 1} → statement M
@@ -108,9 +108,9 @@ add-candidate-spec =
     returns
     mul-at
     add-at
-    add-t20
-    mul-t21
-    slice-read-t18
+    add-t19
+    mul-t20
+    slice-read-t17
     add-terminal-into
     mul-terminal-into
     sub-terminal-into

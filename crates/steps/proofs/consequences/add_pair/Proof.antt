@@ -97,6 +97,7 @@ pair-into-requires c κs = (
   search needs,
   refl,
   refl,
+  refl,
 )
 
 same-length : tie.Need-same-length
@@ -130,7 +131,7 @@ returns-2 c =
     let h = s .h .now in
     let found = not-false _ (c .before .before .before .before .before .before .before .before .if1 .left) in (
       pair-added g h (recordAt (s .chart .now) (s .j)) _ _ _ (s .chart .now) _ (c .before .before .before .before .before .before .before .before .before .before .before .before .before .before .before .before .before .before .before .before .before .before .before .pre .1 .fits) (recordAt (s .chart .now) (s .k)) (s .j) (s .k) (into-same g h _ _ _ _ _ (ap₂ (λ (a b : Record). binaryOf (grammarOf g) (graphOf g h) (itemOf (grammarOf g) a) (itemOf (grammarOf g) b)) (part-record-at (c .before .before .before .before .before .before .before .before .before .before .before .before .before .before .before .before .before .before .before .before .before .before .before .args .chart .now) (c .before .before .before .before .before .before .before .before .before .before .before .before .before .before .before .before .before .before .before .before .before .before .before .args .j) (2 + 16 * c .before .before .before .before .before .before .before .before .before .before .before .before .before .before .before .before .before .before .before .before .before .before .before .args .j) (2 + 16 * c .before .before .before .before .before .before .before .before .before .before .before .before .before .before .before .before .before .before .before .before .before .before .before .args .j + 16 - (2 + 16 * c .before .before .before .before .before .before .before .before .before .before .before .before .before .before .before .before .before .before .before .before .before .before .before .args .j)) refl (omega arith) (item-fits (c .before .before .before .before .before .before .before .before .before .before .before .before .before .before .before .before .before .before .before .before .before .before .before .args .chart .now) (c .before .before .before .before .before .before .before .before .before .before .before .before .before .before .before .before .before .before .before .before .before .before .before .args .j) (c .before .before .before .before .before .before .before .before .before .before .before .before .before .before .before .before .before .before .before .before .before .before .before .pre .2))) (part-record-at (c .before .before .before .before .before .before .before .before .before .before .before .before .before .before .before .before .before .before .before .before .before .before .before .args .chart .now) (c .before .before .before .before .before .before .before .before .before .before .before .before .before .before .before .before .before .before .before .before .before .before .before .args .k) (2 + 16 * c .before .before .before .before .before .before .before .before .before .before .before .before .before .before .before .before .before .before .before .before .before .before .before .args .k) (2 + 16 * c .before .before .before .before .before .before .before .before .before .before .before .before .before .before .before .before .before .before .before .before .before .before .before .args .k + 16 - (2 + 16 * c .before .before .before .before .before .before .before .before .before .before .before .before .before .before .before .before .before .before .before .before .before .before .before .args .k)) refl (omega arith) (item-fits (c .before .before .before .before .before .before .before .before .before .before .before .before .before .before .before .before .before .before .before .before .before .before .before .args .chart .now) (c .before .before .before .before .before .before .before .before .before .before .before .before .before .before .before .before .before .before .before .before .before .before .before .args .k) (c .before .before .before .before .before .before .before .before .before .before .before .before .before .before .before .before .before .before .before .before .before .before .before .pre .3)))) (c .before .before .before .before .before .before .before .before .before .before .before .pair-into .ensures)) found (c .before .before .before .before .before .before .before .before .before .before .before .before .before .before .before .before .plus .ensures) refl refl (c .before .before .before .before .add .ensures .0),
-      into-ready g h (s .wants .now) (s .pivots .now) (s .chart .now) (s .index .now) (c .before .before .before .before .before .before .before .before .before .before .before .before .before .before .before .before .before .before .before .before .before .before .before .pre .1) _ _ (c .before .before .before .before .add .ensures .1) (c .before .before .before .before .add .ensures .2 g h (c .before .before .before .before .before .before .before .before .before .before .before .before .before .before .before .before .before .before .before .before .before .before .before .pre .1 .spanned) (c .before .before .before .before .before .before .before .before .before .before .before .pair-into .ensures .spans found)) _ _ _ _ (c .before .before .before .before .before .before .before .before .before .before .before .pair-into .ensures) (c .before .before .before .before .add .ensures .0),
+      into-ready g h (s .keys .now) (s .chart .now) (s .index .now) (c .before .before .before .before .before .before .before .before .before .before .before .before .before .before .before .before .before .before .before .before .before .before .before .pre .1) _ _ (c .before .before .before .before .add .ensures .1) (c .before .before .before .before .add .ensures .2 g h (c .before .before .before .before .before .before .before .before .before .before .before .before .before .before .before .before .before .before .before .before .before .before .before .pre .1 .spanned) (c .before .before .before .before .before .before .before .before .before .before .before .pair-into .ensures .spans found)) _ _ _ _ (c .before .before .before .before .before .before .before .before .before .before .before .pair-into .ensures) (c .before .before .before .before .add .ensures .0),
     )
 
 pub add-pair-spec : {M : Type 1} → statement M

@@ -46,7 +46,7 @@ slice-read-want-of-2 : tie.Need-slice-read-want-of-2
 slice-read-want-of-2 c = omega (arith, item-fits (c .before .before .before .before .before .before .args .chart .now) (c .before .before .before .before .before .before .args .j) (c .before .before .before .before .before .before .pre .2 .there))
 
 want-of-requires : tie.Need-want-of-requires
-want-of-requires c κs = search needs
+want-of-requires c κs = (c .before .before .before .before .before .before .pre .0 .accepted .grammar, c .before .before .before .before .before .before .pre .0 .planned)
 
 mul-if1 : tie.Need-mul-if1
 mul-if1 c = omega (arith, handled-small _ _ (c .before .before .before .before .before .before .before .pre .1 .small) (c .before .before .before .before .before .before .before .pre .2 .there))
@@ -63,7 +63,7 @@ returns c =
     let x = recordAt (s .chart .now) (s .j) in
     let (a, b) = and-true (eqb (getD (s .chart .now) (2 + 16 * s .j) 0) 0) (eqb (c .before .before .want-of .result) 80) (c .if1 .taken) in (
       no-partners G H (s .chart .now) (λ k. withRecord G H x (s .j) (recordAt (s .chart .now) k) k) (s .n) (c .before .before .before .before .before .before .before .before .before .pre .1 .fits)
-          (λ k. unwanting-none (s .g .now) (c .before .before .before .before .before .before .before .before .before .pre .0 .accepted .grammar) H (s .wants .now) (c .before .before .before .before .before .before .before .before .before .pre .0 .wanted) x (recordAt (s .chart .now) k) (c .before .before .want-of .result) (c .before .before .want-of .ensures) (s .j) k (sym (kind-word (s .chart .now) (s .j)) ∙ eqb-true _ _ a) (eqb-true _ _ b)),
+          (λ k. unwanting-none (s .g .now) (c .before .before .before .before .before .before .before .before .before .pre .0 .accepted .grammar) H x (recordAt (s .chart .now) k) (c .before .before .want-of .result) (c .before .before .want-of .ensures) (s .j) k (sym (kind-word (s .chart .now) (s .j)) ∙ eqb-true _ _ a) (eqb-true _ _ b)),
       c .before .before .before .before .before .before .before .before .before .pre .1,
     )
 

@@ -77,14 +77,14 @@ returns-4 c = (skip-inner (c .before .before .before .before .before .before .be
 rule-symbol-requires : tie.Need-rule-symbol-requires
 rule-symbol-requires c κs = search needs
 
-add-t16 : tie.Need-add-t16
-add-t16 c = omega (arith, handled-small _ _ (c .before .before .before .before .before .before .before .before .before .before .before .before .before .before .pre .1 .small) (c .before .before .before .before .before .before .before .before .before .before .before .before .before .before .pre .2 .there))
+add-t15 : tie.Need-add-t15
+add-t15 c = omega (arith, handled-small _ _ (c .before .before .before .before .before .before .before .before .before .before .before .before .before .before .pre .1 .small) (c .before .before .before .before .before .before .before .before .before .before .before .before .before .before .pre .2 .there))
 
-mul-t19 : tie.Need-mul-t19
-mul-t19 c = omega (arith, handled-small _ _ (c .before .before .before .before .before .before .before .before .before .before .before .before .before .before .pre .1 .small) (c .before .before .before .before .before .before .before .before .before .before .before .before .before .before .pre .2 .there))
+mul-t18 : tie.Need-mul-t18
+mul-t18 c = omega (arith, handled-small _ _ (c .before .before .before .before .before .before .before .before .before .before .before .before .before .before .pre .1 .small) (c .before .before .before .before .before .before .before .before .before .before .before .before .before .before .pre .2 .there))
 
-slice-read-t14 : tie.Need-slice-read-t14
-slice-read-t14 c = omega (arith, item-fits (c .before .before .before .before .before .before .before .before .before .before .before .before .before .before .before .args .chart .now) (c .before .before .before .before .before .before .before .before .before .before .before .before .before .before .before .args .j) (c .before .before .before .before .before .before .before .before .before .before .before .before .before .before .before .pre .2 .there))
+slice-read-t13 : tie.Need-slice-read-t13
+slice-read-t13 c = omega (arith, item-fits (c .before .before .before .before .before .before .before .before .before .before .before .before .before .before .before .args .chart .now) (c .before .before .before .before .before .before .before .before .before .before .before .before .before .before .before .args .j) (c .before .before .before .before .before .before .before .before .before .before .before .before .before .before .before .pre .2 .there))
 
 add-plus : tie.Need-add-plus
 add-plus c = omega (arith, handled-small _ _ (c .before .before .before .before .before .before .before .before .before .before .before .before .before .before .before .pre .1 .small) (c .before .before .before .before .before .before .before .before .before .before .before .before .before .before .before .pre .2 .there))
@@ -148,7 +148,7 @@ returns-5 c =
     let g = s .g .now in (
       root-added (c .before .before .before .before .before .before .before .before .before .before .before .before .before .before .before .before .before .before .before .before .before .before .before .before .before .before .before .before .before .before .args .g .now) (recordAt (c .before .before .before .before .before .before .before .before .before .before .before .before .before .before .before .before .before .before .before .before .before .before .before .before .before .before .before .before .before .before .args .chart .now) (c .before .before .before .before .before .before .before .before .before .before .before .before .before .before .before .before .before .before .before .before .before .before .before .before .before .before .before .before .before .before .args .j)) (c .before .before .before .before .before .before .before .before .before .before .before .before .before .before .before .before .before .before .before .before .before .before .before .before .before .before .before .before .before .before .args .j) (c .before .before .before .before .before .before .before .before .before .before .before .before .before .before .before .before .before .before .before .before .before .before .before .before .before .before .before .before .before .before .args .chart .now) (c .before .before .before .before .before .before .before .before .before .before .before .before .before .before .before .before .before .before .before .before .before .before .before .before .before .before .before .before .before .before .pre .1 .fits) (sym (kind-word (c .before .before .before .before .before .before .before .before .before .before .before .before .before .before .before .before .before .before .before .before .before .before .before .before .before .before .before .before .before .before .args .chart .now) (c .before .before .before .before .before .before .before .before .before .before .before .before .before .before .before .before .before .before .before .before .before .before .before .before .before .before .before .before .before .before .args .j)) ∙ c .before .before .before .before .before .before .before .before .before .before .before .before .before .before .before .before .before .before .before .before .before .before .before .before .if1 .left) (c .before .before .before .before .before .before .before .before .before .before .before .before .before .before .before .before .before .before .before .before .before .before .before .before .before .before .before .before .before .before .pre .0) (omega (arith, c .before .before .before .before .before .before .before .before .before .before .before .before .before .before .before .before .before .before .before .before .before .before .rule-count .ensures, c .before .before .before .before .before .before .before .before .before .before .before .before .before .before .before .before .before .before .before .before .before .if2 .left)) (c .before .before .before .before .before .before .before .before .before .before .before .before .before .before .before .before .before .before .before .before .rule-plan .result) (c .before .before .before .before .before .before .before .before .before .before .before .before .before .before .before .before .before .before .before .before .rule-plan .ensures) _ _ _ _ (omega (arith, c .before .before .before .before .before .before .before .before .before .before .before .before .before .before .before .before .before .if4 .left)) (c .before .before .before .before .before .before .before .before .before .before .before .before .before .before .before .before .rule-symbol .ensures) (c .before .before .before .before .before .before .before .before .before .before .before .before .before .plus .ensures)
           (c .before .before .before .before .before .before .before .before .before .root-into .ensures ∙ ap (λ (l : List ℕ). padded (images (take (ruleNodes g (x .of)) l) (rightOf (grammarOf g) (x .of) .externals))) (part-nodes (c .before .before .before .before .before .before .before .before .before .before .before .before .before .before .before .before .before .before .before .before .before .before .before .before .before .before .before .before .before .before .args .chart .now) (c .before .before .before .before .before .before .before .before .before .before .before .before .before .before .before .before .before .before .before .before .before .before .before .before .before .before .before .before .before .before .args .j) (2 + 16 * c .before .before .before .before .before .before .before .before .before .before .before .before .before .before .before .before .before .before .before .before .before .before .before .before .before .before .before .before .before .before .args .j + 6) (2 + 16 * c .before .before .before .before .before .before .before .before .before .before .before .before .before .before .before .before .before .before .before .before .before .before .before .before .before .before .before .before .before .before .args .j + 14 - (2 + 16 * c .before .before .before .before .before .before .before .before .before .before .before .before .before .before .before .before .before .before .before .before .before .before .before .before .before .before .before .before .before .before .args .j + 6)) refl (omega arith) (item-fits (c .before .before .before .before .before .before .before .before .before .before .before .before .before .before .before .before .before .before .before .before .before .before .before .before .before .before .before .before .before .before .args .chart .now) (c .before .before .before .before .before .before .before .before .before .before .before .before .before .before .before .before .before .before .before .before .before .before .before .before .before .before .before .before .before .before .args .j) (c .before .before .before .before .before .before .before .before .before .before .before .before .before .before .before .before .before .before .before .before .before .before .before .before .before .before .before .before .before .before .pre .2 .there)))) (spelt-added _ _ (c .before .before .before .before .before .before .before .before .before .root-into .ensures) 1 (c .before .before .before .before .before .before .before .before .before .before .before .before .before .before .before .before .rule-symbol .result) 0 (x .edges) (c .before .before .before .before .before .before .before .before .before .before .before .before .before .plus .result) 0 (s .j) 0 (s .chart .now) _ (c .before .before .before .before .add .ensures .0)),
-      words-ready g (s .h .now) (s .wants .now) (s .pivots .now) (s .chart .now) (s .index .now) (c .before .before .before .before .before .before .before .before .before .before .before .before .before .before .before .before .before .before .before .before .before .before .before .before .before .before .before .before .before .before .pre .1) _ _ (c .before .before .before .before .add .ensures .1) (c .before .before .before .before .add .ensures .2 g (s .h .now) (c .before .before .before .before .before .before .before .before .before .before .before .before .before .before .before .before .before .before .before .before .before .before .before .before .before .before .before .before .before .before .pre .1 .spanned) (c .before .before .before .before .before .before .before .before .before .before .before .before .before .before .before .before .before .before .before .before .before .before .before .before .before .before .before .before .before .before .pre .2 .spans)) (spelt _ _ (c .before .before .before .before .before .before .before .before .before .root-into .ensures) 1 (c .before .before .before .before .before .before .before .before .before .before .before .before .before .before .before .before .rule-symbol .result) 0 (x .edges) (c .before .before .before .before .before .before .before .before .before .before .before .before .before .plus .result) 0 (s .j) 0) (c .before .before .before .before .add .ensures .0),
+      words-ready g (s .h .now) (s .keys .now) (s .chart .now) (s .index .now) (c .before .before .before .before .before .before .before .before .before .before .before .before .before .before .before .before .before .before .before .before .before .before .before .before .before .before .before .before .before .before .pre .1) _ _ (c .before .before .before .before .add .ensures .1) (c .before .before .before .before .add .ensures .2 g (s .h .now) (c .before .before .before .before .before .before .before .before .before .before .before .before .before .before .before .before .before .before .before .before .before .before .before .before .before .before .before .before .before .before .pre .1 .spanned) (c .before .before .before .before .before .before .before .before .before .before .before .before .before .before .before .before .before .before .before .before .before .before .before .before .before .before .before .before .before .before .pre .2 .spans)) (spelt _ _ (c .before .before .before .before .before .before .before .before .before .root-into .ensures) 1 (c .before .before .before .before .before .before .before .before .before .before .before .before .before .before .before .before .rule-symbol .result) 0 (x .edges) (c .before .before .before .before .before .before .before .before .before .before .before .before .before .plus .result) 0 (s .j) 0) (c .before .before .before .before .add .ensures .0),
     )
 
 pub add-root-spec : {M : Type 1} → statement M
@@ -173,9 +173,9 @@ add-root-spec =
     add-if4
     returns-4
     rule-symbol-requires
-    add-t16
-    mul-t19
-    slice-read-t14
+    add-t15
+    mul-t18
+    slice-read-t13
     add-plus
     mul-plus
     slice-read-plus

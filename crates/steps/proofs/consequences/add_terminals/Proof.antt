@@ -22,10 +22,10 @@ use Rattle.steps.proofs.consequences.add_terminals.Statement.{statement
 use Rattle.steps.proofs.consequences.add_terminals.Tie as tie
 
 abbrev Inv-loop : tie.InvT-loop
-Inv-loop g h wants plans pivots graph chart₀ index₀ j near at want m n e₀ chart index e = (e ≤ n) × (length chart ≡ length chart₀) × Gathered chart₀ (λ i. withTerminal (grammarOf g) (graphOf g h) (itemOf (grammarOf g) (recordAt chart₀ j)) (recordAt chart₀ j .count) j i) chart e × (length index ≡ length index₀) × Ready g h wants pivots chart index
+Inv-loop g h plans keys graph chart₀ index₀ j near at want m n e₀ chart index e = (e ≤ n) × (length chart ≡ length chart₀) × Gathered chart₀ (λ i. withTerminal (grammarOf g) (graphOf g h) (itemOf (grammarOf g) (recordAt chart₀ j)) (recordAt chart₀ j .count) j i) chart e × (length index ≡ length index₀) × Ready g h keys chart index
 
 abbrev μ-loop : tie.MeasureT-loop
-μ-loop g h wants plans pivots graph chart₀ index₀ j near at want m n e₀ chart index e = n - e
+μ-loop g h plans keys graph chart₀ index₀ j near at want m n e₀ chart index e = n - e
 
 mul-at : tie.Need-mul-at Inv-loop μ-loop
 mul-at c = omega (arith, handled-small _ _ (c .before .before .before .before .pre .1 .small) (c .before .before .before .before .pre .2 .there))
@@ -52,7 +52,7 @@ slice-read-want-of-2 : tie.Need-slice-read-want-of-2 Inv-loop μ-loop
 slice-read-want-of-2 c = omega (arith, item-fits (c .before .before .before .before .before .before .args .chart .now) (c .before .before .before .before .before .before .args .j) (c .before .before .before .before .before .before .pre .2 .there))
 
 want-of-requires : tie.Need-want-of-requires Inv-loop μ-loop
-want-of-requires c κs = search needs
+want-of-requires c κs = (c .before .before .before .before .before .before .pre .0 .accepted .grammar, c .before .before .before .before .before .before .pre .0 .planned)
 
 add-candidates : tie.Need-add-candidates Inv-loop μ-loop
 add-candidates c = omega (arith, handled-small _ _ (c .before .before .before .before .before .before .before .pre .1 .small) (c .before .before .before .before .before .before .before .pre .2 .there))
@@ -71,14 +71,13 @@ part-candidates-end c = omega (arith, item-fits (c .before .before .before .befo
 
 candidates-requires : tie.Need-candidates-requires Inv-loop μ-loop
 unfolding recordAt ofWords blockAt fieldAt tabulate
-candidates-requires c κs =
-    let x = recordAt (c .before .before .before .before .before .before .before .before .before .args .chart .now) (c .before .before .before .before .before .before .before .before .before .args .j) in (
-      c .before .before .before .before .before .before .before .before .before .pre .0 .accepted,
-      c .before .before .before .before .before .before .before .before .before .pre .0 .planned,
-      c .before .before .before .before .before .before .before .before .before .pre .0 .graphed,
-      c .before .before .want-of .ensures ∙ c .before .before .before .before .before .before .before .before .before .pre .0 .wanted .each (x .of) (x .plan) ∙ sym (ap (λ (z : Record). wantOf (grammarOf (c .before .before .before .before .before .before .before .before .before .args .g .now)) (z .of) (z .plan)) (part-record-at (c .before .before .before .before .before .before .before .before .before .args .chart .now) (c .before .before .before .before .before .before .before .before .before .args .j) (2 + 16 * c .before .before .before .before .before .before .before .before .before .args .j) (2 + 16 * c .before .before .before .before .before .before .before .before .before .args .j + 16 - (2 + 16 * c .before .before .before .before .before .before .before .before .before .args .j)) refl (omega arith) (item-fits (c .before .before .before .before .before .before .before .before .before .args .chart .now) (c .before .before .before .before .before .before .before .before .before .args .j) (c .before .before .before .before .before .before .before .before .before .pre .2 .there)))),
-      part-length (c .before .before .before .before .before .before .before .before .before .args .chart .now) (c .before .before .before .before .before .before .before .before .before .args .j) (2 + 16 * c .before .before .before .before .before .before .before .before .before .args .j) (2 + 16 * c .before .before .before .before .before .before .before .before .before .args .j + 16 - (2 + 16 * c .before .before .before .before .before .before .before .before .before .args .j)) refl (omega arith) (item-fits (c .before .before .before .before .before .before .before .before .before .args .chart .now) (c .before .before .before .before .before .before .before .before .before .args .j) (c .before .before .before .before .before .before .before .before .before .pre .2 .there)),
-    )
+candidates-requires c κs = (
+  c .before .before .before .before .before .before .before .before .before .pre .0 .accepted,
+  c .before .before .before .before .before .before .before .before .before .pre .0 .planned,
+  c .before .before .before .before .before .before .before .before .before .pre .0 .graphed,
+  c .before .before .want-of .ensures ∙ sym (ap (λ (z : Record). wantOf (grammarOf (c .before .before .before .before .before .before .before .before .before .args .g .now)) (z .of) (z .plan)) (part-record-at (c .before .before .before .before .before .before .before .before .before .args .chart .now) (c .before .before .before .before .before .before .before .before .before .args .j) (2 + 16 * c .before .before .before .before .before .before .before .before .before .args .j) (2 + 16 * c .before .before .before .before .before .before .before .before .before .args .j + 16 - (2 + 16 * c .before .before .before .before .before .before .before .before .before .args .j)) refl (omega arith) (item-fits (c .before .before .before .before .before .before .before .before .before .args .chart .now) (c .before .before .before .before .before .before .before .before .before .args .j) (c .before .before .before .before .before .before .before .before .before .pre .2 .there)))),
+  part-length (c .before .before .before .before .before .before .before .before .before .args .chart .now) (c .before .before .before .before .before .before .before .before .before .args .j) (2 + 16 * c .before .before .before .before .before .before .before .before .before .args .j) (2 + 16 * c .before .before .before .before .before .before .before .before .before .args .j + 16 - (2 + 16 * c .before .before .before .before .before .before .before .before .before .args .j)) refl (omega arith) (item-fits (c .before .before .before .before .before .before .before .before .before .args .chart .now) (c .before .before .before .before .before .before .before .before .before .args .j) (c .before .before .before .before .before .before .before .before .before .pre .2 .there)),
+)
 
 same-length : tie.Need-same-length Inv-loop μ-loop
 same-length c = search needs
@@ -104,7 +103,7 @@ loop-less : tie.Need-loop-less Inv-loop μ-loop
 loop-less c = omega (arith, c .before .before .before .before .before .before .before .loop-test .taken)
 
 loop-again : tie.Need-loop-again Inv-loop μ-loop
-loop-again c = (omega (arith, c .before .before .before .before .before .before .before .loop-test .taken), c .before .before .before .before .add-candidate .kept .1 .1 .1 .1 .1 .1 .0 ∙ c .before .before .before .before .before .before .before .before .loop .inv .1, edge-next (c .before .before .before .before .before .before .before .before .before .before .before .before .before .before .before .before .before .before .before .before .before .args .g .now) (c .before .before .before .before .before .before .before .before .before .before .before .before .before .before .before .before .before .before .before .before .before .args .h .now) (c .before .before .before .before .before .before .before .before .before .before .before .before .before .before .before .before .before .before .before .before .before .args .chart .now) (c .before .before .before .before .before .before .before .before .before .before .before .before .before .before .before .before .before .before .before .before .before .args .j) (c .before .before .before .before .before .before .before .before .before .before .before .before .before .before .before .before .before .before .before .before .before .args .near) (c .before .before .before .before .before .before .before .before .before .before .before .before .before .before .before .before .before .before .before .before .before .pre .1 .fits) (c .before .before .before .before .before .before .before .before .before .before .before .before .before .before .before .before .before .before .before .before .before .pre .2) (c .before .before .before .before .before .before .before .before .loop .chart) (c .before .before .before .before .before .before .before .before .loop .e) (c .before .before .before .before .before .before .before .before .loop .inv .2) _ _ (omega arith) (c .before .before .before .before .add-candidate .ensures .0), c .before .before .before .before .add-candidate .kept .1 .1 .1 .1 .1 .1 .1 .0 ∙ c .before .before .before .before .before .before .before .before .loop .inv .3, c .before .before .before .before .add-candidate .ensures .1)
+loop-again c = (omega (arith, c .before .before .before .before .before .before .before .loop-test .taken), c .before .before .before .before .add-candidate .kept .1 .1 .1 .1 .1 .0 ∙ c .before .before .before .before .before .before .before .before .loop .inv .1, edge-next (c .before .before .before .before .before .before .before .before .before .before .before .before .before .before .before .before .before .before .before .before .before .args .g .now) (c .before .before .before .before .before .before .before .before .before .before .before .before .before .before .before .before .before .before .before .before .before .args .h .now) (c .before .before .before .before .before .before .before .before .before .before .before .before .before .before .before .before .before .before .before .before .before .args .chart .now) (c .before .before .before .before .before .before .before .before .before .before .before .before .before .before .before .before .before .before .before .before .before .args .j) (c .before .before .before .before .before .before .before .before .before .before .before .before .before .before .before .before .before .before .before .before .before .args .near) (c .before .before .before .before .before .before .before .before .before .before .before .before .before .before .before .before .before .before .before .before .before .pre .1 .fits) (c .before .before .before .before .before .before .before .before .before .before .before .before .before .before .before .before .before .before .before .before .before .pre .2) (c .before .before .before .before .before .before .before .before .loop .chart) (c .before .before .before .before .before .before .before .before .loop .e) (c .before .before .before .before .before .before .before .before .loop .inv .2) _ _ (omega arith) (c .before .before .before .before .add-candidate .ensures .0), c .before .before .before .before .add-candidate .kept .1 .1 .1 .1 .1 .1 .0 ∙ c .before .before .before .before .before .before .before .before .loop .inv .3, c .before .before .before .before .add-candidate .ensures .1)
 
 same-length-2 : tie.Need-same-length-2 Inv-loop μ-loop
 same-length-2 c = c .before .loop .inv .1
