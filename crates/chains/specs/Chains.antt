@@ -9,12 +9,12 @@ use Rattle.masks.specs.Masks.{_∪_, single}
 use Rattle.agenda.specs.declared.Record.{Record}
 use Rattle.agenda.specs.Consequences.{recordIn}
 
--- The rule or symbol, the plan node and the edges of a record, mixed; its map is left out, since it is known last. Six bits of each of the small ones stand side by side in one number, so that one product mixes them; the sum of words below 2^64 stays below 2^63.
+-- The rule or symbol, the plan node, the edges and the first two nodes of a record, mixed. Six bits of each of the small ones stand side by side in one number, so that one product mixes them; the sum of words below 2^64 stays below 2^63.
 unfoldable pub mixed : Record → ℕ
 mixed x =
     x .edges % 4294967296 * 191825777
     + x .edges / 4294967296 * 139261425
-    + (x .of % 64 + x .plan % 64 * 64) * 2507321997
+    + (x .of % 64 + x .plan % 64 * 64 + getD (x .nodes) 0 0 % 64 * 4096 + getD (x .nodes) 1 0 % 64 * 262144) * 2507321997
 
 -- its lower 32 bits, of which a bucket and a bit are made
 unfoldable pub hashOf : Record → ℕ

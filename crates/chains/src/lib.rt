@@ -7,13 +7,13 @@ ghost use Rattle.records.specs.Words.{ofWords, itemCount, chartOf};
 ghost use Rattle.chains.specs.Chains.{hashOf, Chained, linked, Cleared};
 use agenda::Found;
 
-// The hash of a record, by its rule or symbol, its plan node and its edges: these are known before its map is.
+// The hash of a record, by its rule or symbol, its plan node, its edges and two of its nodes. Words of the map that was just made are slow to read: more of them cost more than they tell apart.
 pub fn hash(x: &[u64]) -> u64
     requires { ⌜ length (now x) ≡ 16 ⌝ }
     ensures { λ r. ⌜ (r ≡ hashOf (ofWords (now (x .entry)))) × (r < 4294967296) ⌝ }
 {
     let edges = x[3];
-    let small = x[1] % 64 + x[2] % 64 * 64;
+    let small = x[1] % 64 + x[2] % 64 * 64 + x[6] % 64 * 4096 + x[7] % 64 * 262144;
     let mix = edges % 4294967296 * 191825777 + edges / 4294967296 * 139261425 + small * 2507321997;
     mix % 4294967296
 }
