@@ -10,9 +10,9 @@ use borrow.Author.Tests.{le-leb, lt-leb}
 use Rattle.questions.specs.Reading.{Outcome as Reading}
 use Rattle.questions.specs.declared.Answer.{Answer as ReadingAnswer}
 use Rattle.readers.specs.Readers.{Gives}
-use Rattle.chart.specs.Calls.{numberOf as chartNumber, startOf, runOf}
-use Rattle.chart.specs.Facts.{StartChoices, RunChoices}
-use Rattle.chart.specs.declared.Outcome.{Outcome}
+use Rattle.charting.specs.Calls.{numberOf as chartNumber, startOf, runOf}
+use Rattle.charting.specs.Facts.{StartChoices, RunChoices}
+use Rattle.charting.specs.declared.Outcome.{Outcome}
 use Rattle.writing.specs.Writing.{numberOf as writingNumber, writeOf}
 use Rattle.writing.specs.Filling.{fillOf}
 use Rattle.writing.specs.Demand.{WriteChoices, FillChoices}

@@ -2,10 +2,10 @@
 use mathlib.Core.Path.{_≡_}
 use mathlib.Core.List.{List}
 use Prim.Native.Nat.{ℕ}
-use Rattle.chart.specs.Calls.{numberOf as chartNumber, startOf, runOf}
-use Rattle.chart.specs.Facts.{StartChoices, RunChoices}
-use Rattle.chart.specs.declared.Outcome.{Outcome}
-use Rattle.chart.specs.declared.Outcome.the-variants.{Unfit as Unfit-chart, TooSmall as TooSmall-chart, Unfinished as Unfinished-chart, Done}
+use Rattle.charting.specs.Calls.{numberOf as chartNumber, startOf, runOf}
+use Rattle.charting.specs.Facts.{StartChoices, RunChoices}
+use Rattle.charting.specs.declared.Outcome.{Outcome}
+use Rattle.charting.specs.declared.Outcome.the-variants.{Unfit as Unfit-chart, TooSmall as TooSmall-chart, Unfinished as Unfinished-chart, Done}
 use Rattle.writing.specs.Writing.{numberOf as writingNumber, writeOf}
 use Rattle.writing.specs.Filling.{fillOf}
 use Rattle.writing.specs.Demand.{WriteChoices, FillChoices}

@@ -6,14 +6,14 @@ ghost use lib.Dec.{leb};
 ghost use Rattle.questions.specs.Layout.{grammarWords, graphWords};
 ghost use Rattle.questions.specs.Reading.{readGrammar};
 ghost use Rattle.questions.specs.Checking.{readGraph};
-ghost use Rattle.chart.specs.Calls.{numberOf as chartNumber, startOf, runOf};
-ghost use Rattle.chart.specs.Facts.{StartChoices, RunChoices};
+ghost use Rattle.charting.specs.Calls.{numberOf as chartNumber, startOf, runOf};
+ghost use Rattle.charting.specs.Facts.{StartChoices, RunChoices};
 ghost use Rattle.writing.specs.Writing.{numberOf as writingNumber, writeOf};
 ghost use Rattle.writing.specs.Demand.{WriteChoices};
 ghost use Rattle.replayer.specs.Verdicts.{numberOf as verdictNumber, replayOf, Exact};
 ghost use Rattle.programs.specs.Files.{FileGives, numbered};
 ghost use Rattle.capi.specs.Crossing.{stepsTold, bytesTold, Started, Ran, Written, FilledRow, Replayed};
-use chart::Outcome;
+use charting::Outcome;
 use writing::Answer;
 use writing::Application;
 

@@ -16,15 +16,15 @@ use Rattle.records.specs.Words.{Fits, capacity, itemCount, recordsAt, chartOf, 
 use Rattle.records.proofs.WordLaws.{length-records}
 use Rattle.validity.specs.Checking.{holds, knownChart}
 use Rattle.steps.specs.Runs.{nextIn}
-use Rattle.chart.specs.Calls.{Called, fit, fitChart, whenWaiting, answerOf, startAnswer, startOf, runOf, runsOf, standingOf}
-use Rattle.chart.specs.Facts.{RunRight, StartChoices, RunChoices}
-use Rattle.chart.specs.declared.Outcome.{Outcome}
-use Rattle.chart.specs.declared.Outcome.the-variants.{Unfit, TooSmall, Unfinished, Done}
+use Rattle.charting.specs.Calls.{Called, fit, fitChart, whenWaiting, answerOf, startAnswer, startOf, runOf, runsOf, standingOf}
+use Rattle.charting.specs.Facts.{RunRight, StartChoices, RunChoices}
+use Rattle.charting.specs.declared.Outcome.{Outcome}
+use Rattle.charting.specs.declared.Outcome.the-variants.{Unfit, TooSmall, Unfinished, Done}
 use Rattle.hrg.proofs.Degrees.{and-true as both}
 use Rattle.validity.proofs.KnownCharts.{holds-header, holds-most, known-fits}
-use Rattle.chart.proofs.Waiting.{none-waits, some-waits, idle-counted}
-use Rattle.chart.proofs.Calls.{and-both, start-is, start-not, run-is, run-not, run-chart}
-use Rattle.chart.proofs.Demand.{runs-right, start-right}
+use Rattle.charting.proofs.Waiting.{none-waits, some-waits, idle-counted}
+use Rattle.charting.proofs.Calls.{and-both, start-is, start-not, run-is, run-not, run-chart}
+use Rattle.charting.proofs.Demand.{runs-right, start-right}
 
 -- ---- question 8
 module _ (g h w : List ℕ) (a : Bool) (size : a ≡ holds w) where

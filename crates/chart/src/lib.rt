@@ -5,23 +5,15 @@ ghost use Rattle.agenda.specs.declared.Found.the-variants.{Nowhere};
 ghost use Rattle.agenda.specs.Steps.{handledCount};
 ghost use Rattle.records.specs.Words.{itemCount, recordsAt, chartOf};
 ghost use Rattle.steps.specs.Runs.{nextIn};
-ghost use Rattle.chart.specs.Calls.{fit, answerOf, startOf, runOf, standingOf};
-ghost use Rattle.chart.specs.Facts.{StartChoices, RunChoices};
-
-// What start and run answer: the tables or the chart are refused (8), the chart does not hold the closure (9), items wait after the steps done since start (10),
-// or all are handled after so many steps.
-pub enum Outcome {
-    Unfit,
-    TooSmall,
-    Unfinished(u64),
-    Done(u64),
-}
+ghost use Rattle.charting.specs.Calls.{fit, answerOf, startOf, runOf, standingOf};
+ghost use Rattle.charting.specs.Facts.{StartChoices, RunChoices};
+use charting::Outcome;
 
 // Question 8 before a start: does the chart hold 1 to 4,096 items, and could texts have filled the tables?
 fn is_fit(grammar: &[u64], graph: &[u64], chart: &[u64]) -> bool
     ensures { λ r. ⌜ r ≡ fit (now (grammar .entry)) (now (graph .entry)) (now (chart .entry)) ⌝ }
 {
-    if !validity::holds(chart) {
+    if !validator::holds(chart) {
         return false;
     }
     if !tables::checking::check_grammar(grammar) {
@@ -80,7 +72,7 @@ pub fn standing(grammar: &[u64], graph: &[u64], chart: &[u64]) -> Outcome
     if !is_fit(grammar, graph, chart) {
         return Outcome::Unfit;
     }
-    let tested = validity::known(grammar, graph, chart);
+    let tested = validator::known(grammar, graph, chart);
     if !tested.known {
         return Outcome::Unfit;
     }
@@ -94,7 +86,7 @@ pub fn run(grammar: &[u64], graph: &[u64], chart: &mut [u64], steps: u64) -> Out
     if !is_fit(grammar, graph, chart) {
         return Outcome::Unfit;
     }
-    if !validity::known(grammar, graph, chart).known {
+    if !validator::known(grammar, graph, chart).known {
         return Outcome::Unfit;
     }
     let all = steps::advance(grammar, graph, chart, steps);

@@ -11,10 +11,10 @@ use borrow.Author.Tests.{eq-eqb, ne-eqb}
 use denote.Enum.Declared.{tagOf}
 use types.Run.{OneOf, miss}
 use Rattle.questions.specs.Layout.{grammarWords, graphWords}
-use Rattle.chart.specs.Calls.{numberOf as chartNumber, startOf, runOf}
-use Rattle.chart.specs.declared.Outcome.{Outcome}
-use Rattle.chart.proofs.Outcome.{the-type as outcome-type}
-use Rattle.chart.specs.declared.Outcome.the-variants.{Unfit as Unfit-chart, TooSmall as TooSmall-chart, Unfinished as Unfinished-chart, Done}
+use Rattle.charting.specs.Calls.{numberOf as chartNumber, startOf, runOf}
+use Rattle.charting.specs.declared.Outcome.{Outcome}
+use Rattle.charting.proofs.Outcome.{the-type as outcome-type}
+use Rattle.charting.specs.declared.Outcome.the-variants.{Unfit as Unfit-chart, TooSmall as TooSmall-chart, Unfinished as Unfinished-chart, Done}
 use Rattle.writing.specs.Writing.{numberOf as writingNumber, writeOf}
 use Rattle.writing.specs.Demand.{WriteChoices}
 use Rattle.writing.specs.declared.Answer.{Answer}

@@ -5,12 +5,12 @@ ghost use Prim.Native.Nat.{_+_, _≤_};
 ghost use lib.ListN.{length, drop};
 ghost use lib.Seq.{sets};
 ghost use Rattle.format.specs.Writing.{lineText};
-ghost use Rattle.chart.specs.Calls.{numberOf as chartNumber};
+ghost use Rattle.charting.specs.Calls.{numberOf as chartNumber};
 ghost use Rattle.writing.specs.Writing.{numberOf as writingNumber};
 ghost use Rattle.replayer.specs.Verdicts.{numberOf as verdictNumber};
 ghost use Rattle.programs.specs.Files.{readingNumber, grammarFile, graphFile, filesOf, FileGives, FilesGive};
 ghost use Rattle.programs.specs.Programs.{refusalLine, stepsLine, Prints, derivedText, writeChart, deriveTables, deriveFiles, replayTables, replayFiles};
-use chart::Outcome;
+use charting::Outcome;
 use questions::Answer;
 use replayer::Verdict;
 

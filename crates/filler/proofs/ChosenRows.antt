@@ -9,7 +9,7 @@ use Rattle.hrg.specs.Trees.{Tree, Parts, apply, end, edge, tree, images, Fits, 
 use Rattle.questions.specs.Layout.{ruleCount, ruleNodes}
 use Rattle.questions.specs.Abstract.{ruleFrom, grammarOf, graphOf}
 use Rattle.questions.proofs.WellFormedLists.{length-build, getD-build}
-use Rattle.chart.proofs.Calls.{fit-grammar, fit-graph}
+use Rattle.charting.proofs.Calls.{fit-grammar, fit-graph}
 use Rattle.scripts.specs.Scripts.{rowsText, WritableRows}
 use Rattle.preorder.specs.Rows.{size, partNumbers, treeRows, partRows, rowsOf}
 use Rattle.derivation.specs.Derivations.{derivationText}

@@ -1,6 +1,6 @@
 -- The indexes as a record comes, is improved or taken.
 use Prim.Native.Nat.{ℕ, _+_, _*_, _≤_, _<_}
-use mathlib.Core.Path.{_≡_, refl, sym, ap, _∙_, subst}
+use mathlib.Core.Path.{_≡_, refl, sym, ap, ap₂, _∙_, subst}
 use mathlib.Core.List.{List, [], _∷_, _++_}
 use mathlib.Core.Bool.{Bool, true, false, not, cond}
 use native.Mathlib.Omega.{arith}
@@ -19,7 +19,7 @@ use Rattle.records.specs.Words.{itemCount, recordAt, recordsAt, chartOf}
 use Rattle.records.proofs.WordLaws.{length-records, Below, one, least-below}
 use Rattle.chains.specs.Chains.{hashOf, Chained, Cleared, linked}
 use Rattle.chains.proofs.ChainLaws.{chained-more, chained-improved, chained-handled}
-use Rattle.ranking.specs.Ranking.{orderOf, orderAt, Ranked, Replaces, takenFrom}
+use Rattle.ranking.specs.Ranking.{orderOf, orderAt, Ranked, Blank, Replaces, takenFrom}
 use Rattle.ranking.proofs.Orders.{order-past, waiting-order, appended-order, improved-order}
 use Rattle.lists.specs.Lists.{Listed, Unlisted, Ready, Within, enteredAll}
 use Rattle.lists.proofs.ListLaws.{listed-none, listed-ready, listed-entered-all}
@@ -88,7 +88,7 @@ module _ (ix new : List ℕ) (s : length ix ≡ indexWords) (e : length new ≡ 
   ranks-mark = word-behind 12288 4231 ix new (omega arith) e 41097 (omega arith)
 
 module _ (ix new : List ℕ) (s : length ix ≡ indexWords) (e : length new ≡ 24578) where
-  lists-size : length (put 16519 24578 ix new) ≡ indexWords
+  pub lists-size : length (put 16519 24578 ix new) ≡ indexWords
   lists-size = length-put 16519 24578 ix new (omega arith) e ∙ s
 
   lists-new : listsOf (put 16519 24578 ix new) ≡ new
@@ -147,15 +147,10 @@ module _ (keys : List ℕ) where
     new-is : put 16519 24578 ix new ≡ withKeys ix n (keysOf keys x)
     new-is = ap (put 16519 24578 ix) (q ∙ ap (enteredAll (listsOf ix) (5 * n)) e)
 
-    pub list-regular : t ≡ true → put 16519 24578 ix new ≡ listedWith keys ix n x
+    -- the mark where the record is irregular
+    pub list-marked : (v : List ℕ) → v ≡ cond t (put 16519 24578 ix new) (set (put 16519 24578 ix new) 41097 1) → v ≡ listedWith keys ix n x
     unfolding listedWith
-    list-regular p = new-is ∙ sym (ap (λ b. cond b (withKeys ix n (keysOf keys x)) (set (withKeys ix n (keysOf keys x)) 41097 1)) (sym r ∙ p))
-
-    pub list-irregular : t ≡ false → set (put 16519 24578 ix new) 41097 1 ≡ listedWith keys ix n x
-    unfolding listedWith
-    list-irregular p =
-        ap (λ (v : List ℕ). set v 41097 1) new-is
-        ∙ sym (ap (λ b. cond b (withKeys ix n (keysOf keys x)) (set (withKeys ix n (keysOf keys x)) 41097 1)) (sym r ∙ p))
+    list-marked v p = p ∙ ap₂ (λ (b : Bool) (u : List ℕ). cond b u (set u 41097 1)) r new-is
 
   -- ---- one record more
   regular-more : (rs : List Record) (x : Record) → regularOf keys x ≡ true → Regular rs → Regular (rs ++ (x ∷ []))
@@ -264,10 +259,18 @@ module _ (keys : List ℕ) where
 
 -- ---- made of zeros: the links, the ranking, the lists
 module _ (ix links : List ℕ) (rs : List Record) (e : Empty ix) (c : Chained links rs) where
-  module _ (ranks : List ℕ) (r : Ranked ranks rs) where
-    mid-size : length (put 0 12288 ix links) ≡ indexWords
-    mid-size = links-size ix links (e .size) (c .words)
+  mid-size : length (put 0 12288 ix links) ≡ indexWords
+  mid-size = links-size ix links (e .size) (c .words)
 
+  pub ranks-blank : Blank (ranksOf (put 0 12288 ix links))
+  ranks-blank =
+      let s = e .size in
+      record {
+        size = length-part 12288 4231 (put 0 12288 ix links) (omega (arith, mid-size));
+        zeros = λ n. ap (λ (w : List ℕ). getD w n 0) (links-ranks ix links (e .size) (c .words)) ∙ part-zeros 12288 4231 ix (omega arith) (e .zeros) n;
+      }
+
+  module _ (ranks : List ℕ) (r : Ranked ranks rs) where
     pub both-size : length (put 12288 4231 (put 0 12288 ix links) ranks) ≡ indexWords
     both-size = ranks-size (put 0 12288 ix links) ranks mid-size (r .size)
 

@@ -3,7 +3,7 @@
 // joined find each other, a word that tells whether some record is irregular, and beside each record a set that holds
 // the open graph nodes of its edges, so that whoever joins it need not look for them.
 ghost use mathlib.Core.Path.{_≡_};
-ghost use mathlib.Core.Bool.{false};
+ghost use mathlib.Core.Bool.{false, cond};
 ghost use mathlib.Core.List.{List, [], _∷_, _++_};
 ghost use Prim.Native.Nat.{ℕ, _+_, _≤_, _<_};
 ghost use lib.Dec.{eqb};
@@ -19,7 +19,7 @@ ghost use Rattle.ranking.specs.Ranking.{Ranked, takenFrom};
 ghost use Rattle.joins.specs.Joins.{Accepted, Spans};
 ghost use Rattle.joins.specs.Graphs.{GraphTable};
 ghost use Rattle.lists.specs.Lists.{Within, Ready, Unlisted};
-ghost use Rattle.lists.specs.Cursors.{alone, startsOf, passedOf, Skims, SkimsAll};
+ghost use Rattle.lists.specs.Cursors.{startsOf, passedOf, Skims, SkimsAll};
 ghost use Rattle.index.specs.Quiet.{quietIn};
 ghost use Rattle.index.specs.Index.{indexWords, ranksOf, listsOf, nearOf, Indexed, Empty, Keyed, Kept, listedWith, Spanned, nearPut, NearKept};
 use agenda::Found;
@@ -31,18 +31,40 @@ const LISTS: usize = 16519;
 // where the lists end: the word that is not 0 once a record was irregular, and behind it the sets, two words each
 const MARK: usize = 41097;
 
+// That a record is irregular is kept in mind.
+fn mark(index: &mut [u32], regular: bool)
+    requires { ⌜ length (now index) ≡ indexWords ⌝ }
+    ensures { λ r. ⌜ now (index .exit) ≡ cond regular (now (index .entry)) (set (now (index .entry)) 41097 1) ⌝ }
+{
+    if regular {
+        return;
+    }
+    index[MARK] = 1;
+}
+
 // Record n, one more than there are, is that of the words x: it comes on the lists of its keys.
-fn list(keys: &[u64; 2240], index: &mut [u32], n: u64, x: &[u64])
+fn list_many(keys: &[u64; 2240], index: &mut [u32], n: u64, x: &[u64])
     requires { ⌜ (length (now index) ≡ indexWords) × Ready (listsOf (now index)) × (n < 4096) × (length (now x) ≡ 16) ⌝ }
     ensures { λ r. ⌜ now (index .exit) ≡ listedWith (now (keys .entry)) (now (index .entry)) n (ofWords (now (x .entry))) ⌝ }
 {
     let listing = pivots::listing(keys, x);
     let own = listing.keys;
     lists::enter_all(&mut index[LISTS..MARK], 5 * n, own);
-    if listing.regular {
+    mark(index, listing.regular);
+}
+
+// The same; most records have one key, which comes without an array.
+fn list(keys: &[u64; 2240], index: &mut [u32], n: u64, x: &[u64])
+    requires { ⌜ (length (now index) ≡ indexWords) × Ready (listsOf (now index)) × (n < 4096) × (length (now x) ≡ 16) ⌝ }
+    ensures { λ r. ⌜ now (index .exit) ≡ listedWith (now (keys .entry)) (now (index .entry)) n (ofWords (now (x .entry))) ⌝ }
+{
+    let own = pivots::entry(keys, x);
+    if !own.single {
+        list_many(keys, index, n, x);
         return;
     }
-    index[MARK] = 1;
+    lists::enter_one(&mut index[LISTS..MARK], 5 * n, own.key);
+    mark(index, own.regular);
 }
 
 // The lists of a chart's records, which come one after another: there is none before.
@@ -116,7 +138,7 @@ pub fn build(
     ensures { λ r. ⌜ Indexed (now (keys .entry)) (now (index .exit)) (chartOf (now (chart .entry)) .records) × Spanned (now (g .entry)) (now (h .entry)) (now (index .exit)) (chartOf (now (chart .entry)) .records) ⌝ }
 {
     chains::build(chart, &mut index[0..RANKS]);
-    ranking::build(&mut index[RANKS..LISTS]);
+    ranking::build(chart, &mut index[RANKS..LISTS]);
     list_all(keys, chart, index);
     span_all(g, h, graph, chart, index);
 }
@@ -218,14 +240,6 @@ pub fn after(index: &[u32], c: u64) -> u64
     ensures { λ r. ⌜ r ≡ getD (listsOf (now (index .entry))) (4097 + c) 0 ⌝ }
 {
     lists::after(&index[LISTS..MARK], c)
-}
-
-// One cursor goes on over the entries of quiet records of the first n.
-pub fn sought(chart: &[u64], index: &[u32], edges: u64, n: u64, c: u64) -> u64
-    requires { ⌜ (length (now index) ≡ indexWords) × (n ≤ itemCount (now chart)) × (n ≤ 4096) ⌝ }
-    ensures { λ r. ⌜ SkimsAll (quietIn (now (chart .entry)) edges) (listsOf (now (index .entry))) n (alone c) (alone r) ⌝ }
-{
-    skim(&index[LISTS..MARK], chart, edges, n, c)
 }
 
 // Whether no record is irregular.

@@ -84,11 +84,11 @@ pub least-by : (cs : List ℕ) (m : ℕ) → m ≡ nearestOf cs → ((m - 1) / 5
 unfolding leastOf
 least-by cs m e = (ap (λ i. (i - 1) / 5) e, omega (arith, nearest-pos cs m e .1))
 
--- ---- one cursor
-pub alone-nearest : (c m : ℕ) → m ≡ nearer 20481 c → m ≡ nearestOf (alone c)
-unfolding nearestOf nearer
-alone-nearest c m p = p
+pub least-few : (cs : List ℕ) → leastOf cs ≤ 4096
+unfolding leastOf
+least-few cs = least-by cs (nearestOf cs) refl .1
 
+-- ---- one cursor goes on
 module _ (ws : List ℕ) (to c : ℕ) where
   pub moved-end : c ≡ 0 → 0 ≡ movedOn ws to c
   unfolding movedOn
@@ -293,6 +293,10 @@ pub skims-by : (quiet hushed : ℕ → Bool) (ws : List ℕ) (n c r : ℕ) → (
 skims-by quiet hushed ws n c r same (stays _ e) = stays r e
 skims-by quiet hushed ws n c r same (goes _ d s p l q e) = goes r d (skims-by quiet hushed ws n c d same s) p l (sym (same ((d - 1) / 5) (omega arith)) ∙ q) e
 
+-- cursors may stay where they are
+pub skims-none : (quiet : ℕ → Bool) (ws : List ℕ) (n : ℕ) (cs : List ℕ) → SkimsAll quiet ws n cs cs
+skims-none quiet ws n cs i l = stays _ refl
+
 -- no entry is missed, and the cursor does not go back
 record Skimmed (quiet : ℕ → Bool) (keys : List ℕ) (b from to c r : ℕ) : Type 0 where
   points : Points quiet keys b from to r
@@ -324,12 +328,16 @@ pub alone-passed : (ws : List ℕ) (c k r : ℕ) → 0 < c → c ≤ 5 * k + 5 �
 unfolding passedOf movedOn
 alone-passed ws c k r h l p = rw (p, ne-eqb c 0 (λ e. omega arith), le-ltb (5 * k + 5) c l)
 
--- a cursor that is at one of the first n records
-pub alone-at : (c k n : ℕ) → k ≡ leastOf (alone c) → k < n → n ≤ 4096 → (0 < c) × (c ≤ 5 * k + 5)
+-- it is at one record, and past the first n ones where it is at none of theirs
+pub alone-least : (c : ℕ) → c ≢ 0 → c ≤ 20480 → (c - 1) / 5 ≡ leastOf (alone c)
 unfolding leastOf nearestOf nearer
-alone-at c k n e l h = go (ℕ-discrete c 0) (decLt c 20481)
-  where
-    go : Dec (c ≡ 0) → Dec (c < 20481) → (0 < c) × (c ≤ 5 * k + 5)
-    go (yes z) d = absurd (let q : k ≡ 4096 = rw z at e in omega arith)
-    go (no z) (no d) = absurd (let q : k ≡ 4096 = rw (ne-eqb c 0 z, le-leb 20481 c (omega arith)) at e in omega arith)
-    go (no z) (yes d) = let q : k ≡ (c - 1) / 5 = rw (ne-eqb c 0 z, lt-leb 20481 c d) at e in (omega arith, omega arith)
+alone-least c z l = rw (ne-eqb c 0 z, lt-leb 20481 c (omega arith))
+
+pub alone-past : (c n : ℕ) → n ≤ 4096 → (c ≢ 0 → 5 * n < c) → n ≤ leastOf (alone c)
+unfolding leastOf
+alone-past c n h p = omega (arith, nearest-is (alone c) .past (5 * n) (omega arith) (five (λ i. 0 < getD (alone c) i 0 → 5 * n < getD (alone c) i 0) (λ o. p (λ e. omega arith)) (λ o. absurd (omega arith)) (λ o. absurd (omega arith)) (λ o. absurd (omega arith)) (λ o. absurd (omega arith))))
+
+-- it goes on over one quiet record
+pub alone-skims : (quiet : ℕ → Bool) (ws : List ℕ) (n c r : ℕ) → c ≢ 0 → c ≤ 5 * n → quiet ((c - 1) / 5) ≡ true → r ≡ getD ws (4097 + c) 0 → SkimsAll quiet ws n (alone c) (alone r)
+alone-skims quiet ws n c r z l q e =
+    five (λ i. Skims quiet ws n (getD (alone c) i 0) (getD (alone r) i 0)) (goes r c (stays c refl) (omega (arith, z)) l q e) (stays 0 refl) (stays 0 refl) (stays 0 refl) (stays 0 refl)

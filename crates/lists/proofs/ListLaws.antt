@@ -11,6 +11,7 @@ use lib.ListN.{length, length-append, getD, set, length-set, replicate, length-r
 use lib.Seq.{getD-set-same, getD-set-other, getD-at, ext-getD}
 use borrow.Author.Tests.{eq-eqb, ne-eqb, le-leb, eqb-true, leb-true}
 use Rattle.lists.specs.Lists.{firstTo, firstFrom, IsLast, Listed, Unlisted, Linkable, tailOf, appended, entered, Ready, enteredAll, Within}
+use Rattle.lists.specs.Cursors.{alone}
 
 -- ---- tests
 cond-by : {A : Type 0} (P : A → Type 0) (t : Bool) {x y : A} → (t ≡ true → P x) → (t ≡ false → P y) → P (cond t x y)
@@ -477,6 +478,10 @@ entered-all-by ws v1 v2 v3 v4 v5 e bs p q r s t =
     (s ∙ ap (λ (v : List ℕ). entered v (e + 3) (getD bs 3 0))
     (r ∙ ap (λ (v : List ℕ). entered v (e + 2) (getD bs 2 0))
     (q ∙ ap (λ (v : List ℕ). entered v (e + 1) (getD bs 1 0)) p)))
+
+-- .. where only the first has a key
+pub entered-one-by : (ws v : List ℕ) (e b : ℕ) → v ≡ entered ws e b → v ≡ enteredAll ws e (alone b)
+entered-one-by ws v e b p = entered-all-by ws v v v v v e (alone b) p (enter-none v (e + 1) 0 refl) (enter-none v (e + 2) 0 refl) (enter-none v (e + 3) 0 refl) (enter-none v (e + 4) 0 refl)
 
 -- words as entries e to e + 3 come, one after another
 module _ (ws : List ℕ) (e : ℕ) (bs : List ℕ) (r : Ready ws) (h : e + 5 ≤ 20480) (l : Within 2048 bs) where

@@ -59,6 +59,14 @@ pub fn enter_all(ws: &mut [u32], e: u64, bs: [u64; 5])
     enter(ws, e + 4, bs[4]);
 }
 
+// The same where a record has one key at most: its other entries are on no list.
+pub fn enter_one(ws: &mut [u32], e: u64, b: u64)
+    requires { ⌜ Ready (now ws) × (e + 5 ≤ 20480) × (b ≤ 2048) ⌝ }
+    ensures { λ r. ⌜ now (ws .exit) ≡ enteredAll (now (ws .entry)) e (alone b) ⌝ }
+{
+    enter(ws, e, b);
+}
+
 // Five cursors, each at the first entry of its key; key 0 has none.
 pub fn starts(ws: &[u32], query: [u64; 5]) -> [u64; 5]
     requires { ⌜ (length (now ws) ≡ 24578) × Within 2048 query ⌝ }
@@ -93,13 +101,6 @@ pub fn least(cs: [u64; 5]) -> u64
     let a = nearer_of(nearer_of(20481, cs[0]), cs[1]);
     let m = nearer_of(nearer_of(nearer_of(a, cs[2]), cs[3]), cs[4]);
     (m - 1) / 5
-}
-
-// The record at which one cursor is, 4096 where it is at the end.
-pub fn record_of(c: u64) -> u64
-    ensures { λ r. ⌜ (r ≡ leastOf (alone c)) × (r ≤ 4096) ⌝ }
-{
-    (nearer_of(20481, c) - 1) / 5
 }
 
 // The entry behind the one that the cursor e is at: its place + 1, 0 for none.

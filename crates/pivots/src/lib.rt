@@ -2,6 +2,7 @@
 // A record comes as its sixteen words, in the order of crate `records`.
 ghost use mathlib.Core.Path.{_≡_};
 ghost use mathlib.Core.Bool.{true};
+ghost use mathlib.Core.List.{[], _∷_};
 ghost use Prim.Native.Nat.{_≤_, _<_};
 ghost use lib.ListN.{length, replicate};
 ghost use Rattle.questions.specs.Checking.{checkGrammar};
@@ -263,6 +264,29 @@ fn place_key(used: u64, tag: u64, s: u64, i: u64, a: u64) -> u64
     mix(base(tag, s, i), a)
 }
 
+// The key that the partners of a record have, where a word of the table tells that there is but one; 0 where it has no partners.
+pub struct AskedKey {
+    pub single: bool,
+    pub key: u64,
+}
+
+// Of a record.
+pub fn asked(keys: &[u64; 2240], x: &[u64]) -> AskedKey
+    requires { ⌜ length (now x) ≡ 16 ⌝ }
+    ensures { λ r. ⌜ (r .single ≡ true → (r .key ∷ 0 ∷ 0 ∷ 0 ∷ 0 ∷ []) ≡ queryOf (now (keys .entry)) (ofWords (now (x .entry)))) ⌝ }
+{
+    let w = word_for(keys, 1024, 2176, x);
+    if w != 0 {
+        let key = mix(w / 16, image(w, x));
+        return AskedKey { single: true, key };
+    }
+    let none = uses_of(keys, x) == 0;
+    AskedKey {
+        single: none,
+        key: 0,
+    }
+}
+
 // The keys that the partners of a record have, 0 for none. The five places are written out here and in `listing`: a function for both would hand an array over by value.
 pub fn query(keys: &[u64; 2240], x: &[u64]) -> [u64; 5]
     requires { ⌜ length (now x) ≡ 16 ⌝ }
@@ -333,5 +357,34 @@ pub fn listing(keys: &[u64; 2240], x: &[u64]) -> Entries
             place_key(u / 16 % 2, 1, s, 4, 64),
         ],
         regular: all_placed(u, x),
+    }
+}
+
+// The key that a record has, where a word of the table tells that there is but one, or 0 where it has none; and whether the node by which it is keyed is there.
+pub struct OwnKey {
+    pub single: bool,
+    pub key: u64,
+    pub regular: bool,
+}
+
+// Of a record.
+pub fn entry(keys: &[u64; 2240], x: &[u64]) -> OwnKey
+    requires { ⌜ length (now x) ≡ 16 ⌝ }
+    ensures { λ r. ⌜ (r .single ≡ true → ((r .key ∷ 0 ∷ 0 ∷ 0 ∷ 0 ∷ []) ≡ keysOf (now (keys .entry)) (ofWords (now (x .entry)))) × (r .regular ≡ regularOf (now (keys .entry)) (ofWords (now (x .entry))))) ⌝ }
+{
+    let w = word_for(keys, 0, 2112, x);
+    if w != 0 {
+        let a = image(w, x);
+        return OwnKey {
+            single: true,
+            key: mix(w / 16, a),
+            regular: (8 <= w % 16) | (a < 64),
+        };
+    }
+    let keyless = uses_of(keys, x) == 0;
+    OwnKey {
+        single: keyless,
+        key: 0,
+        regular: true,
     }
 }

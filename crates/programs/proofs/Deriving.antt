@@ -20,13 +20,13 @@ use Rattle.agenda.specs.declared.Found.the-variants.{Nowhere}
 use Rattle.questions.specs.Abstract.{grammarOf, graphOf}
 use Rattle.records.specs.Words.{capacity, itemCount, recordAt, recordsAt, chartOf}
 use Rattle.records.proofs.WordLaws.{length-records, record-in}
-use Rattle.chart.specs.Calls.{numberOf, stepsOf, Called, fit, fitChart, answerOf, startAnswer, startOf, runOf, runsOf, standingOf}
-use Rattle.chart.specs.Facts.{RunRight}
-use Rattle.chart.specs.declared.Outcome.{Outcome}
-use Rattle.chart.specs.declared.Outcome.the-variants.{Unfit as Unfit-chart, TooSmall as TooSmall-chart, Unfinished as Unfinished-chart, Done}
-use Rattle.chart.proofs.Answers.{answer-done}
-use Rattle.chart.proofs.Calls.{fit-grammar, fit-graph, fit-most, afterStart, start-is, start-eight, run-is, run-chart}
-use Rattle.chart.proofs.Demand.{start-fit, runs-known, runs-chart, runs-right, start-right}
+use Rattle.charting.specs.Calls.{numberOf, stepsOf, Called, fit, fitChart, answerOf, startAnswer, startOf, runOf, runsOf, standingOf}
+use Rattle.charting.specs.Facts.{RunRight}
+use Rattle.charting.specs.declared.Outcome.{Outcome}
+use Rattle.charting.specs.declared.Outcome.the-variants.{Unfit as Unfit-chart, TooSmall as TooSmall-chart, Unfinished as Unfinished-chart, Done}
+use Rattle.charting.proofs.Answers.{answer-done}
+use Rattle.charting.proofs.Calls.{fit-grammar, fit-graph, fit-most, afterStart, start-is, start-eight, run-is, run-chart}
+use Rattle.charting.proofs.Demand.{start-fit, runs-known, runs-chart, runs-right, start-right}
 use Rattle.derivation.specs.Derivations.{derivationText, replayText}
 use Rattle.writing.specs.Writing.{Wrote, goalIn, writeGoal, writeOf, refused as refused-writing}
 use Rattle.writing.specs.Demand.{ClosureSize, FewestTree, WritesTree}

@@ -28,7 +28,7 @@ use Rattle.agenda.specs.Consequences.{gather, atRoot, terminalAt as terminalAt-
 use Rattle.agenda.specs.Steps.{lastSame, placed, added, addedAll, lesser, leastWaiting, handledAt, stepChart, runChart, startChart, runsChart, handledCount, sumOf}
 use Rattle.records.specs.Words.{capacity, itemCount, fieldAt, blockAt, ofWords, recordAt, recordsAt, lesserAt, chartOf, wordsOf, pasted, saved, allWords, written, improvedAt, appendedTo, placedIn, addedTo, markedAt, grownBy}
 use Rattle.validity.specs.Checking.{holds, knownEdges, knownNode, knownNodes, inGraph, knownSecond, knownPartners, knownActive, knownPassive, knownRecord, knownChart}
-use Rattle.chart.specs.Calls.{numberOf as chartNumber, fit, fitChart, answerOf, startAnswer, startOf, runOf, standingOf, runsOf}
+use Rattle.charting.specs.Calls.{numberOf as chartNumber, fit, fitChart, answerOf, startAnswer, startOf, runOf, standingOf, runsOf}
 use Rattle.scripts.specs.Scripts.{rowLines, rowsText, rowBytes, hasLetter, opens, rowsFrom, scriptOf, rowsIn}
 use Rattle.preorder.specs.Rows.{partNumbers, rowsOf, size, treeRows}
 use Rattle.preorder.specs.Replay.{fresh, newNodes, rowTest, edgeTest as edgeTest-preorder, whole, replayed, replays, replayAt}

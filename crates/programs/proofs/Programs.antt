@@ -14,8 +14,8 @@ use Rattle.questions.specs.Checking.{checkGrammar, checkGraph}
 use Rattle.questions.specs.Abstract.{grammarOf, graphOf}
 use Rattle.records.specs.Words.{capacity}
 use Rattle.validity.specs.Checking.{holds}
-use Rattle.chart.specs.Calls.{fit}
-use Rattle.chart.proofs.Calls.{and-both}
+use Rattle.charting.specs.Calls.{fit}
+use Rattle.charting.proofs.Calls.{and-both}
 use Rattle.derivation.specs.Derivations.{replayText}
 use Rattle.replayer.specs.Verdicts.{numberOf as verdictNumber, fitTables, replayOf}
 use Rattle.replayer.specs.declared.Verdict.{Verdict}

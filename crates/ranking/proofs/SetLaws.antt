@@ -1,6 +1,6 @@
 -- The set as a record comes, goes or stays as it was.
 use Prim.Native.Nat.{ℕ, _+_, _-_, _*_, _%_, _≤_, _<_}
-use mathlib.Core.Path.{_≡_, sym, ap, _∙_}
+use mathlib.Core.Path.{_≡_, sym, ap, _∙_, subst}
 use mathlib.Core.Bool.{Bool, true, false}
 use mathlib.Core.List.{List, []}
 use native.Mathlib.Omega.{arith}
@@ -13,9 +13,10 @@ use Rattle.agenda.specs.declared.Record.{Record}
 use Rattle.queues.specs.Queues.{holds, Levels, Inserted, Removed, Cleared}
 use Rattle.agenda.specs.Consequences.{recordIn}
 use Rattle.agenda.specs.Steps.{handledNow}
-use Rattle.ranking.specs.Ranking.{orderOf, orderAt, setOf, Based, Held, Whole, Ranked, Replaces}
+use Rattle.ranking.specs.Ranking.{orderOf, orderAt, setOf, Based, Held, Whole, Ranked, Blank, Replaces}
 use Rattle.ranking.proofs.Orders.{order-positive, order-past, order-some, handled-order}
-use Rattle.ranking.proofs.Parts.{length-part, put, length-put, put-same, word-before}
+use Rattle.queues.proofs.LevelLaws.{zero-levels}
+use Rattle.ranking.proofs.Parts.{length-part, part-zeros, put, length-put, put-same, word-before}
 
 -- ---- the same records, as far as they are ranked
 pub ranked-same : (w : List ℕ) (rs rs′ : List Record) → ((k : ℕ) → orderAt rs′ k ≡ orderAt rs k) → Ranked w rs → Ranked w rs′
@@ -221,11 +222,25 @@ recounted j old n rs rs′ u v w f g R z E =
     g gone rs′ (f rs gone R z H) (H .given) (record { given = E .given; others = λ k d. E .others k d ∙ sym (H .others k d) })
 
 -- ---- no records
+ranked-empty : (w : List ℕ) → length w ≡ 4231 → Cleared (setOf w) → Ranked w []
+ranked-empty w s C = record {
+  size = s;
+  levels = λ q. C .levels;
+  based = λ q j d. absurd (d (order-past [] j (omega arith)));
+  held = λ q p b. C .none p ∙ sym (ne-eqb (orderAt [] (p % 4096)) (4096 * getD w 1 0 + p + 1) (λ t. let z = order-past [] (p % 4096) (omega arith) in omega arith));
+  whole = λ q j. omega (arith, order-past [] j (omega arith));
+}
+
+-- .. where the set was cleared
 pub ranked-none : (w new : List ℕ) → length w ≡ 4231 → Cleared new → Ranked (put 2 4229 w new) []
 ranked-none w new s C =
-    ranked-put w new s (C .levels .size) [] (λ q. C .levels) (λ q j d. absurd (d (order-past [] j (omega arith))))
-    (λ q p b. C .none p ∙ sym (ne-eqb (orderAt [] (p % 4096)) (4096 * getD w 1 0 + p + 1) (λ t. let z = order-past [] (p % 4096) (omega arith) in omega arith)))
-    (λ q j. omega (arith, order-past [] j (omega arith)))
+    ranked-empty (put 2 4229 w new) (length-put 2 4229 w new (omega arith) (C .levels .size) ∙ s) (subst Cleared (sym (put-same 2 4229 w new (omega arith) (C .levels .size))) C)
+
+-- .. where all is 0
+pub ranked-blank : (w : List ℕ) → Blank w → Ranked w []
+ranked-blank w B =
+    let l = B .size in
+    ranked-empty w (B .size) (zero-levels (setOf w) (length-part 2 4229 w (omega arith)) (λ n h. part-zeros 2 4229 w (omega arith) (B .zeros) n))
 
 -- ---- a record that is placed waits or does not
 pub placed-some : (t : Bool) (j n : ℕ) (rs rs′ : List Record) → t ≡ true → Replaces j (orderOf t j n) rs rs′ → Replaces j (orderOf true j n) rs rs′

@@ -52,6 +52,11 @@ pub record Ranked (w : List ℕ) (rs : List Record) : Type 0 where
   pub held : getD w 0 0 < 2 → Held (getD w 1 0) (setOf w) rs
   pub whole : getD w 0 0 ≡ 0 → Whole (getD w 1 0) rs
 
+-- words that are 0: the ranking of no records
+pub record Blank (w : List ℕ) : Type 0 where
+  pub size : length w ≡ 4231
+  pub zeros : (n : ℕ) → getD w n 0 ≡ 0
+
 -- the records rs′ have the orders of rs, but p at place j
 pub record Replaces (j p : ℕ) (rs rs′ : List Record) : Type 0 where
   pub given : orderAt rs′ j ≡ p

@@ -10,7 +10,7 @@ ghost use lib.ListN.{length};
 ghost use Rattle.agenda.specs.declared.Record.{Record};
 ghost use Rattle.agenda.specs.Steps.{leastWaiting};
 ghost use Rattle.records.specs.Words.{itemCount, chartOf};
-ghost use Rattle.ranking.specs.Ranking.{orderOf, orderAt, Ranked, Replaces, takenFrom};
+ghost use Rattle.ranking.specs.Ranking.{orderOf, orderAt, Ranked, Blank, Replaces, takenFrom};
 use agenda::Found;
 use queues::Taken;
 
@@ -158,10 +158,10 @@ pub fn take(chart: &[u64], ranks: &mut [u32]) -> Found
     onward(chart, ranks)
 }
 
-// Words that say nothing are the ranking of any records.
-pub fn build(ranks: &mut [u32])
-    requires { ⌜ length (now ranks) ≡ 4231 ⌝ }
-    ensures { λ r. ⌜ ((rs : List Record) → Ranked (now (ranks .exit)) rs) ⌝ }
+// The records of a chart in words that are 0, from base 0 on: nothing is cleared, and a fresh chart has no other counts.
+pub fn build(chart: &[u64], ranks: &mut [u32])
+    requires { ⌜ Blank (now ranks) × (itemCount (now chart) ≤ 4096) ⌝ }
+    ensures { λ r. ⌜ Ranked (now (ranks .exit)) (chartOf (now (chart .entry)) .records) ⌝ }
 {
-    ranks[0] = 2;
+    fill(chart, ranks);
 }

@@ -9,4 +9,5 @@ pub mod StepLaws
 pub mod CandidateSteps
 pub mod ListedLaws
 pub mod ModeLaws
+pub mod SingleLaws
 pub mod RunLaws

@@ -1,14 +1,12 @@
 -- The loop over the lists of a record's keys: the records that it passes over make nothing with it.
 use Prim.Native.Nat.{ℕ, _+_, _*_, _≤_, _<_, max}
 use mathlib.Core.Path.{_≡_, refl, sym, ap, _∙_, subst}
-use mathlib.Core.Bool.{Bool, true, false, cond, _&&_, false≢true}
+use mathlib.Core.Bool.{Bool, true, false, cond, false≢true}
 use mathlib.Core.List.{List, []}
 use native.Mathlib.Omega.{arith}
-use lib.Dec.{eqb, leb}
+use lib.Dec.{leb}
 use lib.ListN.{length, getD, List·getD-append}
-use lib.Seq.{ext-getD}
-use Rattle.hrg.proofs.Degrees.{and-true}
-use borrow.Author.Tests.{eqb-true, leb-true, leb-false, le-leb, lt-leb}
+use borrow.Author.Tests.{leb-true, leb-false, le-leb, lt-leb}
 use Rattle.hrg.specs.Grammars.{Graph, Grammar}
 use Rattle.masks.specs.Masks.{disjoint}
 use Rattle.hrg.specs.ClosureRun.{guard}
@@ -21,19 +19,20 @@ use Rattle.records.specs.Words.{Fits, capacity, itemCount, recordAt, chartOf, g
 use Rattle.records.proofs.WordLaws.{field-at, length-records, edges-of, record-in}
 use Rattle.records.proofs.Grown.{Whole, whole-gather, whole-guard, grown-none, grown-flag, grown-record}
 use Rattle.lists.specs.Lists.{Within}
-use Rattle.lists.specs.Cursors.{alone, startsOf, leastOf, passedOf, leftAll, Ahead, SkimsAll}
-use Rattle.lists.proofs.ListLaws.{five}
-use Rattle.lists.proofs.CursorLaws.{alone-at, alone-passed, ahead-start, ahead-within, least-none, ahead-passed, ahead-grown, left-falls, skims-by, ahead-skims, left-skims}
+use Rattle.lists.specs.Cursors.{startsOf, leastOf, passedOf, leftAll, Ahead, SkimsAll}
+use Rattle.lists.proofs.CursorLaws.{ahead-start, ahead-within, least-none, ahead-passed, ahead-grown, left-falls, skims-by, ahead-skims, left-skims}
 use Rattle.pivots.specs.Keys.{KeyTable, keysOf, queryOf, regularOf}
 use Rattle.pivots.proofs.KeyLaws.{query-few}
 use Rattle.pivots.proofs.PivotLaws.{keyless}
-use Rattle.index.specs.Index.{listsOf, keysFor}
+use Rattle.index.specs.Index.{listsOf, markOf, keysFor}
 use Rattle.index.specs.Quiet.{quietIn}
 use Rattle.index.proofs.KeyLists.{keys-length, keys-at, keys-grown}
 use Rattle.steps.specs.Partners.{withRecord}
-use Rattle.steps.specs.Ready.{Ready, Regular}
+use Rattle.rules.specs.Plans.{Leads}
+use Rattle.steps.specs.Ready.{Ready, Handled, Regular}
 use Rattle.steps.proofs.PartnerLaws.{unjoined-none, waiting-none, overlap-none}
-use Rattle.steps.proofs.StepLaws.{Gathered, nothing-added, record-whole, gathered-none, gathered-skip, gathered-all, partners-next}
+use Rattle.steps.proofs.ReadyLaws.{stays-record, stays-handled}
+use Rattle.steps.proofs.StepLaws.{Gathered, nothing-added, added-longer, record-whole, gathered-none, gathered-skip, gathered-all, partners-next}
 
 -- ---- a record that may be done already
 pub next-done : (w : List ℕ) → Fits w → (done k : ℕ) (xs : List Record) → k < done → w ≡ grownBy w (guard (leb done k) xs)
@@ -50,28 +49,6 @@ few-items w n l h = omega arith
 -- ---- the keys that are asked for
 pub query-within : (keys : List ℕ) (x : Record) (q : List ℕ) → q ≡ queryOf keys x → Within 2048 q
 query-within keys x q e i h = rw e (query-few keys x i)
-
--- one key, and four that are none
-pub alone-by : (q : List ℕ) → length q ≡ 5 → ((eqb (getD q 1 0) 0 && eqb (getD q 2 0) 0) && eqb (getD q 3 0) 0) && eqb (getD q 4 0) 0 ≡ true → q ≡ alone (getD q 0 0)
-alone-by q l t =
-    let (abc, d) = and-true ((eqb (getD q 1 0) 0 && eqb (getD q 2 0) 0) && eqb (getD q 3 0) 0) (eqb (getD q 4 0) 0) t in
-    let (ab, c) = and-true (eqb (getD q 1 0) 0 && eqb (getD q 2 0) 0) (eqb (getD q 3 0) 0) abc in
-    let (a, b) = and-true (eqb (getD q 1 0) 0) (eqb (getD q 2 0) 0) ab in
-    ext-getD 0 q (alone (getD q 0 0)) l
-    (λ i h. five (λ k. getD q k 0 ≡ getD (alone (getD q 0 0)) k 0) refl (eqb-true _ _ a) (eqb-true _ _ b) (eqb-true _ _ c) (eqb-true _ _ d) i (omega arith))
-
--- ---- one cursor, as five of which four are at the end
-start-alone : (ws : List ℕ) (b r : ℕ) → getD ws 0 0 ≡ 0 → r ≡ getD ws b 0 → alone r ≡ startsOf ws (alone b)
-unfolding startsOf
-start-alone ws b r z p = rw (p, z)
-
-pub alone-opens : (ws q : List ℕ) (r : ℕ) → getD ws 0 0 ≡ 0 → q ≡ alone (getD q 0 0) → r ≡ getD ws (getD q 0 0) 0 → alone r ≡ startsOf ws q
-alone-opens ws q r z e p = start-alone ws (getD q 0 0) r z p ∙ ap (startsOf ws) (sym e)
-
-pub alone-goes : (ws cs : List ℕ) (k n r : ℕ) → cs ≡ alone (getD cs 0 0) → k ≡ leastOf cs → k < n → n ≤ 4096 → r ≡ getD ws (4097 + getD cs 0 0) 0 → alone r ≡ passedOf ws cs k
-alone-goes ws cs k n r e q l h p =
-    let there = alone-at (getD cs 0 0) k n (q ∙ ap leastOf e) l h in
-    alone-passed ws (getD cs 0 0) k r (there .0) (there .1) p ∙ ap (λ (ds : List ℕ). passedOf ws ds k) (sym e)
 
 -- ---- records that make nothing, whatever their keys
 pub quiet-none : (G : Grammar) (H : Graph) (x : Record) (j : ℕ) (w : List ℕ) (k : ℕ) → quietIn w (x .edges) k ≡ true → withRecord G H x j (recordAt w k) k ≡ []
@@ -111,6 +88,34 @@ quiet-grown w v xs edges k f e p l = ap (λ (u : List ℕ). quietIn u edges k) p
     go : (b : Bool) → isHandled (recordAt w k) ≡ b → quietIn (grownBy w xs) edges k ≡ quietIn w edges k
     go true h = ap (λ (y : Record). cond (disjoint edges (y .edges)) (cond (isHandled y) false true) true) (grown-record w f xs e k l h)
     go false h = rw (grown-flag w f xs e k l ∙ h, h) (waits (disjoint edges (recordAt (grownBy w xs) k .edges)) ∙ sym (waits (disjoint edges (recordAt w k .edges))))
+
+-- ---- the record at place j is what it was while its partners are dealt with
+module _ (g h w : List ℕ) (H : Graph) (j near : ℕ) (f : Fits w) (D : Handled g h w j near) (v : List ℕ) (done : ℕ) (A : Gathered w (λ i. withRecord (grammarOf g) H (recordAt w j) j (recordAt w i) i) v done) where
+  abbrev partners : List Record
+  partners = gather done (λ i. withRecord (grammarOf g) H (recordAt w j) j (recordAt w i) i)
+
+  partners-whole : Whole partners
+  partners-whole = whole-gather done _ (λ i. record-whole (grammarOf g) H (recordAt w j) j (recordAt w i) i)
+
+  pub dealt-longer : itemCount w ≤ itemCount v
+  dealt-longer = added-longer w v partners f partners-whole (A .is)
+
+  pub dealt-record : recordAt v j ≡ recordAt w j
+  dealt-record = stays-record g h w v j near partners f partners-whole (A .is) D
+
+  pub dealt-handled : Handled g h v j near
+  dealt-handled = stays-handled g h w v j near partners f partners-whole (A .is) D
+
+  pub dealt-lead : (lead : Bool) → Leads g (recordAt w j) lead → Leads g (recordAt v j) lead
+  dealt-lead lead L = subst (λ (y : Record). Leads g y lead) (sym dealt-record) L
+
+  pub dealt-quiet : (edges k : ℕ) → k < itemCount w → quietIn v edges k ≡ quietIn w edges k
+  dealt-quiet edges k l = quiet-grown w v partners edges k f partners-whole (A .is) l
+
+-- it is regular where none is irregular
+pub regular-own : (g h keys w ix : List ℕ) (j near : ℕ) → Ready g h keys w ix → Handled g h w j near → markOf ix ≡ 0 → regularOf keys (recordAt w j) ≡ true
+unfolding chartOf
+regular-own g h keys w ix j near R D m = subst (λ (y : Record). regularOf keys y ≡ true) (record-in w (itemCount w) j (D .there)) (R .indexed .regular m j (omega (arith, D .there, length-records w (itemCount w))))
 
 -- ---- the loop
 module _ (g h keys : List ℕ) (H : Graph) (w : List ℕ) (x : Record) (j n : ℕ) where

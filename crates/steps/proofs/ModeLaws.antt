@@ -1,12 +1,11 @@
--- The loop over the partners of the record at place j, whichever way they are gone through (specs/Ways).
+-- The loop over the partners of the record at place j, on five lists or one by one (specs/Ways).
 use Prim.Native.Nat.{ℕ, _+_, _-_, _≤_, _<_, max}
 use mathlib.Core.Path.{_≡_, refl, sym, ap, _∙_, subst}
-use mathlib.Core.Bool.{Bool, true, cond}
+use mathlib.Core.Bool.{Bool, true, false, cond}
 use mathlib.Core.List.{List}
 use native.Mathlib.Omega.{arith}
-use native.Mathlib.Decide.{ℕ-discrete}
-use lib.Dec.{eqb, leb}
-use borrow.Author.Tests.{eq-eqb, ne-eqb, le-leb}
+use lib.Dec.{leb}
+use borrow.Author.Tests.{le-leb}
 use Rattle.hrg.specs.Grammars.{Graph, Grammar}
 use Rattle.hrg.specs.ClosureRun.{guard}
 use Rattle.agenda.specs.declared.Record.{Record}
@@ -14,8 +13,7 @@ use Rattle.agenda.specs.Consequences.{gather}
 use Rattle.questions.specs.Abstract.{grammarOf}
 use Rattle.rules.specs.Plans.{Leads}
 use Rattle.records.specs.Words.{itemCount, recordAt, chartOf, grownBy}
-use Rattle.records.proofs.WordLaws.{length-records, record-in}
-use Rattle.records.proofs.Grown.{Whole, whole-gather, whole-guard}
+use Rattle.records.proofs.Grown.{Whole, whole-guard}
 use Rattle.lists.specs.Lists.{Within}
 use Rattle.lists.specs.Cursors.{startsOf, passedOf, leftAll, SkimsAll}
 use Rattle.pivots.specs.Keys.{queryOf, regularOf}
@@ -24,21 +22,20 @@ use Rattle.index.specs.Quiet.{quietIn}
 use Rattle.steps.specs.Partners.{withRecord}
 use Rattle.steps.specs.Ready.{Tables, Ready, Handled, Regular}
 use Rattle.steps.specs.Ways.{Poised, Opens, Goes}
-use Rattle.steps.proofs.ReadyLaws.{stays-record, stays-handled}
 use Rattle.steps.proofs.StepLaws.{Gathered, record-whole, gathered-none, gathered-all, partners-next, added-longer}
-use Rattle.steps.proofs.ListedLaws.{Going, going-start, going-next, going-less, next-within, going-end}
+use Rattle.steps.proofs.ListedLaws.{dealt-longer, dealt-record, dealt-handled, dealt-lead, regular-own, Going, going-start, going-next, going-less, next-within, going-end}
 
 -- how far the loop can still go
-unfoldable pub leftIn : ℕ → ℕ → ℕ → List ℕ → ℕ
-leftIn mode n k cs = cond (eqb mode 0) (n - k) (leftAll cs)
+unfoldable pub leftIn : Bool → ℕ → ℕ → List ℕ → ℕ
+leftIn listed n k cs = cond listed (leftAll cs) (n - k)
 
-left-each : (mode n k : ℕ) (cs : List ℕ) → mode ≡ 0 → leftIn mode n k cs ≡ n - k
+left-each : (listed : Bool) (n k : ℕ) (cs : List ℕ) → listed ≡ false → leftIn listed n k cs ≡ n - k
 unfolding leftIn
-left-each mode n k cs z = rw (eq-eqb mode 0 z)
+left-each listed n k cs z = rw z
 
-left-listed : (mode n k : ℕ) (cs : List ℕ) → (mode ≡ 0 → ⊥) → leftIn mode n k cs ≡ leftAll cs
+left-listed : (listed : Bool) (n k : ℕ) (cs : List ℕ) → listed ≡ true → leftIn listed n k cs ≡ leftAll cs
 unfolding leftIn
-left-listed mode n k cs z = rw (ne-eqb mode 0 z)
+left-listed listed n k cs z = rw z
 
 module _ (g h keys : List ℕ) (H : Graph) (w : List ℕ) (j n : ℕ) where
   abbrev G : Grammar
@@ -54,100 +51,95 @@ module _ (g h keys : List ℕ) (H : Graph) (w : List ℕ) (j n : ℕ) where
   partner-whole i = record-whole G H x j (recordAt w i) i
 
   -- where the loop is: the first `past` partners are dealt with, and record k is next
-  pub record Turning (mode : ℕ) (v ix : List ℕ) (k : ℕ) (cs : List ℕ) (past : ℕ) : Type 0 where
+  pub record Turning (listed : Bool) (v ix : List ℕ) (k : ℕ) (cs : List ℕ) (past : ℕ) : Type 0 where
     pub ready : Ready g h keys v ix
     pub gathered : Gathered w partner v past
     pub low : past ≤ n
-    pub poised : Poised mode k cs
-    pub each : mode ≡ 0 → past ≡ k
-    pub listed : (mode ≡ 0 → ⊥) → Going g h keys H w x j n v ix cs k past
+    pub poised : Poised listed k cs
+    pub each : listed ≡ false → past ≡ k
+    pub going : listed ≡ true → Going g h keys H w x j n v ix cs k past
 
-  module _ (plans graph ix₀ : List ℕ) (near : ℕ) (T : Tables g h plans keys graph) (R₀ : Ready g h keys w ix₀) (D : Handled g h w j near) (all : n ≤ itemCount w) (mode : ℕ) (M : (mode ≡ 0 → ⊥) → markOf ix₀ ≡ 0) (edges : ℕ) (same : edges ≡ x .edges) where
-    others : (mode ≡ 0 → ⊥) → Regular keys (chartOf w .records)
+  module _ (plans graph ix₀ : List ℕ) (near : ℕ) (T : Tables g h plans keys graph) (R₀ : Ready g h keys w ix₀) (D : Handled g h w j near) (all : n ≤ itemCount w) (listed : Bool) (M : listed ≡ true → markOf ix₀ ≡ 0) (edges : ℕ) (same : edges ≡ x .edges) where
+    others : listed ≡ true → Regular keys (chartOf w .records)
     others m = R₀ .indexed .regular (M m)
 
-    own : (mode ≡ 0 → ⊥) → regularOf keys x ≡ true
-    unfolding chartOf
-    own m = subst (λ (y : Record). regularOf keys y ≡ true) (record-in w (itemCount w) j (D .there)) (others m j (omega (arith, D .there, length-records w (itemCount w))))
+    own : listed ≡ true → regularOf keys x ≡ true
+    own m = regular-own g h keys w ix₀ j near R₀ D (M m)
 
     skims : (v ws bs ds : List ℕ) → SkimsAll (quietIn v edges) ws n bs ds → SkimsAll (quietIn v (x .edges)) ws n bs ds
     skims v ws bs ds s = subst (λ (e : ℕ). SkimsAll (quietIn v e) ws n bs ds) same s
 
-    pub turning-start : (query : List ℕ) → query ≡ queryOf keys x → (k : ℕ) (cs : List ℕ) → Opens (quietIn w edges) (listsOf ix₀) n mode query k cs → Turning mode w ix₀ k cs 0
+    pub turning-start : (query : List ℕ) → query ≡ queryOf keys x → (k : ℕ) (cs : List ℕ) → Opens (quietIn w edges) (listsOf ix₀) n listed query k cs → Turning listed w ix₀ k cs 0
     turning-start query e k cs O = record {
       ready = R₀;
       gathered = gathered-none w (R₀ .fits) partner partner-whole;
       low = omega arith;
       poised = O .poised;
       each = λ m. sym (O .each m);
-      listed = λ m. going-start g h keys H w x j n (R₀ .fits) all ix₀ (startsOf (listsOf ix₀) query) cs k R₀ (ap (startsOf (listsOf ix₀)) e) (skims w (listsOf ix₀) (startsOf (listsOf ix₀) query) cs (O .listed m)) (O .poised .least m) (O .poised .few);
+      going = λ m. going-start g h keys H w x j n (R₀ .fits) all ix₀ (startsOf (listsOf ix₀) query) cs k R₀ (ap (startsOf (listsOf ix₀)) e) (skims w (listsOf ix₀) (startsOf (listsOf ix₀) query) cs (O .skims m)) (O .poised .least m) (O .poised .few);
     }
 
-    module _ (v ix : List ℕ) (k : ℕ) (cs : List ℕ) (past : ℕ) (S : Turning mode v ix k cs past) where
+    module _ (v ix : List ℕ) (k : ℕ) (cs : List ℕ) (past : ℕ) (S : Turning listed v ix k cs past) where
       longer : itemCount w ≤ itemCount v
-      longer = added-longer w v (gather past partner) (R₀ .fits) (whole-gather past partner partner-whole) (S .gathered .is)
+      longer = dealt-longer g h w H j near (R₀ .fits) D v past (S .gathered)
 
       pub turning-known : k < n → k < itemCount v
       turning-known l = omega (arith, longer)
 
-      -- the record at place j is what it was
-      pub turning-record : recordAt v j ≡ x
-      turning-record = stays-record g h w v j near (gather past partner) (R₀ .fits) (whole-gather past partner partner-whole) (S .gathered .is) D
-
       pub turning-handled : Handled g h v j near
-      turning-handled = stays-handled g h w v j near (gather past partner) (R₀ .fits) (whole-gather past partner partner-whole) (S .gathered .is) D
+      turning-handled = dealt-handled g h w H j near (R₀ .fits) D v past (S .gathered)
 
       pub turning-lead : (lead : Bool) → Leads g x lead → Leads g (recordAt v j) lead
-      turning-lead lead L = subst (λ (y : Record). Leads g y lead) (sym turning-record) L
+      turning-lead = dealt-lead g h w H j near (R₀ .fits) D v past (S .gathered)
 
       pub turning-end : n ≤ k → v ≡ grownBy w (gather n partner)
-      turning-end l = go (ℕ-discrete mode 0)
+      turning-end l = go listed refl
         where
-          go : Dec (mode ≡ 0) → v ≡ grownBy w (gather n partner)
-          go (yes z) = gathered-all w (R₀ .fits) partner partner-whole v past n (omega (arith, S .each z, S .low)) (S .gathered)
-          go (no z) = going-end g h keys H w x j n (R₀ .fits) all v ix cs k past (S .listed z) (T .accepted .grammar) (T .keyed) (own z) (others z) l
+          go : (b : Bool) → listed ≡ b → v ≡ grownBy w (gather n partner)
+          go false z = gathered-all w (R₀ .fits) partner partner-whole v past n (omega (arith, S .each z, S .low)) (S .gathered)
+          go true z = going-end g h keys H w x j n (R₀ .fits) all v ix cs k past (S .going z) (T .accepted .grammar) (T .keyed) (own z) (others z) l
 
       -- one turn: record k is dealt with unless it was
       module _ (u jx : List ℕ) (later : ℕ) (l : k < n) (p : u ≡ grownBy v (guard (leb past k) (withRecord G H (recordAt v j) j (recordAt v k) k))) (R : Ready g h keys u jx) (q : later ≡ max past (k + 1)) where
         dealt : u ≡ grownBy v (guard (leb past k) (withRecord G H x j (recordAt v k) k))
-        dealt = p ∙ ap (λ (y : Record). grownBy v (guard (leb past k) (withRecord G H y j (recordAt v k) k))) turning-record
+        dealt = p ∙ ap (λ (y : Record). grownBy v (guard (leb past k) (withRecord G H y j (recordAt v k) k))) (dealt-record g h w H j near (R₀ .fits) D v past (S .gathered))
 
         pub turn-count : n ≤ itemCount u
         turn-count = omega (arith, longer, added-longer v u _ (S .ready .fits) (whole-guard (leb past k) (withRecord G H x j (recordAt v k) k) (record-whole G H x j (recordAt v k) k)) dealt)
 
-        pub turn-within : (mode ≡ 0 → ⊥) → Within 20480 cs
-        turn-within z = next-within g h keys H w x j n (R₀ .fits) all v ix cs k past (S .listed z) (T .accepted .grammar) (T .keyed) (own z) (others z) u jx later l dealt R q
+        pub turn-within : listed ≡ true → Within 20480 cs
+        turn-within z = next-within g h keys H w x j n (R₀ .fits) all v ix cs k past (S .going z) (T .accepted .grammar) (T .keyed) (own z) (others z) u jx later l dealt R q
 
-        module _ (i : ℕ) (ds : List ℕ) (O : Goes (quietIn u edges) (listsOf jx) n mode k cs i ds) where
-          goes-on : (z : mode ≡ 0 → ⊥) → Going g h keys H w x j n u jx ds i later
-          goes-on z = going-next g h keys H w x j n (R₀ .fits) all v ix cs k past (S .listed z) (T .accepted .grammar) (T .keyed) (own z) (others z) u jx later l dealt R q (passedOf (listsOf jx) cs k) ds refl (skims u (listsOf jx) (passedOf (listsOf jx) cs k) ds (O .listed z)) i (O .poised .least z) (O .poised .few)
+        module _ (i : ℕ) (ds : List ℕ) (O : Goes (quietIn u edges) (listsOf jx) n listed k cs i ds) where
+          goes-on : (z : listed ≡ true) → Going g h keys H w x j n u jx ds i later
+          goes-on z = going-next g h keys H w x j n (R₀ .fits) all v ix cs k past (S .going z) (T .accepted .grammar) (T .keyed) (own z) (others z) u jx later l dealt R q (passedOf (listsOf jx) cs k) ds refl (skims u (listsOf jx) (passedOf (listsOf jx) cs k) ds (O .skims z)) i (O .poised .least z) (O .poised .few)
 
-          more : Dec (mode ≡ 0) → Gathered w partner u later
-          more (no z) = goes-on z .gathered
-          more (yes z) =
+          more : (b : Bool) → listed ≡ b → Gathered w partner u later
+          more true z = goes-on z .gathered
+          more false z =
               let e : past ≡ k = S .each z in
               let one : u ≡ grownBy v (withRecord G H x j (recordAt v k) k) = dealt ∙ ap (λ (b : Bool). grownBy v (guard b (withRecord G H x j (recordAt v k) k))) (le-leb past k (omega (arith, e))) in
               partners-next G H w (R₀ .fits) x j v u k later (omega (arith, e, q)) (omega (arith, l, all)) (subst (Gathered w partner v) e (S .gathered)) one
 
-          pub turning-next : Turning mode u jx i ds later
+          pub turning-next : Turning listed u jx i ds later
           turning-next = record {
             ready = R;
-            gathered = more (ℕ-discrete mode 0);
+            gathered = more listed refl;
             low = omega (arith, q, l, S .low);
             poised = O .poised;
             each = λ z. (let e : later ≡ i = omega (arith, q, S .each z, O .each z) in e);
-            listed = goes-on;
+            going = goes-on;
           }
 
-          pub turning-less : leftIn mode n i ds < leftIn mode n k cs
-          turning-less = go (ℕ-discrete mode 0)
+          pub turning-less : leftIn listed n i ds < leftIn listed n k cs
+          turning-less = go listed refl
             where
-              go : Dec (mode ≡ 0) → leftIn mode n i ds < leftIn mode n k cs
-              go (yes z) = omega (arith, left-each mode n i ds z, left-each mode n k cs z, O .each z, l)
-              go (no z) =
+              go : (b : Bool) → listed ≡ b → leftIn listed n i ds < leftIn listed n k cs
+              go false z = omega (arith, left-each listed n i ds z, left-each listed n k cs z, O .each z, l)
+              go true z =
                   omega (
                     arith,
-                    left-listed mode n i ds z,
-                    left-listed mode n k cs z,
-                    going-less g h keys H w x j n (R₀ .fits) all v ix cs k past (S .listed z) (T .accepted .grammar) (T .keyed) (own z) (others z) u jx later l dealt R q (passedOf (listsOf jx) cs k) ds refl (skims u (listsOf jx) (passedOf (listsOf jx) cs k) ds (O .listed z)),
+                    left-listed listed n i ds z,
+                    left-listed listed n k cs z,
+                    going-less g h keys H w x j n (R₀ .fits) all v ix cs k past (S .going z) (T .accepted .grammar) (T .keyed) (own z) (others z) u jx later l dealt R q (passedOf (listsOf jx) cs k) ds refl (skims u (listsOf jx) (passedOf (listsOf jx) cs k) ds (O .skims z)),
                   )

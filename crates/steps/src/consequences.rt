@@ -3,9 +3,9 @@ ghost use mathlib.Core.Path.{_≡_};
 ghost use mathlib.Core.Bool.{true, cond};
 ghost use Prim.Native.Nat.{_+_, _≤_, _<_, max};
 ghost use lib.Dec.{leb};
-ghost use lib.ListN.{length, getD};
+ghost use lib.ListN.{length};
 ghost use Rattle.hrg.specs.ClosureRun.{guard};
-ghost use Rattle.agenda.specs.Records.{itemOf, plus};
+ghost use Rattle.agenda.specs.Records.{itemOf, isHandled, plus};
 ghost use Rattle.agenda.specs.Consequences.{gather, atRoot, withTerminal, pair};
 ghost use Rattle.questions.specs.Layout.{graphEdges};
 ghost use Rattle.questions.specs.Checking.{checkGrammar};
@@ -14,13 +14,13 @@ ghost use Rattle.joins.specs.Joins.{Spans};
 ghost use Rattle.rules.specs.Plans.{Leads};
 ghost use Rattle.rules.specs.Candidates.{Candidates};
 ghost use Rattle.lists.specs.Lists.{Within};
-ghost use Rattle.lists.specs.Cursors.{alone, SkimsAll};
-ghost use Rattle.index.specs.Index.{indexWords, listsOf, markOf};
+ghost use Rattle.lists.specs.Cursors.{SkimsAll};
+ghost use Rattle.index.specs.Index.{indexWords, listsOf};
 ghost use Rattle.index.specs.Quiet.{quietIn};
 ghost use Rattle.records.specs.Words.{itemCount, recordAt, grownBy};
 ghost use Rattle.steps.specs.Partners.{withRecord};
 ghost use Rattle.steps.specs.Ready.{Tables, Ready, Handled};
-ghost use Rattle.steps.specs.Ways.{Poised, Opens, Goes};
+ghost use Rattle.steps.specs.Ways.{Single, Poised, Opens, Goes};
 use rules::wants;
 
 // A sum that stays in a word.
@@ -222,8 +222,8 @@ fn pick(lead: bool, j: u64, k: u64) -> u64
     k
 }
 
-// What the record at place j makes with the one at place k, if that one is handled. It can come only first, where it leads, or only second.
-fn add_partner(
+// What the record at place j makes with the one at place k, which is handled, where k is not among the first `past` records; how many are past then. It can come only first, where it leads, or only second.
+fn add_met(
     g: &[u64],
     h: &[u64],
     plans: &[u64; 2048],
@@ -234,22 +234,23 @@ fn add_partner(
     lead: bool,
     j: u64,
     k: u64,
+    past: u64,
     near: u64,
-)
-    requires { ⌜ Tables (now g) (now h) (now plans) (now keys) (now graph) × Ready (now g) (now h) (now keys) (now chart) (now index) × Handled (now g) (now h) (now chart) j near × Leads (now g) (recordAt (now chart) j) lead × (k < itemCount (now chart)) ⌝ }
-    ensures { λ r. ⌜ (now (chart .exit) ≡ grownBy (now (chart .entry)) (withRecord (grammarOf (now (g .entry))) (graphOf (now (g .entry)) (now (h .entry))) (recordAt (now (chart .entry)) j) j (recordAt (now (chart .entry)) k) k)) × Ready (now (g .entry)) (now (h .entry)) (now (keys .entry)) (now (chart .exit)) (now (index .exit)) ⌝ }
+) -> u64
+    requires { ⌜ Tables (now g) (now h) (now plans) (now keys) (now graph) × Ready (now g) (now h) (now keys) (now chart) (now index) × Handled (now g) (now h) (now chart) j near × Leads (now g) (recordAt (now chart) j) lead × (k < itemCount (now chart)) × (isHandled (recordAt (now chart) k) ≡ true) ⌝ }
+    ensures { λ r. ⌜ (now (chart .exit) ≡ grownBy (now (chart .entry)) (guard (leb past k) (withRecord (grammarOf (now (g .entry))) (graphOf (now (g .entry)) (now (h .entry))) (recordAt (now (chart .entry)) j) j (recordAt (now (chart .entry)) k) k))) × Ready (now (g .entry)) (now (h .entry)) (now (keys .entry)) (now (chart .exit)) (now (index .exit)) × (r ≡ max past (k + 1)) ⌝ }
 {
-    let own = (2 + 16 * j) as usize;
-    if index::quiet(chart, chart[own + 3], k) {
-        return;
+    if k < past {
+        return past;
     }
     let both = masks::union(near, index::near(index, k));
     let first = pick(lead, j, k);
     let second = pick(lead, k, j);
     add_pair(g, h, plans, keys, graph, chart, index, first, second, both);
+    k + 1
 }
 
-// The same, where k is not among the first `past` records; how many are past then.
+// The same of any record: one that is not handled makes nothing, as one does that has an edge in common with it.
 fn add_next(
     g: &[u64],
     h: &[u64],
@@ -270,8 +271,69 @@ fn add_next(
     if k < past {
         return past;
     }
-    add_partner(g, h, plans, keys, graph, chart, index, lead, j, k, near);
-    k + 1
+    let own = (2 + 16 * j) as usize;
+    if index::quiet(chart, chart[own + 3], k) {
+        return k + 1;
+    }
+    add_met(
+        g,
+        h,
+        plans,
+        keys,
+        graph,
+        chart,
+        index,
+        lead,
+        j,
+        k,
+        past,
+        near,
+    )
+}
+
+// What the record at place j makes with each of the first n records, where all that it can be joined with have the key `key`. A quiet record is passed by here, without a call for what it does not make.
+fn add_listed(
+    g: &[u64],
+    h: &[u64],
+    plans: &[u64; 2048],
+    keys: &[u64; 2240],
+    graph: &[u64; 577],
+    chart: &mut [u64],
+    index: &mut [u32],
+    lead: bool,
+    j: u64,
+    n: u64,
+    near: u64,
+    key: u64,
+)
+    requires { ⌜ Tables (now g) (now h) (now plans) (now keys) (now graph) × Ready (now g) (now h) (now keys) (now chart) (now index) × Handled (now g) (now h) (now chart) j near × Leads (now g) (recordAt (now chart) j) lead × (n ≤ itemCount (now chart)) × Single (now keys) (now chart) (now index) j key ⌝ }
+    ensures { λ r. ⌜ (now (chart .exit) ≡ grownBy (now (chart .entry)) (gather n (λ k. withRecord (grammarOf (now (g .entry))) (graphOf (now (g .entry)) (now (h .entry))) (recordAt (now (chart .entry)) j) j (recordAt (now (chart .entry)) k) k))) × Ready (now (g .entry)) (now (h .entry)) (now (keys .entry)) (now (chart .exit)) (now (index .exit)) ⌝ }
+{
+    let own = (2 + 16 * j) as usize;
+    let edges = chart[own + 3];
+    let end = 5 * n;
+    let mut c = index::first(index, key);
+    let mut past: u64 = 0;
+    while (c != 0) & (c <= end) {
+        let k = (c - 1) / 5;
+        if !index::quiet(chart, edges, k) {
+            past = add_met(
+                g,
+                h,
+                plans,
+                keys,
+                graph,
+                chart,
+                index,
+                lead,
+                j,
+                k,
+                past,
+                near,
+            );
+        }
+        c = index::after(index, c);
+    }
 }
 
 // Where the partners are gone through: the next one, and the cursors on lists by which it was found.
@@ -280,74 +342,51 @@ struct Cursors {
     cs: [u64; 5],
 }
 
-// How the partners are found: 0 one by one, where keys tell nothing of some record; 1 on one list; 2 on five.
-fn mode_of(index: &[u32], query: [u64; 5]) -> u64
-    requires { ⌜ length (now index) ≡ indexWords ⌝ }
-    ensures { λ r. ⌜ ((r ≡ 0 → ⊥) → markOf (now (index .entry)) ≡ 0) × (r ≡ 1 → query ≡ alone (getD query 0 0)) ⌝ }
-{
-    if !index::regular(index) {
-        return 0;
-    }
-    if (query[1] == 0) & (query[2] == 0) & (query[3] == 0) & (query[4] == 0) {
-        return 1;
-    }
-    2
-}
-
 // Cursors on lists skim over quiet records, most of what is listed.
-fn resting(chart: &[u64], index: &[u32], edges: u64, n: u64, mode: u64, cs: [u64; 5]) -> Cursors
-    requires { ⌜ (length (now index) ≡ indexWords) × (n ≤ itemCount (now chart)) × (n ≤ 4096) × (mode ≡ 0 → ⊥) × (mode ≡ 1 → cs ≡ alone (getD cs 0 0)) ⌝ }
-    ensures { λ r. ⌜ Poised mode (r .k) (r .cs) × SkimsAll (quietIn (now (chart .entry)) edges) (listsOf (now (index .entry))) n cs (r .cs) ⌝ }
+fn resting(chart: &[u64], index: &[u32], edges: u64, n: u64, cs: [u64; 5]) -> Cursors
+    requires { ⌜ (length (now index) ≡ indexWords) × (n ≤ itemCount (now chart)) × (n ≤ 4096) ⌝ }
+    ensures { λ r. ⌜ Poised true (r .k) (r .cs) × SkimsAll (quietIn (now (chart .entry)) edges) (listsOf (now (index .entry))) n cs (r .cs) ⌝ }
 {
-    if mode == 1 {
-        let c = index::sought(chart, index, edges, n, cs[0]);
-        let k = lists::record_of(c);
-        return Cursors {
-            k,
-            cs: [c, 0, 0, 0, 0],
-        };
-    }
     let es = index::skimmed(chart, index, edges, n, cs);
     let k = lists::least(es);
     Cursors { k, cs: es }
 }
 
-// The first of the n records that may be a partner.
-fn opening(chart: &[u64], index: &[u32], edges: u64, n: u64, mode: u64, query: [u64; 5]) -> Cursors
-    requires { ⌜ (length (now index) ≡ indexWords) × (getD (listsOf (now index)) 0 0 ≡ 0) × (n ≤ itemCount (now chart)) × (n ≤ 4096) × Within 2048 query × (mode ≡ 1 → query ≡ alone (getD query 0 0)) ⌝ }
-    ensures { λ r. ⌜ Opens (quietIn (now (chart .entry)) edges) (listsOf (now (index .entry))) n mode query (r .k) (r .cs) ⌝ }
+// The first of the n records that may be a partner: by lists, or one by one where keys tell nothing of some record.
+fn opening(
+    chart: &[u64],
+    index: &[u32],
+    edges: u64,
+    n: u64,
+    listed: bool,
+    query: [u64; 5],
+) -> Cursors
+    requires { ⌜ (length (now index) ≡ indexWords) × (n ≤ itemCount (now chart)) × (n ≤ 4096) × Within 2048 query ⌝ }
+    ensures { λ r. ⌜ Opens (quietIn (now (chart .entry)) edges) (listsOf (now (index .entry))) n listed query (r .k) (r .cs) ⌝ }
 {
-    if mode == 0 {
+    if !listed {
         return Cursors { k: 0, cs: query };
     }
-    if mode == 1 {
-        let d = index::first(index, query[0]);
-        return resting(chart, index, edges, n, mode, [d, 0, 0, 0, 0]);
-    }
     let ds = index::starts(index, query);
-    resting(chart, index, edges, n, mode, ds)
+    resting(chart, index, edges, n, ds)
 }
 
 // The next one.
-fn onward(chart: &[u64], index: &[u32], edges: u64, n: u64, mode: u64, at: Cursors) -> Cursors
-    requires { ⌜ (length (now index) ≡ indexWords) × (n ≤ itemCount (now chart)) × (n ≤ 4096) × (at .k < n) × Poised mode (at .k) (at .cs) × ((mode ≡ 0 → ⊥) → Within 20480 (at .cs)) ⌝ }
-    ensures { λ r. ⌜ Goes (quietIn (now (chart .entry)) edges) (listsOf (now (index .entry))) n mode (at .k) (at .cs) (r .k) (r .cs) ⌝ }
+fn onward(chart: &[u64], index: &[u32], edges: u64, n: u64, listed: bool, at: Cursors) -> Cursors
+    requires { ⌜ (length (now index) ≡ indexWords) × (n ≤ itemCount (now chart)) × (n ≤ 4096) × (at .k < n) × Poised listed (at .k) (at .cs) × (listed ≡ true → Within 20480 (at .cs)) ⌝ }
+    ensures { λ r. ⌜ Goes (quietIn (now (chart .entry)) edges) (listsOf (now (index .entry))) n listed (at .k) (at .cs) (r .k) (r .cs) ⌝ }
 {
     let k = at.k;
     let cs = at.cs;
-    if mode == 0 {
+    if !listed {
         return Cursors { k: k + 1, cs };
     }
-    if mode == 1 {
-        let d = index::after(index, cs[0]);
-        return resting(chart, index, edges, n, mode, [d, 0, 0, 0, 0]);
-    }
     let ds = index::passed(index, cs, k);
-    resting(chart, index, edges, n, mode, ds)
+    resting(chart, index, edges, n, ds)
 }
 
-// What the record at place j makes with each of the first n records. Only those that keys let through are tried.
-fn add_each(
+// What the record at place j makes with each of the first n records. Only those that its keys let through are tried, where keys tell.
+fn add_many(
     g: &[u64],
     h: &[u64],
     plans: &[u64; 2048],
@@ -366,8 +405,8 @@ fn add_each(
     let own = (2 + 16 * j) as usize;
     let edges = chart[own + 3];
     let query = pivots::query(keys, &chart[own..own + 16]);
-    let mode = mode_of(index, query);
-    let mut at = opening(chart, index, edges, n, mode, query);
+    let listed = index::regular(index);
+    let mut at = opening(chart, index, edges, n, listed, query);
     let mut past: u64 = 0;
     while at.k < n {
         past = add_next(
@@ -384,8 +423,47 @@ fn add_each(
             past,
             near,
         );
-        at = onward(chart, index, edges, n, mode, at);
+        at = onward(chart, index, edges, n, listed, at);
     }
+}
+
+// The same; most records ask for one key, whose list has a loop of its own.
+fn add_each(
+    g: &[u64],
+    h: &[u64],
+    plans: &[u64; 2048],
+    keys: &[u64; 2240],
+    graph: &[u64; 577],
+    chart: &mut [u64],
+    index: &mut [u32],
+    lead: bool,
+    j: u64,
+    n: u64,
+    near: u64,
+)
+    requires { ⌜ Tables (now g) (now h) (now plans) (now keys) (now graph) × Ready (now g) (now h) (now keys) (now chart) (now index) × Handled (now g) (now h) (now chart) j near × Leads (now g) (recordAt (now chart) j) lead × (n ≤ itemCount (now chart)) ⌝ }
+    ensures { λ r. ⌜ (now (chart .exit) ≡ grownBy (now (chart .entry)) (gather n (λ k. withRecord (grammarOf (now (g .entry))) (graphOf (now (g .entry)) (now (h .entry))) (recordAt (now (chart .entry)) j) j (recordAt (now (chart .entry)) k) k))) × Ready (now (g .entry)) (now (h .entry)) (now (keys .entry)) (now (chart .exit)) (now (index .exit)) ⌝ }
+{
+    let own = (2 + 16 * j) as usize;
+    let asked = pivots::asked(keys, &chart[own..own + 16]);
+    if asked.single & index::regular(index) {
+        add_listed(
+            g,
+            h,
+            plans,
+            keys,
+            graph,
+            chart,
+            index,
+            lead,
+            j,
+            n,
+            near,
+            asked.key,
+        );
+        return;
+    }
+    add_many(g, h, plans, keys, graph, chart, index, lead, j, n, near);
 }
 
 // The same; an active item that wants nothing is tried with none.

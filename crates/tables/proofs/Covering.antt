@@ -1,26 +1,27 @@
 -- Question 6's masks: the mask of a list has every node exactly where each node stands in the list.
-use Prim.Native.Nat.{ℕ, zero, suc, _+_, _*_, _≤_, _<_, min}
+use Prim.Native.Nat.{ℕ, zero, suc, _+_, _*_, _/_, _%_, _^_, _≤_, _<_, min}
 use native.Mathlib.Omega.{arith}
 use native.Mathlib.Numerals.{add-one}
 use native.Mathlib.Decide.{decLt}
 use mathlib.Core.Path.{_≡_, refl, sym, ap, _∙_}
-use mathlib.Core.Bool.{Bool, true, false, _&&_, _||_, cond}
+use mathlib.Core.Bool.{Bool, true, false, _&&_, _||_, cond, false≢true}
 use mathlib.Core.List.{List, [], _∷_, _++_}
+use lib.Bits.{bitOr, bitAnd, or-zero-l, or-zero-r, and-mask}
 use lib.ListN.{length, getD, drop, drop-of-length-le}
 use lib.Seq.{drop-cons}
 use lib.Dec.{ltb, leb, eqb}
 use borrow.Author.Tests.{lt-ltb, le-ltb}
 use Rattle.masks.specs.Masks.{bit, member, _∪_, single, full, Added}
-use Rattle.masks.specs.Laws.{bit-empty, member-union, member-single, member-full, member-true, member-false, mask-ext}
+use Rattle.masks.specs.Laws.{bit-le, bit-empty, member-union, member-single, member-full, member-true, true-member, member-false, false-member, shifted-single, mask-ext}
 use Rattle.hrg.specs.Counts.{hit, occurs, tabulate}
 use Rattle.hrg.specs.WellFormedTest.{Decides, every}
 use Rattle.hrg.proofs.Sums.{hit-ne, length-tabulate}
 use Rattle.hrg.proofs.WellFormedTest.{_and_, decides-le, decides-eq, decides-map, decides-every}
 use Rattle.questions.specs.Layout.{word, rankAt, edgeLabel, graphLabel}
 use Rattle.questions.proofs.StoredLaws.{getD-tabulate}
-use Rattle.tables.specs.Marks.{marked, marks}
-use Rattle.questions.specs.Questions.{covered, nodesOnEdges, nodesOnGraph}
-use Rattle.tables.proofs.Listing.{true-is}
+use Rattle.tables.specs.Marks.{marked, marks, nodesAt, Distinct}
+use Rattle.questions.specs.Questions.{listed, covered, nodesOnEdges, nodesOnGraph}
+use Rattle.tables.proofs.Listing.{true-is, Seen, seen-none, seen-all, seen-out, seen-twice, seen-more}
 
 -- ---- loops that mark the numbers of a list
 pub marked-by : (m x r : ℕ) → Added m x r → r ≡ marked m x
@@ -47,6 +48,46 @@ pub marks-append : (m : ℕ) (xs ys : List ℕ) → marks m (xs ++ ys) ≡ marks
 unfolding marks
 marks-append m [] ys = refl
 marks-append m (x ∷ xs) ys = marks-append (marked m x) xs ys
+
+same-bit : (a b e : ℕ) → member a e ≡ member b e → bit a e ≡ bit b e
+same-bit a b e h = go (member b e) h refl
+  where
+    go : (p : Bool) → member a e ≡ p → member b e ≡ p → bit a e ≡ bit b e
+    go true x y = member-true a e x ∙ sym (member-true b e y)
+    go false x y = member-false a e x ∙ sym (member-false b e y)
+
+-- the union is associative, and 0 adds nothing
+union-on : (a b c : ℕ) → (a ∪ b) ∪ c ≡ a ∪ (b ∪ c)
+union-on a b c = mask-ext ((a ∪ b) ∪ c) (a ∪ (b ∪ c)) (λ x. same-bit ((a ∪ b) ∪ c) (a ∪ (b ∪ c)) x (
+    member-union (a ∪ b) c x ∙ ap (λ q. q || member c x) (member-union a b x) ∙ turn (member a x) (member b x) (member c x)
+    ∙ sym (member-union a (b ∪ c) x ∙ ap (λ q. member a x || q) (member-union b c x))))
+  where
+    turn : (p q r : Bool) → ((p || q) || r) ≡ (p || (q || r))
+    turn true q r = refl
+    turn false q r = refl
+
+union-empty : (a : ℕ) → a ∪ 0 ≡ a
+unfolding _∪_
+union-empty a = or-zero-r a
+
+empty-union : (a : ℕ) → 0 ∪ a ≡ a
+unfolding _∪_
+empty-union a = or-zero-l a
+
+marked-union : (m x : ℕ) → marked m x ≡ m ∪ marked 0 x
+unfolding marked
+marked-union m x = go (ltb x 64)
+  where
+    go : (b : Bool) → cond b (m ∪ single x) m ≡ m ∪ cond b (0 ∪ single x) 0
+    go true = ap (λ n. m ∪ n) (sym (empty-union (single x)))
+    go false = sym (union-empty m)
+
+-- a set and that of a list
+pub marks-union : (m : ℕ) (l : List ℕ) → marks m l ≡ m ∪ marks 0 l
+unfolding marks
+marks-union m [] = sym (union-empty m)
+marks-union m (x ∷ l) =
+    marks-union (marked m x) l ∙ ap (λ n. n ∪ marks 0 l) (marked-union m x) ∙ union-on m (marked 0 x) (marks 0 l) ∙ ap (λ n. m ∪ n) (sym (marks-union (marked 0 x) l))
 
 -- a list made of a function, in the same terms
 pub line-next : (n : ℕ) (f : ℕ → ℕ) (k x m r v : ℕ) → k < n → x ≡ f k → Added m x r → marks m (drop k (tabulate n f)) ≡ v → marks r (drop (k + 1) (tabulate n f)) ≡ v
@@ -112,17 +153,68 @@ marks-bit (y ∷ l) m x h =
     forth zero e z = omega arith
     forth (suc k) e z = omega (arith, marked-bit m y x h .1 (omega arith))
 
+-- ---- the nodes of an edge's line, each found new, and their set
+pub record Sought (nodes : ℕ) (l : List ℕ) (seen k : ℕ) : Type 0 where
+  pub part : Seen nodes l seen k
+  pub set : marks seen (drop k l) ≡ marks 0 l
+
+pub sought-none : (nodes : ℕ) (l : List ℕ) → Sought nodes l 0 0
+sought-none nodes l = record { part = seen-none nodes l; set = refl }
+
+shifted-bit : (m x : ℕ) → bitAnd (m / 2 ^ x) 1 ≡ bit m x
+unfolding bit
+shifted-bit m x = and-mask (m / 2 ^ x) 1
+
+added : (m x r : ℕ) → x < 64 → r ≡ m ∪ single x → Added m x r
+added m x r h e = record {
+  value = λ l. e;
+  same = λ l. absurd (omega arith);
+  members = λ k l. ap (λ n. member n k) e ∙ member-union m (single x) k ∙ ap (λ b. member m k || b) (member-single x k);
+}
+
+module _ (nodes : ℕ) (t : List ℕ) (p n seen k : ℕ) (s : Sought nodes (nodesAt t p n) seen k) where
+  abbrev own : List ℕ
+  own = nodesAt t p n
+
+  pub sought-all : n ≤ k → Distinct nodes own true seen
+  sought-all h = record {
+    kept = seen-all nodes own seen k (s .part) (omega (arith, length-tabulate n (λ j. word t p (1 + j))));
+    set = λ y. line-done n (λ j. word t p (1 + j)) k seen (marks 0 own) h (s .set);
+  }
+
+  module _ (few : nodes ≤ 64) (x : ℕ) (h : k < n) (v : x ≡ word t p (1 + k)) where
+    inside : k < length own
+    inside = omega (arith, length-tabulate n (λ j. word t p (1 + j)))
+
+    value : x ≡ getD own k 0
+    value = v ∙ sym (getD-tabulate n (λ j. word t p (1 + j)) k 0 h)
+
+    refused : (m : ℕ) → false ≡ listed nodes own → Distinct nodes own false m
+    refused m f = record { kept = f; set = λ y. absurd (false≢true y) }
+
+    pub sought-out : nodes ≤ x → (m : ℕ) → Distinct nodes own false m
+    sought-out l m = refused m (seen-out nodes own seen k x inside value (omega arith))
+
+    pub sought-twice : bitAnd (seen / 2 ^ x) 1 ≡ 1 → (m : ℕ) → Distinct nodes own false m
+    sought-twice b m = refused m (seen-twice nodes own seen k x inside value (s .part) (true-member seen x (sym (shifted-bit seen x) ∙ b)))
+
+    pub sought-more : x < nodes → (bitAnd (seen / 2 ^ x) 1 ≡ 1 → ⊥) → Sought nodes own (bitOr seen (1 * 2 ^ x % 2 ^ 64)) (k + 1)
+    unfolding _∪_
+    sought-more l b =
+        let new : bit seen x ≡ 0 = omega (arith, bit-le seen x, go) in
+        let one : bitOr seen (1 * 2 ^ x % 2 ^ 64) ≡ seen ∪ single x = ap (bitOr seen) (shifted-single x (omega arith)) in
+        record {
+          part = seen-more nodes own seen k x inside value (s .part) (omega arith) (false-member seen x new) _ one;
+          set = line-next n (λ j. word t p (1 + j)) k x seen _ (marks 0 own) h v (added seen x _ (omega arith) one) (s .set);
+        }
+      where
+        go : bit seen x ≡ 1 → ⊥
+        go e = b (shifted-bit seen x ∙ e)
+
 -- ---- every node
 decided : (nodes : ℕ) (l : List ℕ) → Decides (covered nodes l) ((nodes ≤ 64) × ((x : ℕ) → x < min 64 nodes → 0 < occurs x l))
 unfolding covered
 decided nodes l = decides-le nodes 64 and decides-every (min 64 nodes) (λ x. decides-le 1 (occurs x l))
-
-same-bit : (a b e : ℕ) → member a e ≡ member b e → bit a e ≡ bit b e
-same-bit a b e h = go (member b e) h refl
-  where
-    go : (p : Bool) → member a e ≡ p → member b e ≡ p → bit a e ≡ bit b e
-    go true x y = member-true a e x ∙ sym (member-true b e y)
-    go false x y = member-false a e x ∙ sym (member-false b e y)
 
 pos-member : (m x : ℕ) → 0 < bit m x → member m x ≡ true
 pos-member m x h = go (member m x) refl

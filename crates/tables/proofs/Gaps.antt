@@ -89,6 +89,39 @@ module _ (t : List ℕ) (at : ℕ) where
     no = λ y z. eqb-false six 0 y (gathered-six .no z);
   }
 
+-- the words behind the nodes of an edge's line: four, and those before them one by one
+module _ (t : List ℕ) (at : ℕ) where
+  abbrev four : ℕ
+  four = bitOr (bitOr (bitOr (getD t (at + 5) 0) (getD t (at + 6) 0)) (getD t (at + 7) 0)) (getD t (at + 8) 0)
+
+  pub behind-four : Gathered t (at + 5) (at + 9) four
+  behind-four =
+      let one : Gathered t (at + 5) (at + 6) (getD t (at + 5) 0) = record {
+        yes = λ h k b e. let same : k ≡ at + 5 = omega arith in rw same h;
+        no = λ z. z (at + 5) (omega arith) (omega arith);
+      } in
+      let two = gathered-on t (at + 5) (at + 6) (at + 7) _ one (omega arith) (omega arith) in
+      let three = gathered-on t (at + 5) (at + 7) (at + 8) _ two (omega arith) (omega arith) in
+      gathered-on t (at + 5) (at + 8) (at + 9) _ three (omega arith) (omega arith)
+
+  pub behind-more : (i j any : ℕ) → i + 1 ≡ j → j ≤ 9 → Gathered t (at + j) (at + 9) any → Gathered t (at + i) (at + 9) (bitOr any (getD t (at + i) 0))
+  behind-more i j any e l G = record {
+    yes = λ h k b d. go k b d (or-none any (getD t (at + i) 0) h) (decLt (at + i) k);
+    no = λ z.
+        let x : any ≡ 0 = G .no (λ k b d. z k (omega arith) d) in
+        let y : getD t (at + i) 0 ≡ 0 = z (at + i) (omega arith) (omega arith) in
+        rw (x, y);
+  }
+    where
+      go : (k : ℕ) → at + i ≤ k → k < at + 9 → (any ≡ 0) × (getD t (at + i) 0 ≡ 0) → Dec (at + i < k) → getD t k 0 ≡ 0
+      go k b d h (yes q) = G .yes (h .0) k (omega arith) d
+      go k b d h (no q) = let same : k ≡ at + i = omega arith in rw same (h .1)
+
+  pub zeros-behind : (n j any : ℕ) → Gathered t (at + j) (at + 9) any → 1 + n ≡ j → Zeros t (at + (1 + n)) (at + 9) (eqb any 0)
+  zeros-behind n j any G e =
+      subst (λ k. Zeros t (at + k) (at + 9) (eqb any 0)) (sym e)
+      (record { yes = λ y. G .yes (eqb-true any 0 y); no = λ y z. eqb-false any 0 y (G .no z) })
+
 pub gathered-turn : (t : List ℕ) (a i any p q r s : ℕ) → Gathered t a i any → a ≤ i → p ≡ eightFrom t i any → q ≡ eightFrom t (i + 8) p → r ≡ eightFrom t (i + 16) q
     → s ≡ eightFrom t (i + 24) r → Gathered t a (i + 32) s
 gathered-turn t a i any p q r s G l e f g h =

@@ -8,3 +8,5 @@ pub mod Gaps
 pub mod OnePass
 pub mod Leading
 pub mod LineAnswers
+pub mod Carrying
+pub mod EdgeLines

@@ -128,3 +128,8 @@ module _ (nodes : ℕ) (fs : List ℕ) (start : ℕ) where
             subst (Seen nodes (drop start fs) m) (let z : k - start + 1 ≡ k + 1 - start = omega (arith, s .begun) in z)
             (seen-more nodes (drop start fs) seen (k - start) x inner value (s .part) (omega arith) (sym (f .value) ∙ q) m (a .value (omega arith)));
       }
+
+-- nodes are numbered below 64 anyway
+pub listed-top : (nodes : ℕ) (l : List ℕ) → listed (min 64 nodes) l ≡ listed nodes l
+unfolding listed
+listed-top nodes l = let e : min 64 (min 64 nodes) ≡ min 64 nodes = omega arith in rw e

@@ -19,7 +19,7 @@ use Rattle.questions.specs.declared.Due.{Due}
 use Rattle.questions.specs.declared.Due.the-variants.{PlanLine}
 use Rattle.tables.specs.Marks.{marked, marks}
 use Rattle.tables.specs.Plans.{PlanRoom, Marked}
-use Rattle.tables.proofs.Covering.{marked-by, marks-append, covered-by}
+use Rattle.tables.proofs.Covering.{marked-by, marks-append, marks-covered, covered-by}
 
 -- ---- the words of plan lines
 pub room-lines : (n : ℕ) (due : Due) (r q : ℕ) → Room n due → due ≡ PlanLine r q → Room n (PlanLine r q)
@@ -152,6 +152,10 @@ module _ (g : List ℕ) (r : ℕ) where
 every-covered : (n : ℕ) (l : List ℕ) → n ≤ 64 → covered n l ≡ every n (λ c. ltb 0 (occurs c l))
 unfolding covered
 every-covered n l h = let few : min 64 n ≡ n = omega arith in rw (le-leb n 64 h, few)
+
+-- a set has every number below n
+pub every-marked : (n m : ℕ) (l : List ℕ) (b : Bool) → n ≤ 64 → m ≡ marks 0 l → b ≡ (leb n 64 && eqb (m ∪ full (min n 64)) m) → b ≡ every n (λ c. ltb 0 (occurs c l))
+every-marked n m l b h p w = (w ∙ rw p (marks-covered n l)) ∙ every-covered n l h
 
 pub all-marked : (nodes n first m : ℕ) (xs ys : List ℕ) (b : Bool) → n ≡ nodes → nodes ≤ 64 → first ≡ marks 0 xs → m ≡ marks first ys
     → b ≡ (leb n 64 && eqb (m ∪ full (min n 64)) m) → b ≡ every nodes (λ c. ltb 0 (occurs c (xs ++ ys)))

@@ -1,17 +1,19 @@
 -- What the functions of question 8's check promise one another.
 use mathlib.Core.Path.{_≡_}
+use mathlib.Core.Logic.{_⊎_}
 use mathlib.Core.Bool.{Bool, true, false, cond}
 use mathlib.Core.List.{List}
 use Prim.Native.Nat.{ℕ, _+_, _*_, _≤_, _<_, min}
 use lib.Bits.{bitOr}
-use lib.ListN.{getD}
+use lib.ListN.{getD, drop}
 use lib.Dec.{ltb}
 use Rattle.questions.specs.Layout.{placeOf, ruleCount}
-use Rattle.questions.specs.Questions.{judge}
+use Rattle.questions.specs.Questions.{listed, judge}
 use Rattle.questions.specs.Reading.{next}
 use Rattle.questions.specs.Checking.{fieldsDue, storedFields}
 use Rattle.questions.specs.declared.Due.{Due}
 use Rattle.questions.specs.declared.Due.the-variants.{Rule, Nothing}
+use Rattle.tables.specs.Marks.{marks, nodesAt}
 
 -- the words from a on are 0, as far as b
 abbrev pub Zero : List ℕ → ℕ → ℕ → Type 0
@@ -43,6 +45,24 @@ pub record Standing (g t : List ℕ) (due : Due) : Type 0 where
 pub record Stands (g t : List ℕ) (due : Due) (r : Bool) : Type 0 where
   pub yes : r ≡ true → Standing g t due
   pub no : r ≡ false → Standing g t due → ⊥
+
+-- ok says whether the n nodes of the line at place p are in range and distinct, and the words behind them are 0; then `seen` is their set
+pub record Attached (nodes : ℕ) (t : List ℕ) (p n : ℕ) (ok : Bool) (seen : ℕ) : Type 0 where
+  pub kept : ok ≡ true → listed nodes (nodesAt t p n) ≡ true
+  pub rest : ok ≡ true → Zero t (9 * p + (1 + n)) (9 * p + 9)
+  pub set : ok ≡ true → seen ≡ marks 0 (nodesAt t p n)
+  pub no : ok ≡ false → listed nodes (nodesAt t p n) ≡ true → Zero t (9 * p + (1 + n)) (9 * p + 9) → ⊥
+
+-- the line that is due, an edge's, stands in t but for question 6, which the last one answers for all edges
+pub record Nearly (g t : List ℕ) (due : Due) : Type 0 where
+  pub passed : (judge g t due (storedFields g t t due) ≡ 0) ⊎ (judge g t due (storedFields g t t due) ≡ 6)
+  pub rest : Zero t (9 * placeOf due + fieldsDue g t t due) (9 * placeOf due + 9)
+
+-- ok says whether it does; then `seen` is the set of its nodes
+pub record NearlyStands (g t : List ℕ) (due : Due) (ok : Bool) (seen : ℕ) : Type 0 where
+  pub yes : ok ≡ true → Nearly g t due
+  pub set : ok ≡ true → seen ≡ marks 0 (drop 1 (storedFields g t t due))
+  pub no : ok ≡ false → Nearly g t due → ⊥
 
 -- From `due` on the lines stand in t one after the other, and the words between them, from `from` on as far as `size`, are 0.
 pub data Rest (size : ℕ) (g t : List ℕ) : Due → ℕ → Type 0 where

@@ -2,14 +2,17 @@
 ghost use mathlib.Core.Path.{_≡_};
 ghost use mathlib.Core.Bool.{true};
 ghost use mathlib.Core.List.{[]};
-ghost use Prim.Native.Nat.{_+_, _*_, _≤_};
+ghost use Prim.Native.Nat.{_+_, _*_, _≤_, min};
 ghost use lib.ListN.{length};
 ghost use Rattle.questions.specs.declared.Due.the-variants.{Grammar, Symbol, Rule, RuleEdge, PlanLine, Graph, GraphEdge};
-ghost use Rattle.questions.specs.Layout.{grammarWords, graphWords, symbolCount, ruleCount, ruleEdges, rulePlan, graphEdges};
+ghost use Rattle.questions.specs.Layout.{grammarWords, graphWords, symbolCount, ruleCount, ruleNodes, ruleEdges, rulePlan, graphNodes, graphEdges};
 ghost use Rattle.questions.specs.Walk.{Room};
 ghost use Rattle.questions.specs.Checking.{checkGrammar, checkGraph};
-ghost use Rattle.tables.specs.Concluding.{Zeros, Gathered, eightFrom, Stands, Count, ruleAfter, Reaches, Concludes};
+ghost use Rattle.tables.specs.Concluding.{Zeros, Gathered, eightFrom, Stands, Attached, NearlyStands, Count, ruleAfter, Reaches, Concludes};
 use crate::judging;
+use crate::marks;
+use crate::marks::NodeSet;
+use crate::plans;
 
 // How far words were gathered, and the one word made of them.
 struct Gathering {
@@ -115,30 +118,6 @@ fn rule_stands(t: &[u64], r: u64) -> bool
     few_zeros(t, end, at + 9)
 }
 
-fn rule_edge_stands(t: &[u64], r: u64, i: u64) -> bool
-    requires { ⌜ Room (length (now t)) (RuleEdge r i) ⌝ }
-    ensures { λ x. ⌜ Stands [] (now (t .entry)) (RuleEdge r i) x ⌝ }
-{
-    let p = 66 + 25 * r + i;
-    let at = 9 * p;
-    let end = at + (1 + layout::rank_at(t, layout::word_in(t, p, 0)));
-    if judging::judge_rule_edge(t, r, i, &t[at as usize..end as usize]) != 0 {
-        return false;
-    }
-    few_zeros(t, end, at + 9)
-}
-
-fn plan_line_stands(t: &[u64], r: u64, q: u64) -> bool
-    requires { ⌜ Room (length (now t)) (PlanLine r q) ⌝ }
-    ensures { λ x. ⌜ Stands [] (now (t .entry)) (PlanLine r q) x ⌝ }
-{
-    let at = (9 * (74 + 25 * r + q)) as usize;
-    if judging::judge_plan(t, r, q, &t[at..at + 3]) != 0 {
-        return false;
-    }
-    six_zeros(t, at)
-}
-
 fn graph_stands(g: &[u64], t: &[u64]) -> bool
     requires { ⌜ Room (length (now t)) Graph ⌝ }
     ensures { λ x. ⌜ Stands (now (g .entry)) (now (t .entry)) Graph x ⌝ }
@@ -150,17 +129,73 @@ fn graph_stands(g: &[u64], t: &[u64]) -> bool
     few_zeros(t, end, 9)
 }
 
-fn graph_edge_stands(g: &[u64], t: &[u64], e: u64) -> bool
-    requires { ⌜ Room (length (now t)) (GraphEdge e) ⌝ }
-    ensures { λ x. ⌜ Stands (now (g .entry)) (now (t .entry)) (GraphEdge e) x ⌝ }
+// Whether the words behind the n nodes of an edge's line are 0: the line stands from word `at` on, and its last words, which no edge uses, are taken first.
+fn behind_nodes(t: &[u64], at: usize, n: u64) -> bool
+    requires { ⌜ (at + 9 ≤ length (now t)) × (n ≤ 4) ⌝ }
+    ensures { λ x. ⌜ Zeros (now (t .entry)) (at + (1 + n)) (at + 9) x ⌝ }
+{
+    let four = t[at + 5] | t[at + 6] | t[at + 7] | t[at + 8];
+    if n == 4 {
+        return four == 0;
+    }
+    let five = four | t[at + 4];
+    if n == 3 {
+        return five == 0;
+    }
+    let six = five | t[at + 3];
+    if n == 2 {
+        return six == 0;
+    }
+    let seven = six | t[at + 2];
+    if n == 1 {
+        return seven == 0;
+    }
+    seven | t[at + 1] == 0
+}
+
+// The n nodes of the edge's line at place p: whether they are in range and distinct, and the words behind them 0; then their set.
+fn attached(t: &[u64], p: u64, n: u64, nodes: u64) -> NodeSet
+    requires { ⌜ (9 * p + 9 ≤ length (now t)) × (n ≤ 4) × (nodes ≤ 64) ⌝ }
+    ensures { λ x. ⌜ Attached nodes (now (t .entry)) p n (x .ok) (x .seen) ⌝ }
+{
+    let found = marks::distinct(t, p, n, nodes);
+    if !found.ok {
+        return found;
+    }
+    if !behind_nodes(t, (9 * p) as usize, n) {
+        return NodeSet { ok: false, seen: 0 };
+    }
+    found
+}
+
+// An edge's line but for question 6: its nodes are given back as a set, so that the last line's question, whether every node is on an edge, needs no second walk.
+fn graph_edge_stands(g: &[u64], t: &[u64], e: u64, symbols: u64, nodes: u64) -> NodeSet
+    requires { ⌜ Room (length (now t)) (GraphEdge e) × (symbols ≡ symbolCount (now g)) × (nodes ≡ min 64 (graphNodes (now t))) ⌝ }
+    ensures { λ x. ⌜ NearlyStands (now (g .entry)) (now (t .entry)) (GraphEdge e) (x .ok) (x .seen) ⌝ }
 {
     let p = 1 + e;
-    let at = 9 * p;
-    let end = at + (1 + layout::rank_at(g, layout::word_in(t, p, 0)));
-    if judging::judge_graph_edge(g, t, e, &t[at as usize..end as usize]) != 0 {
-        return false;
+    let label = layout::word_in(t, p, 0);
+    let kind = layout::kind_of(g, label);
+    let fixed = (label < symbols) & (kind == 0);
+    if !fixed {
+        return NodeSet { ok: false, seen: 0 };
     }
-    few_zeros(t, end, at + 9)
+    attached(t, p, layout::rank_at(g, label), nodes)
+}
+
+// The same of a rule.
+fn rule_edge_stands(t: &[u64], r: u64, i: u64, symbols: u64, nodes: u64) -> NodeSet
+    requires { ⌜ Room (length (now t)) (RuleEdge r i) × (symbols ≡ symbolCount (now t)) × (nodes ≡ min 64 (ruleNodes (now t) r)) ⌝ }
+    ensures { λ x. ⌜ NearlyStands [] (now (t .entry)) (RuleEdge r i) (x .ok) (x .seen) ⌝ }
+{
+    let p = 66 + 25 * r + i;
+    let label = layout::word_in(t, p, 0);
+    let rank = layout::rank_at(t, label);
+    let fixed = (label < symbols) & (1 <= rank);
+    if !fixed {
+        return NodeSet { ok: false, seen: 0 };
+    }
+    attached(t, p, rank, nodes)
 }
 
 // ---- the lines in their order. They stand in the order of their places, so one pass is enough, and a line reads only those before it.
@@ -179,34 +214,48 @@ fn check_symbols(t: &[u64], n: u64) -> bool
     true
 }
 
-// The lines of the n edges of rule r.
+// The lines of the n edges of rule r; `mask` has the nodes on those passed.
 fn check_edges(t: &[u64], r: u64, n: u64) -> bool
     requires { ⌜ Room (length (now t)) (Rule r) × Count n (ruleEdges (now t) r) 8 ⌝ }
     ensures { λ x. ⌜ Reaches grammarWords [] (now (t .entry)) (RuleEdge r 0) (9 * (66 + 25 * r)) (PlanLine r 0) (9 * (66 + 25 * r + n)) x ⌝ }
 {
+    let symbols = layout::word_in(t, 0, 0);
+    let nodes = layout::word_in(t, 65 + 25 * r, 2);
+    let top = layout::at_most(64, nodes);
+    let mut mask: u64 = 0;
     let mut i: u64 = 0;
     while i < n {
-        if !rule_edge_stands(t, r, i) {
+        let line = rule_edge_stands(t, r, i, symbols, top);
+        if !line.ok {
             return false;
         }
+        mask |= line.seen;
         i += 1;
     }
-    true
+    marks::has_all(mask, nodes)
 }
 
-// The n plan lines of rule r.
-fn check_plan(t: &[u64], r: u64, n: u64) -> bool
-    requires { ⌜ Room (length (now t)) (Rule r) × Count n (rulePlan (now t) r) 16 ⌝ }
+// The n plan lines of rule r, which has this many edges: what they name so far is carried as two sets, which must be whole at the end.
+fn check_plan(t: &[u64], r: u64, n: u64, edges: u64) -> bool
+    requires { ⌜ Room (length (now t)) (Rule r) × Count n (rulePlan (now t) r) 16 × Count edges (ruleEdges (now t) r) 8 ⌝ }
     ensures { λ x. ⌜ Reaches grammarWords [] (now (t .entry)) (PlanLine r 0) (9 * (74 + 25 * r)) (ruleAfter (now (t .entry)) r) (9 * (74 + 25 * r + n)) x ⌝ }
 {
+    let mut children: u64 = 0;
+    let mut introduced: u64 = 0;
     let mut q: u64 = 0;
     while q < n {
-        if !plan_line_stands(t, r, q) {
+        let line = plans::with_line(t, r, q, edges, children, introduced);
+        if !line.kept {
             return false;
         }
+        if !six_zeros(t, (9 * (74 + 25 * r + q)) as usize) {
+            return false;
+        }
+        children = line.children;
+        introduced = line.introduced;
         q += 1;
     }
-    true
+    marks::has_all(children, n - 1) & marks::has_all(introduced, edges)
 }
 
 // The lines of rule r, and the words between its edges and its plan.
@@ -224,7 +273,7 @@ fn check_rule(t: &[u64], r: u64) -> bool
     if !zeros(t, 9 * (66 + 25 * r + edges), 9 * (74 + 25 * r)) {
         return false;
     }
-    check_plan(t, r, layout::word_in(t, 65 + 25 * r, 4))
+    check_plan(t, r, layout::word_in(t, 65 + 25 * r, 4), edges)
 }
 
 // The n rules, the words before each from `first` on, and those behind the last.
@@ -264,17 +313,26 @@ pub fn check_grammar(t: &[u64]) -> bool
     check_rules(t, 9 * (1 + symbols), layout::word_in(t, 0, 1))
 }
 
-// The lines of the n edges of a graph, and the words behind them.
+// The lines of the n edges of a graph, and the words behind them; `mask` has the nodes on those passed.
 fn check_graph_edges(g: &[u64], t: &[u64], n: u64) -> bool
     requires { ⌜ Room (length (now t)) Graph × Count n (graphEdges (now t)) 64 ⌝ }
     ensures { λ x. ⌜ Concludes graphWords (now (g .entry)) (now (t .entry)) (GraphEdge 0) 9 x ⌝ }
 {
+    let symbols = layout::symbol_count(g);
+    let nodes = layout::word_in(t, 0, 0);
+    let top = layout::at_most(64, nodes);
+    let mut mask: u64 = 0;
     let mut e: u64 = 0;
     while e < n {
-        if !graph_edge_stands(g, t, e) {
+        let edge = graph_edge_stands(g, t, e, symbols, top);
+        if !edge.ok {
             return false;
         }
+        mask |= edge.seen;
         e += 1;
+    }
+    if !marks::has_all(mask, nodes) {
+        return false;
     }
     zeros(t, 9 * (1 + n), 585)
 }

@@ -5,11 +5,11 @@ ghost use mathlib.Core.Bool.{_&&_};
 ghost use Prim.Native.Nat.{_+_, _*_, _≤_, min};
 ghost use lib.Dec.{leb, eqb};
 ghost use Rattle.masks.specs.Masks.{_∪_, full};
-ghost use lib.ListN.{drop};
+ghost use lib.ListN.{drop, length};
 ghost use Rattle.hrg.specs.Counts.{tabulate};
 ghost use Rattle.questions.specs.Layout.{word, ruleNodes, graphNodes};
 ghost use Rattle.questions.specs.Questions.{listed, covered, nodesOnEdges, nodesOnGraph};
-ghost use Rattle.tables.specs.Marks.{marks};
+ghost use Rattle.tables.specs.Marks.{marks, nodesAt, Distinct};
 
 // Whether the fields from `from` on are in range and distinct.
 pub(crate) fn listed(f: &[u64], from: u64, nodes: u64) -> bool
@@ -31,6 +31,33 @@ pub(crate) fn listed(f: &[u64], from: u64, nodes: u64) -> bool
         k += 1;
     }
     true
+}
+
+// Whether listed nodes are in range and distinct; then their set.
+pub(crate) struct NodeSet {
+    pub(crate) ok: bool,
+    pub(crate) seen: u64,
+}
+
+// The same of the words 1 to n of the line at place p, as nodes below `nodes`: each is tested once, and put into the set.
+pub(crate) fn distinct(t: &[u64], p: u64, n: u64, nodes: u64) -> NodeSet
+    requires { ⌜ (9 * p + (1 + n) ≤ length (now t)) × (nodes ≤ 64) ⌝ }
+    ensures { λ x. ⌜ Distinct nodes (nodesAt (now (t .entry)) p n) (x .ok) (x .seen) ⌝ }
+{
+    let mut seen: u64 = 0;
+    let mut k: u64 = 0;
+    while k < n {
+        let x = layout::word_in(t, p, 1 + k);
+        if nodes <= x {
+            return NodeSet { ok: false, seen };
+        }
+        if (seen >> x) & 1 == 1 {
+            return NodeSet { ok: false, seen };
+        }
+        seen |= 1u64 << x;
+        k += 1;
+    }
+    NodeSet { ok: true, seen }
 }
 
 // m with the fields from `from` on.

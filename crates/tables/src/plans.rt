@@ -1,11 +1,14 @@
-// Question 7: the children and the introduced edges of a rule's plan lines, counted.
+// Question 7: the children and the introduced edges of a rule's plan lines, counted, or carried as sets from line to line.
 ghost use mathlib.Core.Path.{_≡_};
 ghost use mathlib.Core.List.{_++_};
-ghost use Prim.Native.Nat.{_≤_};
+ghost use mathlib.Core.Bool.{true};
+ghost use Prim.Native.Nat.{_+_, _≤_};
 ghost use Rattle.hrg.specs.Counts.{occurs, hit};
+ghost use Rattle.questions.specs.Layout.{ruleEdges};
 ghost use Rattle.questions.specs.Questions.{childrenOf, introducedBy, childrenBefore, introducedBefore, planSoFar, planWhole};
 ghost use Rattle.tables.specs.Marks.{marks};
-ghost use Rattle.tables.specs.Plans.{PlanRoom, Marked};
+ghost use Rattle.tables.specs.Plans.{PlanRoom, Marked, introduceFits, joinFits, With, Keeps};
+ghost use Rattle.tables.specs.Concluding.{Count};
 use crate::marks::has_all;
 
 // The children and the introduced edges of some plan lines, as sets.
@@ -167,4 +170,108 @@ pub(crate) fn whole(g: &[u64], r: u64, q: u64, kind: u64, first: u64, second: u6
         edges,
     );
     children & introduced
+}
+
+// ---- a line judged by the sets of the lines before it: where a table is checked they are carried from line to line
+// The sets with one more plan line, and whether it is kept. Where it is not, the sets are of no use.
+pub(crate) struct LineMarks {
+    pub(crate) kept: bool,
+    pub(crate) children: u64,
+    pub(crate) introduced: u64,
+}
+
+// With line q, which introduces the edge `second` over the child `first`.
+fn with_introduce(
+    q: u64,
+    edges: u64,
+    children: u64,
+    introduced: u64,
+    first: u64,
+    second: u64,
+) -> LineMarks
+    ensures { λ x. ⌜ (x .kept ≡ introduceFits q edges children introduced first second) × (x .kept ≡ true → With 1 first second children introduced (x .children) (x .introduced)) ⌝ }
+{
+    let no = LineMarks {
+        kept: false,
+        children,
+        introduced,
+    };
+    if q <= first {
+        return no;
+    }
+    if masks::has(children, first) {
+        return no;
+    }
+    if edges <= second {
+        return no;
+    }
+    if masks::has(introduced, second) {
+        return no;
+    }
+    LineMarks {
+        kept: true,
+        children: masks::with(children, first),
+        introduced: masks::with(introduced, second),
+    }
+}
+
+// With line q, which joins the children `first` and `second`.
+fn with_join(q: u64, children: u64, introduced: u64, first: u64, second: u64) -> LineMarks
+    ensures { λ x. ⌜ (x .kept ≡ joinFits q children first second) × (x .kept ≡ true → With 2 first second children introduced (x .children) (x .introduced)) ⌝ }
+{
+    let no = LineMarks {
+        kept: false,
+        children,
+        introduced,
+    };
+    if q <= first {
+        return no;
+    }
+    if masks::has(children, first) {
+        return no;
+    }
+    if q <= second {
+        return no;
+    }
+    let more = masks::with(children, first);
+    if masks::has(more, second) {
+        return no;
+    }
+    LineMarks {
+        kept: true,
+        children: masks::with(more, second),
+        introduced,
+    }
+}
+
+// With line q of rule r, as it stands in the table.
+pub(crate) fn with_line(
+    t: &[u64],
+    r: u64,
+    q: u64,
+    edges: u64,
+    children: u64,
+    introduced: u64,
+) -> LineMarks
+    requires { ⌜ PlanRoom (now t) r (q + 1) × Count edges (ruleEdges (now t) r) 8 × Marked (now t) r q children introduced ⌝ }
+    ensures { λ x. ⌜ Keeps (now (t .entry)) r q (x .kept) (x .children) (x .introduced) ⌝ }
+{
+    let p = 74 + 25 * r + q;
+    let kind = layout::word_in(t, p, 0);
+    let first = layout::word_in(t, p, 1);
+    let second = layout::word_in(t, p, 2);
+    match kind {
+        0 => LineMarks {
+            kept: (first == 0) & (second == 0),
+            children,
+            introduced,
+        },
+        1 => with_introduce(q, edges, children, introduced, first, second),
+        2 => with_join(q, children, introduced, first, second),
+        _ => LineMarks {
+            kept: false,
+            children,
+            introduced,
+        },
+    }
 }

@@ -18,9 +18,9 @@ use Rattle.questions.proofs.Filled.{grammar-filled-check, graph-filled-check}
 use Rattle.agenda.specs.Steps.{runChart, startChart}
 use Rattle.records.specs.Words.{capacity, recordAt, chartOf, written}
 use Rattle.validity.specs.Checking.{holds, knownChart}
-use Rattle.chart.specs.Calls.{Called, numberOf, stepsOf, refused, fit, fitChart, answerOf, startAnswer, startOf, runOf, standingOf, runsOf}
-use Rattle.chart.specs.declared.Outcome.{Outcome as Standing}
-use Rattle.chart.specs.declared.Outcome.the-variants.{Unfit}
+use Rattle.charting.specs.Calls.{Called, numberOf, stepsOf, refused, fit, fitChart, answerOf, startAnswer, startOf, runOf, standingOf, runsOf}
+use Rattle.charting.specs.declared.Outcome.{Outcome as Standing}
+use Rattle.charting.specs.declared.Outcome.the-variants.{Unfit}
 use Rattle.writing.specs.Writing.{Wrote, numberOf as writingNumber, writeBy, writeGoal, goalIn, writeOf}
 use Rattle.trials.specs.Trials.{Trial, Told, readingNumber, writtenBytes, answers, told}
 

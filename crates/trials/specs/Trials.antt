@@ -9,7 +9,7 @@ use Rattle.questions.specs.Reading.{Outcome, readGrammar}
 use Rattle.questions.specs.Checking.{readGraph}
 use Rattle.questions.specs.declared.Answer.{Answer}
 use Rattle.questions.specs.declared.Answer.the-variants.{Done, Refused}
-use Rattle.chart.specs.Calls.{Called, numberOf, stepsOf, startOf, runOf, runsOf}
+use Rattle.charting.specs.Calls.{Called, numberOf, stepsOf, startOf, runOf, runsOf}
 use Rattle.writing.specs.Writing.{Wrote, numberOf as writingNumber, writeOf}
 use Rattle.writing.specs.declared.Answer.{Answer as Writing}
 use Rattle.writing.specs.declared.Answer.the-variants.{Unfit, TooSmall, Unfinished, Underivable, NoRoom, Written}

@@ -1,6 +1,4 @@
 -- The root of the laws.
--- each test on words is the definition's
-pub mod WordTests
 -- the tests decide what question 8 asks, and there are words that it does not ask
 pub mod ExistingTest
 pub mod AnyNumber

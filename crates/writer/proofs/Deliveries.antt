@@ -25,10 +25,10 @@ use Rattle.extraction.proofs.Listings.{recordsUnder, listing-none, listing-tree
 use Rattle.extraction.proofs.ListedRows.{rows-listed}
 use Rattle.questions.specs.Abstract.{grammarOf, graphOf}
 use Rattle.records.specs.Words.{recordAt, chartOf}
-use Rattle.chart.specs.Calls.{fit, fitChart, standingOf}
-use Rattle.chart.specs.declared.Outcome.{Outcome}
-use Rattle.chart.specs.declared.Outcome.the-variants.{Unfit as Unfit-chart, TooSmall as TooSmall-chart, Unfinished as Unfinished-chart, Done}
-use Rattle.chart.proofs.Calls.{chart-fit}
+use Rattle.charting.specs.Calls.{fit, fitChart, standingOf}
+use Rattle.charting.specs.declared.Outcome.{Outcome}
+use Rattle.charting.specs.declared.Outcome.the-variants.{Unfit as Unfit-chart, TooSmall as TooSmall-chart, Unfinished as Unfinished-chart, Done}
+use Rattle.charting.proofs.Calls.{chart-fit}
 use Rattle.chart.proofs.CallSteps.{fit-accepted}
 use Rattle.joins.specs.Joins.{Accepted}
 use Rattle.writing.specs.Writing.{Wrote, refused, writeText, derives, writeSpelt, goalIn, writeGoal, writeBy, writeOf}

@@ -17,7 +17,7 @@ ghost use Rattle.writing.specs.Demand.{WriteChoices};
 ghost use Rattle.writer.specs.Delivering.{Leaves, delivered};
 use agenda::Found;
 use agenda::Record;
-use chart::Outcome;
+use charting::Outcome;
 use writing::Answer;
 
 // ---- question 11
@@ -105,8 +105,27 @@ fn deliver_from(
     deliver(grammar, graph, &buffer[start..buffer.len()], out)
 }
 
-// The derivation of the passive item at place j, whose n applications are listed: at most 256 of them, so that a short buffer holds their lines of 74 bytes behind the
-// first one of six.
+// The derivation of the passive item at place j, whose n applications are listed: at most 40 of them, so that a buffer of some lines of 74 bytes
+// behind the first one of six holds them.
+fn write_brief(
+    grammar: &[u64],
+    graph: &[u64],
+    chart: &[u64],
+    j: u64,
+    list: &[u64],
+    n: usize,
+    out: &mut [u8],
+) -> Answer
+    requires { ⌜ Accepted (now grammar) (now graph) × ListedIn 4096 (listing (λ k. recordAt (now chart) k) (grammarOf (now grammar)) 4096 (j ∷ [])) (now list) n × (n ≤ length (now list)) × (n ≤ 40) ⌝ }
+    ensures { λ r. ⌜ Leaves (writeSpelt (grammarOf (now (grammar .entry))) (graphOf (now (grammar .entry)) (now (graph .entry))) (now (out .entry)) (treeAt (λ k. recordAt (now (chart .entry)) k) (grammarOf (now (grammar .entry))) (graphOf (now (grammar .entry)) (now (graph .entry))) 4096 j)) r (now (out .exit)) ⌝ }
+{
+    let mut sizes = [0u64; 48];
+    let mut buffer = [0u8; 2966];
+    let start = extractor::extract(grammar, graph, chart, j, list, n, &mut sizes, &mut buffer);
+    deliver_from(grammar, graph, &buffer, start, out)
+}
+
+// The same of at most 256.
 fn write_short(
     grammar: &[u64],
     graph: &[u64],
@@ -138,7 +157,7 @@ fn write_long(grammar: &[u64], graph: &[u64], chart: &[u64], j: u64, out: &mut [
     deliver_from(grammar, graph, &buffer, start, out)
 }
 
-// The derivation of the passive item at place j. Most are short: long lists and a long buffer take longer to clear than those take to write.
+// The derivation of the passive item at place j. Most are short: a long buffer takes longer to clear than those take to write.
 fn write_item(grammar: &[u64], graph: &[u64], chart: &[u64], j: u64, out: &mut [u8]) -> Answer
     requires { ⌜ Accepted (now grammar) (now graph) ⌝ }
     ensures { λ r. ⌜ Leaves (writeSpelt (grammarOf (now (grammar .entry))) (graphOf (now (grammar .entry)) (now (graph .entry))) (now (out .entry)) (treeAt (λ k. recordAt (now (chart .entry)) k) (grammarOf (now (grammar .entry))) (graphOf (now (grammar .entry)) (now (graph .entry))) 4096 j)) r (now (out .exit)) ⌝ }
@@ -147,6 +166,9 @@ fn write_item(grammar: &[u64], graph: &[u64], chart: &[u64], j: u64, out: &mut [
     let n = extractor::listing::list_applications(grammar, chart, j, &mut list);
     if n == 0 {
         return write_long(grammar, graph, chart, j, out);
+    }
+    if n <= 40 {
+        return write_brief(grammar, graph, chart, j, &list, n, out);
     }
     write_short(grammar, graph, chart, j, &list, n, out)
 }

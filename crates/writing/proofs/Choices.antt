@@ -16,7 +16,7 @@ use Rattle.agenda.specs.declared.Found.the-variants.{At, Nowhere}
 use Rattle.agenda.proofs.Choice.{Chosen, waits, nothing, chosen}
 use Rattle.questions.specs.Abstract.{grammarOf, graphOf}
 use Rattle.records.specs.Words.{capacity, chartOf}
-use Rattle.chart.specs.Calls.{fit, startOf}
+use Rattle.charting.specs.Calls.{fit, startOf}
 use Rattle.preorder.specs.Rows.{size}
 use Rattle.derivation.specs.Derivations.{derivationText}
 use Rattle.writing.specs.Writing.{numberOf, Wrote, refused, writeOf}

@@ -23,10 +23,10 @@ use Rattle.records.specs.Words.{capacity, itemCount, recordAt, recordsAt, chart
 use Rattle.records.proofs.WordLaws.{length-records, record-in}
 use Rattle.validity.specs.Checking.{knownRecord, knownChart}
 use Rattle.validity.proofs.AnyNumber.{counted, count-free}
-use Rattle.chart.specs.Calls.{fit, fitChart, whenWaiting, answerOf, standingOf}
-use Rattle.chart.specs.declared.Outcome.{Outcome}
-use Rattle.chart.specs.declared.Outcome.the-variants.{TooSmall}
-use Rattle.chart.proofs.Calls.{fit-same}
+use Rattle.charting.specs.Calls.{fit, fitChart, whenWaiting, answerOf, standingOf}
+use Rattle.charting.specs.declared.Outcome.{Outcome}
+use Rattle.charting.specs.declared.Outcome.the-variants.{TooSmall}
+use Rattle.charting.proofs.Calls.{fit-same}
 use Rattle.extraction.specs.Extraction.{partnersVia, partnersWithin, ruleAt, partnersAt, nodesBy, partNodes, placedBy, placeAt, Spelt, SpeltParts, withPart, partsBy, applied, treeAt}
 use Rattle.writing.specs.Writing.{Wrote, writeSpelt, goalIn, writeGoal, writeBy, writeOf}
 

@@ -24,12 +24,12 @@ use Rattle.agenda.proofs.RunFacts.{runs-correct, marked-small, done-size}
 use Rattle.questions.specs.Abstract.{grammarOf, graphOf}
 use Rattle.records.specs.Words.{capacity, itemCount, recordAt, recordsAt, chartOf}
 use Rattle.records.proofs.WordLaws.{length-records, record-in}
-use Rattle.chart.specs.Calls.{fit, fitChart, whenWaiting, answerOf, startOf, runOf, runsOf, standingOf}
-use Rattle.chart.specs.declared.Outcome.{Outcome}
-use Rattle.chart.specs.declared.Outcome.the-variants.{TooSmall as TooSmall-chart, Unfinished as Unfinished-chart, Done}
-use Rattle.chart.proofs.Answers.{answer-marked, answer-waiting}
-use Rattle.chart.proofs.Calls.{fit-grammar, fit-graph, fit-most}
-use Rattle.chart.proofs.Demand.{runs-known, runs-chart}
+use Rattle.charting.specs.Calls.{fit, fitChart, whenWaiting, answerOf, startOf, runOf, runsOf, standingOf}
+use Rattle.charting.specs.declared.Outcome.{Outcome}
+use Rattle.charting.specs.declared.Outcome.the-variants.{TooSmall as TooSmall-chart, Unfinished as Unfinished-chart, Done}
+use Rattle.charting.proofs.Answers.{answer-marked, answer-waiting}
+use Rattle.charting.proofs.Calls.{fit-grammar, fit-graph, fit-most}
+use Rattle.charting.proofs.Demand.{runs-known, runs-chart}
 use Rattle.preorder.specs.Rows.{size}
 use Rattle.derivation.specs.Derivations.{derivationText}
 use Rattle.writing.specs.Writing.{numberOf, Wrote, refused, goalIn, writeGoal, writeOf}

@@ -13,8 +13,8 @@ use Rattle.hrg.proofs.Degrees.{test-T, T-test}
 use Rattle.hrg.proofs.Replacement.{member-generated}
 use Rattle.questions.specs.Abstract.{grammarOf, graphOf}
 use Rattle.records.specs.Words.{chartOf}
-use Rattle.chart.specs.Calls.{fit, startOf}
-use Rattle.chart.proofs.Calls.{chart-fit, fit-grammar, fit-graph}
+use Rattle.charting.specs.Calls.{fit, startOf}
+use Rattle.charting.proofs.Calls.{chart-fit, fit-grammar, fit-graph}
 use Rattle.preorder.specs.Rows.{size}
 use Rattle.preorder.proofs.Rows.{size-applications}
 use Rattle.derivation.specs.Derivations.{derivationText, replayText, ReplayedFrom}

@@ -18,10 +18,10 @@ use Rattle.agenda.specs.declared.Found.{Found}
 use Rattle.agenda.specs.declared.Found.the-variants.{At, Nowhere}
 use Rattle.questions.specs.Abstract.{grammarOf, graphOf}
 use Rattle.records.specs.Words.{recordAt, chartOf}
-use Rattle.chart.specs.Calls.{fit, standingOf}
-use Rattle.chart.specs.declared.Outcome.{Outcome}
-use Rattle.chart.specs.declared.Outcome.the-variants.{Unfit as Unfit-chart, TooSmall as TooSmall-chart, Unfinished as Unfinished-chart, Done}
-use Rattle.chart.proofs.Calls.{chart-fit, fit-grammar, fit-graph}
+use Rattle.charting.specs.Calls.{fit, standingOf}
+use Rattle.charting.specs.declared.Outcome.{Outcome}
+use Rattle.charting.specs.declared.Outcome.the-variants.{Unfit as Unfit-chart, TooSmall as TooSmall-chart, Unfinished as Unfinished-chart, Done}
+use Rattle.charting.proofs.Calls.{chart-fit, fit-grammar, fit-graph}
 use Rattle.scripts.specs.Scripts.{rows, rowsText, rowsIn}
 use Rattle.preorder.specs.Rows.{size, sizeIn, partNumbers, treeRows, partRows, rowsOf}
 use Rattle.preorder.proofs.Rows.{length-rows}

@@ -26,7 +26,7 @@ use Rattle.agenda.proofs.Records.{Fitting, Formed, item-of, bare, bare-item, it
 use Rattle.agenda.proofs.Growth.{count-le}
 use Rattle.agenda.proofs.Adding.{Search, found, missing, searched}
 use Rattle.agenda.proofs.RunFacts.{runs-reached, runs-correct, all-handled, done-handled, records-held, count-most}
-use Rattle.chart.proofs.Calls.{and-both}
+use Rattle.charting.proofs.Calls.{and-both}
 use Rattle.preorder.specs.Rows.{size}
 use Rattle.derivation.specs.Derivations.{derivationText, replayText}
 use Rattle.derivation.proofs.Derivations.{derivation-passes}

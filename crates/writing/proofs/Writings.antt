@@ -17,10 +17,10 @@ use Rattle.agenda.specs.declared.Found.{Found}
 use Rattle.agenda.specs.declared.Found.the-variants.{At, Nowhere}
 use Rattle.questions.specs.Abstract.{grammarOf, graphOf}
 use Rattle.records.specs.Words.{recordAt, chartOf}
-use Rattle.chart.specs.Calls.{fitChart, standingOf}
-use Rattle.chart.specs.declared.Outcome.{Outcome}
-use Rattle.chart.specs.declared.Outcome.the-variants.{Unfit as Unfit-chart, TooSmall as TooSmall-chart, Unfinished as Unfinished-chart, Done}
-use Rattle.chart.proofs.Calls.{chart-fit, fit-grammar, fit-graph}
+use Rattle.charting.specs.Calls.{fitChart, standingOf}
+use Rattle.charting.specs.declared.Outcome.{Outcome}
+use Rattle.charting.specs.declared.Outcome.the-variants.{Unfit as Unfit-chart, TooSmall as TooSmall-chart, Unfinished as Unfinished-chart, Done}
+use Rattle.charting.proofs.Calls.{chart-fit, fit-grammar, fit-graph}
 use Rattle.preorder.specs.Rows.{size}
 use Rattle.derivation.specs.Derivations.{derivationText, replayText, DerivationOf}
 use Rattle.derivation.proofs.Derivations.{replay-text}

@@ -17,7 +17,7 @@ use Rattle.agenda.specs.RunFacts.{ChartCorrect}
 use Rattle.agenda.specs.declared.Record.{Record}
 use Rattle.questions.specs.Abstract.{grammarOf, graphOf}
 use Rattle.records.specs.Words.{capacity, chartOf}
-use Rattle.chart.specs.Calls.{fit, startOf, runOf}
+use Rattle.charting.specs.Calls.{fit, startOf, runOf}
 use Rattle.preorder.specs.Rows.{size}
 use Rattle.derivation.specs.Derivations.{derivationText, replayText, DerivationOf}
 use Rattle.writing.specs.Writing.{Wrote, refused, writeOf}

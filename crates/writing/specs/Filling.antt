@@ -11,9 +11,9 @@ use Rattle.agenda.specs.declared.Found.{Found}
 use Rattle.agenda.specs.declared.Found.the-variants.{At, Nowhere}
 use Rattle.questions.specs.Abstract.{grammarOf, graphOf}
 use Rattle.records.specs.Words.{recordAt, chartOf}
-use Rattle.chart.specs.Calls.{standingOf}
-use Rattle.chart.specs.declared.Outcome.{Outcome}
-use Rattle.chart.specs.declared.Outcome.the-variants.{Unfit as Unfit-chart, TooSmall as TooSmall-chart, Unfinished as Unfinished-chart, Done}
+use Rattle.charting.specs.Calls.{standingOf}
+use Rattle.charting.specs.declared.Outcome.{Outcome}
+use Rattle.charting.specs.declared.Outcome.the-variants.{Unfit as Unfit-chart, TooSmall as TooSmall-chart, Unfinished as Unfinished-chart, Done}
 use Rattle.scripts.specs.Scripts.{Script, bad, rows, rowsText, rowsIn}
 use Rattle.preorder.specs.Rows.{size, partNumbers}
 use Rattle.derivation.specs.Derivations.{derivationText}

@@ -1,6 +1,6 @@
--- Links and lists are built of zeros, the ranking says nothing at first, and the sets come behind them.
+-- Links, ranking and lists are built of zeros, and the sets come behind them.
 use Rattle.records.specs.Words.{chartOf}
-use Rattle.index.proofs.IndexLaws.{links-empty, both-size, unlisted-beside, built}
+use Rattle.index.proofs.IndexLaws.{links-empty, ranks-blank, both-size, unlisted-beside, built}
 use native.Mathlib.Omega.{arith}
 use borrow.Author.Needs.{needs}
 use Rattle.index.proofs.build.Statement.{statement}
@@ -30,13 +30,13 @@ part-build-end-2 : tie.Need-part-build-end-2
 part-build-end-2 c = search needs
 
 build-requires-2 : tie.Need-build-requires-2
-build-requires-2 c κs = search needs
+build-requires-2 c κs = (ranks-blank (c .before .before .before .before .before .before .before .before .before .args .index .now) _ (chartOf (c .before .before .before .before .before .before .before .before .before .args .chart .now) .records) (c .before .before .before .before .before .before .before .before .before .pre .0) (c .before .before .before .build .ensures), c .before .before .before .before .before .before .before .before .before .pre .1)
 
 list-all-requires : tie.Need-list-all-requires
 list-all-requires c κs =
     let s = c .before .before .before .before .before .before .before .before .before .before .before .before .before .args in
     let rs = chartOf (s .chart .now) .records in
-    (both-size (s .index .now) _ rs (c .before .before .before .before .before .before .before .before .before .before .before .before .before .pre .0) (c .before .before .before .before .before .before .before .build .ensures) _ (c .before .before .before .build2 .ensures rs), unlisted-beside (s .index .now) _ rs (c .before .before .before .before .before .before .before .before .before .before .before .before .before .pre .0) (c .before .before .before .before .before .before .before .build .ensures) _ (c .before .before .before .build2 .ensures rs), c .before .before .before .before .before .before .before .before .before .before .before .before .before .pre .1)
+    (both-size (s .index .now) _ rs (c .before .before .before .before .before .before .before .before .before .before .before .before .before .pre .0) (c .before .before .before .before .before .before .before .build .ensures) _ (c .before .before .before .build2 .ensures), unlisted-beside (s .index .now) _ rs (c .before .before .before .before .before .before .before .before .before .before .before .before .before .pre .0) (c .before .before .before .before .before .before .before .build .ensures) _ (c .before .before .before .build2 .ensures), c .before .before .before .before .before .before .before .before .before .before .before .before .before .pre .1)
 
 span-all-requires : tie.Need-span-all-requires
 span-all-requires c κs = (c .before .before .before .list-all .ensures .0 .size, c .before .before .before .before .before .before .before .before .before .before .before .before .before .before .before .before .before .pre .1, c .before .before .before .before .before .before .before .before .before .before .before .before .before .before .before .before .before .pre .2, c .before .before .before .before .before .before .before .before .before .before .before .before .before .before .before .before .before .pre .3)
@@ -48,7 +48,7 @@ returns : tie.Need-returns
 returns c =
     let s = c .before .before .before .before .before .before .before .before .before .before .before .before .before .before .before .before .before .before .before .before .args in
     let rs = chartOf (s .chart .now) .records in
-    let I = built (s .index .now) _ (chartOf (s .chart .now) .records) (c .before .before .before .before .before .before .before .before .before .before .before .before .before .before .before .before .before .before .before .before .pre .0) (c .before .before .before .before .before .before .before .before .before .before .before .before .before .before .build .ensures) _ (c .before .before .before .before .before .before .before .before .before .before .build2 .ensures rs) (s .keys .now) _ (c .before .before .before .before .before .before .list-all .ensures .0) (c .before .before .before .before .before .before .list-all .ensures .1) in
+    let I = built (s .index .now) _ (chartOf (s .chart .now) .records) (c .before .before .before .before .before .before .before .before .before .before .before .before .before .before .before .before .before .before .before .before .pre .0) (c .before .before .before .before .before .before .before .before .before .before .before .before .before .before .build .ensures) _ (c .before .before .before .before .before .before .before .before .before .before .build2 .ensures) (s .keys .now) _ (c .before .before .before .before .before .before .list-all .ensures .0) (c .before .before .before .before .before .before .list-all .ensures .1) in
     (c .before .before .span-all .ensures .1 (s .keys .now) rs I, c .before .before .span-all .ensures .0)
 
 pub build-spec : {M : Type 1} → statement M

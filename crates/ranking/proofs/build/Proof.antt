@@ -1,17 +1,17 @@
--- The words say nothing.
-use Rattle.ranking.proofs.SetLaws.{ranked-marked}
+-- Words that are 0 are filled.
+use Rattle.ranking.proofs.SetLaws.{ranked-blank}
 use borrow.Author.Needs.{needs}
 use Rattle.ranking.proofs.build.Statement.{statement}
 use Rattle.ranking.proofs.build.Tie as tie
 
-slice-write-ranks : tie.Need-slice-write-ranks
-slice-write-ranks c = search needs
+fill-requires : tie.Need-fill-requires
+fill-requires c κs = (ranked-blank _ (c .before .before .before .pre .0), c .before .before .before .pre .1)
 
 same-length : tie.Need-same-length
 same-length c = search needs
 
 returns : tie.Need-returns
-returns c = λ rs. ranked-marked (c .args .ranks .now) (c .pre) rs
+returns c = search needs
 
 pub build-spec : {M : Type 1} → statement M
-build-spec = tie.close (tie.spec slice-write-ranks same-length returns)
+build-spec = tie.close (tie.spec fill-requires same-length returns)

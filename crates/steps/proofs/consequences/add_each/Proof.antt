@@ -1,120 +1,91 @@
--- One loop for the three ways to go through the partners (proofs/ModeLaws).
+-- Where one key is asked for and no record is irregular, by its list.
 use native.Mathlib.Omega.{arith}
 use Prim.Native.Nat.{_+_, _*_, _-_}
-use mathlib.Core.Path.{_≡_, refl, ap, _∙_}
-use lib.ListN.{length}
+use mathlib.Core.Path.{refl, sym, ap, _∙_}
 use borrow.Author.Needs.{needs}
-use Rattle.hrg.specs.Counts.{tabulate}
-use Rattle.agenda.specs.declared.Record.{Record}
-use Rattle.questions.specs.Abstract.{graphOf}
+use borrow.Author.Tests.{eqb-true}
+use Rattle.hrg.proofs.Degrees.{and-true}
 use Rattle.pivots.specs.Keys.{queryOf}
-use Rattle.records.specs.Words.{ofWords, fieldAt, blockAt, recordAt}
 use Rattle.records.proofs.WordLaws.{part-length, part-record-at, item-fits}
 use Rattle.steps.proofs.ReadyLaws.{handled-small}
-use Rattle.steps.proofs.ListedLaws.{few-items, query-within}
-use Rattle.steps.proofs.ModeLaws.{leftIn, Turning, turning-start, turning-known, turning-handled, turning-lead, turning-end, turn-count, turn-within, turning-next, turning-less}
 use Rattle.steps.proofs.consequences.add_each.Statement.{statement}
 use Rattle.steps.proofs.consequences.add_each.Tie as tie
 
-abbrev Inv-loop : tie.InvT-loop
-Inv-loop g h plans keys graph chart₀ index₀ lead j n near own edges mode at₀ past₀ chart index at past = (length chart ≡ length chart₀) × (length index ≡ length index₀) × Turning g h keys (graphOf g h) chart₀ j n mode chart index (at .k) (at .cs) past
-
-abbrev μ-loop : tie.MeasureT-loop
-μ-loop g h plans keys graph chart₀ index₀ lead j n near own edges mode at₀ past₀ chart index at past = leftIn mode n (at .k) (at .cs)
-
-mul-own : tie.Need-mul-own Inv-loop μ-loop
+mul-own : tie.Need-mul-own
 mul-own c = omega (arith, handled-small _ _ (c .before .before .before .before .pre .1 .small) (c .before .before .before .before .pre .2 .there))
 
-add-own : tie.Need-add-own Inv-loop μ-loop
+add-own : tie.Need-add-own
 add-own c = omega (arith, handled-small _ _ (c .before .before .before .before .pre .1 .small) (c .before .before .before .before .pre .2 .there))
 
-add-edges : tie.Need-add-edges Inv-loop μ-loop
-add-edges c = omega (arith, handled-small _ _ (c .before .before .before .before .pre .1 .small) (c .before .before .before .before .pre .2 .there))
+add-asked : tie.Need-add-asked
+add-asked c = omega (arith, handled-small _ _ (c .before .before .before .before .pre .1 .small) (c .before .before .before .before .pre .2 .there))
 
-mul-edges : tie.Need-mul-edges Inv-loop μ-loop
-mul-edges c = omega (arith, handled-small _ _ (c .before .before .before .before .pre .1 .small) (c .before .before .before .before .pre .2 .there))
+mul-asked : tie.Need-mul-asked
+mul-asked c = omega (arith, handled-small _ _ (c .before .before .before .before .pre .1 .small) (c .before .before .before .before .pre .2 .there))
 
-slice-read-edges : tie.Need-slice-read-edges Inv-loop μ-loop
-slice-read-edges c = omega (arith, item-fits (c .before .before .before .before .before .args .chart .now) (c .before .before .before .before .before .args .j) (c .before .before .before .before .before .pre .2 .there))
+sub-asked : tie.Need-sub-asked
+sub-asked c = search needs
 
-add-query : tie.Need-add-query Inv-loop μ-loop
-add-query c = omega (arith, handled-small _ _ (c .before .before .before .before .before .pre .1 .small) (c .before .before .before .before .before .pre .2 .there))
+part-asked-start : tie.Need-part-asked-start
+part-asked-start c = search needs
 
-mul-query : tie.Need-mul-query Inv-loop μ-loop
-mul-query c = omega (arith, handled-small _ _ (c .before .before .before .before .before .pre .1 .small) (c .before .before .before .before .before .pre .2 .there))
+part-asked-end : tie.Need-part-asked-end
+part-asked-end c = omega (arith, item-fits (c .before .before .before .before .before .args .chart .now) (c .before .before .before .before .before .args .j) (c .before .before .before .before .before .pre .2 .there))
 
-sub-query : tie.Need-sub-query Inv-loop μ-loop
-sub-query c = omega arith
+asked-requires : tie.Need-asked-requires
+asked-requires c κs =
+    let s = c .before .before .before .before .before .before .args in
+    part-length (s .chart .now) (s .j) (2 + 16 * s .j) (2 + 16 * s .j + 16 - (2 + 16 * s .j)) refl (omega arith) (item-fits (s .chart .now) (s .j) (c .before .before .before .before .before .before .pre .2 .there))
 
-part-query-start : tie.Need-part-query-start Inv-loop μ-loop
-part-query-start c = search needs
+regular-requires : tie.Need-regular-requires
+regular-requires c κs = c .before .before .before .before .before .before .before .before .pre .1 .indexed .size
 
-part-query-end : tie.Need-part-query-end Inv-loop μ-loop
-part-query-end c = omega (arith, item-fits (c .before .before .before .before .before .before .args .chart .now) (c .before .before .before .before .before .before .args .j) (c .before .before .before .before .before .before .pre .2 .there))
+add-listed-requires : tie.Need-add-listed-requires
+add-listed-requires c κs =
+    let s = c .before .before .before .before .before .before .before .before .before .before .before .before .before .args in
+    let both = and-true (c .before .before .before .before .before .before .asked .result .single) (c .before .before .before .before .regular .result) (c .before .before .if1 .taken) in
+    let own = part-record-at (s .chart .now) (s .j) (2 + 16 * s .j) (2 + 16 * s .j + 16 - (2 + 16 * s .j)) refl (omega arith) (item-fits (s .chart .now) (s .j) (c .before .before .before .before .before .before .before .before .before .before .before .before .before .pre .2 .there)) in
+    (c .before .before .before .before .before .before .before .before .before .before .before .before .before .pre .0, c .before .before .before .before .before .before .before .before .before .before .before .before .before .pre .1, c .before .before .before .before .before .before .before .before .before .before .before .before .before .pre .2, c .before .before .before .before .before .before .before .before .before .before .before .before .before .pre .3, c .before .before .before .before .before .before .before .before .before .before .before .before .before .pre .4, record { regular = eqb-true _ _ (sym (c .before .before .before .before .regular .ensures) ∙ both .1); only = c .before .before .before .before .before .before .asked .ensures (both .0) ∙ ap (queryOf (s .keys .now)) own })
 
-query-requires : tie.Need-query-requires Inv-loop μ-loop
-query-requires c κs = part-length (c .before .before .before .before .before .before .before .args .chart .now) (c .before .before .before .before .before .before .before .args .j) (2 + 16 * c .before .before .before .before .before .before .before .args .j) (2 + 16 * c .before .before .before .before .before .before .before .args .j + 16 - (2 + 16 * c .before .before .before .before .before .before .before .args .j)) refl (omega arith) (item-fits (c .before .before .before .before .before .before .before .args .chart .now) (c .before .before .before .before .before .before .before .args .j) (c .before .before .before .before .before .before .before .pre .2 .there))
+same-length : tie.Need-same-length
+same-length c = search needs
 
-mode-of-requires : tie.Need-mode-of-requires Inv-loop μ-loop
-mode-of-requires c κs = c .before .before .before .before .before .before .before .before .before .pre .1 .indexed .size
+same-length-2 : tie.Need-same-length-2
+same-length-2 c = search needs
 
-opening-requires : tie.Need-opening-requires Inv-loop μ-loop
-opening-requires c κs = (c .before .before .before .before .before .before .before .before .before .before .before .before .pre .1 .indexed .size, c .before .before .before .before .before .before .before .before .before .before .before .before .pre .1 .indexed .listed .none, c .before .before .before .before .before .before .before .before .before .before .before .before .pre .4, few-items _ _ (c .before .before .before .before .before .before .before .before .before .before .before .before .pre .4) (c .before .before .before .before .before .before .before .before .before .before .before .before .pre .1 .small), query-within _ _ _ (c .before .before .before .before .query .ensures), c .before .before .mode-of .ensures .1)
+returns : tie.Need-returns
+returns c = search needs
 
-loop-holds : tie.Need-loop-holds Inv-loop μ-loop
-unfolding recordAt ofWords blockAt fieldAt tabulate
-loop-holds c = (refl, refl, turning-start (c .before .before .before .before .before .before .before .before .before .before .before .before .before .args .g .now) (c .before .before .before .before .before .before .before .before .before .before .before .before .before .args .h .now) (c .before .before .before .before .before .before .before .before .before .before .before .before .before .args .keys .now) (graphOf (c .before .before .before .before .before .before .before .before .before .before .before .before .before .args .g .now) (c .before .before .before .before .before .before .before .before .before .before .before .before .before .args .h .now)) (c .before .before .before .before .before .before .before .before .before .before .before .before .before .args .chart .now) (c .before .before .before .before .before .before .before .before .before .before .before .before .before .args .j) (c .before .before .before .before .before .before .before .before .before .before .before .before .before .args .n) (c .before .before .before .before .before .before .before .before .before .before .before .before .before .args .plans .now) (c .before .before .before .before .before .before .before .before .before .before .before .before .before .args .graph .now) (c .before .before .before .before .before .before .before .before .before .before .before .before .before .args .index .now) (c .before .before .before .before .before .before .before .before .before .before .before .before .before .args .near) (c .before .before .before .before .before .before .before .before .before .before .before .before .before .pre .0) (c .before .before .before .before .before .before .before .before .before .before .before .before .before .pre .1) (c .before .before .before .before .before .before .before .before .before .before .before .before .before .pre .2) (c .before .before .before .before .before .before .before .before .before .before .before .before .before .pre .4) (c .before .before .before .mode-of .result) (c .before .before .before .mode-of .ensures .0) _ refl (c .before .before .before .before .before .query .result) (c .before .before .before .before .before .query .ensures ∙ ap (λ (z : Record). queryOf (c .before .before .before .before .before .before .before .before .before .before .before .before .before .args .keys .now) z) (part-record-at (c .before .before .before .before .before .before .before .before .before .before .before .before .before .args .chart .now) (c .before .before .before .before .before .before .before .before .before .before .before .before .before .args .j) (2 + 16 * c .before .before .before .before .before .before .before .before .before .before .before .before .before .args .j) (2 + 16 * c .before .before .before .before .before .before .before .before .before .before .before .before .before .args .j + 16 - (2 + 16 * c .before .before .before .before .before .before .before .before .before .before .before .before .before .args .j)) refl (omega arith) (item-fits (c .before .before .before .before .before .before .before .before .before .before .before .before .before .args .chart .now) (c .before .before .before .before .before .before .before .before .before .before .before .before .before .args .j) (c .before .before .before .before .before .before .before .before .before .before .before .before .before .pre .2 .there)))) _ _ (c .opening .ensures))
+add-many-requires : tie.Need-add-many-requires
+add-many-requires c κs = search needs
 
-add-next-requires : tie.Need-add-next-requires Inv-loop μ-loop
-unfolding recordAt ofWords blockAt fieldAt tabulate
-add-next-requires c κs = (c .before .before .before .before .before .before .before .before .before .before .before .before .before .before .before .before .before .before .pre .0, c .before .before .before .before .loop .inv .2 .ready, turning-handled (c .before .before .before .before .before .before .before .before .before .before .before .before .before .before .before .before .before .before .args .g .now) (c .before .before .before .before .before .before .before .before .before .before .before .before .before .before .before .before .before .before .args .h .now) (c .before .before .before .before .before .before .before .before .before .before .before .before .before .before .before .before .before .before .args .keys .now) (graphOf (c .before .before .before .before .before .before .before .before .before .before .before .before .before .before .before .before .before .before .args .g .now) (c .before .before .before .before .before .before .before .before .before .before .before .before .before .before .before .before .before .before .args .h .now)) (c .before .before .before .before .before .before .before .before .before .before .before .before .before .before .before .before .before .before .args .chart .now) (c .before .before .before .before .before .before .before .before .before .before .before .before .before .before .before .before .before .before .args .j) (c .before .before .before .before .before .before .before .before .before .before .before .before .before .before .before .before .before .before .args .n) (c .before .before .before .before .before .before .before .before .before .before .before .before .before .before .before .before .before .before .args .plans .now) (c .before .before .before .before .before .before .before .before .before .before .before .before .before .before .before .before .before .before .args .graph .now) (c .before .before .before .before .before .before .before .before .before .before .before .before .before .before .before .before .before .before .args .index .now) (c .before .before .before .before .before .before .before .before .before .before .before .before .before .before .before .before .before .before .args .near) (c .before .before .before .before .before .before .before .before .before .before .before .before .before .before .before .before .before .before .pre .0) (c .before .before .before .before .before .before .before .before .before .before .before .before .before .before .before .before .before .before .pre .1) (c .before .before .before .before .before .before .before .before .before .before .before .before .before .before .before .before .before .before .pre .2) (c .before .before .before .before .before .before .before .before .before .before .before .before .before .before .before .before .before .before .pre .4) (c .before .before .before .before .before .before .before .before .mode-of .result) (c .before .before .before .before .before .before .before .before .mode-of .ensures .0) _ refl (c .before .before .before .before .loop .chart) (c .before .before .before .before .loop .index) (c .before .before .before .before .loop .at .k) (c .before .before .before .before .loop .at .cs) (c .before .before .before .before .loop .past) (c .before .before .before .before .loop .inv .2), turning-lead (c .before .before .before .before .before .before .before .before .before .before .before .before .before .before .before .before .before .before .args .g .now) (c .before .before .before .before .before .before .before .before .before .before .before .before .before .before .before .before .before .before .args .h .now) (c .before .before .before .before .before .before .before .before .before .before .before .before .before .before .before .before .before .before .args .keys .now) (graphOf (c .before .before .before .before .before .before .before .before .before .before .before .before .before .before .before .before .before .before .args .g .now) (c .before .before .before .before .before .before .before .before .before .before .before .before .before .before .before .before .before .before .args .h .now)) (c .before .before .before .before .before .before .before .before .before .before .before .before .before .before .before .before .before .before .args .chart .now) (c .before .before .before .before .before .before .before .before .before .before .before .before .before .before .before .before .before .before .args .j) (c .before .before .before .before .before .before .before .before .before .before .before .before .before .before .before .before .before .before .args .n) (c .before .before .before .before .before .before .before .before .before .before .before .before .before .before .before .before .before .before .args .plans .now) (c .before .before .before .before .before .before .before .before .before .before .before .before .before .before .before .before .before .before .args .graph .now) (c .before .before .before .before .before .before .before .before .before .before .before .before .before .before .before .before .before .before .args .index .now) (c .before .before .before .before .before .before .before .before .before .before .before .before .before .before .before .before .before .before .args .near) (c .before .before .before .before .before .before .before .before .before .before .before .before .before .before .before .before .before .before .pre .0) (c .before .before .before .before .before .before .before .before .before .before .before .before .before .before .before .before .before .before .pre .1) (c .before .before .before .before .before .before .before .before .before .before .before .before .before .before .before .before .before .before .pre .2) (c .before .before .before .before .before .before .before .before .before .before .before .before .before .before .before .before .before .before .pre .4) (c .before .before .before .before .before .before .before .before .mode-of .result) (c .before .before .before .before .before .before .before .before .mode-of .ensures .0) _ refl (c .before .before .before .before .loop .chart) (c .before .before .before .before .loop .index) (c .before .before .before .before .loop .at .k) (c .before .before .before .before .loop .at .cs) (c .before .before .before .before .loop .past) (c .before .before .before .before .loop .inv .2) (c .before .before .before .before .before .before .before .before .before .before .before .before .before .before .before .before .before .before .args .lead) (c .before .before .before .before .before .before .before .before .before .before .before .before .before .before .before .before .before .before .pre .3), turning-known (c .before .before .before .before .before .before .before .before .before .before .before .before .before .before .before .before .before .before .args .g .now) (c .before .before .before .before .before .before .before .before .before .before .before .before .before .before .before .before .before .before .args .h .now) (c .before .before .before .before .before .before .before .before .before .before .before .before .before .before .before .before .before .before .args .keys .now) (graphOf (c .before .before .before .before .before .before .before .before .before .before .before .before .before .before .before .before .before .before .args .g .now) (c .before .before .before .before .before .before .before .before .before .before .before .before .before .before .before .before .before .before .args .h .now)) (c .before .before .before .before .before .before .before .before .before .before .before .before .before .before .before .before .before .before .args .chart .now) (c .before .before .before .before .before .before .before .before .before .before .before .before .before .before .before .before .before .before .args .j) (c .before .before .before .before .before .before .before .before .before .before .before .before .before .before .before .before .before .before .args .n) (c .before .before .before .before .before .before .before .before .before .before .before .before .before .before .before .before .before .before .args .plans .now) (c .before .before .before .before .before .before .before .before .before .before .before .before .before .before .before .before .before .before .args .graph .now) (c .before .before .before .before .before .before .before .before .before .before .before .before .before .before .before .before .before .before .args .index .now) (c .before .before .before .before .before .before .before .before .before .before .before .before .before .before .before .before .before .before .args .near) (c .before .before .before .before .before .before .before .before .before .before .before .before .before .before .before .before .before .before .pre .0) (c .before .before .before .before .before .before .before .before .before .before .before .before .before .before .before .before .before .before .pre .1) (c .before .before .before .before .before .before .before .before .before .before .before .before .before .before .before .before .before .before .pre .2) (c .before .before .before .before .before .before .before .before .before .before .before .before .before .before .before .before .before .before .pre .4) (c .before .before .before .before .before .before .before .before .mode-of .result) (c .before .before .before .before .before .before .before .before .mode-of .ensures .0) _ refl (c .before .before .before .before .loop .chart) (c .before .before .before .before .loop .index) (c .before .before .before .before .loop .at .k) (c .before .before .before .before .loop .at .cs) (c .before .before .before .before .loop .past) (c .before .before .before .before .loop .inv .2) (c .before .before .if1 .taken))
+same-length-3 : tie.Need-same-length-3
+same-length-3 c = search needs
 
-onward-requires : tie.Need-onward-requires Inv-loop μ-loop
-unfolding recordAt ofWords blockAt fieldAt tabulate
-onward-requires c κs = (c .before .before .before .before .before .before .add-next .ensures .1 .indexed .size, turn-count (c .before .before .before .before .before .before .before .before .before .before .before .before .before .before .before .before .before .before .before .before .before .before .before .before .before .args .g .now) (c .before .before .before .before .before .before .before .before .before .before .before .before .before .before .before .before .before .before .before .before .before .before .before .before .before .args .h .now) (c .before .before .before .before .before .before .before .before .before .before .before .before .before .before .before .before .before .before .before .before .before .before .before .before .before .args .keys .now) (graphOf (c .before .before .before .before .before .before .before .before .before .before .before .before .before .before .before .before .before .before .before .before .before .before .before .before .before .args .g .now) (c .before .before .before .before .before .before .before .before .before .before .before .before .before .before .before .before .before .before .before .before .before .before .before .before .before .args .h .now)) (c .before .before .before .before .before .before .before .before .before .before .before .before .before .before .before .before .before .before .before .before .before .before .before .before .before .args .chart .now) (c .before .before .before .before .before .before .before .before .before .before .before .before .before .before .before .before .before .before .before .before .before .before .before .before .before .args .j) (c .before .before .before .before .before .before .before .before .before .before .before .before .before .before .before .before .before .before .before .before .before .before .before .before .before .args .n) (c .before .before .before .before .before .before .before .before .before .before .before .before .before .before .before .before .before .before .before .before .before .before .before .before .before .args .plans .now) (c .before .before .before .before .before .before .before .before .before .before .before .before .before .before .before .before .before .before .before .before .before .before .before .before .before .args .graph .now) (c .before .before .before .before .before .before .before .before .before .before .before .before .before .before .before .before .before .before .before .before .before .before .before .before .before .args .index .now) (c .before .before .before .before .before .before .before .before .before .before .before .before .before .before .before .before .before .before .before .before .before .before .before .before .before .args .near) (c .before .before .before .before .before .before .before .before .before .before .before .before .before .before .before .before .before .before .before .before .before .before .before .before .before .pre .0) (c .before .before .before .before .before .before .before .before .before .before .before .before .before .before .before .before .before .before .before .before .before .before .before .before .before .pre .1) (c .before .before .before .before .before .before .before .before .before .before .before .before .before .before .before .before .before .before .before .before .before .before .before .before .before .pre .2) (c .before .before .before .before .before .before .before .before .before .before .before .before .before .before .before .before .before .before .before .before .before .before .before .before .before .pre .4) (c .before .before .before .before .before .before .before .before .before .before .before .before .before .before .before .mode-of .result) (c .before .before .before .before .before .before .before .before .before .before .before .before .before .before .before .mode-of .ensures .0) _ refl (c .before .before .before .before .before .before .before .before .before .before .before .loop .chart) (c .before .before .before .before .before .before .before .before .before .before .before .loop .index) (c .before .before .before .before .before .before .before .before .before .before .before .loop .at .k) (c .before .before .before .before .before .before .before .before .before .before .before .loop .at .cs) (c .before .before .before .before .before .before .before .before .before .before .before .loop .past) (c .before .before .before .before .before .before .before .before .before .before .before .loop .inv .2) _ _ (c .before .before .before .before .before .before .add-next .result) (c .before .before .before .before .before .before .before .before .before .if1 .taken) (c .before .before .before .before .before .before .add-next .ensures .0) (c .before .before .before .before .before .before .add-next .ensures .1) (c .before .before .before .before .before .before .add-next .ensures .2), few-items _ _ (c .before .before .before .before .before .before .before .before .before .before .before .before .before .before .before .before .before .before .before .before .before .before .before .before .before .pre .4) (c .before .before .before .before .before .before .before .before .before .before .before .before .before .before .before .before .before .before .before .before .before .before .before .before .before .pre .1 .small), c .before .before .before .before .before .before .before .before .before .if1 .taken, c .before .before .before .before .before .before .before .before .before .before .before .loop .inv .2 .poised, turn-within (c .before .before .before .before .before .before .before .before .before .before .before .before .before .before .before .before .before .before .before .before .before .before .before .before .before .args .g .now) (c .before .before .before .before .before .before .before .before .before .before .before .before .before .before .before .before .before .before .before .before .before .before .before .before .before .args .h .now) (c .before .before .before .before .before .before .before .before .before .before .before .before .before .before .before .before .before .before .before .before .before .before .before .before .before .args .keys .now) (graphOf (c .before .before .before .before .before .before .before .before .before .before .before .before .before .before .before .before .before .before .before .before .before .before .before .before .before .args .g .now) (c .before .before .before .before .before .before .before .before .before .before .before .before .before .before .before .before .before .before .before .before .before .before .before .before .before .args .h .now)) (c .before .before .before .before .before .before .before .before .before .before .before .before .before .before .before .before .before .before .before .before .before .before .before .before .before .args .chart .now) (c .before .before .before .before .before .before .before .before .before .before .before .before .before .before .before .before .before .before .before .before .before .before .before .before .before .args .j) (c .before .before .before .before .before .before .before .before .before .before .before .before .before .before .before .before .before .before .before .before .before .before .before .before .before .args .n) (c .before .before .before .before .before .before .before .before .before .before .before .before .before .before .before .before .before .before .before .before .before .before .before .before .before .args .plans .now) (c .before .before .before .before .before .before .before .before .before .before .before .before .before .before .before .before .before .before .before .before .before .before .before .before .before .args .graph .now) (c .before .before .before .before .before .before .before .before .before .before .before .before .before .before .before .before .before .before .before .before .before .before .before .before .before .args .index .now) (c .before .before .before .before .before .before .before .before .before .before .before .before .before .before .before .before .before .before .before .before .before .before .before .before .before .args .near) (c .before .before .before .before .before .before .before .before .before .before .before .before .before .before .before .before .before .before .before .before .before .before .before .before .before .pre .0) (c .before .before .before .before .before .before .before .before .before .before .before .before .before .before .before .before .before .before .before .before .before .before .before .before .before .pre .1) (c .before .before .before .before .before .before .before .before .before .before .before .before .before .before .before .before .before .before .before .before .before .before .before .before .before .pre .2) (c .before .before .before .before .before .before .before .before .before .before .before .before .before .before .before .before .before .before .before .before .before .before .before .before .before .pre .4) (c .before .before .before .before .before .before .before .before .before .before .before .before .before .before .before .mode-of .result) (c .before .before .before .before .before .before .before .before .before .before .before .before .before .before .before .mode-of .ensures .0) _ refl (c .before .before .before .before .before .before .before .before .before .before .before .loop .chart) (c .before .before .before .before .before .before .before .before .before .before .before .loop .index) (c .before .before .before .before .before .before .before .before .before .before .before .loop .at .k) (c .before .before .before .before .before .before .before .before .before .before .before .loop .at .cs) (c .before .before .before .before .before .before .before .before .before .before .before .loop .past) (c .before .before .before .before .before .before .before .before .before .before .before .loop .inv .2) _ _ (c .before .before .before .before .before .before .add-next .result) (c .before .before .before .before .before .before .before .before .before .if1 .taken) (c .before .before .before .before .before .before .add-next .ensures .0) (c .before .before .before .before .before .before .add-next .ensures .1) (c .before .before .before .before .before .before .add-next .ensures .2))
+same-length-4 : tie.Need-same-length-4
+same-length-4 c = search needs
 
-loop-less : tie.Need-loop-less Inv-loop μ-loop
-unfolding recordAt ofWords blockAt fieldAt tabulate
-loop-less c = turning-less (c .before .before .before .before .before .before .before .before .before .before .before .before .before .before .before .before .before .before .before .before .before .before .before .before .before .before .args .g .now) (c .before .before .before .before .before .before .before .before .before .before .before .before .before .before .before .before .before .before .before .before .before .before .before .before .before .before .args .h .now) (c .before .before .before .before .before .before .before .before .before .before .before .before .before .before .before .before .before .before .before .before .before .before .before .before .before .before .args .keys .now) (graphOf (c .before .before .before .before .before .before .before .before .before .before .before .before .before .before .before .before .before .before .before .before .before .before .before .before .before .before .args .g .now) (c .before .before .before .before .before .before .before .before .before .before .before .before .before .before .before .before .before .before .before .before .before .before .before .before .before .before .args .h .now)) (c .before .before .before .before .before .before .before .before .before .before .before .before .before .before .before .before .before .before .before .before .before .before .before .before .before .before .args .chart .now) (c .before .before .before .before .before .before .before .before .before .before .before .before .before .before .before .before .before .before .before .before .before .before .before .before .before .before .args .j) (c .before .before .before .before .before .before .before .before .before .before .before .before .before .before .before .before .before .before .before .before .before .before .before .before .before .before .args .n) (c .before .before .before .before .before .before .before .before .before .before .before .before .before .before .before .before .before .before .before .before .before .before .before .before .before .before .args .plans .now) (c .before .before .before .before .before .before .before .before .before .before .before .before .before .before .before .before .before .before .before .before .before .before .before .before .before .before .args .graph .now) (c .before .before .before .before .before .before .before .before .before .before .before .before .before .before .before .before .before .before .before .before .before .before .before .before .before .before .args .index .now) (c .before .before .before .before .before .before .before .before .before .before .before .before .before .before .before .before .before .before .before .before .before .before .before .before .before .before .args .near) (c .before .before .before .before .before .before .before .before .before .before .before .before .before .before .before .before .before .before .before .before .before .before .before .before .before .before .pre .0) (c .before .before .before .before .before .before .before .before .before .before .before .before .before .before .before .before .before .before .before .before .before .before .before .before .before .before .pre .1) (c .before .before .before .before .before .before .before .before .before .before .before .before .before .before .before .before .before .before .before .before .before .before .before .before .before .before .pre .2) (c .before .before .before .before .before .before .before .before .before .before .before .before .before .before .before .before .before .before .before .before .before .before .before .before .before .before .pre .4) (c .before .before .before .before .before .before .before .before .before .before .before .before .before .before .before .before .mode-of .result) (c .before .before .before .before .before .before .before .before .before .before .before .before .before .before .before .before .mode-of .ensures .0) _ refl (c .before .before .before .before .before .before .before .before .before .before .before .before .loop .chart) (c .before .before .before .before .before .before .before .before .before .before .before .before .loop .index) (c .before .before .before .before .before .before .before .before .before .before .before .before .loop .at .k) (c .before .before .before .before .before .before .before .before .before .before .before .before .loop .at .cs) (c .before .before .before .before .before .before .before .before .before .before .before .before .loop .past) (c .before .before .before .before .before .before .before .before .before .before .before .before .loop .inv .2) _ _ (c .before .before .before .before .before .before .before .add-next .result) (c .before .before .before .before .before .before .before .before .before .before .if1 .taken) (c .before .before .before .before .before .before .before .add-next .ensures .0) (c .before .before .before .before .before .before .before .add-next .ensures .1) (c .before .before .before .before .before .before .before .add-next .ensures .2) _ _ (c .onward .ensures)
-
-loop-again : tie.Need-loop-again Inv-loop μ-loop
-unfolding recordAt ofWords blockAt fieldAt tabulate
-loop-again c = (c .before .before .before .before .before .before .before .add-next .kept .1 .1 .1 .1 .1 .0 ∙ c .before .before .before .before .before .before .before .before .before .before .before .before .loop .inv .0, c .before .before .before .before .before .before .before .add-next .kept .1 .1 .1 .1 .1 .1 .0 ∙ c .before .before .before .before .before .before .before .before .before .before .before .before .loop .inv .1, turning-next (c .before .before .before .before .before .before .before .before .before .before .before .before .before .before .before .before .before .before .before .before .before .before .before .before .before .before .args .g .now) (c .before .before .before .before .before .before .before .before .before .before .before .before .before .before .before .before .before .before .before .before .before .before .before .before .before .before .args .h .now) (c .before .before .before .before .before .before .before .before .before .before .before .before .before .before .before .before .before .before .before .before .before .before .before .before .before .before .args .keys .now) (graphOf (c .before .before .before .before .before .before .before .before .before .before .before .before .before .before .before .before .before .before .before .before .before .before .before .before .before .before .args .g .now) (c .before .before .before .before .before .before .before .before .before .before .before .before .before .before .before .before .before .before .before .before .before .before .before .before .before .before .args .h .now)) (c .before .before .before .before .before .before .before .before .before .before .before .before .before .before .before .before .before .before .before .before .before .before .before .before .before .before .args .chart .now) (c .before .before .before .before .before .before .before .before .before .before .before .before .before .before .before .before .before .before .before .before .before .before .before .before .before .before .args .j) (c .before .before .before .before .before .before .before .before .before .before .before .before .before .before .before .before .before .before .before .before .before .before .before .before .before .before .args .n) (c .before .before .before .before .before .before .before .before .before .before .before .before .before .before .before .before .before .before .before .before .before .before .before .before .before .before .args .plans .now) (c .before .before .before .before .before .before .before .before .before .before .before .before .before .before .before .before .before .before .before .before .before .before .before .before .before .before .args .graph .now) (c .before .before .before .before .before .before .before .before .before .before .before .before .before .before .before .before .before .before .before .before .before .before .before .before .before .before .args .index .now) (c .before .before .before .before .before .before .before .before .before .before .before .before .before .before .before .before .before .before .before .before .before .before .before .before .before .before .args .near) (c .before .before .before .before .before .before .before .before .before .before .before .before .before .before .before .before .before .before .before .before .before .before .before .before .before .before .pre .0) (c .before .before .before .before .before .before .before .before .before .before .before .before .before .before .before .before .before .before .before .before .before .before .before .before .before .before .pre .1) (c .before .before .before .before .before .before .before .before .before .before .before .before .before .before .before .before .before .before .before .before .before .before .before .before .before .before .pre .2) (c .before .before .before .before .before .before .before .before .before .before .before .before .before .before .before .before .before .before .before .before .before .before .before .before .before .before .pre .4) (c .before .before .before .before .before .before .before .before .before .before .before .before .before .before .before .before .mode-of .result) (c .before .before .before .before .before .before .before .before .before .before .before .before .before .before .before .before .mode-of .ensures .0) _ refl (c .before .before .before .before .before .before .before .before .before .before .before .before .loop .chart) (c .before .before .before .before .before .before .before .before .before .before .before .before .loop .index) (c .before .before .before .before .before .before .before .before .before .before .before .before .loop .at .k) (c .before .before .before .before .before .before .before .before .before .before .before .before .loop .at .cs) (c .before .before .before .before .before .before .before .before .before .before .before .before .loop .past) (c .before .before .before .before .before .before .before .before .before .before .before .before .loop .inv .2) _ _ (c .before .before .before .before .before .before .before .add-next .result) (c .before .before .before .before .before .before .before .before .before .before .if1 .taken) (c .before .before .before .before .before .before .before .add-next .ensures .0) (c .before .before .before .before .before .before .before .add-next .ensures .1) (c .before .before .before .before .before .before .before .add-next .ensures .2) _ _ (c .onward .ensures))
-
-same-length : tie.Need-same-length Inv-loop μ-loop
-same-length c = c .before .before .loop .inv .0
-
-same-length-2 : tie.Need-same-length-2 Inv-loop μ-loop
-same-length-2 c = c .before .before .loop .inv .1
-
-returns : tie.Need-returns Inv-loop μ-loop
-unfolding recordAt ofWords blockAt fieldAt tabulate
-returns c = (turning-end (c .before .before .before .before .before .before .before .before .before .before .before .before .before .before .before .before .args .g .now) (c .before .before .before .before .before .before .before .before .before .before .before .before .before .before .before .before .args .h .now) (c .before .before .before .before .before .before .before .before .before .before .before .before .before .before .before .before .args .keys .now) (graphOf (c .before .before .before .before .before .before .before .before .before .before .before .before .before .before .before .before .args .g .now) (c .before .before .before .before .before .before .before .before .before .before .before .before .before .before .before .before .args .h .now)) (c .before .before .before .before .before .before .before .before .before .before .before .before .before .before .before .before .args .chart .now) (c .before .before .before .before .before .before .before .before .before .before .before .before .before .before .before .before .args .j) (c .before .before .before .before .before .before .before .before .before .before .before .before .before .before .before .before .args .n) (c .before .before .before .before .before .before .before .before .before .before .before .before .before .before .before .before .args .plans .now) (c .before .before .before .before .before .before .before .before .before .before .before .before .before .before .before .before .args .graph .now) (c .before .before .before .before .before .before .before .before .before .before .before .before .before .before .before .before .args .index .now) (c .before .before .before .before .before .before .before .before .before .before .before .before .before .before .before .before .args .near) (c .before .before .before .before .before .before .before .before .before .before .before .before .before .before .before .before .pre .0) (c .before .before .before .before .before .before .before .before .before .before .before .before .before .before .before .before .pre .1) (c .before .before .before .before .before .before .before .before .before .before .before .before .before .before .before .before .pre .2) (c .before .before .before .before .before .before .before .before .before .before .before .before .before .before .before .before .pre .4) (c .before .before .before .before .before .before .mode-of .result) (c .before .before .before .before .before .before .mode-of .ensures .0) _ refl (c .before .before .loop .chart) (c .before .before .loop .index) (c .before .before .loop .at .k) (c .before .before .loop .at .cs) (c .before .before .loop .past) (c .before .before .loop .inv .2) (c .if1 .left), c .before .before .loop .inv .2 .ready)
+returns-2 : tie.Need-returns-2
+returns-2 c = search needs
 
 pub add-each-spec : {M : Type 1} → statement M
 add-each-spec =
     tie.close
     (tie.spec
-    Inv-loop
-    μ-loop
     mul-own
     add-own
-    add-edges
-    mul-edges
-    slice-read-edges
-    add-query
-    mul-query
-    sub-query
-    part-query-start
-    part-query-end
-    query-requires
-    mode-of-requires
-    opening-requires
-    loop-holds
-    add-next-requires
-    onward-requires
-    loop-less
-    loop-again
+    add-asked
+    mul-asked
+    sub-asked
+    part-asked-start
+    part-asked-end
+    asked-requires
+    regular-requires
+    add-listed-requires
     same-length
     same-length-2
-    returns)
+    returns
+    add-many-requires
+    same-length-3
+    same-length-4
+    returns-2)

@@ -1,32 +1,44 @@
--- Line after line (proofs/Leading).
-use Prim.Native.Nat.{_+_, _-_, _*_, _≤_}
+-- Line after line with the set of their nodes, which answers question 6 for the last (proofs/EdgeLines).
 use native.Mathlib.Omega.{arith}
-use mathlib.Core.Path.{refl}
-use mathlib.Core.Bool.{cond}
-use mathlib.Core.List.{[]}
-use lib.Dec.{ltb}
+use Prim.Native.Nat.{_-_, _≤_}
 use borrow.Author.Needs.{needs}
-use Rattle.questions.specs.declared.Due.the-variants.{RuleEdge, PlanLine}
-use Rattle.questions.specs.Layout.{placeOf}
-use Rattle.tables.specs.Concluding.{Leads}
-use Rattle.tables.proofs.Leading.{reaches-no, reaches-yes, lines-start, lines-end, lines-no, lines-next, next-edge}
+use mathlib.Core.List.{[]}
+use Rattle.questions.specs.declared.Due.the-variants.{RuleEdge}
+use Rattle.questions.specs.Questions.{nodesOnEdges}
+use Rattle.tables.proofs.Leading.{reaches-no}
+use Rattle.tables.proofs.EdgeLines.{rule-lines, Passed, passed-none, passed-more, passed-no, passed-reaches}
 use Rattle.tables.proofs.checking.check_edges.Statement.{statement}
 use Rattle.tables.proofs.checking.check_edges.Tie as tie
 
 abbrev Inv-loop : tie.InvT-loop
-Inv-loop t r n i₀ i = (i ≤ n) × Leads 14985 [] t (RuleEdge r 0) (9 * (66 + 25 * r)) (cond (ltb i n) (RuleEdge r i) (PlanLine r 0)) (9 * (66 + 25 * r + i))
+Inv-loop t r n symbols nodes top mask₀ i₀ mask i = (i ≤ n) × Passed [] t (RuleEdge r) (nodesOnEdges t r) i mask
 
 abbrev μ-loop : tie.MeasureT-loop
-μ-loop t r n i₀ i = n - i
+μ-loop t r n symbols nodes top mask₀ i₀ mask i = n - i
+
+word-in-requires : tie.Need-word-in-requires Inv-loop μ-loop
+word-in-requires c κs = search needs
+
+mul-word-in : tie.Need-mul-word-in Inv-loop μ-loop
+mul-word-in c = search needs
+
+add-word-in : tie.Need-add-word-in Inv-loop μ-loop
+add-word-in c = search needs
+
+word-in-requires-2 : tie.Need-word-in-requires-2 Inv-loop μ-loop
+word-in-requires-2 c κs = search needs
+
+at-most-requires : tie.Need-at-most-requires Inv-loop μ-loop
+at-most-requires c κs = search needs
 
 loop-holds : tie.Need-loop-holds Inv-loop μ-loop
-loop-holds c = (omega arith, lines-start 14985 [] _ (RuleEdge (c .before .args .r)) _ _ _ _ (omega arith) (c .before .pre .1 .some))
+loop-holds c = (omega arith, passed-none 14985 [] _ _ _ _ _ _ _ (rule-lines _ _ _ (c .before .before .before .before .pre .1)))
 
 rule-edge-stands-requires : tie.Need-rule-edge-stands-requires Inv-loop μ-loop
 rule-edge-stands-requires c κs = search needs
 
 returns : tie.Need-returns Inv-loop μ-loop
-returns c = reaches-no 14985 [] _ _ _ _ _ (lines-no 14985 [] _ _ _ (RuleEdge (c .before .before .before .before .before .args .r)) _ _ _ _ (c .before .before .before .loop .inv .1) (c .before .before .loop-test .taken) tt _ (c .before .rule-edge-stands .ensures) (c .if1 .taken))
+returns c = reaches-no 14985 [] _ _ _ _ _ (passed-no 14985 [] _ _ _ _ _ _ _ (rule-lines _ _ _ (c .before .before .before .before .before .before .before .before .before .pre .1)) _ _ (c .before .before .before .before .loop .inv .1) (c .before .before .before .loop-test .taken) _ _ (c .before .before .rule-edge-stands .ensures) (c .if1 .taken))
 
 add-i : tie.Need-add-i Inv-loop μ-loop
 add-i c = search needs
@@ -35,11 +47,13 @@ loop-less : tie.Need-loop-less Inv-loop μ-loop
 loop-less c = search needs
 
 loop-again : tie.Need-loop-again Inv-loop μ-loop
-unfolding placeOf
-loop-again c = (omega arith, lines-next 14985 [] _ _ _ (RuleEdge (c .before .before .before .before .before .args .r)) _ _ _ _ (c .before .before .before .loop .inv .1) (c .before .before .loop-test .taken) tt _ (c .before .rule-edge-stands .ensures) (c .if1 .left) refl (next-edge _ _ (c .before .before .before .before .before .args .r) _ (c .before .before .before .before .before .pre .1)) _ (omega arith))
+loop-again c = (omega arith, passed-more 14985 [] _ _ _ _ _ _ _ (rule-lines _ _ _ (c .before .before .before .before .before .before .before .before .before .before .pre .1)) _ _ (c .before .before .before .before .before .loop .inv .1) _ _ (c .before .before .before .rule-edge-stands .ensures) (c .before .if1 .left))
+
+has-all-requires : tie.Need-has-all-requires Inv-loop μ-loop
+has-all-requires c κs = search needs
 
 returns-2 : tie.Need-returns-2 Inv-loop μ-loop
-returns-2 c = reaches-yes 14985 [] _ _ _ _ _ (lines-end 14985 [] _ _ _ (RuleEdge (c .before .before .before .args .r)) _ _ _ _ (c .before .loop .inv .1) (c .loop-test .left) _ (omega arith))
+returns-2 c = passed-reaches 14985 [] _ _ _ _ _ _ _ (rule-lines _ _ _ (c .before .before .before .before .before .before .before .pre .1)) _ _ (c .before .before .loop .inv .1) (c .before .before .before .before .before .before .before .pre .1 .some) (omega arith) _ (c .before .before .before .before .word-in2 .ensures) _ (c .has-all .ensures) _ (omega arith)
 
 pub check-edges-spec : {M : Type 1} → statement M
 check-edges-spec =
@@ -47,10 +61,16 @@ check-edges-spec =
     (tie.spec
     Inv-loop
     μ-loop
+    word-in-requires
+    mul-word-in
+    add-word-in
+    word-in-requires-2
+    at-most-requires
     loop-holds
     rule-edge-stands-requires
     returns
     add-i
     loop-less
     loop-again
+    has-all-requires
     returns-2)

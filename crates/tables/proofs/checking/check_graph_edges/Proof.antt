@@ -1,31 +1,37 @@
--- Line after line, and the words behind the last (proofs/Leading).
-use Prim.Native.Nat.{_+_, _-_, _*_, _≤_}
+-- Line after line with the set of their nodes, which answers question 6 for the last, and the words behind it (proofs/EdgeLines).
 use native.Mathlib.Omega.{arith}
-use mathlib.Core.Path.{refl}
-use mathlib.Core.Bool.{cond}
-use lib.Dec.{ltb}
+use Prim.Native.Nat.{_-_, _≤_}
 use borrow.Author.Needs.{needs}
-use Rattle.questions.specs.declared.Due.the-variants.{GraphEdge, Nothing}
-use Rattle.questions.specs.Layout.{placeOf}
-use Rattle.tables.specs.Concluding.{Leads}
-use Rattle.tables.proofs.Leading.{concludes-no, concludes-on, concludes-last, lines-start, lines-end, lines-no, lines-next, next-graph-edge}
+use Rattle.questions.specs.declared.Due.the-variants.{GraphEdge}
+use Rattle.questions.specs.Questions.{nodesOnGraph}
+use Rattle.tables.proofs.Leading.{concludes-no, concludes-on, concludes-last}
+use Rattle.tables.proofs.EdgeLines.{graph-lines, Passed, passed-none, passed-more, passed-no, passed-uncovered, passed-all}
 use Rattle.tables.proofs.checking.check_graph_edges.Statement.{statement}
 use Rattle.tables.proofs.checking.check_graph_edges.Tie as tie
 
 abbrev Inv-loop : tie.InvT-loop
-Inv-loop g t n e₀ e = (e ≤ n) × Leads 585 g t (GraphEdge 0) 9 (cond (ltb e n) (GraphEdge e) Nothing) (9 * (1 + e))
+Inv-loop g t n symbols nodes top mask₀ e₀ mask e = (e ≤ n) × Passed g t GraphEdge (nodesOnGraph g t) e mask
 
 abbrev μ-loop : tie.MeasureT-loop
-μ-loop g t n e₀ e = n - e
+μ-loop g t n symbols nodes top mask₀ e₀ mask e = n - e
+
+symbol-count-requires : tie.Need-symbol-count-requires Inv-loop μ-loop
+symbol-count-requires c κs = search needs
+
+word-in-requires : tie.Need-word-in-requires Inv-loop μ-loop
+word-in-requires c κs = search needs
+
+at-most-requires : tie.Need-at-most-requires Inv-loop μ-loop
+at-most-requires c κs = search needs
 
 loop-holds : tie.Need-loop-holds Inv-loop μ-loop
-loop-holds c = (omega arith, lines-start 585 _ _ GraphEdge _ _ _ _ (omega arith) (c .before .before .pre .1 .some))
+loop-holds c = (omega arith, passed-none 585 _ _ _ _ _ _ _ _ (graph-lines _ _ _ (c .before .before .before .before .before .pre .1)))
 
 graph-edge-stands-requires : tie.Need-graph-edge-stands-requires Inv-loop μ-loop
 graph-edge-stands-requires c κs = search needs
 
 returns : tie.Need-returns Inv-loop μ-loop
-returns c = concludes-no 585 _ _ _ _ (lines-no 585 _ _ _ _ GraphEdge _ _ _ _ (c .before .before .before .loop .inv .1) (c .before .before .loop-test .taken) tt _ (c .before .graph-edge-stands .ensures) (c .if1 .taken))
+returns c = concludes-no 585 _ _ _ _ (passed-no 585 _ _ _ _ _ _ _ _ (graph-lines _ _ _ (c .before .before .before .before .before .before .before .before .before .before .pre .1)) _ _ (c .before .before .before .before .loop .inv .1) (c .before .before .before .loop-test .taken) _ _ (c .before .before .graph-edge-stands .ensures) (c .if1 .taken))
 
 add-e : tie.Need-add-e Inv-loop μ-loop
 add-e c = search needs
@@ -34,8 +40,13 @@ loop-less : tie.Need-loop-less Inv-loop μ-loop
 loop-less c = search needs
 
 loop-again : tie.Need-loop-again Inv-loop μ-loop
-unfolding placeOf
-loop-again c = (omega arith, lines-next 585 _ _ _ _ GraphEdge _ _ _ _ (c .before .before .before .loop .inv .1) (c .before .before .loop-test .taken) tt _ (c .before .graph-edge-stands .ensures) (c .if1 .left) refl (next-graph-edge _ _ _ (c .before .before .before .before .before .before .pre .1)) _ (omega arith))
+loop-again c = (omega arith, passed-more 585 _ _ _ _ _ _ _ _ (graph-lines _ _ _ (c .before .before .before .before .before .before .before .before .before .before .before .pre .1)) _ _ (c .before .before .before .before .before .loop .inv .1) _ _ (c .before .before .before .graph-edge-stands .ensures) (c .before .if1 .left))
+
+has-all-requires : tie.Need-has-all-requires Inv-loop μ-loop
+has-all-requires c κs = search needs
+
+returns-2 : tie.Need-returns-2 Inv-loop μ-loop
+returns-2 c = concludes-no 585 _ _ _ _ (passed-uncovered 585 _ _ _ _ _ _ _ _ (graph-lines _ _ _ (c .before .before .before .before .before .before .before .before .before .pre .1)) _ _ (c .before .before .before .loop .inv .1) (c .before .before .before .before .before .before .before .before .before .pre .1 .some) (omega arith) _ (c .before .before .before .before .before .word-in .ensures) _ (c .before .has-all .ensures) (c .if2 .taken))
 
 add-zeros : tie.Need-add-zeros Inv-loop μ-loop
 add-zeros c = search needs
@@ -46,8 +57,8 @@ mul-zeros c = search needs
 zeros-requires : tie.Need-zeros-requires Inv-loop μ-loop
 zeros-requires c κs = search needs
 
-returns-2 : tie.Need-returns-2 Inv-loop μ-loop
-returns-2 c = concludes-on 585 _ _ _ _ _ _ (lines-end 585 _ _ _ _ GraphEdge _ _ _ _ (c .before .before .loop .inv .1) (c .before .loop-test .left) _ (omega arith)) _ (concludes-last 585 _ _ _ _ (c .zeros .ensures))
+returns-3 : tie.Need-returns-3 Inv-loop μ-loop
+returns-3 c = concludes-on 585 _ _ _ _ _ _ (passed-all 585 _ _ _ _ _ _ _ _ (graph-lines _ _ _ (c .before .before .before .before .before .before .before .before .before .before .pre .1)) _ _ (c .before .before .before .before .loop .inv .1) (c .before .before .before .before .before .before .before .before .before .before .pre .1 .some) (omega arith) _ (c .before .before .before .before .before .before .word-in .ensures) _ (c .before .before .has-all .ensures) (c .before .if2 .left) _ (omega arith)) _ (concludes-last 585 _ _ _ _ (c .zeros .ensures))
 
 pub check-graph-edges-spec : {M : Type 1} → statement M
 check-graph-edges-spec =
@@ -55,13 +66,18 @@ check-graph-edges-spec =
     (tie.spec
     Inv-loop
     μ-loop
+    symbol-count-requires
+    word-in-requires
+    at-most-requires
     loop-holds
     graph-edge-stands-requires
     returns
     add-e
     loop-less
     loop-again
+    has-all-requires
+    returns-2
     add-zeros
     mul-zeros
     zeros-requires
-    returns-2)
+    returns-3)

@@ -1,45 +1,67 @@
--- Line after line (proofs/Leading).
-use Prim.Native.Nat.{_+_, _-_, _*_, _≤_}
+-- Line after line with the sets of those passed, which decide at the end (proofs/Carrying).
+use Prim.Native.Nat.{_-_, _≤_}
 use native.Mathlib.Omega.{arith}
-use mathlib.Core.Path.{refl}
-use mathlib.Core.Bool.{cond}
-use mathlib.Core.List.{[]}
-use lib.Dec.{ltb}
+use borrow.Author.Tests.{not-false}
 use borrow.Author.Needs.{needs}
-use Rattle.questions.specs.declared.Due.the-variants.{PlanLine}
-use Rattle.questions.specs.Layout.{placeOf}
-use Rattle.tables.specs.Concluding.{Leads, ruleAfter}
-use Rattle.tables.proofs.Leading.{reaches-no, reaches-yes, lines-start, lines-end, lines-no, lines-next, next-plan}
+use Rattle.tables.specs.Plans.{Marked}
+use Rattle.tables.proofs.Planning.{marked-start, marked-done}
+use Rattle.tables.proofs.Carrying.{Passed, passed-start, passed-no, passed-next, line-not-kept, line-not-zero, line-stands, plan-whole}
 use Rattle.tables.proofs.checking.check_plan.Statement.{statement}
 use Rattle.tables.proofs.checking.check_plan.Tie as tie
 
 abbrev Inv-loop : tie.InvT-loop
-Inv-loop t r n q₀ q = (q ≤ n) × Leads 14985 [] t (PlanLine r 0) (9 * (74 + 25 * r)) (cond (ltb q n) (PlanLine r q) (ruleAfter t r)) (9 * (74 + 25 * r + q))
+Inv-loop t r n edges children₀ introduced₀ q₀ children introduced q = (q ≤ n) × Marked t r q children introduced × Passed t r n q
 
 abbrev μ-loop : tie.MeasureT-loop
-μ-loop t r n q₀ q = n - q
+μ-loop t r n edges children₀ introduced₀ q₀ children introduced q = n - q
 
 loop-holds : tie.Need-loop-holds Inv-loop μ-loop
-loop-holds c = (omega arith, lines-start 14985 [] _ (PlanLine (c .before .args .r)) _ _ _ _ (omega arith) (c .before .pre .1 .some))
+loop-holds c = (omega arith, marked-start _ _, passed-start _ _ _ (c .before .pre .1 .some))
 
-plan-line-stands-requires : tie.Need-plan-line-stands-requires Inv-loop μ-loop
-plan-line-stands-requires c κs = search needs
+with-line-requires : tie.Need-with-line-requires Inv-loop μ-loop
+with-line-requires c κs = (record { long = omega (arith, c .before .before .before .pre .0 .1); rule = omega (arith, c .before .before .before .pre .0 .0); lines = omega (arith, c .before .before .before .pre .1 .few, c .loop-test .taken) }, c .before .before .before .pre .2, c .before .loop .inv .1)
 
 returns : tie.Need-returns Inv-loop μ-loop
-returns c = reaches-no 14985 [] _ _ _ _ _ (lines-no 14985 [] _ _ _ (PlanLine (c .before .before .before .before .before .args .r)) _ _ _ _ (c .before .before .before .loop .inv .1) (c .before .before .loop-test .taken) tt _ (c .before .plan-line-stands .ensures) (c .if1 .taken))
+returns c = passed-no _ _ _ _ (c .before .before .before .before .loop .inv .2) (c .before .before .before .loop-test .taken) (line-not-kept _ _ _ _ (c .before .before .with-line .ensures .so) (c .if1 .taken))
+
+mul-six-zeros : tie.Need-mul-six-zeros Inv-loop μ-loop
+mul-six-zeros c = search needs
+
+add-six-zeros : tie.Need-add-six-zeros Inv-loop μ-loop
+add-six-zeros c = search needs
+
+add-six-zeros-2 : tie.Need-add-six-zeros-2 Inv-loop μ-loop
+add-six-zeros-2 c = search needs
+
+mul-six-zeros-2 : tie.Need-mul-six-zeros-2 Inv-loop μ-loop
+mul-six-zeros-2 c = search needs
+
+six-zeros-requires : tie.Need-six-zeros-requires Inv-loop μ-loop
+six-zeros-requires c κs = search needs
+
+returns-2 : tie.Need-returns-2 Inv-loop μ-loop
+returns-2 c = passed-no _ _ _ _ (c .before .before .before .before .before .before .loop .inv .2) (c .before .before .before .before .before .loop-test .taken) (line-not-zero _ _ _ _ (c .before .before .before .before .with-line .ensures .so) _ (c .before .six-zeros .ensures) (c .if2 .taken))
 
 add-q : tie.Need-add-q Inv-loop μ-loop
 add-q c = search needs
 
 loop-less : tie.Need-loop-less Inv-loop μ-loop
-loop-less c = search needs
+loop-less c = omega arith
 
 loop-again : tie.Need-loop-again Inv-loop μ-loop
-unfolding placeOf
-loop-again c = (omega arith, lines-next 14985 [] _ _ _ (PlanLine (c .before .before .before .before .before .args .r)) _ _ _ _ (c .before .before .before .loop .inv .1) (c .before .before .loop-test .taken) tt _ (c .before .plan-line-stands .ensures) (c .if1 .left) refl (next-plan _ _ (c .before .before .before .before .before .args .r) _ (c .before .before .before .before .before .pre .1)) _ (omega arith))
+loop-again c = (omega arith, c .before .before .before .before .with-line .ensures .sets (not-false _ (c .before .before .if1 .left)), passed-next _ _ _ _ (c .before .before .before .before .before .before .loop .inv .2) (c .before .before .before .before .before .loop-test .taken) (c .before .before .before .before .before .before .before .before .pre .1) (line-stands _ _ _ _ (c .before .before .before .before .with-line .ensures .so) _ (c .before .six-zeros .ensures) (c .before .before .if1 .left) (c .if2 .left)))
 
-returns-2 : tie.Need-returns-2 Inv-loop μ-loop
-returns-2 c = reaches-yes 14985 [] _ _ _ _ _ (lines-end 14985 [] _ _ _ (PlanLine (c .before .before .before .args .r)) _ _ _ _ (c .before .loop .inv .1) (c .loop-test .left) _ (omega arith))
+sub-has-all : tie.Need-sub-has-all Inv-loop μ-loop
+sub-has-all c = search needs
+
+has-all-requires : tie.Need-has-all-requires Inv-loop μ-loop
+has-all-requires c κs = search needs
+
+has-all-requires-2 : tie.Need-has-all-requires-2 Inv-loop μ-loop
+has-all-requires-2 c κs = search needs
+
+returns-3 : tie.Need-returns-3 Inv-loop μ-loop
+returns-3 c = c .before .before .before .loop .inv .2 .last (c .before .before .loop-test .left) _ (plan-whole _ _ _ _ _ _ _ (omega (arith, c .before .before .before .before .before .pre .1 .some)) (c .before .before .before .before .before .pre .1 .few) (c .before .before .before .before .before .pre .2) (marked-done _ _ _ _ _ _ (c .before .before .before .loop .inv .0) (c .before .before .loop-test .left) (c .before .before .before .loop .inv .1)) _ _ (c .before .has-all .ensures) (c .has-all2 .ensures))
 
 pub check-plan-spec : {M : Type 1} → statement M
 check-plan-spec =
@@ -48,9 +70,18 @@ check-plan-spec =
     Inv-loop
     μ-loop
     loop-holds
-    plan-line-stands-requires
+    with-line-requires
     returns
+    mul-six-zeros
+    add-six-zeros
+    add-six-zeros-2
+    mul-six-zeros-2
+    six-zeros-requires
+    returns-2
     add-q
     loop-less
     loop-again
-    returns-2)
+    sub-has-all
+    has-all-requires
+    has-all-requires-2
+    returns-3)

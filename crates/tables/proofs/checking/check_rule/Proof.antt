@@ -67,7 +67,7 @@ word-in-requires-2 : tie.Need-word-in-requires-2
 word-in-requires-2 c κs = search needs
 
 check-plan-requires : tie.Need-check-plan-requires
-check-plan-requires c κs = (c .before .before .before .before .before .before .before .before .before .pre, plan-few _ _ _ (c .before .before .before .before .before .before .before .rule-stands .ensures .yes (not-false _ (c .before .before .before .before .before .before .if1 .left))) (c .word-in2 .ensures))
+check-plan-requires c κs = (c .before .before .before .before .before .before .before .before .before .pre, plan-few _ _ _ (c .before .before .before .before .before .before .before .rule-stands .ensures .yes (not-false _ (c .before .before .before .before .before .before .if1 .left))) (c .word-in2 .ensures), edges-few _ _ _ (c .before .before .before .before .before .before .before .rule-stands .ensures .yes (not-false _ (c .before .before .before .before .before .before .if1 .left))) (c .before .before .before .before .before .word-in .ensures))
 
 returns-4 : tie.Need-returns-4
 returns-4 c = (λ y. omega (arith, plan-few _ _ _ (c .before .before .before .before .before .before .before .before .rule-stands .ensures .yes (not-false _ (c .before .before .before .before .before .before .before .if1 .left))) (c .before .word-in2 .ensures) .few, c .before .word-in2 .ensures), rule-plan 14985 _ _ _ (c .before .before .before .before .before .before .before .before .rule-stands .ensures) _ _ (c .before .before .before .before .before .before .before .if1 .left) _ _ (c .before .before .before .before .before .check-edges .ensures) (c .before .before .before .before .if2 .left) _ (c .before .before .before .zeros .ensures) (c .before .before .if3 .left) _ (ap (λ k. 9 * (74 + 25 * c .before .before .before .before .before .before .before .before .before .before .args .r + k)) (c .before .word-in2 .ensures)) _ (c .check-plan .ensures))

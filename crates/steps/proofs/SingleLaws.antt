@@ -1,0 +1,163 @@
+-- The loop over the partners on the list of one key: the cursors of ListedLaws, of which four are at the end. Quiet records are passed by where they are met.
+use Prim.Native.Nat.{ℕ, _+_, _-_, _/_, _*_, _≤_, _<_, max}
+use mathlib.Core.Path.{_≡_, refl, sym, ap, _∙_, subst}
+use mathlib.Core.Logic.{_≢_}
+use mathlib.Core.Bool.{Bool, true, false, not, _&&_, false≢true}
+use mathlib.Core.List.{List}
+use native.Mathlib.Omega.{arith}
+use lib.Dec.{eqb, leb}
+use borrow.Author.Tests.{eq-eqb, ne-eqb, not-true, leb-true, leb-false}
+use Rattle.hrg.proofs.Degrees.{and-true}
+use lib.ListN.{length, getD}
+use Rattle.hrg.specs.Grammars.{Graph}
+use Rattle.hrg.specs.ClosureRun.{guard}
+use Rattle.agenda.specs.declared.Record.{Record}
+use Rattle.agenda.specs.Consequences.{gather}
+use Rattle.questions.specs.Abstract.{grammarOf, graphOf}
+use Rattle.rules.specs.Plans.{Leads}
+use Rattle.records.specs.Words.{itemCount, recordAt, grownBy}
+use Rattle.lists.specs.Cursors.{alone, startsOf, leastOf, passedOf, leftAll}
+use Rattle.lists.proofs.CursorLaws.{least-few, left-falls, ahead-skims, skims-none, alone-passed, alone-least, alone-past, alone-skims}
+use Rattle.pivots.specs.Keys.{regularOf}
+use Rattle.index.specs.Index.{indexWords, listsOf}
+use Rattle.index.specs.Quiet.{quietIn}
+use Rattle.steps.specs.Partners.{withRecord}
+use Rattle.steps.specs.Ready.{Tables, Ready, Handled}
+use Rattle.steps.specs.Ways.{Single}
+use Rattle.steps.proofs.ListedLaws.{few-items, query-within, dealt-longer, dealt-record, dealt-handled, dealt-lead, dealt-quiet, regular-own, Going, going-start, going-next, going-less, going-end}
+
+-- the test of the loop
+test-yes : (c m : ℕ) → not (eqb c 0) && leb c m ≡ true → (c ≢ 0) × (c ≤ m)
+test-yes c m t =
+    let (a, b) = and-true (not (eqb c 0)) (leb c m) t in
+    (λ e. false≢true (sym (not-true (eqb c 0) a) ∙ eq-eqb c 0 e), leb-true c m b)
+
+test-no : (c m : ℕ) → not (eqb c 0) && leb c m ≡ false → c ≢ 0 → m < c
+test-no c m t z = leb-false c m (ap (λ (b : Bool). not b && leb c m) (sym (ne-eqb c 0 z)) ∙ t)
+
+start-alone : (ws : List ℕ) (b r : ℕ) → getD ws 0 0 ≡ 0 → r ≡ getD ws b 0 → alone r ≡ startsOf ws (alone b)
+unfolding startsOf
+start-alone ws b r z p = rw (p, z)
+
+module _ (g h keys w : List ℕ) (j n : ℕ) where
+  -- where the loop is: the first `past` partners are dealt with, and what is left and not quiet lies at the cursor c or behind it
+  abbrev pub Along : List ℕ → List ℕ → ℕ → ℕ → Type 0
+  Along v ix c past = Going g h keys (graphOf g h) w (recordAt w j) j n v ix (alone c) (leastOf (alone c)) past
+
+  -- the record of the entry at c is quiet, or it is dealt with unless it was
+  pub data Met (v ix : List ℕ) (c past : ℕ) (u jx : List ℕ) (later : ℕ) : Type 0 where
+    quiet : quietIn v (recordAt w j .edges) ((c - 1) / 5) ≡ true → u ≡ v → jx ≡ ix → later ≡ past → Met v ix c past u jx later
+    loud : (t kx : List ℕ) (m : ℕ) → u ≡ t → jx ≡ kx → later ≡ m
+        → t ≡ grownBy v (guard (leb past ((c - 1) / 5)) (withRecord (grammarOf g) (graphOf g h) (recordAt v j) j (recordAt v ((c - 1) / 5)) ((c - 1) / 5))) → Ready g h keys t kx → m ≡ max past ((c - 1) / 5 + 1)
+        → Met v ix c past u jx later
+
+module _ {g h plans keys graph w ix₀ : List ℕ} {j n near key : ℕ} {lead : Bool} (P : Tables g h plans keys graph × Ready g h keys w ix₀ × Handled g h w j near × Leads g (recordAt w j) lead × (n ≤ itemCount w) × Single keys w ix₀ j key) where
+  abbrev H : Graph
+  H = graphOf g h
+
+  abbrev x : Record
+  x = recordAt w j
+
+  pub single-key : key ≤ 2048
+  single-key = query-within keys x (alone key) (P .5 .only) 0 (omega arith)
+
+  pub single-few : n ≤ 4096
+  single-few = few-items w n (P .4) (P .1 .small)
+
+  pub single-start : (c : ℕ) → c ≡ getD (listsOf ix₀) key 0 → Along g h keys w j n w ix₀ c 0
+  single-start c e =
+      going-start g h keys H w x j n (P .1 .fits) (P .4) ix₀ (alone c) (alone c) (leastOf (alone c)) (P .1)
+      (start-alone (listsOf ix₀) key c (P .1 .indexed .listed .none) e ∙ ap (startsOf (listsOf ix₀)) (P .5 .only))
+      (skims-none (quietIn w (x .edges)) (listsOf ix₀) n (alone c)) refl (least-few (alone c))
+
+  module _ {v ix : List ℕ} {c past : ℕ} (S : Along g h keys w j n v ix c past) where
+    pub single-handled : Handled g h v j near
+    single-handled = dealt-handled g h w H j near (P .1 .fits) (P .2) v past (S .gathered)
+
+    pub single-lead : Leads g (recordAt v j) lead
+    single-lead = dealt-lead g h w H j near (P .1 .fits) (P .2) v past (S .gathered) lead (P .3)
+
+    own : regularOf keys x ≡ true
+    own = regular-own g h keys w ix₀ j near (P .1) (P .2) (P .5 .regular)
+
+    pub single-end : not (eqb c 0) && leb c (5 * n) ≡ false → v ≡ grownBy w (gather n (λ k. withRecord (grammarOf g) H x j (recordAt w k) k))
+    single-end t =
+        going-end g h keys H w x j n (P .1 .fits) (P .4) v ix (alone c) (leastOf (alone c)) past S (P .0 .accepted .grammar) (P .0 .keyed) own (P .1 .indexed .regular (P .5 .regular))
+        (alone-past c n single-few (test-no c (5 * n) t))
+
+    module _ (t : not (eqb c 0) && leb c (5 * n) ≡ true) where
+      abbrev k : ℕ
+      k = (c - 1) / 5
+
+      z : c ≢ 0
+      z = test-yes c (5 * n) t .0
+
+      pub single-low : c ≤ 5 * n
+      single-low = test-yes c (5 * n) t .1
+
+      pub single-some : 1 ≤ c
+      single-some = omega (arith, z)
+
+      here : Going g h keys H w x j n v ix (alone c) k past
+      here = subst (λ i. Going g h keys H w x j n v ix (alone c) i past) (sym (alone-least c z (omega (arith, single-low, single-few)))) S
+
+      pub single-known : k < itemCount v
+      single-known = omega (arith, z, single-low, P .4, dealt-longer g h w H j near (P .1 .fits) (P .2) v past (S .gathered))
+
+      passed : (ws : List ℕ) (d : ℕ) → d ≡ getD ws (4097 + c) 0 → alone d ≡ passedOf ws (alone c) k
+      passed ws d e = alone-passed ws c k d (omega (arith, z, single-low)) (omega (arith, z, single-low)) e
+
+      -- past a quiet record
+      module _ (s : quietIn v (x .edges) k ≡ true) (d : ℕ) (e : d ≡ getD (listsOf ix) (4097 + c) 0) where
+        hushed : quietIn w (x .edges) k ≡ true
+        hushed = sym (dealt-quiet g h w H j near (P .1 .fits) (P .2) v past (S .gathered) (x .edges) k (omega (arith, z, single-low, P .4))) ∙ s
+
+        quiet-next : Along g h keys w j n v ix d past
+        quiet-next = record {
+          ready = S .ready;
+          gathered = S .gathered;
+          ahead = ahead-skims _ (listsOf ix) _ _ n past (alone c) (alone d) (S .ready .indexed .listed) (S .ahead) (alone-skims _ (listsOf ix) n c d z single-low hushed e);
+          at = refl;
+          few = least-few (alone d);
+          low = S .low;
+        }
+
+        quiet-less : leftAll (alone d) < leftAll (alone c)
+        quiet-less = left-falls _ (listsOf ix) _ _ n past k (alone c) (alone d) (S .ready .indexed .listed) (S .ahead) (here .at) (omega (arith, z, single-low)) (passed (listsOf ix) d e)
+
+      -- past one that is dealt with
+      module _ (u jx : List ℕ) (later : ℕ) (p : u ≡ grownBy v (guard (leb past k) (withRecord (grammarOf g) H (recordAt v j) j (recordAt v k) k))) (R : Ready g h keys u jx) (q : later ≡ max past (k + 1)) (d : ℕ) (e : d ≡ getD (listsOf jx) (4097 + c) 0) where
+        made : u ≡ grownBy v (guard (leb past k) (withRecord (grammarOf g) H x j (recordAt v k) k))
+        made = p ∙ ap (λ (y : Record). grownBy v (guard (leb past k) (withRecord (grammarOf g) H y j (recordAt v k) k))) (dealt-record g h w H j near (P .1 .fits) (P .2) v past (S .gathered))
+
+        loud-next : Along g h keys w j n u jx d later
+        loud-next =
+            going-next g h keys H w x j n (P .1 .fits) (P .4) v ix (alone c) k past here (P .0 .accepted .grammar) (P .0 .keyed) own (P .1 .indexed .regular (P .5 .regular)) u jx later (omega (arith, z, single-low)) made R q
+            (alone d) (alone d) (passed (listsOf jx) d e) (skims-none (quietIn u (x .edges)) (listsOf jx) n (alone d)) (leastOf (alone d)) refl (least-few (alone d))
+
+        loud-less : leftAll (alone d) < leftAll (alone c)
+        loud-less =
+            going-less g h keys H w x j n (P .1 .fits) (P .4) v ix (alone c) k past here (P .0 .accepted .grammar) (P .0 .keyed) own (P .1 .indexed .regular (P .5 .regular)) u jx later (omega (arith, z, single-low)) made R q
+            (alone d) (alone d) (passed (listsOf jx) d e) (skims-none (quietIn u (x .edges)) (listsOf jx) n (alone d))
+
+      -- past either
+      pub single-size : {u jx : List ℕ} {later : ℕ} → Met g h keys w j n v ix c past u jx later → length jx ≡ indexWords
+      single-size (quiet _ _ e _) = ap length e ∙ S .ready .indexed .size
+      single-size (loud _ _ _ _ e _ _ R _) = ap length e ∙ R .indexed .size
+
+      reading : (jx kx : List ℕ) (d : ℕ) → jx ≡ kx → d ≡ getD (listsOf jx) (4097 + c) 0 → d ≡ getD (listsOf kx) (4097 + c) 0
+      reading jx kx d b e = e ∙ ap (λ (t : List ℕ). getD (listsOf t) (4097 + c) 0) b
+
+      along : (u jx t kx : List ℕ) (d later m : ℕ) → u ≡ t → jx ≡ kx → later ≡ m → Along g h keys w j n t kx d m → Along g h keys w j n u jx d later
+      along u jx t kx d later m a b o A =
+          subst (λ (y : List ℕ). Along g h keys w j n y jx d later) (sym a)
+          (subst (λ (y : List ℕ). Along g h keys w j n t y d later) (sym b) (subst (Along g h keys w j n t kx d) (sym o) A))
+
+      module _ {u jx : List ℕ} {later : ℕ} (d : ℕ) (e : d ≡ getD (listsOf jx) (4097 + c) 0) where
+        pub single-next : Met g h keys w j n v ix c past u jx later → Along g h keys w j n u jx d later
+        single-next (quiet s a b o) = along u jx v ix d later past a b o (quiet-next s d (reading jx ix d b e))
+        single-next (loud t kx m a b o p R q) = along u jx t kx d later m a b o (loud-next t kx m p R q d (reading jx kx d b e))
+
+        pub single-less : Met g h keys w j n v ix c past u jx later → leftAll (alone d) < leftAll (alone c)
+        single-less (quiet s a b o) = quiet-less s d (reading jx ix d b e)
+        single-less (loud t kx m a b o p R q) = loud-less t kx m p R q d (reading jx kx d b e)
