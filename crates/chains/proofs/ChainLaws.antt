@@ -27,18 +27,18 @@ use Rattle.masks.specs.Laws.{member-false, member-union, member-single, false-m
 use Rattle.chains.specs.Chains.{mixed, hashOf, bucketOf, bitOf, lastIn, bitsIn, linkOf, Chained, linked, Cleared}
 
 -- ---- hashes
-pub bucket-below : (x : Record) → bucketOf x < 8192
+pub bucket-below : (x : Record) → bucketOf x < 4096
 unfolding bucketOf hashOf
 bucket-below x = omega arith
 
 -- the hash makes the bucket and the bit
 bucket-by : (x y : Record) → hashOf x ≡ hashOf y → bucketOf x ≡ bucketOf y
 unfolding bucketOf
-bucket-by x y e = ap (λ h. h / 524288) e
+bucket-by x y e = ap (λ h. h / 1048576) e
 
 bit-by : (x y : Record) → hashOf x ≡ hashOf y → bitOf x ≡ bitOf y
 unfolding bitOf
-bit-by x y e = ap (λ h. h / 32768 % 16) e
+bit-by x y e = ap (λ h. h / 65536 % 16) e
 
 -- records of the same item have one hash
 same-hash : (x y : Record) → sameRecord x y ≡ true → hashOf x ≡ hashOf y
@@ -243,10 +243,10 @@ leads x rs n i f h e p =
       word = p ∙ sym (link-last (bucketOf x) rs n) ∙ ap (linkOf (bucketOf x) rs) (sym q);
     }
 
-pub chain-start : (x : Record) (rs : List Record) (links : List ℕ) → Chained links rs → (h i : ℕ) → h ≡ hashOf x → i ≡ getD links (h / 524288) 0 → Leads x rs i
+pub chain-start : (x : Record) (rs : List Record) (links : List ℕ) → Chained links rs → (h i : ℕ) → h ≡ hashOf x → i ≡ getD links (h / 1048576) 0 → Leads x rs i
 unfolding bucketOf
 chain-start x rs links c h i e p =
-    leads x rs (length rs) i (c .few) (omega arith) refl (p ∙ ap (λ k. getD links (k / 524288) 0) e ∙ c .last (bucketOf x) (bucket-below x))
+    leads x rs (length rs) i (c .few) (omega arith) refl (p ∙ ap (λ k. getD links (k / 1048576) 0) e ∙ c .last (bucketOf x) (bucket-below x))
 
 module _ (x : Record) (rs : List Record) (i : ℕ) (o : Leads x rs i) (n : i ≡ 0 → ⊥) where
   pub chain-some : i % 8192 ≡ 0 → ⊥
@@ -262,10 +262,10 @@ module _ (x : Record) (rs : List Record) (i : ℕ) (o : Leads x rs i) (n : i ≡
   pub chain-hit : sameRecord x (recordIn rs (i % 8192 - 1)) ≡ true → At (i % 8192 - 1) ≡ lastSame x rs (length rs)
   chain-hit e = sym (turn true e) ∙ o .at .found
 
-  module _ (links : List ℕ) (c : Chained links rs) (e : sameRecord x (recordIn rs (i % 8192 - 1)) ≡ false) (m : ℕ) (p : m ≡ getD links (8191 + i % 8192) 0) where
+  module _ (links : List ℕ) (c : Chained links rs) (e : sameRecord x (recordIn rs (i % 8192 - 1)) ≡ false) (m : ℕ) (p : m ≡ getD links (4095 + i % 8192) 0) where
     back : m ≡ linkOf (bucketOf x) rs (i % 8192 - 1)
     back =
-        let q : 8191 + i % 8192 ≡ 8192 + (i % 8192 - 1) = omega (arith, place) in
+        let q : 4095 + i % 8192 ≡ 4096 + (i % 8192 - 1) = omega (arith, place) in
         let l = o .at .low in
         p ∙ ap (λ k. getD links k 0) q ∙ c .previous (i % 8192 - 1) (omega (arith, place))
         ∙ ap (λ b. linkOf b rs (i % 8192 - 1)) (own-bucket (bucketOf x) rs (i % 8192) (i % 8192 - 1) place (o .at .own))
@@ -281,11 +281,11 @@ module _ (x : Record) (rs : List Record) (i : ℕ) (o : Leads x rs i) (n : i ≡
         omega (arith, place, ap (λ k. k % 8192) back, link-place (bucketOf x) rs (i % 8192 - 1) (omega arith))
 
 -- the set has not the bit of x, so none of its item is left
-pub chain-end : (x : Record) (rs : List Record) (i h : ℕ) → Leads x rs i → h ≡ hashOf x → bit (i / 8192) (h / 32768 % 16) ≡ 0 → Nowhere ≡ lastSame x rs (length rs)
+pub chain-end : (x : Record) (rs : List Record) (i h : ℕ) → Leads x rs i → h ≡ hashOf x → bit (i / 8192) (h / 65536 % 16) ≡ 0 → Nowhere ≡ lastSame x rs (length rs)
 unfolding bitOf
 chain-end x rs i h o e z =
     let q : i / 8192 ≡ bitsIn (bucketOf x) rs (i % 8192) = ap (λ k. k / 8192) (o .word) ∙ link-bits (bucketOf x) rs (i % 8192) (omega arith) in
-    sym (none-on-chain x rs (i % 8192) (ap₂ bit (sym q) (ap (λ k. k / 32768 % 16) (sym e)) ∙ z)) ∙ o .at .found
+    sym (none-on-chain x rs (i % 8192) (ap₂ bit (sym q) (ap (λ k. k / 65536 % 16) (sym e)) ∙ z)) ∙ o .at .found
 
 -- the records of words
 pub counted : (w : List ℕ) → length (chartOf w .records) ≡ itemCount w
@@ -368,67 +368,67 @@ module _ (l : List ℕ) (i a j d : ℕ) where
   twice-other k m n = getD-set-other (set l i a) j k d 0 n ∙ getD-set-other l i k a 0 m
 
 module _ (links : List ℕ) (rs : List Record) (x : Record) (h : ℕ) (c : Chained links rs) (e : h ≡ hashOf x) (few : length rs < 4096) where
-  small : h / 524288 < 8192
+  small : h / 1048576 < 4096
   unfolding bucketOf
   small = omega (arith, e, bucket-below x)
 
-  own : bucketOf (recordIn (rs ++ (x ∷ [])) (length rs)) ≡ h / 524288
+  own : bucketOf (recordIn (rs ++ (x ∷ [])) (length rs)) ≡ h / 1048576
   unfolding bucketOf
-  own = ap bucketOf (at-end rs x) ∙ ap (λ k. k / 524288) (sym e)
+  own = ap bucketOf (at-end rs x) ∙ ap (λ k. k / 1048576) (sym e)
 
-  own-link : length rs + 1 + 8192 * (getD links (h / 524288) 0 / 8192 ∪ single (h / 32768 % 16)) ≡ linkOf (h / 524288) (rs ++ (x ∷ [])) (suc (length rs))
+  own-link : length rs + 1 + 8192 * (getD links (h / 1048576) 0 / 8192 ∪ single (h / 65536 % 16)) ≡ linkOf (h / 1048576) (rs ++ (x ∷ [])) (suc (length rs))
   unfolding bitOf
   own-link =
-      ap₂ (λ (k m : ℕ). length rs + 1 + 8192 * (k / 8192 ∪ single (m / 32768 % 16)))
-      (c .last (h / 524288) small ∙ same-word rs x (h / 524288) (length rs) (omega arith))
+      ap₂ (λ (k m : ℕ). length rs + 1 + 8192 * (k / 8192 ∪ single (m / 65536 % 16)))
+      (c .last (h / 1048576) small ∙ same-word rs x (h / 1048576) (length rs) (omega arith))
       (e ∙ ap hashOf (sym (at-end rs x)))
-      ∙ sym (link-own (h / 524288) (rs ++ (x ∷ [])) (length rs) (omega arith) own)
+      ∙ sym (link-own (h / 1048576) (rs ++ (x ∷ [])) (length rs) (omega arith) own)
 
-  wide : length links ≡ 12288
+  wide : length links ≡ 8192
   wide = c .words
 
-  own-word : getD (linked links (length rs) h) (h / 524288) 0 ≡ length rs + 1 + 8192 * (getD links (h / 524288) 0 / 8192 ∪ single (h / 32768 % 16))
+  own-word : getD (linked links (length rs) h) (h / 1048576) 0 ≡ length rs + 1 + 8192 * (getD links (h / 1048576) 0 / 8192 ∪ single (h / 65536 % 16))
   unfolding linked
-  own-word = twice-second links (8192 + length rs) _ (h / 524288) _ (omega (arith, wide, small))
+  own-word = twice-second links (4096 + length rs) _ (h / 1048576) _ (omega (arith, wide, small))
 
-  new-word : getD (linked links (length rs) h) (8192 + length rs) 0 ≡ getD links (h / 524288) 0
+  new-word : getD (linked links (length rs) h) (4096 + length rs) 0 ≡ getD links (h / 1048576) 0
   unfolding linked
-  new-word = twice-first links (8192 + length rs) _ (h / 524288) _ (λ z. omega (arith, small)) (omega (arith, wide))
+  new-word = twice-first links (4096 + length rs) _ (h / 1048576) _ (λ z. omega (arith, small)) (omega (arith, wide))
 
-  other-word : (k : ℕ) → k ≢ 8192 + length rs → k ≢ h / 524288 → getD (linked links (length rs) h) k 0 ≡ getD links k 0
+  other-word : (k : ℕ) → k ≢ 4096 + length rs → k ≢ h / 1048576 → getD (linked links (length rs) h) k 0 ≡ getD links k 0
   unfolding linked
-  other-word k p q = twice-other links (8192 + length rs) _ (h / 524288) _ k p q
+  other-word k p q = twice-other links (4096 + length rs) _ (h / 1048576) _ k p q
 
-  last-more : (d : ℕ) → d < 8192 → getD (linked links (length rs) h) d 0 ≡ linkOf d (rs ++ (x ∷ [])) (suc (length rs))
-  last-more d l = go (eqb (h / 524288) d) refl
+  last-more : (d : ℕ) → d < 4096 → getD (linked links (length rs) h) d 0 ≡ linkOf d (rs ++ (x ∷ [])) (suc (length rs))
+  last-more d l = go (eqb (h / 1048576) d) refl
     where
-      go : (t : Bool) → eqb (h / 524288) d ≡ t → getD (linked links (length rs) h) d 0 ≡ linkOf d (rs ++ (x ∷ [])) (suc (length rs))
+      go : (t : Bool) → eqb (h / 1048576) d ≡ t → getD (linked links (length rs) h) d 0 ≡ linkOf d (rs ++ (x ∷ [])) (suc (length rs))
       go true p =
-          let q : h / 524288 ≡ d = eqb-true _ _ p in
+          let q : h / 1048576 ≡ d = eqb-true _ _ p in
           ap (λ k. getD (linked links (length rs) h) k 0) (sym q) ∙ own-word ∙ own-link
           ∙ ap (λ k. linkOf k (rs ++ (x ∷ [])) (suc (length rs))) q
       go false p =
-          let q : h / 524288 ≡ d → ⊥ = eqb-false _ _ p in
+          let q : h / 1048576 ≡ d → ⊥ = eqb-false _ _ p in
           other-word d (λ z. omega arith) (λ z. q (sym z)) ∙ c .last d l ∙ same-word rs x d (length rs) (omega arith)
           ∙ sym (link-other d (rs ++ (x ∷ [])) (length rs) (λ z. q (sym own ∙ z)))
 
-  previous-more : (j : ℕ) → j ≤ length rs → getD (linked links (length rs) h) (8192 + j) 0 ≡ linkOf (bucketOf (recordIn (rs ++ (x ∷ [])) j)) (rs ++ (x ∷ [])) j
+  previous-more : (j : ℕ) → j ≤ length rs → getD (linked links (length rs) h) (4096 + j) 0 ≡ linkOf (bucketOf (recordIn (rs ++ (x ∷ [])) j)) (rs ++ (x ∷ [])) j
   previous-more j l = go (decLt j (length rs))
     where
-      go : Dec (j < length rs) → getD (linked links (length rs) h) (8192 + j) 0 ≡ linkOf (bucketOf (recordIn (rs ++ (x ∷ [])) j)) (rs ++ (x ∷ [])) j
+      go : Dec (j < length rs) → getD (linked links (length rs) h) (4096 + j) 0 ≡ linkOf (bucketOf (recordIn (rs ++ (x ∷ [])) j)) (rs ++ (x ∷ [])) j
       go (yes d) =
-          other-word (8192 + j) (λ z. omega arith) (λ z. omega (arith, small)) ∙ c .previous j d
+          other-word (4096 + j) (λ z. omega arith) (λ z. omega (arith, small)) ∙ c .previous j d
           ∙ ap (λ y. linkOf (bucketOf y) rs j) (in-front rs x j d) ∙ same-word rs x _ j l
       go (no d) =
           let z : j ≡ length rs = omega arith in
-          ap (λ k. getD (linked links (length rs) h) (8192 + k) 0) z ∙ new-word ∙ c .last (h / 524288) small
-          ∙ same-word rs x (h / 524288) (length rs) (omega arith)
+          ap (λ k. getD (linked links (length rs) h) (4096 + k) 0) z ∙ new-word ∙ c .last (h / 1048576) small
+          ∙ same-word rs x (h / 1048576) (length rs) (omega arith)
           ∙ ap (λ d. linkOf d (rs ++ (x ∷ [])) (length rs)) (sym own)
           ∙ ap (λ k. linkOf (bucketOf (recordIn (rs ++ (x ∷ [])) k)) (rs ++ (x ∷ [])) k) (sym z)
 
-  length-linked : length (linked links (length rs) h) ≡ 12288
+  length-linked : length (linked links (length rs) h) ≡ 8192
   unfolding linked
-  length-linked = length-twice links (8192 + length rs) _ (h / 524288) _ ∙ wide
+  length-linked = length-twice links (4096 + length rs) _ (h / 1048576) _ ∙ wide
 
   -- record x, the last one, joins its bucket
   pub chained-more : Chained (linked links (length rs) h) (rs ++ (x ∷ []))

@@ -21,15 +21,15 @@ unfoldable pub hashOf : Record → ℕ
 unfolding mixed
 hashOf x = mixed x % 4294967296
 
--- bits 19 to 31 of the mix, on which every lower bit has an effect
+-- bits 20 to 31 of the mix, on which every lower bit has an effect
 unfoldable pub bucketOf : Record → ℕ
 unfolding hashOf
-bucketOf x = hashOf x / 524288
+bucketOf x = hashOf x / 1048576
 
 -- the four bits below them, as the number of one bit of sixteen, by which most records of a bucket differ
 unfoldable pub bitOf : Record → ℕ
 unfolding hashOf
-bitOf x = hashOf x / 32768 % 16
+bitOf x = hashOf x / 65536 % 16
 
 -- the place + 1 of the last of the first n records that is of bucket b, 0 for none
 unfoldable pub lastIn : ℕ → List Record → ℕ → ℕ
@@ -48,18 +48,18 @@ unfoldable pub linkOf : ℕ → List Record → ℕ → ℕ
 unfolding lastIn bitsIn
 linkOf b rs n = lastIn b rs n + 8192 * bitsIn b rs n
 
--- words that chain the records: 8,192 buckets with the word of their last record, and for each record that of the one before it of the same bucket
+-- words that chain the records: 4,096 buckets with the word of their last record, and for each record that of the one before it of the same bucket
 pub record Chained (links : List ℕ) (rs : List Record) : Type 0 where
-  pub words : length links ≡ 12288
+  pub words : length links ≡ 8192
   pub few : length rs ≤ 4096
-  pub last : (b : ℕ) → b < 8192 → getD links b 0 ≡ linkOf b rs (length rs)
-  pub previous : (j : ℕ) → j < length rs → getD links (8192 + j) 0 ≡ linkOf (bucketOf (recordIn rs j)) rs j
+  pub last : (b : ℕ) → b < 4096 → getD links b 0 ≡ linkOf b rs (length rs)
+  pub previous : (j : ℕ) → j < length rs → getD links (4096 + j) 0 ≡ linkOf (bucketOf (recordIn rs j)) rs j
 
 -- the links with record j, whose hash is h, behind the last one of its bucket
 unfoldable pub linked : List ℕ → ℕ → ℕ → List ℕ
-linked links j h = set (set links (8192 + j) (getD links (h / 524288) 0)) (h / 524288) (j + 1 + 8192 * (getD links (h / 524288) 0 / 8192 ∪ single (h / 32768 % 16)))
+linked links j h = set (set links (4096 + j) (getD links (h / 1048576) 0)) (h / 1048576) (j + 1 + 8192 * (getD links (h / 1048576) 0 / 8192 ∪ single (h / 65536 % 16)))
 
 -- words with no record in a bucket
 pub record Cleared (links : List ℕ) : Type 0 where
-  pub words : length links ≡ 12288
-  pub empty : (b : ℕ) → b < 8192 → getD links b 0 ≡ 0
+  pub words : length links ≡ 8192
+  pub empty : (b : ℕ) → b < 4096 → getD links b 0 ≡ 0

@@ -23,27 +23,27 @@ pub fn find(chart: &[u64], links: &[u32], x: &[u64], h: u64) -> Found
     requires { ⌜ Chained (now links) (chartOf (now chart) .records) × (length (now x) ≡ 16) × (h ≡ hashOf (ofWords (now x))) × (h < 4294967296) ⌝ }
     ensures { λ r. ⌜ r ≡ lastSame (ofWords (now (x .entry))) (chartOf (now (chart .entry)) .records) (length (chartOf (now (chart .entry)) .records)) ⌝ }
 {
-    let bit = 8192u64 << (h / 32768 % 16);
-    let mut i = links[(h / 524288) as usize] as u64;
+    let bit = 8192u64 << (h / 65536 % 16);
+    let mut i = links[(h / 1048576) as usize] as u64;
     while i & bit != 0 {
         let k = i % 8192;
         if records::same_words(chart, k - 1, x) {
             return Found::At(k - 1);
         }
-        i = links[(8191 + k) as usize] as u64;
+        i = links[(4095 + k) as usize] as u64;
     }
     Found::Nowhere
 }
 
 // Record j, the last one, whose hash is h, joins its bucket, and its bit the set beside the place.
 pub fn link(links: &mut [u32], j: u64, h: u64)
-    requires { ⌜ (length (now links) ≡ 12288) × (j < 4096) × (h < 4294967296) ⌝ }
+    requires { ⌜ (length (now links) ≡ 8192) × (j < 4096) × (h < 4294967296) ⌝ }
     ensures { λ r. ⌜ now (links .exit) ≡ linked (now (links .entry)) j h ⌝ }
 {
-    let b = (h / 524288) as usize;
+    let b = (h / 1048576) as usize;
     let old = links[b];
-    links[(8192 + j) as usize] = old;
-    links[b] = (j + 1 + 8192 * (old as u64 / 8192 | 1u64 << (h / 32768 % 16))) as u32;
+    links[(4096 + j) as usize] = old;
+    links[b] = (j + 1 + 8192 * (old as u64 / 8192 | 1u64 << (h / 65536 % 16))) as u32;
 }
 
 // The records of a chart, chained one after another: the buckets are empty before.

@@ -46,8 +46,8 @@ module _ (cap : ℕ) (x : Record) (c : Chart) where
 pub inside : (w : List ℕ) (j : ℕ) → j < itemCount w → j < length (chartOf w .records)
 inside w j l = omega (arith, counted w)
 
-pub small : (keys w ix : List ℕ) (j : ℕ) → Indexed keys ix (chartOf w .records) → j < itemCount w → j < 4096
-small keys w ix j I l = let f = I .chained .few in omega (arith, counted w)
+pub small : (keys w ix ls : List ℕ) (j : ℕ) → Indexed keys ix ls (chartOf w .records) → j < itemCount w → j < 4096
+small keys w ix ls j I l = let f = I .chained .few in omega (arith, counted w)
 
 -- the record at a place, by its words
 module _ (w : List ℕ) (j : ℕ) (l : j < itemCount w) (r : ℕ) (e : r ≡ fieldAt w j 5) where
@@ -66,12 +66,12 @@ module _ (w : List ℕ) (j : ℕ) (l : j < itemCount w) (r : ℕ) (e : r ≡ fie
 
 module _ (w ix : List ℕ) (j : ℕ) (x : Record) (l : j < itemCount w) (r : ℕ) (e : r ≡ fieldAt w j 5) where
   abbrev Placed : List ℕ → Type 0
-  Placed new = (keys : List ℕ) → Indexed keys ix (chartOf w .records) → Indexed keys new (placed (capacity w) x (chartOf w) (At j) .records)
+  Placed new = (keys ls : List ℕ) → Indexed keys ix ls (chartOf w .records) → Indexed keys new ls (placed (capacity w) x (chartOf w) (At j) .records)
 
   pub again-handled : (r ≡ 0 → ⊥) → (w ≡ improvedAt w j x) × Placed ix
   again-handled h =
       let t = is-handled w j l r e h in
-      (improve-handled w j x r e h, λ keys I. rw (placed-stays (capacity w) x (chartOf w) j (rw t)) I)
+      (improve-handled w j x r e h, λ keys ls I. rw (placed-stays (capacity w) x (chartOf w) j (rw t)) I)
 
   module _ (z : r ≡ 0) (n : ℕ) (p : n ≡ fieldAt w j 4) where
     waits : isHandled (recordIn (chartOf w .records) j) ≡ false
@@ -84,11 +84,11 @@ module _ (w ix : List ℕ) (j : ℕ) (x : Record) (l : j < itemCount w) (r : ℕ
     again-less h =
         let q : recordIn (chartOf w .records) j .count ≤ x .count = omega (arith, count-is) in
         let t : isHandled (recordIn (chartOf w .records) j) || leb (recordIn (chartOf w .records) j .count) (x .count) ≡ true = rw (waits, le-leb _ _ q) in
-        (improve-less w j x r e z n p h, λ keys I. rw (placed-stays (capacity w) x (chartOf w) j t) I)
+        (improve-less w j x r e z n p h, λ keys ls I. rw (placed-stays (capacity w) x (chartOf w) j t) I)
 
-    pub again-more : (keys new : List ℕ) → x .count < n → Indexed keys new (set (chartOf w .records) j (improved (recordIn (chartOf w .records) j) x))
-        → Indexed keys new (placed (capacity w) x (chartOf w) (At j) .records)
-    again-more keys new h J =
+    pub again-more : (keys new ls : List ℕ) → x .count < n → Indexed keys new ls (set (chartOf w .records) j (improved (recordIn (chartOf w .records) j) x))
+        → Indexed keys new ls (placed (capacity w) x (chartOf w) (At j) .records)
+    again-more keys new ls h J =
         let q : x .count < recordIn (chartOf w .records) j .count = omega (arith, count-is) in
         let t : isHandled (recordIn (chartOf w .records) j) || leb (recordIn (chartOf w .records) j .count) (x .count) ≡ false = rw (waits, lt-leb _ _ q) in
         rw (placed-improved (capacity w) x (chartOf w) j t) J
@@ -97,11 +97,11 @@ module _ (w ix : List ℕ) (j : ℕ) (x : Record) (l : j < itemCount w) (r : ℕ
 pub number : (w : List ℕ) (n : ℕ) → n ≡ itemCount w → n ≡ length (chartOf w .records)
 number w n p = p ∙ sym (counted w)
 
-module _ (keys w ix : List ℕ) (x : Record) (n cap : ℕ) (p : n ≡ itemCount w) (q : cap ≡ capacity w) where
-  pub behind-room : n < cap → Indexed keys ix (chartOf w .records ++ (x ∷ [])) → Indexed keys ix (placed (capacity w) x (chartOf w) Nowhere .records)
+module _ (keys w ix ls : List ℕ) (x : Record) (n cap : ℕ) (p : n ≡ itemCount w) (q : cap ≡ capacity w) where
+  pub behind-room : n < cap → Indexed keys ix ls (chartOf w .records ++ (x ∷ [])) → Indexed keys ix ls (placed (capacity w) x (chartOf w) Nowhere .records)
   behind-room h I = rw (placed-room (capacity w) x (chartOf w) (omega (arith, number w n p))) I
 
-  pub behind-full : cap ≤ n → Indexed keys ix (chartOf w .records) → Indexed keys ix (placed (capacity w) x (chartOf w) Nowhere .records)
+  pub behind-full : cap ≤ n → Indexed keys ix ls (chartOf w .records) → Indexed keys ix ls (placed (capacity w) x (chartOf w) Nowhere .records)
   behind-full h I = rw (placed-full (capacity w) x (chartOf w) (omega (arith, number w n p))) I
 
   -- .. with a set beside it
@@ -136,16 +136,16 @@ module _ (w : List ℕ) (x : Record) (o : Found) (p : o ≡ lastSame x (chartOf 
         ap chartOf (add-written w x f e) ∙ chart-of-written w (added (capacity w) x (chartOf w)) (grown-added w (chartOf w) (holds-own w f) x e .holds)
         ∙ rw (eq-eqb (chartOf w .mark) 0 (mark-is ∙ sym is ∙ z), ← p)
 
-    by : (v ix : List ℕ) → v ≡ addedTo w x → Indexed keys ix (placed (capacity w) x (chartOf w) o .records) → (v ≡ addedTo w x) × Indexed keys ix (chartOf v .records)
-    by v ix q I = (q, subst (λ (d : Chart). Indexed keys ix (d .records)) (sym (ap chartOf q ∙ chart-added)) I)
+    by : (v ix ls : List ℕ) → v ≡ addedTo w x → Indexed keys ix ls (placed (capacity w) x (chartOf w) o .records) → (v ≡ addedTo w x) × Indexed keys ix ls (chartOf v .records)
+    by v ix ls q I = (q, subst (λ (d : Chart). Indexed keys ix ls (d .records)) (sym (ap chartOf q ∙ chart-added)) I)
 
-    pub add-again : (v ix : List ℕ) (j : ℕ) → o ≡ At j → v ≡ improvedAt w j x → Indexed keys ix (placed (capacity w) x (chartOf w) (At j) .records)
-        → (v ≡ addedTo w x) × Indexed keys ix (chartOf v .records)
-    add-again v ix j t q I = by v ix (add-found w x m (itemCount w) o is z refl (p ∙ same-found x w) v j t q) (rw t I)
+    pub add-again : (v ix ls : List ℕ) (j : ℕ) → o ≡ At j → v ≡ improvedAt w j x → Indexed keys ix ls (placed (capacity w) x (chartOf w) (At j) .records)
+        → (v ≡ addedTo w x) × Indexed keys ix ls (chartOf v .records)
+    add-again v ix ls j t q I = by v ix ls (add-found w x m (itemCount w) o is z refl (p ∙ same-found x w) v j t q) (rw t I)
 
-    pub add-behind : (v ix : List ℕ) → o ≡ Nowhere → v ≡ appendedTo w (itemCount w) x → Indexed keys ix (placed (capacity w) x (chartOf w) Nowhere .records)
-        → (v ≡ addedTo w x) × Indexed keys ix (chartOf v .records)
-    add-behind v ix t q I = by v ix (add-new w x m (itemCount w) o is z refl (p ∙ same-found x w) v t q) (rw t I)
+    pub add-behind : (v ix ls : List ℕ) → o ≡ Nowhere → v ≡ appendedTo w (itemCount w) x → Indexed keys ix ls (placed (capacity w) x (chartOf w) Nowhere .records)
+        → (v ≡ addedTo w x) × Indexed keys ix ls (chartOf v .records)
+    add-behind v ix ls t q I = by v ix ls (add-new w x m (itemCount w) o is z refl (p ∙ same-found x w) v t q) (rw t I)
 
     spanned-by : (g h v ix : List ℕ) → v ≡ addedTo w x → Spanned g h ix (placed (capacity w) x (chartOf w) o .records) → Spanned g h ix (chartOf v .records)
     spanned-by g h v ix q S = subst (λ (d : Chart). Spanned g h ix (d .records)) (sym (ap chartOf q ∙ chart-added)) S
@@ -162,8 +162,8 @@ module _ (w v : List ℕ) (j : ℕ) (f : Fits w) (l : j < itemCount w) (q : v �
   beside : chartOf v ≡ handledIn j (chartOf w)
   beside = ap chartOf (q ∙ handle-written w j f l) ∙ chart-of-written w (handledIn j (chartOf w)) (grown-handled w (chartOf w) (holds-own w f) j .holds)
 
-  pub handled-beside : (keys ix : List ℕ) → Indexed keys ix (set (chartOf w .records) j (handledNow (recordIn (chartOf w .records) j))) → Indexed keys ix (chartOf v .records)
-  handled-beside keys ix I = subst (λ (d : Chart). Indexed keys ix (d .records)) (sym beside) I
+  pub handled-beside : (keys ix ls : List ℕ) → Indexed keys ix ls (set (chartOf w .records) j (handledNow (recordIn (chartOf w .records) j))) → Indexed keys ix ls (chartOf v .records)
+  handled-beside keys ix ls I = subst (λ (d : Chart). Indexed keys ix ls (d .records)) (sym beside) I
 
   pub handled-spanned : (g h ix new : List ℕ) → NearKept ix new → Spanned g h ix (chartOf w .records) → Spanned g h new (chartOf v .records)
   handled-spanned g h ix new k S =

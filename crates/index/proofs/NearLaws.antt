@@ -29,61 +29,61 @@ pub near-on : (ix mid new : List ℕ) → NearKept ix mid → NearKept mid new �
 near-on ix mid new p q = record { words = λ i l. q .words i l ∙ p .words i l }
 
 -- a part in front of them is made anew
-pub near-put : (a k : ℕ) (ix new : List ℕ) → length ix ≡ indexWords → length new ≡ k → a + k ≤ 41098 → NearKept ix (put a k ix new)
+pub near-put : (a k : ℕ) (ix new : List ℕ) → length ix ≡ indexWords → length new ≡ k → a + k ≤ 12424 → NearKept ix (put a k ix new)
 near-put a k ix new s e h = record { words = λ i l. word-behind a k ix new (omega arith) e i (omega arith) }
 
 -- the mark is set
-pub near-marked : (ix : List ℕ) (v : ℕ) → NearKept ix (set ix 41097 v)
-near-marked ix v = record { words = λ i l. getD-set-other ix 41097 i v 0 (λ e. omega arith) }
+pub near-marked : (ix : List ℕ) (v : ℕ) → NearKept ix (set ix 12423 v)
+near-marked ix v = record { words = λ i l. getD-set-other ix 12423 i v 0 (λ e. omega arith) }
 
 near-word : (ix new : List ℕ) (j : ℕ) → NearKept ix new → nearOf new j ≡ nearOf ix j
-near-word ix new j k = ap₂ (λ a b. a + 4294967296 * b) (k .words (41098 + 2 * j) (omega arith)) (k .words (41099 + 2 * j) (omega arith))
+near-word ix new j k = ap₂ (λ a b. a + 4294967296 * b) (k .words (12424 + 2 * j) (omega arith)) (k .words (12425 + 2 * j) (omega arith))
 
 -- ---- a set is put
 module _ (ix : List ℕ) (j o : ℕ) where
   pub near-size : length (nearPut ix j o) ≡ length ix
   unfolding nearPut
-  near-size = length-set (set ix (41098 + 2 * j) (o % 4294967296)) (41099 + 2 * j) (o / 4294967296) ∙ length-set ix (41098 + 2 * j) (o % 4294967296)
+  near-size = length-set (set ix (12424 + 2 * j) (o % 4294967296)) (12425 + 2 * j) (o / 4294967296) ∙ length-set ix (12424 + 2 * j) (o % 4294967296)
 
-  near-part : (b m : ℕ) → b + m ≤ 41098 → part b m (nearPut ix j o) ≡ part b m ix
+  near-part : (b m : ℕ) → b + m ≤ 12424 → part b m (nearPut ix j o) ≡ part b m ix
   unfolding nearPut
   near-part b m l =
-      part-set b m (41099 + 2 * j) (o / 4294967296) (set ix (41098 + 2 * j) (o % 4294967296)) (omega arith) ∙ part-set b m (41098 + 2 * j) (o % 4294967296) ix (omega arith)
+      part-set b m (12425 + 2 * j) (o / 4294967296) (set ix (12424 + 2 * j) (o % 4294967296)) (omega arith) ∙ part-set b m (12424 + 2 * j) (o % 4294967296) ix (omega arith)
 
-  other-word : (i : ℕ) → (i ≡ 41098 + 2 * j → ⊥) → (i ≡ 41099 + 2 * j → ⊥) → getD (nearPut ix j o) i 0 ≡ getD ix i 0
+  other-word : (i : ℕ) → (i ≡ 12424 + 2 * j → ⊥) → (i ≡ 12425 + 2 * j → ⊥) → getD (nearPut ix j o) i 0 ≡ getD ix i 0
   unfolding nearPut
   other-word i p q =
-      getD-set-other (set ix (41098 + 2 * j) (o % 4294967296)) (41099 + 2 * j) i (o / 4294967296) 0 q ∙ getD-set-other ix (41098 + 2 * j) i (o % 4294967296) 0 p
+      getD-set-other (set ix (12424 + 2 * j) (o % 4294967296)) (12425 + 2 * j) i (o / 4294967296) 0 q ∙ getD-set-other ix (12424 + 2 * j) i (o % 4294967296) 0 p
 
   pub near-other : (k : ℕ) → (k ≡ j → ⊥) → nearOf (nearPut ix j o) k ≡ nearOf ix k
   near-other k n =
       ap₂ (λ a b. a + 4294967296 * b)
-      (other-word (41098 + 2 * k) (λ e. n (omega arith)) (λ e. n (omega arith)))
-      (other-word (41099 + 2 * k) (λ e. n (omega arith)) (λ e. n (omega arith)))
+      (other-word (12424 + 2 * k) (λ e. n (omega arith)) (λ e. n (omega arith)))
+      (other-word (12425 + 2 * k) (λ e. n (omega arith)) (λ e. n (omega arith)))
 
   pub near-new : length ix ≡ indexWords → j < 4096 → nearOf (nearPut ix j o) j ≡ o
   unfolding nearPut
   near-new s l =
-      let low = set ix (41098 + 2 * j) (o % 4294967296) in
-      let a : getD (set low (41099 + 2 * j) (o / 4294967296)) (41098 + 2 * j) 0 ≡ o % 4294967296 =
-      getD-set-other low (41099 + 2 * j) (41098 + 2 * j) (o / 4294967296) 0 (λ e. omega arith) ∙ getD-set-same ix (41098 + 2 * j) (o % 4294967296) 0 (omega arith) in
-      let b : getD (set low (41099 + 2 * j) (o / 4294967296)) (41099 + 2 * j) 0 ≡ o / 4294967296 =
-      getD-set-same low (41099 + 2 * j) (o / 4294967296) 0 (omega (arith, length-set ix (41098 + 2 * j) (o % 4294967296))) in
+      let low = set ix (12424 + 2 * j) (o % 4294967296) in
+      let a : getD (set low (12425 + 2 * j) (o / 4294967296)) (12424 + 2 * j) 0 ≡ o % 4294967296 =
+      getD-set-other low (12425 + 2 * j) (12424 + 2 * j) (o / 4294967296) 0 (λ e. omega arith) ∙ getD-set-same ix (12424 + 2 * j) (o % 4294967296) 0 (omega arith) in
+      let b : getD (set low (12425 + 2 * j) (o / 4294967296)) (12425 + 2 * j) 0 ≡ o / 4294967296 =
+      getD-set-same low (12425 + 2 * j) (o / 4294967296) 0 (omega (arith, length-set ix (12424 + 2 * j) (o % 4294967296))) in
       let q : o % 4294967296 + 4294967296 * (o / 4294967296) ≡ o = omega arith in
       ap₂ (λ a b. a + 4294967296 * b) a b ∙ q
 
   -- the other indexes stay
-  indexed-near : (keys : List ℕ) (rs : List Record) → Indexed keys ix rs → Indexed keys (nearPut ix j o) rs
-  indexed-near keys rs I = record {
+  indexed-near : (keys ls : List ℕ) (rs : List Record) → Indexed keys ix ls rs → Indexed keys (nearPut ix j o) ls rs
+  indexed-near keys ls rs I = record {
     size = near-size ∙ I .size;
-    chained = rw (near-part 0 12288 (omega arith)) (I .chained);
-    ranked = rw (near-part 12288 4231 (omega arith)) (I .ranked);
-    listed = rw (near-part 16519 24578 (omega arith)) (I .listed);
-    regular = λ z. I .regular (sym (other-word 41097 (λ e. omega arith) (λ e. omega arith)) ∙ z);
+    chained = rw (near-part 0 8192 (omega arith)) (I .chained);
+    ranked = rw (near-part 8192 4231 (omega arith)) (I .ranked);
+    listed = I .listed;
+    regular = λ z. I .regular (sym (other-word 12423 (λ e. omega arith) (λ e. omega arith)) ∙ z);
   }
 
-  pub indexed-put : (new keys : List ℕ) (rs : List Record) → new ≡ nearPut ix j o → Indexed keys ix rs → Indexed keys new rs
-  indexed-put new keys rs e I = rw e (indexed-near keys rs I)
+  pub indexed-put : (new keys ls : List ℕ) (rs : List Record) → new ≡ nearPut ix j o → Indexed keys ix ls rs → Indexed keys new ls rs
+  indexed-put new keys ls rs e I = rw e (indexed-near keys ls rs I)
 
 -- ---- the sets hold the open nodes
 module _ (g h : List ℕ) where

@@ -1,4 +1,4 @@
--- The indexes of a chart's records, one behind another in the words of one slice.
+-- The indexes of a chart's records: links, ranking, mark and sets one behind another in the words of one slice, the lists in one of their own.
 use mathlib.Core.Bool.{true, cond}
 use mathlib.Core.List.{List, [], _∷_, _++_}
 use mathlib.Core.Path.{_≡_}
@@ -8,31 +8,28 @@ use Rattle.agenda.specs.declared.Record.{Record}
 use Rattle.agenda.specs.Consequences.{recordIn}
 use Rattle.chains.specs.Chains.{Chained}
 use Rattle.ranking.specs.Ranking.{Ranked}
-use Rattle.lists.specs.Lists.{Listed, enteredAll}
+use Rattle.lists.specs.Lists.{Listed}
 use Rattle.joins.specs.Joins.{Spans}
 use Rattle.pivots.specs.Keys.{keysOf, regularOf}
 
 -- how many words there are
 abbrev pub indexWords : ℕ
-indexWords = 49290
+indexWords = 20616
 
 -- ---- the parts
 abbrev pub linksOf : List ℕ → List ℕ
-linksOf ix = take 12288 (drop 0 ix)
+linksOf ix = take 8192 (drop 0 ix)
 
 abbrev pub ranksOf : List ℕ → List ℕ
-ranksOf ix = take 4231 (drop 12288 ix)
+ranksOf ix = take 4231 (drop 8192 ix)
 
-abbrev pub listsOf : List ℕ → List ℕ
-listsOf ix = take 24578 (drop 16519 ix)
-
--- the word behind the lists, 0 where no record is irregular
+-- the word behind the ranking, 0 where no record is irregular
 abbrev pub markOf : List ℕ → ℕ
-markOf ix = getD ix 41097 0
+markOf ix = getD ix 12423 0
 
 -- the set of graph nodes that stands beside record j, in two words behind the mark
 abbrev pub nearOf : List ℕ → ℕ → ℕ
-nearOf ix j = getD ix (41098 + 2 * j) 0 + 4294967296 * getD ix (41099 + 2 * j) 0
+nearOf ix j = getD ix (12424 + 2 * j) 0 + 4294967296 * getD ix (12425 + 2 * j) 0
 
 -- the keys of records, five of each: entry 5 * j + i is key i of record j
 unfoldable pub keysFor : List ℕ → List Record → List ℕ
@@ -40,12 +37,12 @@ unfolding keysOf
 keysFor keys [] = []
 keysFor keys (x ∷ rs) = keysOf keys x ++ keysFor keys rs
 
--- each part is the index of the records that it is named for
-pub record Indexed (keys ix : List ℕ) (rs : List Record) : Type 0 where
+-- each part is the index of the records that it is named for; ls has the lists
+pub record Indexed (keys ix ls : List ℕ) (rs : List Record) : Type 0 where
   pub size : length ix ≡ indexWords
   pub chained : Chained (linksOf ix) rs
   pub ranked : Ranked (ranksOf ix) rs
-  pub listed : Listed (listsOf ix) (keysFor keys rs)
+  pub listed : Listed ls (keysFor keys rs)
   pub regular : markOf ix ≡ 0 → (j : ℕ) → j < length rs → regularOf keys (recordIn rs j) ≡ true
 
 -- words that are all 0: the indexes of no records
@@ -54,9 +51,9 @@ pub record Empty (ix : List ℕ) : Type 0 where
   pub zeros : (k : ℕ) → getD ix k 0 ≡ 0
 
 -- ---- the lists and the mark on their own
-pub record Keyed (keys ix : List ℕ) (rs : List Record) : Type 0 where
+pub record Keyed (keys ix ls : List ℕ) (rs : List Record) : Type 0 where
   pub size : length ix ≡ indexWords
-  pub listed : Listed (listsOf ix) (keysFor keys rs)
+  pub listed : Listed ls (keysFor keys rs)
   pub regular : markOf ix ≡ 0 → (j : ℕ) → j < length rs → regularOf keys (recordIn rs j) ≡ true
 
 -- the links and the ranking are as they were
@@ -64,15 +61,10 @@ pub record Kept (ix new : List ℕ) : Type 0 where
   pub links : linksOf new ≡ linksOf ix
   pub ranks : ranksOf new ≡ ranksOf ix
 
--- record n, which is x, on the lists of its keys
-abbrev pub withKeys : List ℕ → ℕ → List ℕ → List ℕ
-withKeys ix n ks = take 16519 ix ++ (enteredAll (listsOf ix) (5 * n) ks ++ drop 24578 (drop 16519 ix))
-
--- .. and marked where it is irregular
-unfoldable pub listedWith : List ℕ → List ℕ → ℕ → Record → List ℕ
-unfolding enteredAll keysOf regularOf
-listedWith keys ix n x =
-    cond (regularOf keys x) (withKeys ix n (keysOf keys x)) (set (withKeys ix n (keysOf keys x)) 41097 1)
+-- marked where the record x, which comes, is irregular
+unfoldable pub markedFor : List ℕ → List ℕ → Record → List ℕ
+unfolding regularOf
+markedFor keys ix x = cond (regularOf keys x) ix (set ix 12423 1)
 
 -- ---- the sets beside the records
 -- each holds the open graph nodes of its record's edges
@@ -81,8 +73,8 @@ pub record Spanned (g h ix : List ℕ) (rs : List Record) : Type 0 where
 
 -- the set o beside record j
 unfoldable pub nearPut : List ℕ → ℕ → ℕ → List ℕ
-nearPut ix j o = set (set ix (41098 + 2 * j) (o % 4294967296)) (41099 + 2 * j) (o / 4294967296)
+nearPut ix j o = set (set ix (12424 + 2 * j) (o % 4294967296)) (12425 + 2 * j) (o / 4294967296)
 
 -- the sets are as they were
 pub record NearKept (ix new : List ℕ) : Type 0 where
-  pub words : (i : ℕ) → 41098 ≤ i → getD new i 0 ≡ getD ix i 0
+  pub words : (i : ℕ) → 12424 ≤ i → getD new i 0 ≡ getD ix i 0

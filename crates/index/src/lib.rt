@@ -1,11 +1,10 @@
-// The indexes of a chart's records, which live for one run, in the parts of one lent slice:
-// the links of crate `chains`, the set of crate `ranking`, the lists of crate `lists` by which records that can be
-// joined find each other, a word that tells whether some record is irregular, and beside each record a set that holds
-// the open graph nodes of its edges, so that whoever joins it need not look for them.
+// The indexes of a chart's records, which live for one run. In the parts of one lent slice: the links of crate `chains`, the set of crate `ranking`,
+// a word that tells whether some record is irregular, and beside each record a set that holds the open graph nodes of its edges, so that whoever
+// joins it need not look for them. In a slice of half as long words: the lists of crate `lists` by which records that can be joined find each other.
 ghost use mathlib.Core.Path.{_≡_};
 ghost use mathlib.Core.Bool.{false, cond};
 ghost use mathlib.Core.List.{List, [], _∷_, _++_};
-ghost use Prim.Native.Nat.{ℕ, _+_, _≤_, _<_};
+ghost use Prim.Native.Nat.{ℕ, _+_, _*_, _≤_, _<_};
 ghost use lib.Dec.{eqb};
 ghost use lib.ListN.{length, getD, set};
 ghost use Rattle.agenda.specs.declared.Record.{Record};
@@ -16,25 +15,24 @@ ghost use Rattle.agenda.specs.Steps.{leastWaiting, improved, placed};
 ghost use Rattle.records.specs.Words.{Fits, ofWords, capacity, itemCount, chartOf, improvedAt, appendedTo, addedTo};
 ghost use Rattle.chains.specs.Chains.{hashOf};
 ghost use Rattle.ranking.specs.Ranking.{Ranked, takenFrom};
+ghost use Rattle.pivots.specs.Keys.{keysOf};
 ghost use Rattle.joins.specs.Joins.{Accepted, Spans};
 ghost use Rattle.joins.specs.Graphs.{GraphTable};
-ghost use Rattle.lists.specs.Lists.{Within, Ready, Unlisted};
+ghost use Rattle.lists.specs.Lists.{Within, Ready, Unlisted, enteredAll};
 ghost use Rattle.lists.specs.Cursors.{startsOf, passedOf, Skims, SkimsAll};
 ghost use Rattle.index.specs.Quiet.{quietIn};
-ghost use Rattle.index.specs.Index.{indexWords, ranksOf, listsOf, nearOf, Indexed, Empty, Keyed, Kept, listedWith, Spanned, nearPut, NearKept};
+ghost use Rattle.index.specs.Index.{indexWords, ranksOf, nearOf, Indexed, Empty, Keyed, Kept, markedFor, Spanned, nearPut, NearKept};
 use agenda::Found;
 
 // where the links end and the ranking starts
-const RANKS: usize = 12288;
-// where the ranking ends and the lists start
-const LISTS: usize = 16519;
-// where the lists end: the word that is not 0 once a record was irregular, and behind it the sets, two words each
-const MARK: usize = 41097;
+const RANKS: usize = 8192;
+// where the ranking ends: the word that is not 0 once a record was irregular, and behind it the sets, two words each
+const MARK: usize = 12423;
 
 // That a record is irregular is kept in mind.
 fn mark(index: &mut [u32], regular: bool)
     requires { ⌜ length (now index) ≡ indexWords ⌝ }
-    ensures { λ r. ⌜ now (index .exit) ≡ cond regular (now (index .entry)) (set (now (index .entry)) 41097 1) ⌝ }
+    ensures { λ r. ⌜ now (index .exit) ≡ cond regular (now (index .entry)) (set (now (index .entry)) 12423 1) ⌝ }
 {
     if regular {
         return;
@@ -43,40 +41,40 @@ fn mark(index: &mut [u32], regular: bool)
 }
 
 // Record n, one more than there are, is that of the words x: it comes on the lists of its keys.
-fn list_many(keys: &[u64; 2240], index: &mut [u32], n: u64, x: &[u64])
-    requires { ⌜ (length (now index) ≡ indexWords) × Ready (listsOf (now index)) × (n < 4096) × (length (now x) ≡ 16) ⌝ }
-    ensures { λ r. ⌜ now (index .exit) ≡ listedWith (now (keys .entry)) (now (index .entry)) n (ofWords (now (x .entry))) ⌝ }
+fn list_many(keys: &[u64; 2240], lists: &mut [u16], index: &mut [u32], n: u64, x: &[u64])
+    requires { ⌜ (length (now index) ≡ indexWords) × Ready (now lists) × (n < 4096) × (length (now x) ≡ 16) ⌝ }
+    ensures { λ r. ⌜ (now (lists .exit) ≡ enteredAll (now (lists .entry)) (5 * n) (keysOf (now (keys .entry)) (ofWords (now (x .entry))))) × (now (index .exit) ≡ markedFor (now (keys .entry)) (now (index .entry)) (ofWords (now (x .entry)))) ⌝ }
 {
     let listing = pivots::listing(keys, x);
     let own = listing.keys;
-    lists::enter_all(&mut index[LISTS..MARK], 5 * n, own);
+    lists::enter_all(lists, 5 * n, own);
     mark(index, listing.regular);
 }
 
 // The same; most records have one key, which comes without an array.
-fn list(keys: &[u64; 2240], index: &mut [u32], n: u64, x: &[u64])
-    requires { ⌜ (length (now index) ≡ indexWords) × Ready (listsOf (now index)) × (n < 4096) × (length (now x) ≡ 16) ⌝ }
-    ensures { λ r. ⌜ now (index .exit) ≡ listedWith (now (keys .entry)) (now (index .entry)) n (ofWords (now (x .entry))) ⌝ }
+fn list(keys: &[u64; 2240], lists: &mut [u16], index: &mut [u32], n: u64, x: &[u64])
+    requires { ⌜ (length (now index) ≡ indexWords) × Ready (now lists) × (n < 4096) × (length (now x) ≡ 16) ⌝ }
+    ensures { λ r. ⌜ (now (lists .exit) ≡ enteredAll (now (lists .entry)) (5 * n) (keysOf (now (keys .entry)) (ofWords (now (x .entry))))) × (now (index .exit) ≡ markedFor (now (keys .entry)) (now (index .entry)) (ofWords (now (x .entry)))) ⌝ }
 {
     let own = pivots::entry(keys, x);
     if !own.single {
-        list_many(keys, index, n, x);
+        list_many(keys, lists, index, n, x);
         return;
     }
-    lists::enter_one(&mut index[LISTS..MARK], 5 * n, own.key);
+    lists::enter_one(lists, 5 * n, own.key);
     mark(index, own.regular);
 }
 
 // The lists of a chart's records, which come one after another: there is none before.
-fn list_all(keys: &[u64; 2240], chart: &[u64], index: &mut [u32])
-    requires { ⌜ (length (now index) ≡ indexWords) × Unlisted (listsOf (now index)) × (itemCount (now chart) ≤ 4096) ⌝ }
-    ensures { λ r. ⌜ Keyed (now (keys .entry)) (now (index .exit)) (chartOf (now (chart .entry)) .records) × Kept (now (index .entry)) (now (index .exit)) ⌝ }
+fn list_all(keys: &[u64; 2240], chart: &[u64], lists: &mut [u16], index: &mut [u32])
+    requires { ⌜ (length (now index) ≡ indexWords) × Unlisted (now lists) × (itemCount (now chart) ≤ 4096) ⌝ }
+    ensures { λ r. ⌜ Keyed (now (keys .entry)) (now (index .exit)) (now (lists .exit)) (chartOf (now (chart .entry)) .records) × Kept (now (index .entry)) (now (index .exit)) ⌝ }
 {
     let n = records::item_count(chart);
     let mut j = 0;
     while j < n {
         let at = (2 + 16 * j) as usize;
-        list(keys, index, j, &chart[at..at + 16]);
+        list_many(keys, lists, index, j, &chart[at..at + 16]);
         j += 1;
     }
 }
@@ -86,8 +84,8 @@ pub fn near(index: &[u32], j: u64) -> u64
     requires { ⌜ (length (now index) ≡ indexWords) × (j < 4096) ⌝ }
     ensures { λ r. ⌜ r ≡ nearOf (now (index .entry)) j ⌝ }
 {
-    let low = index[(41098 + 2 * j) as usize] as u64;
-    let high = index[(41099 + 2 * j) as usize] as u64;
+    let low = index[(12424 + 2 * j) as usize] as u64;
+    let high = index[(12425 + 2 * j) as usize] as u64;
     low + 4294967296 * high
 }
 
@@ -96,8 +94,8 @@ fn put_near(index: &mut [u32], j: u64, o: u64)
     requires { ⌜ (length (now index) ≡ indexWords) × (j < 4096) ⌝ }
     ensures { λ r. ⌜ now (index .exit) ≡ nearPut (now (index .entry)) j o ⌝ }
 {
-    index[(41098 + 2 * j) as usize] = (o % 4294967296) as u32;
-    index[(41099 + 2 * j) as usize] = (o / 4294967296) as u32;
+    index[(12424 + 2 * j) as usize] = (o % 4294967296) as u32;
+    index[(12425 + 2 * j) as usize] = (o / 4294967296) as u32;
 }
 
 // A set that holds the open nodes of the edges m. A fresh chart has records without edges only, and those have none.
@@ -114,7 +112,7 @@ fn span(g: &[u64], h: &[u64], graph: &[u64; 577], m: u64) -> u64
 // A set beside each of a chart's records.
 fn span_all(g: &[u64], h: &[u64], graph: &[u64; 577], chart: &[u64], index: &mut [u32])
     requires { ⌜ (length (now index) ≡ indexWords) × (itemCount (now chart) ≤ 4096) × Accepted (now g) (now h) × GraphTable (now g) (now h) (now graph) ⌝ }
-    ensures { λ r. ⌜ Spanned (now (g .entry)) (now (h .entry)) (now (index .exit)) (chartOf (now (chart .entry)) .records) × ((keys : List ℕ) (rs : List Record) → Indexed keys (now (index .entry)) rs → Indexed keys (now (index .exit)) rs) ⌝ }
+    ensures { λ r. ⌜ Spanned (now (g .entry)) (now (h .entry)) (now (index .exit)) (chartOf (now (chart .entry)) .records) × ((keys ls : List ℕ) (rs : List Record) → Indexed keys (now (index .entry)) ls rs → Indexed keys (now (index .exit)) ls rs) ⌝ }
 {
     let n = records::item_count(chart);
     let mut j = 0;
@@ -125,46 +123,31 @@ fn span_all(g: &[u64], h: &[u64], graph: &[u64; 577], chart: &[u64], index: &mut
     }
 }
 
-// The records of a chart, indexed: the words are 0 before.
+// The records of a chart, indexed: the words are 0 before, and nothing is on a list.
 pub fn build(
     g: &[u64],
     h: &[u64],
     graph: &[u64; 577],
     keys: &[u64; 2240],
     chart: &[u64],
+    lists: &mut [u16],
     index: &mut [u32],
 )
-    requires { ⌜ Empty (now index) × (itemCount (now chart) ≤ 4096) × Accepted (now g) (now h) × GraphTable (now g) (now h) (now graph) ⌝ }
-    ensures { λ r. ⌜ Indexed (now (keys .entry)) (now (index .exit)) (chartOf (now (chart .entry)) .records) × Spanned (now (g .entry)) (now (h .entry)) (now (index .exit)) (chartOf (now (chart .entry)) .records) ⌝ }
+    requires { ⌜ Empty (now index) × Unlisted (now lists) × (itemCount (now chart) ≤ 4096) × Accepted (now g) (now h) × GraphTable (now g) (now h) (now graph) ⌝ }
+    ensures { λ r. ⌜ Indexed (now (keys .entry)) (now (index .exit)) (now (lists .exit)) (chartOf (now (chart .entry)) .records) × Spanned (now (g .entry)) (now (h .entry)) (now (index .exit)) (chartOf (now (chart .entry)) .records) ⌝ }
 {
     chains::build(chart, &mut index[0..RANKS]);
-    ranking::build(chart, &mut index[RANKS..LISTS]);
-    list_all(keys, chart, index);
+    ranking::build(chart, &mut index[RANKS..MARK]);
+    list_all(keys, chart, lists, index);
     span_all(g, h, graph, chart, index);
 }
 
 // The first waiting record of least count waits no more: whoever takes it marks it in the chart. The ranking may be made anew for it.
 pub fn take(chart: &[u64], index: &mut [u32]) -> Found
     requires { ⌜ (length (now index) ≡ indexWords) × Ranked (ranksOf (now index)) (chartOf (now chart) .records) × (length (chartOf (now chart) .records) ≤ 4096) ⌝ }
-    ensures { λ r. ⌜ (r ≡ leastWaiting (chartOf (now (chart .entry)) .records) (length (chartOf (now (chart .entry)) .records))) × ((keys : List ℕ) → Indexed keys (now (index .entry)) (chartOf (now (chart .entry)) .records) → Indexed keys (now (index .exit)) (takenFrom (chartOf (now (chart .entry)) .records) r)) × NearKept (now (index .entry)) (now (index .exit)) ⌝ }
+    ensures { λ r. ⌜ (r ≡ leastWaiting (chartOf (now (chart .entry)) .records) (length (chartOf (now (chart .entry)) .records))) × ((keys ls : List ℕ) → Indexed keys (now (index .entry)) ls (chartOf (now (chart .entry)) .records) → Indexed keys (now (index .exit)) ls (takenFrom (chartOf (now (chart .entry)) .records) r)) × NearKept (now (index .entry)) (now (index .exit)) ⌝ }
 {
-    ranking::take(chart, &mut index[RANKS..LISTS])
-}
-
-// Five cursors, each at the first entry of its key.
-pub fn starts(index: &[u32], query: [u64; 5]) -> [u64; 5]
-    requires { ⌜ (length (now index) ≡ indexWords) × Within 2048 query ⌝ }
-    ensures { λ r. ⌜ r ≡ startsOf (listsOf (now (index .entry))) query ⌝ }
-{
-    lists::starts(&index[LISTS..MARK], query)
-}
-
-// Each cursor whose record is k or before goes on by one entry.
-pub fn passed(index: &[u32], cs: [u64; 5], k: u64) -> [u64; 5]
-    requires { ⌜ (length (now index) ≡ indexWords) × Within 20480 cs × (k ≤ 4096) ⌝ }
-    ensures { λ r. ⌜ r ≡ passedOf (listsOf (now (index .entry))) cs k ⌝ }
-{
-    lists::passed(&index[LISTS..MARK], cs, k)
+    ranking::take(chart, &mut index[RANKS..MARK])
 }
 
 // Whether the record at place k makes nothing with what has these edges: it has one of them, or it is not handled.
@@ -183,7 +166,7 @@ pub fn quiet(chart: &[u64], edges: u64, k: u64) -> bool
 }
 
 // A cursor goes on over the entries of quiet records of the first n. Places rise along a list, so 0 or a place that does not rise ends it.
-fn skim(ws: &[u32], chart: &[u64], edges: u64, n: u64, from: u64) -> u64
+fn skim(ws: &[u16], chart: &[u64], edges: u64, n: u64, from: u64) -> u64
     requires { ⌜ (length (now ws) ≡ 24578) × (n ≤ itemCount (now chart)) × (n ≤ 4096) ⌝ }
     ensures { λ r. ⌜ Skims (quietIn (now (chart .entry)) edges) (now (ws .entry)) n from r ⌝ }
 {
@@ -205,7 +188,8 @@ fn skim(ws: &[u32], chart: &[u64], edges: u64, n: u64, from: u64) -> u64
     c
 }
 
-fn skim_all(ws: &[u32], chart: &[u64], edges: u64, n: u64, cs: [u64; 5]) -> [u64; 5]
+// Each of five cursors goes on over the entries of quiet records of the first n.
+pub fn skimmed(ws: &[u16], chart: &[u64], edges: u64, n: u64, cs: [u64; 5]) -> [u64; 5]
     requires { ⌜ (length (now ws) ≡ 24578) × (n ≤ itemCount (now chart)) × (n ≤ 4096) ⌝ }
     ensures { λ r. ⌜ SkimsAll (quietIn (now (chart .entry)) edges) (now (ws .entry)) n cs r ⌝ }
 {
@@ -218,60 +202,36 @@ fn skim_all(ws: &[u32], chart: &[u64], edges: u64, n: u64, cs: [u64; 5]) -> [u64
     ]
 }
 
-// Each of five cursors goes on over the entries of quiet records of the first n.
-pub fn skimmed(chart: &[u64], index: &[u32], edges: u64, n: u64, cs: [u64; 5]) -> [u64; 5]
-    requires { ⌜ (length (now index) ≡ indexWords) × (n ≤ itemCount (now chart)) × (n ≤ 4096) ⌝ }
-    ensures { λ r. ⌜ SkimsAll (quietIn (now (chart .entry)) edges) (listsOf (now (index .entry))) n cs r ⌝ }
-{
-    skim_all(&index[LISTS..MARK], chart, edges, n, cs)
-}
-
-// One cursor at the first entry of a key.
-pub fn first(index: &[u32], key: u64) -> u64
-    requires { ⌜ (length (now index) ≡ indexWords) × (key ≤ 2048) ⌝ }
-    ensures { λ r. ⌜ r ≡ getD (listsOf (now (index .entry))) key 0 ⌝ }
-{
-    lists::first(&index[LISTS..MARK], key)
-}
-
-// The entry behind the one that a cursor is at.
-pub fn after(index: &[u32], c: u64) -> u64
-    requires { ⌜ (length (now index) ≡ indexWords) × (c ≤ 20480) ⌝ }
-    ensures { λ r. ⌜ r ≡ getD (listsOf (now (index .entry))) (4097 + c) 0 ⌝ }
-{
-    lists::after(&index[LISTS..MARK], c)
-}
-
 // Whether no record is irregular.
 pub fn regular(index: &[u32]) -> bool
     requires { ⌜ length (now index) ≡ indexWords ⌝ }
-    ensures { λ r. ⌜ r ≡ eqb (getD (now (index .entry)) 41097 0) 0 ⌝ }
+    ensures { λ r. ⌜ r ≡ eqb (getD (now (index .entry)) 12423 0) 0 ⌝ }
 {
     index[MARK] == 0
 }
 
 // Record n, one more than there are, is that of the words x.
-fn enter(keys: &[u64; 2240], index: &mut [u32], n: u64, x: &[u64], h: u64)
-    requires { ⌜ (length (now index) ≡ indexWords) × Ready (listsOf (now index)) × (n < 4096) × (length (now x) ≡ 16) × (h ≡ hashOf (ofWords (now x))) × (h < 4294967296) ⌝ }
-    ensures { λ r. ⌜ ((rs : List Record) → Indexed (now (keys .entry)) (now (index .entry)) rs → n ≡ length rs → Indexed (now (keys .entry)) (now (index .exit)) (rs ++ (ofWords (now (x .entry)) ∷ [])) × NearKept (now (index .entry)) (now (index .exit))) ⌝ }
+fn enter(keys: &[u64; 2240], lists: &mut [u16], index: &mut [u32], n: u64, x: &[u64], h: u64)
+    requires { ⌜ (length (now index) ≡ indexWords) × Ready (now lists) × (n < 4096) × (length (now x) ≡ 16) × (h ≡ hashOf (ofWords (now x))) × (h < 4294967296) ⌝ }
+    ensures { λ r. ⌜ ((rs : List Record) → Indexed (now (keys .entry)) (now (index .entry)) (now (lists .entry)) rs → n ≡ length rs → Indexed (now (keys .entry)) (now (index .exit)) (now (lists .exit)) (rs ++ (ofWords (now (x .entry)) ∷ [])) × NearKept (now (index .entry)) (now (index .exit))) ⌝ }
 {
-    list(keys, index, n, x);
+    list(keys, lists, index, n, x);
     chains::link(&mut index[0..RANKS], n, h);
-    ranking::place(&mut index[RANKS..LISTS], n, x[5] == 0, x[4]);
+    ranking::place(&mut index[RANKS..MARK], n, x[5] == 0, x[4]);
 }
 
 // Record j, which waits with the count `old`, has the count of x.
 fn recount(index: &mut [u32], j: u64, old: u64, count: u64)
     requires { ⌜ (length (now index) ≡ indexWords) × (j < 4096) ⌝ }
-    ensures { λ r. ⌜ ((keys : List ℕ) (rs : List Record) (x : Record) → Indexed keys (now (index .entry)) rs → j < length rs → isHandled (recordIn rs j) ≡ false → old ≡ recordIn rs j .count → count ≡ x .count → Indexed keys (now (index .exit)) (set rs j (improved (recordIn rs j) x))) × NearKept (now (index .entry)) (now (index .exit)) ⌝ }
+    ensures { λ r. ⌜ ((keys ls : List ℕ) (rs : List Record) (x : Record) → Indexed keys (now (index .entry)) ls rs → j < length rs → isHandled (recordIn rs j) ≡ false → old ≡ recordIn rs j .count → count ≡ x .count → Indexed keys (now (index .exit)) ls (set rs j (improved (recordIn rs j) x))) × NearKept (now (index .entry)) (now (index .exit)) ⌝ }
 {
-    ranking::recount(&mut index[RANKS..LISTS], j, old, count);
+    ranking::recount(&mut index[RANKS..MARK], j, old, count);
 }
 
 // The record at place j, found again with the item of x, takes the count and the partners of x if that is better.
 fn again(chart: &mut [u64], index: &mut [u32], j: u64, x: &[u64])
     requires { ⌜ (length (now index) ≡ indexWords) × (j < itemCount (now chart)) × (j < 4096) × (length (now x) ≡ 16) ⌝ }
-    ensures { λ r. ⌜ (now (chart .exit) ≡ improvedAt (now (chart .entry)) j (ofWords (now (x .entry)))) × ((keys : List ℕ) → Indexed keys (now (index .entry)) (chartOf (now (chart .entry)) .records) → Indexed keys (now (index .exit)) (placed (capacity (now (chart .entry))) (ofWords (now (x .entry))) (chartOf (now (chart .entry))) (At j) .records)) × NearKept (now (index .entry)) (now (index .exit)) ⌝ }
+    ensures { λ r. ⌜ (now (chart .exit) ≡ improvedAt (now (chart .entry)) j (ofWords (now (x .entry)))) × ((keys ls : List ℕ) → Indexed keys (now (index .entry)) ls (chartOf (now (chart .entry)) .records) → Indexed keys (now (index .exit)) ls (placed (capacity (now (chart .entry))) (ofWords (now (x .entry))) (chartOf (now (chart .entry))) (At j) .records)) × NearKept (now (index .entry)) (now (index .exit)) ⌝ }
 {
     if records::field(chart, j, 5) != 0 {
         return;
@@ -285,14 +245,22 @@ fn again(chart: &mut [u64], index: &mut [u32], j: u64, x: &[u64])
 }
 
 // The record x behind the others, with the set o beside it; where no place is left the chart is marked.
-fn behind(keys: &[u64; 2240], chart: &mut [u64], index: &mut [u32], x: &[u64], h: u64, o: u64)
-    requires { ⌜ Indexed (now keys) (now index) (chartOf (now chart) .records) × (capacity (now chart) ≤ 4096) × (length (now x) ≡ 16) × (h ≡ hashOf (ofWords (now x))) × (h < 4294967296) ⌝ }
-    ensures { λ r. ⌜ (now (chart .exit) ≡ appendedTo (now (chart .entry)) (itemCount (now (chart .entry))) (ofWords (now (x .entry)))) × Indexed (now (keys .entry)) (now (index .exit)) (placed (capacity (now (chart .entry))) (ofWords (now (x .entry))) (chartOf (now (chart .entry))) Nowhere .records) × ((g h : List ℕ) → Spanned g h (now (index .entry)) (chartOf (now (chart .entry)) .records) → Spans g h (ofWords (now (x .entry)) .edges) o → Spanned g h (now (index .exit)) (placed (capacity (now (chart .entry))) (ofWords (now (x .entry))) (chartOf (now (chart .entry))) Nowhere .records)) ⌝ }
+fn behind(
+    keys: &[u64; 2240],
+    chart: &mut [u64],
+    lists: &mut [u16],
+    index: &mut [u32],
+    x: &[u64],
+    h: u64,
+    o: u64,
+)
+    requires { ⌜ Indexed (now keys) (now index) (now lists) (chartOf (now chart) .records) × (capacity (now chart) ≤ 4096) × (length (now x) ≡ 16) × (h ≡ hashOf (ofWords (now x))) × (h < 4294967296) ⌝ }
+    ensures { λ r. ⌜ (now (chart .exit) ≡ appendedTo (now (chart .entry)) (itemCount (now (chart .entry))) (ofWords (now (x .entry)))) × Indexed (now (keys .entry)) (now (index .exit)) (now (lists .exit)) (placed (capacity (now (chart .entry))) (ofWords (now (x .entry))) (chartOf (now (chart .entry))) Nowhere .records) × ((g h : List ℕ) → Spanned g h (now (index .entry)) (chartOf (now (chart .entry)) .records) → Spans g h (ofWords (now (x .entry)) .edges) o → Spanned g h (now (index .exit)) (placed (capacity (now (chart .entry))) (ofWords (now (x .entry))) (chartOf (now (chart .entry))) Nowhere .records)) ⌝ }
 {
     let n = records::item_count(chart);
     if n < records::capacity_of(chart) {
         put_near(index, n, o);
-        enter(keys, index, n, x, h);
+        enter(keys, lists, index, n, x, h);
         records::append_words(chart, n, x);
         return;
     }
@@ -300,9 +268,16 @@ fn behind(keys: &[u64; 2240], chart: &mut [u64], index: &mut [u32], x: &[u64], h
 }
 
 // The record x in the chart, as `records::add` has it, with the indexes kept. The set o holds the open nodes of its edges.
-pub fn add(keys: &[u64; 2240], chart: &mut [u64], index: &mut [u32], x: &[u64], o: u64)
-    requires { ⌜ Indexed (now keys) (now index) (chartOf (now chart) .records) × Fits (now chart) × (capacity (now chart) ≤ 4096) × (length (now x) ≡ 16) ⌝ }
-    ensures { λ r. ⌜ (now (chart .exit) ≡ addedTo (now (chart .entry)) (ofWords (now (x .entry)))) × Indexed (now (keys .entry)) (now (index .exit)) (chartOf (now (chart .exit)) .records) × ((g h : List ℕ) → Spanned g h (now (index .entry)) (chartOf (now (chart .entry)) .records) → Spans g h (ofWords (now (x .entry)) .edges) o → Spanned g h (now (index .exit)) (chartOf (now (chart .exit)) .records)) ⌝ }
+pub fn add(
+    keys: &[u64; 2240],
+    chart: &mut [u64],
+    lists: &mut [u16],
+    index: &mut [u32],
+    x: &[u64; 16],
+    o: u64,
+)
+    requires { ⌜ Indexed (now keys) (now index) (now lists) (chartOf (now chart) .records) × Fits (now chart) × (capacity (now chart) ≤ 4096) ⌝ }
+    ensures { λ r. ⌜ (now (chart .exit) ≡ addedTo (now (chart .entry)) (ofWords (now (x .entry)))) × Indexed (now (keys .entry)) (now (index .exit)) (now (lists .exit)) (chartOf (now (chart .exit)) .records) × ((g h : List ℕ) → Spanned g h (now (index .entry)) (chartOf (now (chart .entry)) .records) → Spans g h (ofWords (now (x .entry)) .edges) o → Spanned g h (now (index .exit)) (chartOf (now (chart .exit)) .records)) ⌝ }
 {
     if records::mark_of(chart) != 0 {
         return;
@@ -310,6 +285,6 @@ pub fn add(keys: &[u64; 2240], chart: &mut [u64], index: &mut [u32], x: &[u64], 
     let h = chains::hash(x);
     match chains::find(chart, &index[0..RANKS], x, h) {
         Found::At(j) => again(chart, index, j, x),
-        Found::Nowhere => behind(keys, chart, index, x, h, o),
+        Found::Nowhere => behind(keys, chart, lists, index, x, h, o),
     }
 }

@@ -6,7 +6,7 @@ ghost use Rattle.lists.specs.Lists.{Linkable, tailOf, appended, entered,
 ghost use Rattle.lists.specs.Cursors.{alone, startsOf, nearer, leastOf, movedOn, passedOf};
 
 // The first entry of key b: its place + 1, 0 for none.
-pub fn first(ws: &[u32], b: u64) -> u64
+pub fn first(ws: &[u16], b: u64) -> u64
     requires { ⌜ (length (now ws) ≡ 24578) × (b ≤ 2048) ⌝ }
     ensures { λ r. ⌜ r ≡ getD (now (ws .entry)) b 0 ⌝ }
 {
@@ -14,7 +14,7 @@ pub fn first(ws: &[u32], b: u64) -> u64
 }
 
 // The word that is to lead to the next entry of key b.
-fn tail(ws: &[u32], b: u64) -> u64
+fn tail(ws: &[u16], b: u64) -> u64
     requires { ⌜ (length (now ws) ≡ 24578) × (b ≤ 2048) × (getD (now ws) (2049 + b) 0 ≤ 20480) ⌝ }
     ensures { λ r. ⌜ (r ≡ tailOf (now (ws .entry)) b) × (r < 24578) ⌝ }
 {
@@ -26,18 +26,18 @@ fn tail(ws: &[u32], b: u64) -> u64
 }
 
 // Entry e, the number of entries so far, at the end of the list of b.
-fn append(ws: &mut [u32], e: u64, b: u64)
+fn append(ws: &mut [u16], e: u64, b: u64)
     requires { ⌜ Linkable (now ws) e b × (0 < b) ⌝ }
     ensures { λ r. ⌜ now (ws .exit) ≡ appended (now (ws .entry)) e b ⌝ }
 {
     let at = tail(ws, b) as usize;
-    ws[at] = (e + 1) as u32;
-    ws[(2049 + b) as usize] = (e + 1) as u32;
+    ws[at] = (e + 1) as u16;
+    ws[(2049 + b) as usize] = (e + 1) as u16;
     ws[(4098 + e) as usize] = 0;
 }
 
 // .. an entry with key 0 is on no list.
-fn enter(ws: &mut [u32], e: u64, b: u64)
+fn enter(ws: &mut [u16], e: u64, b: u64)
     requires { ⌜ Linkable (now ws) e b ⌝ }
     ensures { λ r. ⌜ now (ws .exit) ≡ entered (now (ws .entry)) e b ⌝ }
 {
@@ -48,7 +48,7 @@ fn enter(ws: &mut [u32], e: u64, b: u64)
 }
 
 // The five entries of a record, from e on.
-pub fn enter_all(ws: &mut [u32], e: u64, bs: [u64; 5])
+pub fn enter_all(ws: &mut [u16], e: u64, bs: [u64; 5])
     requires { ⌜ Ready (now ws) × (e + 5 ≤ 20480) × Within 2048 bs ⌝ }
     ensures { λ r. ⌜ now (ws .exit) ≡ enteredAll (now (ws .entry)) e bs ⌝ }
 {
@@ -60,7 +60,7 @@ pub fn enter_all(ws: &mut [u32], e: u64, bs: [u64; 5])
 }
 
 // The same where a record has one key at most: its other entries are on no list.
-pub fn enter_one(ws: &mut [u32], e: u64, b: u64)
+pub fn enter_one(ws: &mut [u16], e: u64, b: u64)
     requires { ⌜ Ready (now ws) × (e + 5 ≤ 20480) × (b ≤ 2048) ⌝ }
     ensures { λ r. ⌜ now (ws .exit) ≡ enteredAll (now (ws .entry)) e (alone b) ⌝ }
 {
@@ -68,7 +68,7 @@ pub fn enter_one(ws: &mut [u32], e: u64, b: u64)
 }
 
 // Five cursors, each at the first entry of its key; key 0 has none.
-pub fn starts(ws: &[u32], query: [u64; 5]) -> [u64; 5]
+pub fn starts(ws: &[u16], query: [u64; 5]) -> [u64; 5]
     requires { ⌜ (length (now ws) ≡ 24578) × Within 2048 query ⌝ }
     ensures { λ r. ⌜ r ≡ startsOf (now (ws .entry)) query ⌝ }
 {
@@ -104,7 +104,7 @@ pub fn least(cs: [u64; 5]) -> u64
 }
 
 // The entry behind the one that the cursor e is at: its place + 1, 0 for none.
-pub fn after(ws: &[u32], e: u64) -> u64
+pub fn after(ws: &[u16], e: u64) -> u64
     requires { ⌜ (length (now ws) ≡ 24578) × (e ≤ 20480) ⌝ }
     ensures { λ r. ⌜ r ≡ getD (now (ws .entry)) (4097 + e) 0 ⌝ }
 {
@@ -112,7 +112,7 @@ pub fn after(ws: &[u32], e: u64) -> u64
 }
 
 // A cursor at an entry below the place `to` goes on to the next entry of its list.
-fn moved(ws: &[u32], to: u64, c: u64) -> u64
+fn moved(ws: &[u16], to: u64, c: u64) -> u64
     requires { ⌜ (length (now ws) ≡ 24578) × (c ≤ 20480) ⌝ }
     ensures { λ r. ⌜ r ≡ movedOn (now (ws .entry)) to c ⌝ }
 {
@@ -126,7 +126,7 @@ fn moved(ws: &[u32], to: u64, c: u64) -> u64
 }
 
 // Each cursor whose record is k or before goes on by one entry; it may be at another entry of record k then.
-pub fn passed(ws: &[u32], cs: [u64; 5], k: u64) -> [u64; 5]
+pub fn passed(ws: &[u16], cs: [u64; 5], k: u64) -> [u64; 5]
     requires { ⌜ (length (now ws) ≡ 24578) × Within 20480 cs × (k ≤ 4096) ⌝ }
     ensures { λ r. ⌜ r ≡ passedOf (now (ws .entry)) cs k ⌝ }
 {

@@ -15,7 +15,7 @@ ghost use Rattle.pivots.specs.Keys.{baseOf, mixed, imageOf, keyWord, pla
 
 // ---- pivots
 // Below a plan node that introduces edge i: the first position of the edge whose node is open at p, with that node.
-fn edge_pivot(g: &[u64], plans: &[u64; 2048], r: u64, p: u64, i: u64) -> u64
+fn edge_pivot(g: &[u64], plans: &[u32; 2048], r: u64, p: u64, i: u64) -> u64
     requires { ⌜ KnownNode (now g) r p × KnownEdge (now g) r i × PlanTable (now g) (now plans) ⌝ }
     ensures { λ w. ⌜ EdgePivot (edgeNodes (now (g .entry)) r i) w × (w ≤ 72) ⌝ }
 {
@@ -33,7 +33,7 @@ fn edge_pivot(g: &[u64], plans: &[u64; 2048], r: u64, p: u64, i: u64) -> u64
 }
 
 // At the two children of a join: the last rule node that is open at both.
-fn shared_node(g: &[u64], plans: &[u64; 2048], r: u64, p: u64, q: u64) -> u64
+fn shared_node(g: &[u64], plans: &[u32; 2048], r: u64, p: u64, q: u64) -> u64
     requires { ⌜ KnownNode (now g) r p × KnownNode (now g) r q × PlanTable (now g) (now plans) ⌝ }
     ensures { λ v. ⌜ (v ≡ sharedNode (grammarOf (now (g .entry))) r p q) × (v ≤ 8) ⌝ }
 {
@@ -50,7 +50,7 @@ fn shared_node(g: &[u64], plans: &[u64; 2048], r: u64, p: u64, q: u64) -> u64
 }
 
 // What plan node q asks of the pivot of p.
-fn pivot_below(g: &[u64], plans: &[u64; 2048], r: u64, p: u64, q: u64) -> u64
+fn pivot_below(g: &[u64], plans: &[u32; 2048], r: u64, p: u64, q: u64) -> u64
     requires { ⌜ KnownNode (now g) r q × PlanTable (now g) (now plans) ⌝ }
     ensures { λ w. ⌜ PivotBelow (now (g .entry)) r p q w × (w ≤ 72) ⌝ }
 {
@@ -76,7 +76,7 @@ fn pivot_below(g: &[u64], plans: &[u64; 2048], r: u64, p: u64, q: u64) -> u64
 }
 
 // The pivot of rule r and plan node p.
-fn pivot(g: &[u64], plans: &[u64; 2048], r: u64, p: u64) -> u64
+fn pivot(g: &[u64], plans: &[u32; 2048], r: u64, p: u64) -> u64
     requires { ⌜ (checkGrammar (now g) ≡ true) × PlanTable (now g) (now plans) ⌝ }
     ensures { λ w. ⌜ PivotOf (now (g .entry)) r p w ⌝ }
 {
@@ -177,7 +177,7 @@ fn fill_places(t: &mut [u64])
 }
 
 // The table, into words that are 0: for all rules and plan nodes the words by which active records are listed, then those by which they ask; for each symbol the positions at which it is wanted, and the same two words of passive records.
-pub fn fill(g: &[u64], plans: &[u64; 2048], t: &mut [u64])
+pub fn fill(g: &[u64], plans: &[u32; 2048], t: &mut [u64])
     requires { ⌜ (checkGrammar (now g) ≡ true) × PlanTable (now g) (now plans) × (now t ≡ replicate 2240 0) ⌝ }
     ensures { λ r. ⌜ KeyTable (now (g .entry)) (now (t .exit)) ⌝ }
 {

@@ -1,29 +1,34 @@
 -- The plan nodes above, in a table: how its words are filled and read.
 use mathlib.Core.Path.{_≡_, refl, sym, ap, _∙_, subst}
-use mathlib.Core.Bool.{Bool, true, false, _||_, false≢true}
+use mathlib.Core.Bool.{Bool, true, false, _||_, cond, false≢true}
 use mathlib.Core.List.{List}
-use Prim.Native.Nat.{ℕ, zero, suc, _+_, _*_, _%_, _≤_, _<_}
+use Prim.Native.Nat.{ℕ, zero, suc, _+_, _*_, _%_, _^_, _≤_, _<_}
 use native.Mathlib.Omega.{arith}
 use native.Mathlib.Decide.{decLt}
 use lib.ListN.{length, getD, set, replicate, length-set, getD-replicate}
 use lib.Seq.{getD-set-same, getD-set-other}
 use lib.Dec.{eqb, ltb}
 use borrow.Author.Tests.{eq-eqb, ne-eqb, eqb-true, eqb-false, lt-ltb, le-ltb, ltb-true}
+use Rattle.masks.specs.Masks.{bit, member}
+use Rattle.masks.specs.Laws.{member-false, lt-bits, bits-lt}
 use Rattle.hrg.specs.Counts.{hit, occurs}
-use Rattle.hrg.specs.Grammars.{PlanNode, join, planOf, planNode}
+use Rattle.hrg.specs.Grammars.{PlanNode, join, touches, ruleOf, planOf, planNode}
+use Rattle.hrg.specs.Items.{isBoundary, isOpenAt}
 use Rattle.hrg.specs.WellFormed.{children}
 use Rattle.hrg.proofs.Sums.{hit-self, none-left}
+use Rattle.hrg.proofs.Degrees.{and-true}
+use Rattle.hrg.proofs.Targets.{touches-in}
 use Rattle.questions.specs.Layout.{ruleCount, rulePlan, planKind, planFirst, planSecond, edgeLabel}
 use Rattle.questions.specs.Checking.{checkGrammar}
 use Rattle.questions.specs.Abstract.{grammarOf}
 use Rattle.joins.specs.Joins.{KnownNode, KnownEdge, OpenAt, nodesWord}
-use Rattle.joins.proofs.Known.{plan-ok, plan-few, plan-size, rule-few}
+use Rattle.joins.proofs.Known.{rule-ok, plan-ok, plan-few, plan-size, rule-few}
 use Rattle.joins.proofs.PlanMasks.{joined-is, below-few, leaf-mask, join-both}
 use Rattle.joins.proofs.Touching.{open-none}
 use Rattle.joins.proofs.EdgeMaps.{edge-label-few, nodes-word-few}
 use Rattle.rules.specs.declared.plans.Parent.{Parent}
 use Rattle.rules.specs.Rules.{ParentOf, Childless}
-use Rattle.rules.specs.Plans.{edgeWord, secondWord, joinWord, ParentAt, parentIn, PlanTable}
+use Rattle.rules.specs.Plans.{edgeWord, secondWord, joinWord, ParentAt, WordsAt, PlacedAt, PlanTable}
 use Rattle.rules.specs.Filling.{ChildOf, Placed, Put, ToldTo}
 use Rattle.rules.proofs.Parents.{child-leaf, child-introduce, child-join, child-lower, once, parent-found, above-unknown, above-past}
 use Rattle.rules.proofs.Leading.{child-some}
@@ -40,6 +45,23 @@ missing g r p w o h none = record {
   where
     no : ltb (w % 32) 16 ≡ true → ⊥
     no e = omega (arith, ltb-true (w % 32) 16 e)
+
+-- a place with the word 0
+empty : (g : List ℕ) (r p w o : ℕ) → w ≡ 0 → Childless g r p → WordsAt g r p w o
+empty g r p w o e none = record { none = λ z. missing g r p 16 0 (omega arith) none; some = λ z. absurd (z e) }
+
+-- no plan node has the word 0
+either-some : (b : Bool) (x y : ℕ) → 0 < x → 0 < y → 0 < cond b x y
+either-some true x y a b = a
+either-some false x y a b = b
+
+second-some : (g : List ℕ) (r q : ℕ) → 0 < secondWord g r q
+unfolding secondWord
+second-some g r q = either-some (eqb (planKind g r q) 1) (1 + 4 * edgeWord g r (planSecond g r q)) (2 + 4 * planSecond g r q) (omega arith) (omega arith)
+
+word-some : (g : List ℕ) (r p q : ℕ) → 0 < joinWord g r p q
+unfolding joinWord
+word-some g r p q = omega (arith, either-some (eqb (planFirst g r q) p) (secondWord g r q) (3 + 4 * planFirst g r q) (second-some g r q) (omega arith))
 
 -- the number of a plan node stands in its word
 pub word-node : (g : List ℕ) (r p q w : ℕ) → q < 16 → w ≡ joinWord g r p q → w % 32 ≡ q
@@ -60,6 +82,9 @@ module _ (g : List ℕ) (r p q w o : ℕ) (known : KnownNode g r q) (child : Chi
     opened = λ l. subst (λ q. OpenAt g r q o) (sym node) opened;
     join = λ l. record { child = subst (ChildOf g r p) (sym node) child; word = word ∙ ap (joinWord g r p) (sym node) };
   }
+
+  filled : WordsAt g r p w o
+  filled = record { none = λ z. absurd (omega (arith, word, word-some g r p q)); some = λ z. there }
 
 -- ---- what it asks for beside its first child
 module _ (g : List ℕ) (r q : ℕ) (known : KnownNode g r q) (kind second : ℕ) (a : kind ≡ planKind g r q) (d : second ≡ planSecond g r q) where
@@ -106,6 +131,26 @@ module _ (g : List ℕ) (r q : ℕ) (known : KnownNode g r q) (kind first : ℕ)
 
 pub open-leaf : (g : List ℕ) (r q : ℕ) → KnownNode g r q → (kind : ℕ) → kind ≡ planKind g r q → kind ≡ 0 → OpenAt g r q 0
 open-leaf g r q known kind a e = open-none g r q (leaf-mask g r q known kind a e)
+
+-- ---- rule nodes are below 8, so that a set of them is small
+open-known : (g : List ℕ) (r q x : ℕ) → KnownNode g r q → isOpenAt (ruleOf (grammarOf g) r) q x ≡ true → x < 8
+unfolding isOpenAt isBoundary
+open-known g r q x known h =
+    let P = ruleOf (grammarOf g) r .production .right in
+    let ok = rule-ok g r (known .grammar) (known .rule) .right in
+    let on = touches-in _ (P .edges) x (and-true (touches _ (P .edges) x) _ h .0) in
+    omega (arith, ok .edge (on .0) (on .1) .listed .inside x (on .3), ok .node-count .upper)
+
+pub open-small : (g : List ℕ) (r q o : ℕ) → KnownNode g r q → OpenAt g r q o → o < 2 ^ 64 → o < 4294967296
+open-small g r q o known opened small = bits-lt 32 o (λ e l. far e l (decLt e 64))
+  where
+    near : (e : ℕ) → 32 ≤ e → e < 64 → (b : Bool) → member o e ≡ b → bit o e ≡ 0
+    near e l d true h = absurd (omega (arith, open-known g r q e known (sym (opened .members e d) ∙ h)))
+    near e l d false h = member-false o e h
+
+    far : (e : ℕ) → 32 ≤ e → Dec (e < 64) → bit o e ≡ 0
+    far e l (yes d) = near e l d (member o e) refl
+    far e l (no d) = lt-bits 64 o e small (omega arith)
 
 -- ---- one place
 pub placed : (t : List ℕ) (r p w o : ℕ) → length t ≡ 2048 → r < 64 → p < 16 → Placed t (set (set t (16 * r + p) w) (1024 + (16 * r + p)) o) (16 * r + p) w o
@@ -207,13 +252,13 @@ module _ (g : List ℕ) (r q o : ℕ) (t : List ℕ) (known : KnownNode g r q) (
               (x .0 ∙ y .0, x .1 ∙ y .1)
 
 -- ---- the table
-pub told-none : (g : List ℕ) → ToldTo g (replicate 2048 16) 0 0
+pub told-none : (g : List ℕ) → ToldTo g (replicate 2048 0) 0 0
 told-none g = record {
   size = refl;
   rules = λ r p l. absurd (omega arith);
   told = λ p q l. absurd (omega arith);
-  rest = λ p a l n. getD-replicate 2048 (16 * 0 + p) 16 0 (omega arith);
-  after = λ k l m. getD-replicate 2048 k 16 0 (omega arith);
+  rest = λ p a l n. getD-replicate 2048 (16 * 0 + p) 0 0 (omega arith);
+  after = λ k l m. getD-replicate 2048 k 0 0 (omega arith);
 }
 
 module _ (g t u : List ℕ) (r q o : ℕ) (known : KnownNode g r q) (opened : OpenAt g r q o) (before : ToldTo g t r q) (put : Put g r q o t u) where
@@ -273,31 +318,31 @@ module _ (g : List ℕ) (checked : checkGrammar g ≡ true) where
     after = λ k l m. f .after k (omega arith) m;
   }
     where
-      word : (p : ℕ) → p < 16 → Found g r p q → ParentAt g r p (parentIn t (16 * r + p))
+      word : (p : ℕ) → p < 16 → Found g r p q → PlacedAt g t r p
       word p m (at q′ l c) =
           let told = f .told p q′ l c in
-          there g r p q′ (getD t (16 * r + p) 0) (getD t (1024 + (16 * r + p)) 0) (record { grammar = checked; rule = rule; node = omega arith }) c (told .0) (told .1)
+          filled g r p q′ (getD t (16 * r + p) 0) (getD t (1024 + (16 * r + p)) 0) (record { grammar = checked; rule = rule; node = omega arith }) c (told .0) (told .1)
       word p m (none d) =
-          missing g r p (getD t (16 * r + p) 0) (getD t (1024 + (16 * r + p)) 0)
-          (omega (arith, f .rest p (rule-few g r checked rule) m d))
+          empty g r p (getD t (16 * r + p) 0) (getD t (1024 + (16 * r + p)) 0)
+          (f .rest p (rule-few g r checked rule) m d)
           (record { none = λ q′ l. none-left _ (λ o. d q′ (omega (arith, plan-size g r checked rule)) o) })
 
-      rules : (r′ p : ℕ) → r′ < r + 1 → p < 16 → Dec (r′ < r) → ParentAt g r′ p (parentIn t (16 * r′ + p))
+      rules : (r′ p : ℕ) → r′ < r + 1 → p < 16 → Dec (r′ < r) → PlacedAt g t r′ p
       rules r′ p l m (yes d) = f .rules r′ p d m
       rules r′ p l m (no d) = let e : r′ ≡ r = omega arith in rw e (word p m (find g r p q))
 
-  pub told-all : (t : List ℕ) (n r : ℕ) → n ≡ ruleCount g → n ≤ r → r ≤ n → ToldTo g t r 0 → PlanTable g t
-  told-all t n r e l k f = record { each = λ r′ p a b. word r′ p a b (decLt r′ r) }
+  pub told-all : (t : List ℕ) (n r : ℕ) → n ≡ ruleCount g → n ≤ r → r ≤ n → ToldTo g t r 0 → ((k : ℕ) → getD t k 0 < 4294967296) → PlanTable g t
+  told-all t n r e l k f small = record { each = λ r′ p a b. word r′ p a b (decLt r′ r); small = small }
     where
-      made : (r′ p : ℕ) → r′ < 64 → p < 16 → (r′ < r → ⊥) → Dec (r < r′) → getD t (16 * r′ + p) 0 ≡ 16
+      made : (r′ p : ℕ) → r′ < 64 → p < 16 → (r′ < r → ⊥) → Dec (r < r′) → getD t (16 * r′ + p) 0 ≡ 0
       made r′ p a b d (yes c) = f .after (16 * r′ + p) (omega arith) (omega arith)
       made r′ p a b d (no c) = let s : r′ ≡ r = omega arith in rw s (f .rest p (omega arith) b (λ q l. absurd (omega arith)))
 
-      word : (r′ p : ℕ) → r′ < 64 → p < 16 → Dec (r′ < r) → ParentAt g r′ p (parentIn t (16 * r′ + p))
+      word : (r′ p : ℕ) → r′ < 64 → p < 16 → Dec (r′ < r) → PlacedAt g t r′ p
       word r′ p a b (yes d) = f .rules r′ p d b
       word r′ p a b (no d) =
-          missing g r′ p (getD t (16 * r′ + p) 0) (getD t (1024 + (16 * r′ + p)) 0)
-          (omega (arith, made r′ p a b d (decLt r r′)))
+          empty g r′ p (getD t (16 * r′ + p) 0) (getD t (1024 + (16 * r′ + p)) 0)
+          (made r′ p a b d (decLt r r′))
           (above-unknown g r′ p (omega arith) .nowhere refl)
 
   -- ---- a word of it

@@ -8,7 +8,7 @@ use Rattle.hrg.specs.Grammars.{planOf, planNode}
 use Rattle.hrg.specs.WellFormed.{children}
 use Rattle.questions.specs.Abstract.{grammarOf}
 use Rattle.joins.specs.Joins.{OpenAt}
-use Rattle.rules.specs.Plans.{joinWord, ParentAt, parentIn}
+use Rattle.rules.specs.Plans.{joinWord, PlacedAt}
 
 -- p is a child of plan node q of rule r
 abbrev pub ChildOf : List ℕ → ℕ → ℕ → ℕ → Type 0
@@ -30,7 +30,7 @@ pub record Put (g : List ℕ) (r q o : ℕ) (t u : List ℕ) : Type 0 where
 -- the rules before r are in the table, and the children of rule r's plan nodes before q; the other words are as they were made
 pub record ToldTo (g t : List ℕ) (r q : ℕ) : Type 0 where
   pub size : length t ≡ 2048
-  pub rules : (r′ p : ℕ) → r′ < r → p < 16 → ParentAt g r′ p (parentIn t (16 * r′ + p))
+  pub rules : (r′ p : ℕ) → r′ < r → p < 16 → PlacedAt g t r′ p
   pub told : (p q′ : ℕ) → q′ < q → ChildOf g r p q′ → (getD t (16 * r + p) 0 ≡ joinWord g r p q′) × OpenAt g r q′ (getD t (1024 + (16 * r + p)) 0)
-  pub rest : (p : ℕ) → r < 64 → p < 16 → ((q′ : ℕ) → q′ < q → ChildOf g r p q′ → ⊥) → getD t (16 * r + p) 0 ≡ 16
-  pub after : (k : ℕ) → 16 * (r + 1) ≤ k → k < 1024 → getD t k 0 ≡ 16
+  pub rest : (p : ℕ) → r < 64 → p < 16 → ((q′ : ℕ) → q′ < q → ChildOf g r p q′ → ⊥) → getD t (16 * r + p) 0 ≡ 0
+  pub after : (k : ℕ) → 16 * (r + 1) ≤ k → k < 1024 → getD t k 0 ≡ 0

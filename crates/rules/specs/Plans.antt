@@ -44,13 +44,19 @@ pub record ParentAt (g : List ℕ) (r p : ℕ) (x : Parent) : Type 0 where
   pub opened : x .word % 32 < 16 → OpenAt g r (x .word % 32) (x .stays)
   pub join : x .word % 32 < 16 → JoinAt g r p (x .word)
 
--- the words of a table for place i, which is 16 * r + p for rule r and plan node p
-abbrev pub parentIn : List ℕ → ℕ → Parent
-parentIn t i = record { word = getD t i 0; stays = getD t (1024 + i) 0 }
+-- w and o are the words of a table for plan node p of rule r: 0 for w where there is none above it, and those of the one above it elsewhere
+pub record WordsAt (g : List ℕ) (r p w o : ℕ) : Type 0 where
+  pub none : w ≡ 0 → ParentAt g r p (record { word = 16; stays = 0 })
+  pub some : (w ≡ 0 → ⊥) → ParentAt g r p (record { word = w; stays = o })
 
--- t is the table of g
+-- place 16 * r + p of each half has the words for plan node p of rule r
+abbrev pub PlacedAt : List ℕ → List ℕ → ℕ → ℕ → Type 0
+PlacedAt g t r p = WordsAt g r p (getD t (16 * r + p) 0) (getD t (1024 + (16 * r + p)) 0)
+
+-- t is the table of g, with words of 32 bits
 pub record PlanTable (g t : List ℕ) : Type 0 where
-  pub each : (r p : ℕ) → r < 64 → p < 16 → ParentAt g r p (parentIn t (16 * r + p))
+  pub each : (r p : ℕ) → r < 64 → p < 16 → PlacedAt g t r p
+  pub small : (k : ℕ) → getD t k 0 < 4294967296
 
 -- where two records make something in some graph, x is only the first of them or only the second
 pub record Leads (g : List ℕ) (x : Record) (first : Bool) : Type 0 where

@@ -114,7 +114,7 @@ fn second_map(g: &[u64], of: u64, q: u64, w: u64, y: &[u64], t: &mut [u64]) -> b
 pub fn pair_into(
     g: &[u64],
     h: &[u64],
-    plans: &[u64; 2048],
+    plans: &[u32; 2048],
     graph: &[u64; 577],
     x: &[u64],
     y: &[u64],
@@ -170,7 +170,7 @@ pub fn pair_into(
 pub fn terminal_into(
     g: &[u64],
     h: &[u64],
-    plans: &[u64; 2048],
+    plans: &[u32; 2048],
     graph: &[u64; 577],
     x: &[u64],
     e: u64,
@@ -247,7 +247,7 @@ fn fitting(g: &[u64], h: &[u64], graph: &[u64; 577], want: u64, x: &[u64], i: u6
 pub fn candidates(
     g: &[u64],
     h: &[u64],
-    plans: &[u64; 2048],
+    plans: &[u32; 2048],
     graph: &[u64; 577],
     want: u64,
     x: &[u64],

@@ -13,9 +13,9 @@ ghost use Rattle.rules.specs.Filling.{Placed, Put, ToldTo};
 use crate::Place;
 
 // A plan node as one number (`joinWord`), which has 16 for its number where there is none, and the rule nodes that are open there.
-pub(crate) struct Parent {
-    pub(crate) word: u64,
-    pub(crate) stays: u64,
+pub struct Parent {
+    pub word: u64,
+    pub stays: u64,
 }
 
 // ---- the table
@@ -33,18 +33,18 @@ fn second_word(g: &[u64], r: u64, q: u64) -> u64
 }
 
 // The words of plan node p of rule r.
-fn put(t: &mut [u64], r: u64, p: u64, w: u64, o: u64)
-    requires { ⌜ (length (now t) ≡ 2048) × (r < 64) × (p < 16) ⌝ }
+fn put(t: &mut [u32], r: u64, p: u64, w: u64, o: u64)
+    requires { ⌜ (length (now t) ≡ 2048) × (r < 64) × (p < 16) × (w < 4294967296) × (o < 4294967296) ⌝ }
     ensures { λ x. ⌜ Placed (now (t .entry)) (now (t .exit)) (16 * r + p) w o ⌝ }
 {
     let i = (16 * r + p) as usize;
-    t[i] = w;
-    t[1024 + i] = o;
+    t[i] = w as u32;
+    t[1024 + i] = o as u32;
 }
 
 // The children of plan node q, at which the rule nodes o are open, are told of it.
-fn put_children(g: &[u64], r: u64, q: u64, o: u64, t: &mut [u64])
-    requires { ⌜ KnownNode (now g) r q × (length (now t) ≡ 2048) ⌝ }
+fn put_children(g: &[u64], r: u64, q: u64, o: u64, t: &mut [u32])
+    requires { ⌜ KnownNode (now g) r q × (length (now t) ≡ 2048) × (o < 4294967296) ⌝ }
     ensures { λ x. ⌜ Put (now (g .entry)) r q o (now (t .entry)) (now (t .exit)) ⌝ }
 {
     let kind = kind_at(g, r, q);
@@ -61,7 +61,7 @@ fn put_children(g: &[u64], r: u64, q: u64, o: u64, t: &mut [u64])
 }
 
 // The plan nodes of rule r, which have lower numbers than their parents.
-fn fill_rule(g: &[u64], r: u64, t: &mut [u64])
+fn fill_rule(g: &[u64], r: u64, t: &mut [u32])
     requires { ⌜ (checkGrammar (now g) ≡ true) × (r < ruleCount (now g)) × ToldTo (now g) (now t) r 0 ⌝ }
     ensures { λ x. ⌜ ToldTo (now (g .entry)) (now (t .exit)) (r + 1) 0 ⌝ }
 {
@@ -77,9 +77,9 @@ fn fill_rule(g: &[u64], r: u64, t: &mut [u64])
     }
 }
 
-// The table for all rules and plan nodes, in two halves; where there are none it stays as it was made.
-pub fn fill(g: &[u64], t: &mut [u64])
-    requires { ⌜ (checkGrammar (now g) ≡ true) × (now t ≡ replicate 2048 16) ⌝ }
+// The table for all rules and plan nodes, in two halves; where no plan node is above it stays as it was made, all zeros.
+pub fn fill(g: &[u64], t: &mut [u32])
+    requires { ⌜ (checkGrammar (now g) ≡ true) × (now t ≡ replicate 2048 0) ⌝ }
     ensures { λ x. ⌜ PlanTable (now (g .entry)) (now (t .exit)) ⌝ }
 {
     let n = layout::rule_count(g);
@@ -91,7 +91,8 @@ pub fn fill(g: &[u64], t: &mut [u64])
 }
 
 // ---- read off the table
-pub(crate) fn parent_in(g: &[u64], t: &[u64; 2048], r: u64, p: u64) -> Parent
+// The plan node above p in rule r and the rule nodes that are open there, for any r and p; a word 0 in the first half of the table says that there is none.
+pub fn parent_in(g: &[u64], t: &[u32; 2048], r: u64, p: u64) -> Parent
     requires { ⌜ (checkGrammar (now g) ≡ true) × PlanTable (now g) (now t) ⌝ }
     ensures { λ x. ⌜ ParentAt (now (g .entry)) r p x ⌝ }
 {
@@ -103,14 +104,18 @@ pub(crate) fn parent_in(g: &[u64], t: &[u64; 2048], r: u64, p: u64) -> Parent
         return none;
     }
     let i = (16 * r + p) as usize;
+    let w = t[i] as u64;
+    if w == 0 {
+        return none;
+    }
     Parent {
-        word: t[i],
-        stays: t[1024 + i],
+        word: w,
+        stays: t[1024 + i] as u64,
     }
 }
 
 // The plan node above p in rule r: any rule and a plan node that may not be there.
-pub fn place_above(g: &[u64], t: &[u64; 2048], r: u64, p: u64) -> Place
+pub fn place_above(g: &[u64], t: &[u32; 2048], r: u64, p: u64) -> Place
     requires { ⌜ (checkGrammar (now g) ≡ true) × PlanTable (now g) (now t) ⌝ }
     ensures { λ x. ⌜ Above (now (g .entry)) r p x ⌝ }
 {
@@ -122,7 +127,7 @@ pub fn place_above(g: &[u64], t: &[u64; 2048], r: u64, p: u64) -> Place
 }
 
 // The open rule nodes at plan node p: those that its first child is told of, and none at a leaf.
-pub fn open_at(g: &[u64], t: &[u64; 2048], r: u64, p: u64) -> u64
+pub fn open_at(g: &[u64], t: &[u32; 2048], r: u64, p: u64) -> u64
     requires { ⌜ KnownNode (now g) r p × PlanTable (now g) (now t) ⌝ }
     ensures { λ o. ⌜ OpenAt (now (g .entry)) r p o ⌝ }
 {
@@ -169,7 +174,7 @@ pub(crate) fn node_at(g: &[u64], r: u64, i: u64, k: u64) -> u64
 }
 
 // Whether x comes first where it makes something with another record: the plan node above it has x's as its first child. If not, x comes second, for a plan node is a child at most once.
-pub fn leads(g: &[u64], plans: &[u64; 2048], x: &[u64]) -> bool
+pub fn leads(g: &[u64], plans: &[u32; 2048], x: &[u64]) -> bool
     requires { ⌜ (checkGrammar (now g) ≡ true) × PlanTable (now g) (now plans) × (length (now x) ≡ 16) ⌝ }
     ensures { λ r. ⌜ Leads (now (g .entry)) (ofWords (now (x .entry))) r ⌝ }
 {

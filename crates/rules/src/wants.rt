@@ -22,7 +22,7 @@ fn wanted(w: u64) -> u64
 }
 
 // What an item of rule r at plan node p wants: nothing where there is no such rule or plan node.
-pub fn want_of(g: &[u64], plans: &[u64; 2048], r: u64, p: u64) -> u64
+pub fn want_of(g: &[u64], plans: &[u32; 2048], r: u64, p: u64) -> u64
     requires { ⌜ (checkGrammar (now g) ≡ true) × PlanTable (now g) (now plans) ⌝ }
     ensures { λ x. ⌜ x ≡ wantOf (grammarOf (now (g .entry))) r p ⌝ }
 {

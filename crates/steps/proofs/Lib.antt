@@ -7,6 +7,7 @@ pub mod PartnerLaws
 pub mod ReadyLaws
 pub mod StepLaws
 pub mod CandidateSteps
+pub mod KindLaws
 pub mod ListedLaws
 pub mod ModeLaws
 pub mod SingleLaws

@@ -24,7 +24,7 @@ use Rattle.lists.proofs.CursorLaws.{ahead-start, ahead-within, least-none, ahea
 use Rattle.pivots.specs.Keys.{KeyTable, keysOf, queryOf, regularOf}
 use Rattle.pivots.proofs.KeyLaws.{query-few}
 use Rattle.pivots.proofs.PivotLaws.{keyless}
-use Rattle.index.specs.Index.{listsOf, markOf, keysFor}
+use Rattle.index.specs.Index.{markOf, keysFor}
 use Rattle.index.specs.Quiet.{quietIn}
 use Rattle.index.proofs.KeyLists.{keys-length, keys-at, keys-grown}
 use Rattle.steps.specs.Partners.{withRecord}
@@ -113,9 +113,9 @@ module _ (g h w : List ℕ) (H : Graph) (j near : ℕ) (f : Fits w) (D : Handled
   dealt-quiet edges k l = quiet-grown w v partners edges k f partners-whole (A .is) l
 
 -- it is regular where none is irregular
-pub regular-own : (g h keys w ix : List ℕ) (j near : ℕ) → Ready g h keys w ix → Handled g h w j near → markOf ix ≡ 0 → regularOf keys (recordAt w j) ≡ true
+pub regular-own : (g h keys w ix ls : List ℕ) (j near : ℕ) → Ready g h keys w ix ls → Handled g h w j near → markOf ix ≡ 0 → regularOf keys (recordAt w j) ≡ true
 unfolding chartOf
-regular-own g h keys w ix j near R D m = subst (λ (y : Record). regularOf keys y ≡ true) (record-in w (itemCount w) j (D .there)) (R .indexed .regular m j (omega (arith, D .there, length-records w (itemCount w))))
+regular-own g h keys w ix ls j near R D m = subst (λ (y : Record). regularOf keys y ≡ true) (record-in w (itemCount w) j (D .there)) (R .indexed .regular m j (omega (arith, D .there, length-records w (itemCount w))))
 
 -- ---- the loop
 module _ (g h keys : List ℕ) (H : Graph) (w : List ℕ) (x : Record) (j n : ℕ) where
@@ -133,8 +133,8 @@ module _ (g h keys : List ℕ) (H : Graph) (w : List ℕ) (x : Record) (j n : �
   keysIn v = keysFor keys (chartOf v .records)
 
   -- where the loop is: the first `done` partners are dealt with, and what is left and not quiet lies at the cursors or behind them
-  pub record Going (v ix : List ℕ) (cs : List ℕ) (k done : ℕ) : Type 0 where
-    pub ready : Ready g h keys v ix
+  pub record Going (v ix ls : List ℕ) (cs : List ℕ) (k done : ℕ) : Type 0 where
+    pub ready : Ready g h keys v ix ls
     pub gathered : Gathered w partner v done
     pub ahead : Ahead quiet (keysIn v) (queryOf keys x) n done cs
     pub at : k ≡ leastOf cs
@@ -153,20 +153,20 @@ module _ (g h keys : List ℕ) (H : Graph) (w : List ℕ) (x : Record) (j n : �
   partner-whole i = record-whole G H x j (recordAt w i) i
 
   module _ (f : Fits w) (all : n ≤ itemCount w) where
-    pub going-start : (ix bs cs : List ℕ) (k : ℕ) → Ready g h keys w ix → bs ≡ startsOf (listsOf ix) (queryOf keys x) → SkimsAll quiet (listsOf ix) n bs cs → k ≡ leastOf cs → k ≤ 4096 → Going w ix cs k 0
-    going-start ix bs cs k R e s q l = record {
+    pub going-start : (ix ls bs cs : List ℕ) (k : ℕ) → Ready g h keys w ix ls → bs ≡ startsOf ls (queryOf keys x) → SkimsAll quiet ls n bs cs → k ≡ leastOf cs → k ≤ 4096 → Going w ix ls cs k 0
+    going-start ix ls bs cs k R e s q l = record {
       ready = R;
       gathered = gathered-none w f partner partner-whole;
       ahead =
-          let first = ahead-start quiet (listsOf ix) (keysIn w) (queryOf keys x) n bs (R .indexed .listed) (λ i h. query-few keys x i)
+          let first = ahead-start quiet ls (keysIn w) (queryOf keys x) n bs (R .indexed .listed) (λ i h. query-few keys x i)
           (omega (arith, keys-length keys (chartOf w .records), counted w)) e in
-          ahead-skims quiet (listsOf ix) (keysIn w) (queryOf keys x) n 0 bs cs (R .indexed .listed) first s;
+          ahead-skims quiet ls (keysIn w) (queryOf keys x) n 0 bs cs (R .indexed .listed) first s;
       at = q;
       few = l;
       low = omega arith;
     }
 
-    module _ (v ix cs : List ℕ) (k done : ℕ) (S : Going v ix cs k done) where
+    module _ (v ix ls cs : List ℕ) (k done : ℕ) (S : Going v ix ls cs k done) where
       grown : v ≡ grownBy w (gather done partner)
       grown = S .gathered .is
 
@@ -199,7 +199,7 @@ module _ (g h keys : List ℕ) (H : Graph) (w : List ℕ) (x : Record) (j n : �
             go false s = unkeyed i a b c s
 
         -- one turn: record k is dealt with unless it was, and the cursors at it go on
-        module _ (u jx : List ℕ) (later : ℕ) (l : k < n) (p : u ≡ grownBy v (guard (leb done k) (withRecord G H x j (recordAt v k) k))) (R : Ready g h keys u jx) (q : later ≡ max done (k + 1)) where
+        module _ (u jx ms : List ℕ) (later : ℕ) (l : k < n) (p : u ≡ grownBy v (guard (leb done k) (withRecord G H x j (recordAt v k) k))) (R : Ready g h keys u jx ms) (q : later ≡ max done (k + 1)) where
           dealt : (b : Bool) → leb done k ≡ b → u ≡ grownBy v (guard b (withRecord G H x j (recordAt v k) k)) → Gathered w partner u later
           dealt true e h =
               let skip = gathered-skip w f partner partner-whole v done k (λ i a b. passed-over i a b (omega arith)) (leb-true done k e) (S .gathered) in
@@ -214,22 +214,22 @@ module _ (g h keys : List ℕ) (H : Graph) (w : List ℕ) (x : Record) (j n : �
               let m = keys-grown keys v u ys (S .ready .fits) (whole-guard (leb done k) (withRecord G H x j (recordAt v k) k) (record-whole G H x j (recordAt v k) k)) p in
               subst (λ (ks : List ℕ). Ahead quiet ks (queryOf keys x) n done cs) (sym (m .is)) (ahead-grown quiet (keysIn v) (m .more) (queryOf keys x) n done cs (S .ahead))
 
-          module _ (bs ds : List ℕ) (e : bs ≡ passedOf (listsOf jx) cs k) (s : SkimsAll (quietIn u (x .edges)) (listsOf jx) n bs ds) where
+          module _ (bs ds : List ℕ) (e : bs ≡ passedOf ms cs k) (s : SkimsAll (quietIn u (x .edges)) ms n bs ds) where
             -- the cursors that pass record k
             gone : Ahead quiet (keysIn u) (queryOf keys x) n later bs
-            gone = ahead-passed quiet (listsOf jx) (keysIn u) (queryOf keys x) n done later k cs bs (R .indexed .listed) grown-ahead (omega arith) (omega arith) e
+            gone = ahead-passed quiet ms (keysIn u) (queryOf keys x) n done later k cs bs (R .indexed .listed) grown-ahead (omega arith) (omega arith) e
 
-            skims : SkimsAll quiet (listsOf jx) n bs ds
+            skims : SkimsAll quiet ms n bs ds
             skims i h =
                 let o = dealt (leb done k) refl p in
-                skims-by (quietIn u (x .edges)) quiet (listsOf jx) n (getD bs i 0) (getD ds i 0)
+                skims-by (quietIn u (x .edges)) quiet ms n (getD bs i 0) (getD ds i 0)
                 (λ m a. quiet-grown w u (gather later partner) (x .edges) m f (whole-gather later partner partner-whole) (o .is) (omega arith)) (s i h)
 
-            pub going-next : (i : ℕ) → i ≡ leastOf ds → i ≤ 4096 → Going u jx ds i later
+            pub going-next : (i : ℕ) → i ≡ leastOf ds → i ≤ 4096 → Going u jx ms ds i later
             going-next i a b = record {
               ready = R;
               gathered = dealt (leb done k) refl p;
-              ahead = ahead-skims quiet (listsOf jx) (keysIn u) (queryOf keys x) n later bs ds (R .indexed .listed) gone skims;
+              ahead = ahead-skims quiet ms (keysIn u) (queryOf keys x) n later bs ds (R .indexed .listed) gone skims;
               at = a;
               few = b;
               low = omega (arith, S .low);
@@ -239,8 +239,8 @@ module _ (g h keys : List ℕ) (H : Graph) (w : List ℕ) (x : Record) (j n : �
             going-less =
                 omega (
                   arith,
-                  left-skims quiet (listsOf jx) (keysIn u) (queryOf keys x) n later bs ds (R .indexed .listed) gone skims,
-                  left-falls quiet (listsOf jx) (keysIn u) (queryOf keys x) n done k cs bs (R .indexed .listed) grown-ahead (S .at) l e,
+                  left-skims quiet ms (keysIn u) (queryOf keys x) n later bs ds (R .indexed .listed) gone skims,
+                  left-falls quiet ms (keysIn u) (queryOf keys x) n done k cs bs (R .indexed .listed) grown-ahead (S .at) l e,
                 )
 
           pub next-within : Within 20480 cs

@@ -29,9 +29,9 @@ use Rattle.ranking.specs.Ranking.{takenFrom}
 use Rattle.steps.specs.Runs.{markedBy}
 use Rattle.steps.specs.Ready.{Ready, Handled}
 
-module _ (g h keys w ix : List ℕ) (R : Ready g h keys w ix) (v jx : List ℕ) (I : Indexed keys jx (chartOf v .records)) (S : Spanned g h jx (chartOf v .records)) where
+module _ (g h keys w ix ls : List ℕ) (R : Ready g h keys w ix ls) (v jx ms : List ℕ) (I : Indexed keys jx ms (chartOf v .records)) (S : Spanned g h jx (chartOf v .records)) where
   -- a record is added
-  added-ready : (x : Record) → length (x .nodes) ≡ 8 → v ≡ addedTo w x → Ready g h keys v jx
+  added-ready : (x : Record) → length (x .nodes) ≡ 8 → v ≡ addedTo w x → Ready g h keys v jx ms
   added-ready x e p = record {
     fits = subst Fits (sym is) (grown-fits w (R .fits) (x ∷ []) whole);
     small = omega (arith, ap capacity is, grown-capacity w (R .fits) (x ∷ []) whole, R .small);
@@ -46,15 +46,15 @@ module _ (g h keys w ix : List ℕ) (R : Ready g h keys w ix) (v jx : List ℕ) 
       whole y (here q) = rw q e
       whole y (there m) = absurd (in-nil m)
 
-  pub words-ready : (xs : List ℕ) → v ≡ addedTo w (ofWords xs) → Ready g h keys v jx
+  pub words-ready : (xs : List ℕ) → v ≡ addedTo w (ofWords xs) → Ready g h keys v jx ms
   words-ready xs = added-ready (ofWords xs) (eight-words xs)
 
   -- .. by the words that a rule put it into
-  pub into-ready : (l : List Item) (before after : List ℕ) (z : Filled) → Into g h l before z after → v ≡ addedTo w (ofWords after) → Ready g h keys v jx
+  pub into-ready : (l : List Item) (before after : List ℕ) (z : Filled) → Into g h l before z after → v ≡ addedTo w (ofWords after) → Ready g h keys v jx ms
   into-ready l before after z answer = words-ready after
 
   -- a record is handled
-  handled-ready : (j : ℕ) → j < itemCount w → v ≡ markedAt w j → Ready g h keys v jx
+  handled-ready : (j : ℕ) → j < itemCount w → v ≡ markedAt w j → Ready g h keys v jx ms
   handled-ready j l p =
       let is = p ∙ handle-written w j (R .fits) l in
       let held = grown-handled w (chartOf w) (holds-own w (R .fits)) j .holds in
@@ -66,8 +66,8 @@ module _ (g h keys w ix : List ℕ) (R : Ready g h keys w ix) (v jx : List ℕ) 
       }
 
 -- the index of a chart that question 8 passed
-pub built-ready : (g h keys w ix : List ℕ) → Fits w → capacity w ≤ 4096 → Indexed keys ix (chartOf w .records) → Spanned g h ix (chartOf w .records) → Ready g h keys w ix
-built-ready g h keys w ix f s i n = record { fits = f; small = s; indexed = i; spanned = n }
+pub built-ready : (g h keys w ix ls : List ℕ) → Fits w → capacity w ≤ 4096 → Indexed keys ix ls (chartOf w .records) → Spanned g h ix (chartOf w .records) → Ready g h keys w ix ls
+built-ready g h keys w ix ls f s i n = record { fits = f; small = s; indexed = i; spanned = n }
 
 pub count-small : (w : List ℕ) → capacity w ≤ 4096 → itemCount w ≤ 4096
 unfolding itemCount
@@ -132,18 +132,18 @@ module _ (g h w v : List ℕ) (j near : ℕ) (xs : List Record) (f : Fits w) (e 
   }
 
 -- a record is taken, or none: then the ranking may be made anew
-module _ (g h keys w ix : List ℕ) (R : Ready g h keys w ix) (new : List ℕ) (k : NearKept ix new) where
+module _ (g h keys w ix ls : List ℕ) (R : Ready g h keys w ix ls) (new : List ℕ) (k : NearKept ix new) where
   abbrev rs : List Record
   rs = chartOf w .records
 
-  ready-by : (v : List ℕ) (f : Found) → Below (length rs) f → v ≡ markedBy w f → Indexed keys new (takenFrom rs f) → Ready g h keys v new
+  ready-by : (v : List ℕ) (f : Found) → Below (length rs) f → v ≡ markedBy w f → Indexed keys new ls (takenFrom rs f) → Ready g h keys v new ls
   unfolding chartOf
   ready-by v Nowhere b q I =
-      subst (λ (u : List ℕ). Ready g h keys u new) (sym q) (record { fits = R .fits; small = R .small; indexed = I; spanned = spanned-kept g h ix new rs k (R .spanned) })
+      subst (λ (u : List ℕ). Ready g h keys u new ls) (sym q) (record { fits = R .fits; small = R .small; indexed = I; spanned = spanned-kept g h ix new rs k (R .spanned) })
   ready-by v (At j) (one b) q I =
       let l : j < itemCount w = omega (arith, length-records w (itemCount w)) in
-      handled-ready g h keys w ix R v new (handled-beside w v j (R .fits) l q keys new I) (handled-spanned w v j (R .fits) l q g h ix new k (R .spanned)) j l q
+      handled-ready g h keys w ix ls R v new ls (handled-beside w v j (R .fits) l q keys new ls I) (handled-spanned w v j (R .fits) l q g h ix new k (R .spanned)) j l q
 
   pub taken-ready : (v : List ℕ) (t f : Found) → t ≡ f → t ≡ leastWaiting rs (length rs) → v ≡ markedBy w f
-      → (Indexed keys ix rs → Indexed keys new (takenFrom rs t)) → Ready g h keys v new
-  taken-ready v t f e p q i = ready-by v f (subst (Below (length rs)) (sym p ∙ e) (least-below rs (length rs))) q (subst (λ (o : Found). Indexed keys new (takenFrom rs o)) e (i (R .indexed)))
+      → (Indexed keys ix ls rs → Indexed keys new ls (takenFrom rs t)) → Ready g h keys v new ls
+  taken-ready v t f e p q i = ready-by v f (subst (Below (length rs)) (sym p ∙ e) (least-below rs (length rs))) q (subst (λ (o : Found). Indexed keys new ls (takenFrom rs o)) e (i (R .indexed)))

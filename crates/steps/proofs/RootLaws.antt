@@ -1,12 +1,12 @@
 -- The root rule on an accepted grammar table: what it makes of a record, and of which it makes nothing.
-use Prim.Native.Nat.{ℕ, suc, _+_, _-_, _≤_, _<_}
+use Prim.Native.Nat.{ℕ, suc, _+_, _-_, _%_, _≤_, _<_}
 use mathlib.Core.Path.{_≡_, refl, sym, ap, _∙_}
 use mathlib.Core.Bool.{true, false}
 use mathlib.Core.List.{List, [], _∷_}
 use native.Mathlib.Omega.{arith}
 use lib.Dec.{eqb}
 use lib.ListN.{length, take, List·getD-eq-default}
-use borrow.Author.Tests.{eq-eqb, ne-eqb}
+use borrow.Author.Tests.{eq-eqb, ne-eqb, lt-ltb}
 use Rattle.hrg.specs.Grammars.{Rule, Grammar, noRule, cost, ruleOf, lhsOf, rightOf, planOf}
 use Rattle.hrg.specs.Trees.{padded, images}
 use Rattle.hrg.specs.Items.{Item, active, passive}
@@ -20,6 +20,9 @@ use Rattle.questions.specs.Checking.{checkGrammar}
 use Rattle.questions.specs.Abstract.{ruleFrom, grammarOf}
 use Rattle.questions.proofs.WellFormedAccepted.{rules-length, rule-is}
 use Rattle.joins.proofs.Known.{plan-size, right-nodes}
+use Rattle.rules.specs.declared.plans.Parent.{Parent}
+use Rattle.rules.specs.Plans.{ParentAt}
+use Rattle.rules.proofs.Parents.{child-lower}
 use Rattle.records.specs.Words.{Fits, addedTo, grownBy}
 use Rattle.records.proofs.Grown.{grown-none, grown-one}
 
@@ -96,3 +99,10 @@ module _ (g : List ℕ) (x : Record) (j : ℕ) (w : List ℕ) (o : Fits w) where
         p
         ∙ grown-one w o (passiveRecord s c l) (ap (λ (y : Record). length (y .nodes)) is ∙ record-eight (passive (lhsOf (grammarOf g) (x .of)) (x .edges) F) (plus (x .count) 1) j 0)
         ∙ ap (grownBy w) (sym whole)
+
+  -- a plan node that is a child is below its parent, so it is not the root, which is the last one
+  pub skip-child : x .kind ≡ 0 → checkGrammar g ≡ true → (up : Parent) → ParentAt g (x .of) (x .plan) up → up .word % 32 < 16 → w ≡ grownBy w made
+  skip-child e checked up is l =
+      let known = is .above .known (lt-ltb (up .word % 32) 16 l) in
+      let lower = child-lower g (x .of) (x .plan) checked (known .rule) (up .word % 32) (known .node) (is .join l .child) in
+      skip-inner e checked (known .rule) (rulePlan g (x .of)) refl (λ q. omega (arith, lower, known .node))

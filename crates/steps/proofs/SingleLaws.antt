@@ -19,7 +19,6 @@ use Rattle.records.specs.Words.{itemCount, recordAt, grownBy}
 use Rattle.lists.specs.Cursors.{alone, startsOf, leastOf, passedOf, leftAll}
 use Rattle.lists.proofs.CursorLaws.{least-few, left-falls, ahead-skims, skims-none, alone-passed, alone-least, alone-past, alone-skims}
 use Rattle.pivots.specs.Keys.{regularOf}
-use Rattle.index.specs.Index.{indexWords, listsOf}
 use Rattle.index.specs.Quiet.{quietIn}
 use Rattle.steps.specs.Partners.{withRecord}
 use Rattle.steps.specs.Ready.{Tables, Ready, Handled}
@@ -41,17 +40,17 @@ start-alone ws b r z p = rw (p, z)
 
 module _ (g h keys w : List ℕ) (j n : ℕ) where
   -- where the loop is: the first `past` partners are dealt with, and what is left and not quiet lies at the cursor c or behind it
-  abbrev pub Along : List ℕ → List ℕ → ℕ → ℕ → Type 0
-  Along v ix c past = Going g h keys (graphOf g h) w (recordAt w j) j n v ix (alone c) (leastOf (alone c)) past
+  abbrev pub Along : List ℕ → List ℕ → List ℕ → ℕ → ℕ → Type 0
+  Along v ix ls c past = Going g h keys (graphOf g h) w (recordAt w j) j n v ix ls (alone c) (leastOf (alone c)) past
 
   -- the record of the entry at c is quiet, or it is dealt with unless it was
-  pub data Met (v ix : List ℕ) (c past : ℕ) (u jx : List ℕ) (later : ℕ) : Type 0 where
-    quiet : quietIn v (recordAt w j .edges) ((c - 1) / 5) ≡ true → u ≡ v → jx ≡ ix → later ≡ past → Met v ix c past u jx later
-    loud : (t kx : List ℕ) (m : ℕ) → u ≡ t → jx ≡ kx → later ≡ m
-        → t ≡ grownBy v (guard (leb past ((c - 1) / 5)) (withRecord (grammarOf g) (graphOf g h) (recordAt v j) j (recordAt v ((c - 1) / 5)) ((c - 1) / 5))) → Ready g h keys t kx → m ≡ max past ((c - 1) / 5 + 1)
-        → Met v ix c past u jx later
+  pub data Met (v ix ls : List ℕ) (c past : ℕ) (u jx ms : List ℕ) (later : ℕ) : Type 0 where
+    quiet : quietIn v (recordAt w j .edges) ((c - 1) / 5) ≡ true → u ≡ v → jx ≡ ix → ms ≡ ls → later ≡ past → Met v ix ls c past u jx ms later
+    loud : (t kx ns : List ℕ) (m : ℕ) → u ≡ t → jx ≡ kx → ms ≡ ns → later ≡ m
+        → t ≡ grownBy v (guard (leb past ((c - 1) / 5)) (withRecord (grammarOf g) (graphOf g h) (recordAt v j) j (recordAt v ((c - 1) / 5)) ((c - 1) / 5))) → Ready g h keys t kx ns → m ≡ max past ((c - 1) / 5 + 1)
+        → Met v ix ls c past u jx ms later
 
-module _ {g h plans keys graph w ix₀ : List ℕ} {j n near key : ℕ} {lead : Bool} (P : Tables g h plans keys graph × Ready g h keys w ix₀ × Handled g h w j near × Leads g (recordAt w j) lead × (n ≤ itemCount w) × Single keys w ix₀ j key) where
+module _ {g h plans keys graph w ix₀ ls₀ : List ℕ} {j n near key : ℕ} {lead : Bool} (P : Tables g h plans keys graph × Ready g h keys w ix₀ ls₀ × Handled g h w j near × Leads g (recordAt w j) lead × (n ≤ itemCount w) × Single keys w ix₀ j key) where
   abbrev H : Graph
   H = graphOf g h
 
@@ -64,13 +63,13 @@ module _ {g h plans keys graph w ix₀ : List ℕ} {j n near key : ℕ} {lead : 
   pub single-few : n ≤ 4096
   single-few = few-items w n (P .4) (P .1 .small)
 
-  pub single-start : (c : ℕ) → c ≡ getD (listsOf ix₀) key 0 → Along g h keys w j n w ix₀ c 0
+  pub single-start : (c : ℕ) → c ≡ getD ls₀ key 0 → Along g h keys w j n w ix₀ ls₀ c 0
   single-start c e =
-      going-start g h keys H w x j n (P .1 .fits) (P .4) ix₀ (alone c) (alone c) (leastOf (alone c)) (P .1)
-      (start-alone (listsOf ix₀) key c (P .1 .indexed .listed .none) e ∙ ap (startsOf (listsOf ix₀)) (P .5 .only))
-      (skims-none (quietIn w (x .edges)) (listsOf ix₀) n (alone c)) refl (least-few (alone c))
+      going-start g h keys H w x j n (P .1 .fits) (P .4) ix₀ ls₀ (alone c) (alone c) (leastOf (alone c)) (P .1)
+      (start-alone ls₀ key c (P .1 .indexed .listed .none) e ∙ ap (startsOf ls₀) (P .5 .only))
+      (skims-none (quietIn w (x .edges)) ls₀ n (alone c)) refl (least-few (alone c))
 
-  module _ {v ix : List ℕ} {c past : ℕ} (S : Along g h keys w j n v ix c past) where
+  module _ {v ix ls : List ℕ} {c past : ℕ} (S : Along g h keys w j n v ix ls c past) where
     pub single-handled : Handled g h v j near
     single-handled = dealt-handled g h w H j near (P .1 .fits) (P .2) v past (S .gathered)
 
@@ -78,11 +77,11 @@ module _ {g h plans keys graph w ix₀ : List ℕ} {j n near key : ℕ} {lead : 
     single-lead = dealt-lead g h w H j near (P .1 .fits) (P .2) v past (S .gathered) lead (P .3)
 
     own : regularOf keys x ≡ true
-    own = regular-own g h keys w ix₀ j near (P .1) (P .2) (P .5 .regular)
+    own = regular-own g h keys w ix₀ ls₀ j near (P .1) (P .2) (P .5 .regular)
 
     pub single-end : not (eqb c 0) && leb c (5 * n) ≡ false → v ≡ grownBy w (gather n (λ k. withRecord (grammarOf g) H x j (recordAt w k) k))
     single-end t =
-        going-end g h keys H w x j n (P .1 .fits) (P .4) v ix (alone c) (leastOf (alone c)) past S (P .0 .accepted .grammar) (P .0 .keyed) own (P .1 .indexed .regular (P .5 .regular))
+        going-end g h keys H w x j n (P .1 .fits) (P .4) v ix ls (alone c) (leastOf (alone c)) past S (P .0 .accepted .grammar) (P .0 .keyed) own (P .1 .indexed .regular (P .5 .regular))
         (alone-past c n single-few (test-no c (5 * n) t))
 
     module _ (t : not (eqb c 0) && leb c (5 * n) ≡ true) where
@@ -98,8 +97,8 @@ module _ {g h plans keys graph w ix₀ : List ℕ} {j n near key : ℕ} {lead : 
       pub single-some : 1 ≤ c
       single-some = omega (arith, z)
 
-      here : Going g h keys H w x j n v ix (alone c) k past
-      here = subst (λ i. Going g h keys H w x j n v ix (alone c) i past) (sym (alone-least c z (omega (arith, single-low, single-few)))) S
+      here : Going g h keys H w x j n v ix ls (alone c) k past
+      here = subst (λ i. Going g h keys H w x j n v ix ls (alone c) i past) (sym (alone-least c z (omega (arith, single-low, single-few)))) S
 
       pub single-known : k < itemCount v
       single-known = omega (arith, z, single-low, P .4, dealt-longer g h w H j near (P .1 .fits) (P .2) v past (S .gathered))
@@ -108,56 +107,57 @@ module _ {g h plans keys graph w ix₀ : List ℕ} {j n near key : ℕ} {lead : 
       passed ws d e = alone-passed ws c k d (omega (arith, z, single-low)) (omega (arith, z, single-low)) e
 
       -- past a quiet record
-      module _ (s : quietIn v (x .edges) k ≡ true) (d : ℕ) (e : d ≡ getD (listsOf ix) (4097 + c) 0) where
+      module _ (s : quietIn v (x .edges) k ≡ true) (d : ℕ) (e : d ≡ getD ls (4097 + c) 0) where
         hushed : quietIn w (x .edges) k ≡ true
         hushed = sym (dealt-quiet g h w H j near (P .1 .fits) (P .2) v past (S .gathered) (x .edges) k (omega (arith, z, single-low, P .4))) ∙ s
 
-        quiet-next : Along g h keys w j n v ix d past
+        quiet-next : Along g h keys w j n v ix ls d past
         quiet-next = record {
           ready = S .ready;
           gathered = S .gathered;
-          ahead = ahead-skims _ (listsOf ix) _ _ n past (alone c) (alone d) (S .ready .indexed .listed) (S .ahead) (alone-skims _ (listsOf ix) n c d z single-low hushed e);
+          ahead = ahead-skims _ ls _ _ n past (alone c) (alone d) (S .ready .indexed .listed) (S .ahead) (alone-skims _ ls n c d z single-low hushed e);
           at = refl;
           few = least-few (alone d);
           low = S .low;
         }
 
         quiet-less : leftAll (alone d) < leftAll (alone c)
-        quiet-less = left-falls _ (listsOf ix) _ _ n past k (alone c) (alone d) (S .ready .indexed .listed) (S .ahead) (here .at) (omega (arith, z, single-low)) (passed (listsOf ix) d e)
+        quiet-less = left-falls _ ls _ _ n past k (alone c) (alone d) (S .ready .indexed .listed) (S .ahead) (here .at) (omega (arith, z, single-low)) (passed ls d e)
 
       -- past one that is dealt with
-      module _ (u jx : List ℕ) (later : ℕ) (p : u ≡ grownBy v (guard (leb past k) (withRecord (grammarOf g) H (recordAt v j) j (recordAt v k) k))) (R : Ready g h keys u jx) (q : later ≡ max past (k + 1)) (d : ℕ) (e : d ≡ getD (listsOf jx) (4097 + c) 0) where
+      module _ (u jx ms : List ℕ) (later : ℕ) (p : u ≡ grownBy v (guard (leb past k) (withRecord (grammarOf g) H (recordAt v j) j (recordAt v k) k))) (R : Ready g h keys u jx ms) (q : later ≡ max past (k + 1)) (d : ℕ) (e : d ≡ getD ms (4097 + c) 0) where
         made : u ≡ grownBy v (guard (leb past k) (withRecord (grammarOf g) H x j (recordAt v k) k))
         made = p ∙ ap (λ (y : Record). grownBy v (guard (leb past k) (withRecord (grammarOf g) H y j (recordAt v k) k))) (dealt-record g h w H j near (P .1 .fits) (P .2) v past (S .gathered))
 
-        loud-next : Along g h keys w j n u jx d later
+        loud-next : Along g h keys w j n u jx ms d later
         loud-next =
-            going-next g h keys H w x j n (P .1 .fits) (P .4) v ix (alone c) k past here (P .0 .accepted .grammar) (P .0 .keyed) own (P .1 .indexed .regular (P .5 .regular)) u jx later (omega (arith, z, single-low)) made R q
-            (alone d) (alone d) (passed (listsOf jx) d e) (skims-none (quietIn u (x .edges)) (listsOf jx) n (alone d)) (leastOf (alone d)) refl (least-few (alone d))
+            going-next g h keys H w x j n (P .1 .fits) (P .4) v ix ls (alone c) k past here (P .0 .accepted .grammar) (P .0 .keyed) own (P .1 .indexed .regular (P .5 .regular)) u jx ms later (omega (arith, z, single-low)) made R q
+            (alone d) (alone d) (passed ms d e) (skims-none (quietIn u (x .edges)) ms n (alone d)) (leastOf (alone d)) refl (least-few (alone d))
 
         loud-less : leftAll (alone d) < leftAll (alone c)
         loud-less =
-            going-less g h keys H w x j n (P .1 .fits) (P .4) v ix (alone c) k past here (P .0 .accepted .grammar) (P .0 .keyed) own (P .1 .indexed .regular (P .5 .regular)) u jx later (omega (arith, z, single-low)) made R q
-            (alone d) (alone d) (passed (listsOf jx) d e) (skims-none (quietIn u (x .edges)) (listsOf jx) n (alone d))
+            going-less g h keys H w x j n (P .1 .fits) (P .4) v ix ls (alone c) k past here (P .0 .accepted .grammar) (P .0 .keyed) own (P .1 .indexed .regular (P .5 .regular)) u jx ms later (omega (arith, z, single-low)) made R q
+            (alone d) (alone d) (passed ms d e) (skims-none (quietIn u (x .edges)) ms n (alone d))
 
       -- past either
-      pub single-size : {u jx : List ℕ} {later : ℕ} → Met g h keys w j n v ix c past u jx later → length jx ≡ indexWords
-      single-size (quiet _ _ e _) = ap length e ∙ S .ready .indexed .size
-      single-size (loud _ _ _ _ e _ _ R _) = ap length e ∙ R .indexed .size
+      pub single-size : {u jx ms : List ℕ} {later : ℕ} → Met g h keys w j n v ix ls c past u jx ms later → length ms ≡ 24578
+      single-size (quiet _ _ _ e _) = ap length e ∙ S .ready .indexed .listed .size
+      single-size (loud _ _ _ _ _ _ e _ _ R _) = ap length e ∙ R .indexed .listed .size
 
-      reading : (jx kx : List ℕ) (d : ℕ) → jx ≡ kx → d ≡ getD (listsOf jx) (4097 + c) 0 → d ≡ getD (listsOf kx) (4097 + c) 0
-      reading jx kx d b e = e ∙ ap (λ (t : List ℕ). getD (listsOf t) (4097 + c) 0) b
+      reading : (ms ns : List ℕ) (d : ℕ) → ms ≡ ns → d ≡ getD ms (4097 + c) 0 → d ≡ getD ns (4097 + c) 0
+      reading ms ns d b e = e ∙ ap (λ (t : List ℕ). getD t (4097 + c) 0) b
 
-      along : (u jx t kx : List ℕ) (d later m : ℕ) → u ≡ t → jx ≡ kx → later ≡ m → Along g h keys w j n t kx d m → Along g h keys w j n u jx d later
-      along u jx t kx d later m a b o A =
-          subst (λ (y : List ℕ). Along g h keys w j n y jx d later) (sym a)
-          (subst (λ (y : List ℕ). Along g h keys w j n t y d later) (sym b) (subst (Along g h keys w j n t kx d) (sym o) A))
+      along : (u jx ms t kx ns : List ℕ) (d later m : ℕ) → u ≡ t → jx ≡ kx → ms ≡ ns → later ≡ m → Along g h keys w j n t kx ns d m → Along g h keys w j n u jx ms d later
+      along u jx ms t kx ns d later m a b l o A =
+          subst (λ (y : List ℕ). Along g h keys w j n y jx ms d later) (sym a)
+          (subst (λ (y : List ℕ). Along g h keys w j n t y ms d later) (sym b)
+          (subst (λ (y : List ℕ). Along g h keys w j n t kx y d later) (sym l) (subst (Along g h keys w j n t kx ns d) (sym o) A)))
 
-      module _ {u jx : List ℕ} {later : ℕ} (d : ℕ) (e : d ≡ getD (listsOf jx) (4097 + c) 0) where
-        pub single-next : Met g h keys w j n v ix c past u jx later → Along g h keys w j n u jx d later
-        single-next (quiet s a b o) = along u jx v ix d later past a b o (quiet-next s d (reading jx ix d b e))
-        single-next (loud t kx m a b o p R q) = along u jx t kx d later m a b o (loud-next t kx m p R q d (reading jx kx d b e))
+      module _ {u jx ms : List ℕ} {later : ℕ} (d : ℕ) (e : d ≡ getD ms (4097 + c) 0) where
+        pub single-next : Met g h keys w j n v ix ls c past u jx ms later → Along g h keys w j n u jx ms d later
+        single-next (quiet s a b l o) = along u jx ms v ix ls d later past a b l o (quiet-next s d (reading ms ls d l e))
+        single-next (loud t kx ns m a b l o p R q) = along u jx ms t kx ns d later m a b l o (loud-next t kx ns m p R q d (reading ms ns d l e))
 
-        pub single-less : Met g h keys w j n v ix c past u jx later → leftAll (alone d) < leftAll (alone c)
-        single-less (quiet s a b o) = quiet-less s d (reading jx ix d b e)
-        single-less (loud t kx m a b o p R q) = loud-less t kx m p R q d (reading jx kx d b e)
+        pub single-less : Met g h keys w j n v ix ls c past u jx ms later → leftAll (alone d) < leftAll (alone c)
+        single-less (quiet s a b l o) = quiet-less s d (reading ms ls d l e)
+        single-less (loud t kx ns m a b l o p R q) = loud-less t kx ns m p R q d (reading ms ns d l e)

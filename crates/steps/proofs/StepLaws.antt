@@ -5,7 +5,7 @@ use mathlib.Core.Bool.{Bool, true, false}
 use mathlib.Core.List.{List, [], _++_}
 use native.Mathlib.Omega.{arith}
 use native.Mathlib.Decide.{decLt}
-use lib.ListN.{length, length-set}
+use lib.ListN.{length}
 use Rattle.hrg.specs.Grammars.{Graph, Grammar, ruleOf, planOf, planNode}
 use Rattle.hrg.specs.Items.{Item, active, passive}
 use Rattle.hrg.specs.ClosureRun.{guard, binaryOf, eachTo, rootAt}
@@ -13,18 +13,16 @@ use Rattle.hrg.specs.AgendaRun.{Conclusion}
 use Rattle.agenda.specs.declared.Record.{Record}
 use Rattle.agenda.specs.Records.{recordOf, itemOf, isHandled, plus}
 use Rattle.agenda.specs.Consequences.{gather, recordIn, atRoot, terminalAt, withTerminal, pair, withPartner, consequences}
-use Rattle.agenda.specs.Steps.{Chart, addedAll, handledNow, handledAt}
+use Rattle.agenda.specs.Steps.{Chart, addedAll, handledAt}
 use Rattle.agenda.proofs.Records.{record-eight}
 use Rattle.agenda.proofs.Consequences.{in-consequence}
-use Rattle.records.specs.Words.{Fits, capacity, itemCount, recordAt, chartOf, written, markedAt, grownBy}
-use Rattle.records.proofs.WordLaws.{length-records}
-use Rattle.records.proofs.Written.{handle-written, chart-of-written, fits-written, written-over}
-use Rattle.records.proofs.Rewritten.{Grown, handledIn, grown-handled, count-on, capacity-on, record-on}
+use Rattle.records.specs.Words.{Fits, capacity, itemCount, recordAt, recordsAt, chartOf, written, markedAt, grownBy}
+use Rattle.records.proofs.WordLaws.{length-records, record-in}
+use Rattle.records.proofs.Written.{handle-written, chart-of-written, written-over}
+use Rattle.records.proofs.Rewritten.{Grown, handledIn, grown-handled, capacity-on}
 use Rattle.records.proofs.Grown.{Whole, whole-none, whole-guard, whole-append, whole-map, whole-items, whole-gather, holds-own, grown-all, grown-none, grown-fits, grown-more, grown-longer, grown-flag, grown-record}
 use Rattle.steps.specs.Partners.{withRecord}
-use Rattle.steps.specs.Ready.{Handled}
 use Rattle.steps.proofs.PartnerLaws.{append-nil}
-use Rattle.steps.proofs.ReadyLaws.{stays-record, stays-handled}
 
 -- ---- a loop from 0 on
 -- the words v are w with what f gives for the numbers below i
@@ -137,131 +135,72 @@ module _ (G : Grammar) (H : Graph) where
         let e : (i : ℕ) → Whole (partners i) = λ i. record-whole x j (recordAt w i) i in
         gathered-next w o partners e v u k m q g (p ∙ ap (grownBy v) (partner-same w (gather k partners) v x j k o (whole-gather k partners e) (g .is) l))
 
-  -- ---- the step
+  -- ---- all that a record makes
   gather-same : (n : ℕ) (f g : ℕ → List Record) → ((k : ℕ) → k < n → f k ≡ g k) → gather n f ≡ gather n g
   unfolding gather
   gather-same zero f g e = refl
   gather-same (suc n) f g e = ap₂ (λ (a b : List Record). a ++ b) (gather-same n f g (λ k l. e k (omega arith))) (e n (omega arith))
 
-  -- what a record makes, read off words that stand for the records
-  module _ (v : List ℕ) (rs : List Record) (j : ℕ) (records : (k : ℕ) → k < length rs → recordAt v k ≡ recordIn rs k) (l : j < length rs) where
+  -- by the root rule and with graph edges
+  abbrev pub byRoot : Record → ℕ → List Record
+  byRoot x j = atRoot G (itemOf G x) (x .count) j
+
+  abbrev pub withEdges : Record → ℕ → List Record
+  withEdges x j = gather (length (H .edges)) (λ e. withTerminal G H (itemOf G x) (x .count) j e)
+
+  edges-whole : (x : Record) (j : ℕ) → Whole (withEdges x j)
+  edges-whole x j = whole-gather (length (H .edges)) (λ e. withTerminal G H (itemOf G x) (x .count) j e) (λ e. terminal-whole (itemOf G x) (x .count) j e)
+
+  pub alone-whole : (x : Record) (j : ℕ) → Whole (byRoot x j ++ withEdges x j)
+  alone-whole x j = whole-append (byRoot x j) (withEdges x j) (root-whole (itemOf G x) (x .count) j) (edges-whole x j)
+
+  pub alone-added : (w v u : List ℕ) (x : Record) (j : ℕ) → Fits w → v ≡ grownBy w (byRoot x j) → u ≡ grownBy v (withEdges x j) → u ≡ grownBy w (byRoot x j ++ withEdges x j)
+  alone-added w v u x j o = added-then w v u (byRoot x j) (withEdges x j) o (root-whole (itemOf G x) (x .count) j) (edges-whole x j)
+
+  -- .. and then with records, in words that have those
+  module _ (w : List ℕ) (j : ℕ) (l : j < itemCount w) where
     abbrev x : Record
-    x = recordAt v j
+    x = recordAt w j
 
-    read-consequences : (atRoot G (itemOf G x) (x .count) j ++ gather (length (H .edges)) (λ e. withTerminal G H (itemOf G x) (x .count) j e))
-        ++ gather (length rs) (λ k. withRecord G H x j (recordAt v k) k) ≡ consequences G H rs j
-    unfolding consequences withPartner withRecord
+    read-consequences : (byRoot x j ++ withEdges x j) ++ gather (itemCount w) (λ k. withRecord G H x j (recordAt w k) k) ≡ consequences G H (chartOf w .records) j
+    unfolding consequences withPartner withRecord chartOf
     read-consequences =
-        ap
-        (λ (y : Record). (atRoot G (itemOf G y) (y .count) j ++ gather (length (H .edges)) (λ e. withTerminal G H (itemOf G y) (y .count) j e))
-        ++ gather (length rs) (λ k. withRecord G H y j (recordAt v k) k)) (records j l)
-        ∙ ap
-        (λ (a : List Record). (atRoot G (itemOf G (recordIn rs j)) (recordIn rs j .count) j ++ gather (length (H .edges)) (λ e. withTerminal G H (itemOf G (recordIn rs j)) (recordIn rs j .count) j e))
-        ++ a)
-        (gather-same (length rs) (λ k. withRecord G H (recordIn rs j) j (recordAt v k) k) (λ k. withPartner G H rs j k)
-        (λ k h. ap (λ (y : Record). withRecord G H (recordIn rs j) j y k) (records k h)))
+        let rs = recordsAt w (itemCount w) in
+        let size = length-records w (itemCount w) in
+        let y = recordIn rs j in
+        ap (λ (n : ℕ). (byRoot x j ++ withEdges x j) ++ gather n (λ k. withRecord G H x j (recordAt w k) k)) (sym size)
+        ∙ ap (λ (z : Record). (byRoot z j ++ withEdges z j) ++ gather (length rs) (λ k. withRecord G H z j (recordAt w k) k)) (sym (record-in w (itemCount w) j l))
+        ∙ ap (λ (a : List Record). (byRoot y j ++ withEdges y j) ++ a)
+        (gather-same (length rs) (λ k. withRecord G H y j (recordAt w k) k) (λ k. withPartner G H rs j k)
+        (λ k h. ap (λ (z : Record). withRecord G H y j z k) (sym (record-in w (itemCount w) k (omega arith)))))
 
+    pub all-added : (v u : List ℕ) → Fits w → v ≡ grownBy w (byRoot x j ++ withEdges x j) → (n : ℕ) → n ≡ itemCount w → u ≡ grownBy v (gather n (λ k. withRecord G H x j (recordAt v k) k))
+        → u ≡ grownBy w (consequences G H (chartOf w .records) j)
+    all-added v u o p n q r =
+        let xs = byRoot x j ++ withEdges x j in
+        let ys = gather n (λ k. withRecord G H x j (recordAt w k) k) in
+        let same : gather n (λ k. withRecord G H x j (recordAt v k) k) ≡ ys =
+        gather-same n (λ k. withRecord G H x j (recordAt v k) k) (λ k. withRecord G H x j (recordAt w k) k)
+        (λ k h. partner-same w xs v x j k o (alone-whole x j) p (omega arith)) in
+        added-then w v u xs ys o (alone-whole x j) (whole-gather n (λ k. withRecord G H x j (recordAt w k) k) (λ k. record-whole x j (recordAt w k) k)) p (r ∙ ap (grownBy v) same)
+        ∙ ap (λ m. grownBy w (xs ++ gather m (λ k. withRecord G H x j (recordAt w k) k))) q
+        ∙ ap (grownBy w) read-consequences
+
+  -- ---- the step: all that a record makes, added where it is handled
   module _ (w : List ℕ) (o : Fits w) (j : ℕ) (l : j < itemCount w) where
     abbrev c : Chart
     c = handledIn j (chartOf w)
 
-    known : j < length (chartOf w .records)
-    unfolding chartOf
-    known = omega (arith, length-records w (itemCount w))
-
     held : Grown w (chartOf w) c
     held = grown-handled w (chartOf w) (holds-own w o) j
 
-    handled-is : markedAt w j ≡ written w c
-    handled-is = handle-written w j o l
-
-    -- the words hold what a step makes
-    pub step-grown : Grown w c (handledAt G H (capacity w) j (chartOf w))
-    unfolding handledAt
-    step-grown = grown-all w (consequences G H (c .records) j) c (held .holds) (consequences-whole (c .records) j)
-
-    module _ (v : List ℕ) (is : v ≡ markedAt w j) where
-      v-is : v ≡ written w c
-      v-is = is ∙ handled-is
-
-      pub marked-fits : Fits v
-      marked-fits = subst Fits (sym v-is) (fits-written w c (held .holds))
-
-      counted : itemCount v ≡ length (c .records)
-      counted = count-on w c (held .holds) v v-is
-
-      all-grown : grownBy v (consequences G H (c .records) j) ≡ written w (handledAt G H (capacity w) j (chartOf w))
-      unfolding grownBy handledAt
-      all-grown =
-          let cs = consequences G H (c .records) j in
-          ap (λ n. written v (addedAll n cs (chartOf v))) (capacity-on w c (held .holds) v v-is)
-          ∙ ap (λ (d : Chart). written v (addedAll (capacity w) cs d)) (ap chartOf v-is ∙ chart-of-written w c (held .holds))
-          ∙ ap (λ (u : List ℕ). written u (addedAll (capacity w) cs c)) v-is
-          ∙ written-over w c (held .holds) (addedAll (capacity w) cs c) (grown-all w cs c (held .holds) (consequences-whole (c .records) j) .longer)
-
-      -- after the root rule and the graph edges there is room for the partners
-      module _ (x : Record) (v₂ : List ℕ) (p₂ : v₂ ≡ grownBy v (atRoot G (itemOf G x) (x .count) j)) where
-        pub root-fits : Fits v₂
-        root-fits = added-fits v v₂ (atRoot G (itemOf G x) (x .count) j) marked-fits (root-whole (itemOf G x) (x .count) j) p₂
-
-        edges-whole : Whole (gather (length (H .edges)) (λ e. withTerminal G H (itemOf G x) (x .count) j e))
-        edges-whole = whole-gather (length (H .edges)) (λ e. withTerminal G H (itemOf G x) (x .count) j e) (λ e. terminal-whole (itemOf G x) (x .count) j e)
-
-        pub edges-fits : (n : ℕ) (v₃ : List ℕ) → n ≡ itemCount v → v₃ ≡ grownBy v₂ (gather (length (H .edges)) (λ e. withTerminal G H (itemOf G x) (x .count) j e))
-            → Fits v₃ × (n ≤ itemCount v₃)
-        edges-fits n v₃ q p₃ = (
-          added-fits v₂ v₃ _ root-fits edges-whole p₃,
-          omega (arith, added-longer v v₂ (atRoot G (itemOf G x) (x .count) j) marked-fits (root-whole (itemOf G x) (x .count) j) p₂, added-longer v₂ v₃ _ root-fits edges-whole p₃),
-        )
-
-      pub step-is : (n : ℕ) (x : Record) (v₂ v₃ v₄ : List ℕ) → n ≡ itemCount v → x ≡ recordAt v j
-          → v₂ ≡ grownBy v (atRoot G (itemOf G x) (x .count) j)
-          → v₃ ≡ grownBy v₂ (gather (length (H .edges)) (λ e. withTerminal G H (itemOf G x) (x .count) j e))
-          → v₄ ≡ grownBy v₃ (gather n (λ k. withRecord G H x j (recordAt v₃ k) k))
-          → v₄ ≡ written w (handledAt G H (capacity w) j (chartOf w))
-      step-is n x v₂ v₃ v₄ qn qx p₂ p₃ p₄ =
-          let xs = atRoot G (itemOf G x) (x .count) j in
-          let ys = gather (length (H .edges)) (λ e. withTerminal G H (itemOf G x) (x .count) j e) in
-          let zs = gather n (λ k. withRecord G H x j (recordAt v k) k) in
-          let ex : Whole xs = root-whole (itemOf G x) (x .count) j in
-          let ey : Whole ys = whole-gather (length (H .edges)) (λ e. withTerminal G H (itemOf G x) (x .count) j e) (λ e. terminal-whole (itemOf G x) (x .count) j e) in
-          let ez : Whole zs = whole-gather n (λ k. withRecord G H x j (recordAt v k) k) (λ k. record-whole x j (recordAt v k) k) in
-          let both : v₃ ≡ grownBy v (xs ++ ys) = added-then v v₂ v₃ xs ys marked-fits ex ey p₂ p₃ in
-          let same : gather n (λ k. withRecord G H x j (recordAt v₃ k) k) ≡ zs =
-          gather-same n (λ k. withRecord G H x j (recordAt v₃ k) k) (λ k. withRecord G H x j (recordAt v k) k)
-          (λ k h. partner-same v (xs ++ ys) v₃ x j k marked-fits (whole-append xs ys ex ey) both (omega arith)) in
-          let read : (xs ++ ys) ++ zs ≡ consequences G H (c .records) j =
-          ap (λ (y : Record). (atRoot G (itemOf G y) (y .count) j ++ gather (length (H .edges)) (λ e. withTerminal G H (itemOf G y) (y .count) j e)) ++ gather n (λ k. withRecord G H y j (recordAt v k) k)) qx
-          ∙ ap (λ (m : ℕ). (atRoot G (itemOf G (recordAt v j)) (recordAt v j .count) j ++ gather (length (H .edges)) (λ e. withTerminal G H (itemOf G (recordAt v j)) (recordAt v j .count) j e)) ++ gather m (λ k. withRecord G H (recordAt v j) j (recordAt v k) k)) (qn ∙ counted)
-          ∙ read-consequences v (c .records) j (record-on w c (held .holds) v v-is) (omega (arith, counted, length-set (chartOf w .records) j (handledNow (recordIn (chartOf w .records) j)), known)) in
-          added-then v v₃ v₄ (xs ++ ys) zs marked-fits (whole-append xs ys ex ey) ez both (p₄ ∙ ap (grownBy v₃) same) ∙ ap (grownBy v) read ∙ all-grown
-
-      -- .. with the record read again at its place, where it stays as it is
-      module _ (g h : List ℕ) (near : ℕ) (D : Handled g h v j near) (v₂ : List ℕ) (p₂ : v₂ ≡ grownBy v (atRoot G (itemOf G (recordAt v j)) (recordAt v j .count) j)) where
-        root-record : recordAt v₂ j ≡ recordAt v j
-        root-record = stays-record g h v v₂ j near (atRoot G (itemOf G (recordAt v j)) (recordAt v j .count) j) marked-fits (root-whole (itemOf G (recordAt v j)) (recordAt v j .count) j) p₂ D
-
-        pub root-handled : Handled g h v₂ j near
-        root-handled = stays-handled g h v v₂ j near (atRoot G (itemOf G (recordAt v j)) (recordAt v j .count) j) marked-fits (root-whole (itemOf G (recordAt v j)) (recordAt v j .count) j) p₂ D
-
-        module _ (v₃ : List ℕ) (p₃ : v₃ ≡ grownBy v₂ (gather (length (H .edges)) (λ e. withTerminal G H (itemOf G (recordAt v₂ j)) (recordAt v₂ j .count) j e))) where
-          abbrev edge : Record → List Record
-          edge x = gather (length (H .edges)) (λ e. withTerminal G H (itemOf G x) (x .count) j e)
-
-          edge-whole : (x : Record) → Whole (edge x)
-          edge-whole x = whole-gather (length (H .edges)) (λ e. withTerminal G H (itemOf G x) (x .count) j e) (λ e. terminal-whole (itemOf G x) (x .count) j e)
-
-          edges-record : recordAt v₃ j ≡ recordAt v₂ j
-          edges-record = stays-record g h v₂ v₃ j near (edge (recordAt v₂ j)) (root-fits (recordAt v j) v₂ p₂) (edge-whole (recordAt v₂ j)) p₃ root-handled
-
-          pub edges-handled : Handled g h v₃ j near
-          edges-handled = stays-handled g h v₂ v₃ j near (edge (recordAt v₂ j)) (root-fits (recordAt v j) v₂ p₂) (edge-whole (recordAt v₂ j)) p₃ root-handled
-
-          by-root : v₃ ≡ grownBy v₂ (edge (recordAt v j))
-          by-root = p₃ ∙ ap (λ (x : Record). grownBy v₂ (edge x)) root-record
-
-          pub edges-room : (n : ℕ) → n ≡ itemCount v → n ≤ itemCount v₃
-          edges-room n q = edges-fits (recordAt v j) v₂ p₂ n v₃ q by-root .1
-
-          pub step-by : (n : ℕ) (v₄ : List ℕ) → n ≡ itemCount v → v₄ ≡ grownBy v₃ (gather n (λ k. withRecord G H (recordAt v₃ j) j (recordAt v₃ k) k)) → v₄ ≡ written w (handledAt G H (capacity w) j (chartOf w))
-          step-by n v₄ q p₄ = step-is n (recordAt v j) v₂ v₃ v₄ q refl p₂ by-root (p₄ ∙ ap (λ (x : Record). grownBy v₃ (gather n (λ k. withRecord G H x j (recordAt v₃ k) k))) (edges-record ∙ root-record))
+    pub step-by : (v u : List ℕ) → v ≡ markedAt w j → u ≡ grownBy v (consequences G H (chartOf v .records) j) → u ≡ written w (handledAt G H (capacity w) j (chartOf w))
+    unfolding grownBy handledAt
+    step-by v u is p =
+        let cs = consequences G H (c .records) j in
+        let v-is : v ≡ written w c = is ∙ handle-written w j o l in
+        p
+        ∙ ap (λ (n : ℕ). written v (addedAll n (consequences G H (chartOf v .records) j) (chartOf v))) (capacity-on w c (held .holds) v v-is)
+        ∙ ap (λ (d : Chart). written v (addedAll (capacity w) (consequences G H (d .records) j) d)) (ap chartOf v-is ∙ chart-of-written w c (held .holds))
+        ∙ ap (λ (t : List ℕ). written t (addedAll (capacity w) cs c)) v-is
+        ∙ written-over w c (held .holds) (addedAll (capacity w) cs c) (grown-all w cs c (held .holds) (consequences-whole (c .records) j) .longer)

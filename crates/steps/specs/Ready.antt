@@ -21,11 +21,11 @@ pub record Tables (g h plans keys graph : List ℕ) : Type 0 where
   pub keyed : KeyTable g keys
   pub graphed : GraphTable g h graph
 
--- words of a chart that question 8 passed, the index of its records, and the set beside each that spans its edges
-pub record Ready (g h keys w ix : List ℕ) : Type 0 where
+-- words of a chart that question 8 passed, the index of its records with their lists ls, and the set beside each that spans its edges
+pub record Ready (g h keys w ix ls : List ℕ) : Type 0 where
   pub fits : Fits w
   pub small : capacity w ≤ 4096
-  pub indexed : Indexed keys ix (chartOf w .records)
+  pub indexed : Indexed keys ix ls (chartOf w .records)
   pub spanned : Spanned g h ix (chartOf w .records)
 
 -- the record at place j is handled, so that it stays as it is while others are added; the set near spans its edges

@@ -6,7 +6,7 @@ ghost use lib.Dec.{leb};
 ghost use lib.ListN.{length};
 ghost use Rattle.hrg.specs.ClosureRun.{guard};
 ghost use Rattle.agenda.specs.Records.{itemOf, isHandled, plus};
-ghost use Rattle.agenda.specs.Consequences.{gather, atRoot, withTerminal, pair};
+ghost use Rattle.agenda.specs.Consequences.{gather, atRoot, withTerminal, pair, consequences};
 ghost use Rattle.questions.specs.Layout.{graphEdges};
 ghost use Rattle.questions.specs.Checking.{checkGrammar};
 ghost use Rattle.questions.specs.Abstract.{grammarOf, graphOf};
@@ -15,9 +15,8 @@ ghost use Rattle.rules.specs.Plans.{Leads};
 ghost use Rattle.rules.specs.Candidates.{Candidates};
 ghost use Rattle.lists.specs.Lists.{Within};
 ghost use Rattle.lists.specs.Cursors.{SkimsAll};
-ghost use Rattle.index.specs.Index.{indexWords, listsOf};
 ghost use Rattle.index.specs.Quiet.{quietIn};
-ghost use Rattle.records.specs.Words.{itemCount, recordAt, grownBy};
+ghost use Rattle.records.specs.Words.{itemCount, recordAt, chartOf, grownBy};
 ghost use Rattle.steps.specs.Partners.{withRecord};
 ghost use Rattle.steps.specs.Ready.{Tables, Ready, Handled};
 ghost use Rattle.steps.specs.Ways.{Single, Poised, Opens, Goes};
@@ -34,17 +33,18 @@ fn plus(a: u64, b: u64) -> u64
 }
 
 // The passive item of a root item, made of the record at place j.
-pub(crate) fn add_root(
+fn add_root(
     g: &[u64],
     h: &[u64],
     keys: &[u64; 2240],
     chart: &mut [u64],
+    lists: &mut [u16],
     index: &mut [u32],
     j: u64,
     near: u64,
 )
-    requires { ⌜ (checkGrammar (now g) ≡ true) × Ready (now g) (now h) (now keys) (now chart) (now index) × Handled (now g) (now h) (now chart) j near ⌝ }
-    ensures { λ r. ⌜ (now (chart .exit) ≡ grownBy (now (chart .entry)) (atRoot (grammarOf (now (g .entry))) (itemOf (grammarOf (now (g .entry))) (recordAt (now (chart .entry)) j)) (recordAt (now (chart .entry)) j .count) j)) × Ready (now (g .entry)) (now (h .entry)) (now (keys .entry)) (now (chart .exit)) (now (index .exit)) ⌝ }
+    requires { ⌜ (checkGrammar (now g) ≡ true) × Ready (now g) (now h) (now keys) (now chart) (now index) (now lists) × Handled (now g) (now h) (now chart) j near ⌝ }
+    ensures { λ r. ⌜ (now (chart .exit) ≡ grownBy (now (chart .entry)) (atRoot (grammarOf (now (g .entry))) (itemOf (grammarOf (now (g .entry))) (recordAt (now (chart .entry)) j)) (recordAt (now (chart .entry)) j .count) j)) × Ready (now (g .entry)) (now (h .entry)) (now (keys .entry)) (now (chart .exit)) (now (index .exit)) (now (lists .exit)) ⌝ }
 {
     let at = (2 + 16 * j) as usize;
     if chart[at] != 0 {
@@ -81,25 +81,26 @@ pub(crate) fn add_root(
         0,
     ];
     rules::root_into(g, of, &chart[at + 6..at + 14], &mut y[6..14]);
-    index::add(keys, chart, index, &y, near);
+    index::add(keys, chart, lists, index, &y, near);
 }
 
 // What it makes with graph edge e, if that is one of the candidates m.
 fn add_candidate(
     g: &[u64],
     h: &[u64],
-    plans: &[u64; 2048],
+    plans: &[u32; 2048],
     keys: &[u64; 2240],
     graph: &[u64; 577],
     chart: &mut [u64],
+    lists: &mut [u16],
     index: &mut [u32],
     j: u64,
     m: u64,
     e: u64,
     near: u64,
 )
-    requires { ⌜ Tables (now g) (now h) (now plans) (now keys) (now graph) × Ready (now g) (now h) (now keys) (now chart) (now index) × Handled (now g) (now h) (now chart) j near × Candidates (now g) (now h) (recordAt (now chart) j) m × (e < graphEdges (now h)) ⌝ }
-    ensures { λ r. ⌜ (now (chart .exit) ≡ grownBy (now (chart .entry)) (withTerminal (grammarOf (now (g .entry))) (graphOf (now (g .entry)) (now (h .entry))) (itemOf (grammarOf (now (g .entry))) (recordAt (now (chart .entry)) j)) (recordAt (now (chart .entry)) j .count) j e)) × Ready (now (g .entry)) (now (h .entry)) (now (keys .entry)) (now (chart .exit)) (now (index .exit)) ⌝ }
+    requires { ⌜ Tables (now g) (now h) (now plans) (now keys) (now graph) × Ready (now g) (now h) (now keys) (now chart) (now index) (now lists) × Handled (now g) (now h) (now chart) j near × Candidates (now g) (now h) (recordAt (now chart) j) m × (e < graphEdges (now h)) ⌝ }
+    ensures { λ r. ⌜ (now (chart .exit) ≡ grownBy (now (chart .entry)) (withTerminal (grammarOf (now (g .entry))) (graphOf (now (g .entry)) (now (h .entry))) (itemOf (grammarOf (now (g .entry))) (recordAt (now (chart .entry)) j)) (recordAt (now (chart .entry)) j .count) j e)) × Ready (now (g .entry)) (now (h .entry)) (now (keys .entry)) (now (chart .exit)) (now (index .exit)) (now (lists .exit)) ⌝ }
 {
     if !masks::has(m, e) {
         return;
@@ -128,23 +129,24 @@ fn add_candidate(
     if !made.found {
         return;
     }
-    index::add(keys, chart, index, &out, made.images);
+    index::add(keys, chart, lists, index, &out, made.images);
 }
 
 // What it makes with each graph edge: only those of the label that it wants, and that fit its map, are tried.
-pub(crate) fn add_terminals(
+fn add_terminals(
     g: &[u64],
     h: &[u64],
-    plans: &[u64; 2048],
+    plans: &[u32; 2048],
     keys: &[u64; 2240],
     graph: &[u64; 577],
     chart: &mut [u64],
+    lists: &mut [u16],
     index: &mut [u32],
     j: u64,
     near: u64,
 )
-    requires { ⌜ Tables (now g) (now h) (now plans) (now keys) (now graph) × Ready (now g) (now h) (now keys) (now chart) (now index) × Handled (now g) (now h) (now chart) j near ⌝ }
-    ensures { λ r. ⌜ (now (chart .exit) ≡ grownBy (now (chart .entry)) (gather (length (graphOf (now (g .entry)) (now (h .entry)) .edges)) (λ e. withTerminal (grammarOf (now (g .entry))) (graphOf (now (g .entry)) (now (h .entry))) (itemOf (grammarOf (now (g .entry))) (recordAt (now (chart .entry)) j)) (recordAt (now (chart .entry)) j .count) j e))) × Ready (now (g .entry)) (now (h .entry)) (now (keys .entry)) (now (chart .exit)) (now (index .exit)) ⌝ }
+    requires { ⌜ Tables (now g) (now h) (now plans) (now keys) (now graph) × Ready (now g) (now h) (now keys) (now chart) (now index) (now lists) × Handled (now g) (now h) (now chart) j near ⌝ }
+    ensures { λ r. ⌜ (now (chart .exit) ≡ grownBy (now (chart .entry)) (gather (length (graphOf (now (g .entry)) (now (h .entry)) .edges)) (λ e. withTerminal (grammarOf (now (g .entry))) (graphOf (now (g .entry)) (now (h .entry))) (itemOf (grammarOf (now (g .entry))) (recordAt (now (chart .entry)) j)) (recordAt (now (chart .entry)) j .count) j e))) × Ready (now (g .entry)) (now (h .entry)) (now (keys .entry)) (now (chart .exit)) (now (index .exit)) (now (lists .exit)) ⌝ }
 {
     let at = (2 + 16 * j) as usize;
     let want = wants::want_of(g, plans, chart[at + 1], chart[at + 2]);
@@ -155,7 +157,7 @@ pub(crate) fn add_terminals(
     let n = layout::graph_edges(h);
     let mut e: u64 = 0;
     while e < n {
-        add_candidate(g, h, plans, keys, graph, chart, index, j, m, e, near);
+        add_candidate(g, h, plans, keys, graph, chart, lists, index, j, m, e, near);
         e += 1;
     }
 }
@@ -164,17 +166,18 @@ pub(crate) fn add_terminals(
 fn add_pair(
     g: &[u64],
     h: &[u64],
-    plans: &[u64; 2048],
+    plans: &[u32; 2048],
     keys: &[u64; 2240],
     graph: &[u64; 577],
     chart: &mut [u64],
+    lists: &mut [u16],
     index: &mut [u32],
     j: u64,
     k: u64,
     near: u64,
 )
-    requires { ⌜ Tables (now g) (now h) (now plans) (now keys) (now graph) × Ready (now g) (now h) (now keys) (now chart) (now index) × (j < itemCount (now chart)) × (k < itemCount (now chart)) × Spans (now g) (now h) (recordAt (now chart) j .edges) near × Spans (now g) (now h) (recordAt (now chart) k .edges) near ⌝ }
-    ensures { λ r. ⌜ (now (chart .exit) ≡ grownBy (now (chart .entry)) (pair (grammarOf (now (g .entry))) (graphOf (now (g .entry)) (now (h .entry))) (recordAt (now (chart .entry)) j) j (recordAt (now (chart .entry)) k) k)) × Ready (now (g .entry)) (now (h .entry)) (now (keys .entry)) (now (chart .exit)) (now (index .exit)) ⌝ }
+    requires { ⌜ Tables (now g) (now h) (now plans) (now keys) (now graph) × Ready (now g) (now h) (now keys) (now chart) (now index) (now lists) × (j < itemCount (now chart)) × (k < itemCount (now chart)) × Spans (now g) (now h) (recordAt (now chart) j .edges) near × Spans (now g) (now h) (recordAt (now chart) k .edges) near ⌝ }
+    ensures { λ r. ⌜ (now (chart .exit) ≡ grownBy (now (chart .entry)) (pair (grammarOf (now (g .entry))) (graphOf (now (g .entry)) (now (h .entry))) (recordAt (now (chart .entry)) j) j (recordAt (now (chart .entry)) k) k)) × Ready (now (g .entry)) (now (h .entry)) (now (keys .entry)) (now (chart .exit)) (now (index .exit)) (now (lists .exit)) ⌝ }
 {
     let a = (2 + 16 * j) as usize;
     let b = (2 + 16 * k) as usize;
@@ -209,7 +212,7 @@ fn add_pair(
     if !made.found {
         return;
     }
-    index::add(keys, chart, index, &out, made.images);
+    index::add(keys, chart, lists, index, &out, made.images);
 }
 
 // The one of two that comes first.
@@ -226,10 +229,11 @@ fn pick(lead: bool, j: u64, k: u64) -> u64
 fn add_met(
     g: &[u64],
     h: &[u64],
-    plans: &[u64; 2048],
+    plans: &[u32; 2048],
     keys: &[u64; 2240],
     graph: &[u64; 577],
     chart: &mut [u64],
+    lists: &mut [u16],
     index: &mut [u32],
     lead: bool,
     j: u64,
@@ -237,8 +241,8 @@ fn add_met(
     past: u64,
     near: u64,
 ) -> u64
-    requires { ⌜ Tables (now g) (now h) (now plans) (now keys) (now graph) × Ready (now g) (now h) (now keys) (now chart) (now index) × Handled (now g) (now h) (now chart) j near × Leads (now g) (recordAt (now chart) j) lead × (k < itemCount (now chart)) × (isHandled (recordAt (now chart) k) ≡ true) ⌝ }
-    ensures { λ r. ⌜ (now (chart .exit) ≡ grownBy (now (chart .entry)) (guard (leb past k) (withRecord (grammarOf (now (g .entry))) (graphOf (now (g .entry)) (now (h .entry))) (recordAt (now (chart .entry)) j) j (recordAt (now (chart .entry)) k) k))) × Ready (now (g .entry)) (now (h .entry)) (now (keys .entry)) (now (chart .exit)) (now (index .exit)) × (r ≡ max past (k + 1)) ⌝ }
+    requires { ⌜ Tables (now g) (now h) (now plans) (now keys) (now graph) × Ready (now g) (now h) (now keys) (now chart) (now index) (now lists) × Handled (now g) (now h) (now chart) j near × Leads (now g) (recordAt (now chart) j) lead × (k < itemCount (now chart)) × (isHandled (recordAt (now chart) k) ≡ true) ⌝ }
+    ensures { λ r. ⌜ (now (chart .exit) ≡ grownBy (now (chart .entry)) (guard (leb past k) (withRecord (grammarOf (now (g .entry))) (graphOf (now (g .entry)) (now (h .entry))) (recordAt (now (chart .entry)) j) j (recordAt (now (chart .entry)) k) k))) × Ready (now (g .entry)) (now (h .entry)) (now (keys .entry)) (now (chart .exit)) (now (index .exit)) (now (lists .exit)) × (r ≡ max past (k + 1)) ⌝ }
 {
     if k < past {
         return past;
@@ -246,7 +250,19 @@ fn add_met(
     let both = masks::union(near, index::near(index, k));
     let first = pick(lead, j, k);
     let second = pick(lead, k, j);
-    add_pair(g, h, plans, keys, graph, chart, index, first, second, both);
+    add_pair(
+        g,
+        h,
+        plans,
+        keys,
+        graph,
+        chart,
+        lists,
+        index,
+        first,
+        second,
+        both,
+    );
     k + 1
 }
 
@@ -254,10 +270,11 @@ fn add_met(
 fn add_next(
     g: &[u64],
     h: &[u64],
-    plans: &[u64; 2048],
+    plans: &[u32; 2048],
     keys: &[u64; 2240],
     graph: &[u64; 577],
     chart: &mut [u64],
+    lists: &mut [u16],
     index: &mut [u32],
     lead: bool,
     j: u64,
@@ -265,8 +282,8 @@ fn add_next(
     past: u64,
     near: u64,
 ) -> u64
-    requires { ⌜ Tables (now g) (now h) (now plans) (now keys) (now graph) × Ready (now g) (now h) (now keys) (now chart) (now index) × Handled (now g) (now h) (now chart) j near × Leads (now g) (recordAt (now chart) j) lead × (k < itemCount (now chart)) ⌝ }
-    ensures { λ r. ⌜ (now (chart .exit) ≡ grownBy (now (chart .entry)) (guard (leb past k) (withRecord (grammarOf (now (g .entry))) (graphOf (now (g .entry)) (now (h .entry))) (recordAt (now (chart .entry)) j) j (recordAt (now (chart .entry)) k) k))) × Ready (now (g .entry)) (now (h .entry)) (now (keys .entry)) (now (chart .exit)) (now (index .exit)) × (r ≡ max past (k + 1)) ⌝ }
+    requires { ⌜ Tables (now g) (now h) (now plans) (now keys) (now graph) × Ready (now g) (now h) (now keys) (now chart) (now index) (now lists) × Handled (now g) (now h) (now chart) j near × Leads (now g) (recordAt (now chart) j) lead × (k < itemCount (now chart)) ⌝ }
+    ensures { λ r. ⌜ (now (chart .exit) ≡ grownBy (now (chart .entry)) (guard (leb past k) (withRecord (grammarOf (now (g .entry))) (graphOf (now (g .entry)) (now (h .entry))) (recordAt (now (chart .entry)) j) j (recordAt (now (chart .entry)) k) k))) × Ready (now (g .entry)) (now (h .entry)) (now (keys .entry)) (now (chart .exit)) (now (index .exit)) (now (lists .exit)) × (r ≡ max past (k + 1)) ⌝ }
 {
     if k < past {
         return past;
@@ -282,6 +299,7 @@ fn add_next(
         keys,
         graph,
         chart,
+        lists,
         index,
         lead,
         j,
@@ -295,10 +313,11 @@ fn add_next(
 fn add_listed(
     g: &[u64],
     h: &[u64],
-    plans: &[u64; 2048],
+    plans: &[u32; 2048],
     keys: &[u64; 2240],
     graph: &[u64; 577],
     chart: &mut [u64],
+    lists: &mut [u16],
     index: &mut [u32],
     lead: bool,
     j: u64,
@@ -306,13 +325,13 @@ fn add_listed(
     near: u64,
     key: u64,
 )
-    requires { ⌜ Tables (now g) (now h) (now plans) (now keys) (now graph) × Ready (now g) (now h) (now keys) (now chart) (now index) × Handled (now g) (now h) (now chart) j near × Leads (now g) (recordAt (now chart) j) lead × (n ≤ itemCount (now chart)) × Single (now keys) (now chart) (now index) j key ⌝ }
-    ensures { λ r. ⌜ (now (chart .exit) ≡ grownBy (now (chart .entry)) (gather n (λ k. withRecord (grammarOf (now (g .entry))) (graphOf (now (g .entry)) (now (h .entry))) (recordAt (now (chart .entry)) j) j (recordAt (now (chart .entry)) k) k))) × Ready (now (g .entry)) (now (h .entry)) (now (keys .entry)) (now (chart .exit)) (now (index .exit)) ⌝ }
+    requires { ⌜ Tables (now g) (now h) (now plans) (now keys) (now graph) × Ready (now g) (now h) (now keys) (now chart) (now index) (now lists) × Handled (now g) (now h) (now chart) j near × Leads (now g) (recordAt (now chart) j) lead × (n ≤ itemCount (now chart)) × Single (now keys) (now chart) (now index) j key ⌝ }
+    ensures { λ r. ⌜ (now (chart .exit) ≡ grownBy (now (chart .entry)) (gather n (λ k. withRecord (grammarOf (now (g .entry))) (graphOf (now (g .entry)) (now (h .entry))) (recordAt (now (chart .entry)) j) j (recordAt (now (chart .entry)) k) k))) × Ready (now (g .entry)) (now (h .entry)) (now (keys .entry)) (now (chart .exit)) (now (index .exit)) (now (lists .exit)) ⌝ }
 {
     let own = (2 + 16 * j) as usize;
     let edges = chart[own + 3];
     let end = 5 * n;
-    let mut c = index::first(index, key);
+    let mut c = lists::first(lists, key);
     let mut past: u64 = 0;
     while (c != 0) & (c <= end) {
         let k = (c - 1) / 5;
@@ -324,6 +343,7 @@ fn add_listed(
                 keys,
                 graph,
                 chart,
+                lists,
                 index,
                 lead,
                 j,
@@ -332,7 +352,7 @@ fn add_listed(
                 near,
             );
         }
-        c = index::after(index, c);
+        c = lists::after(lists, c);
     }
 }
 
@@ -343,11 +363,11 @@ struct Cursors {
 }
 
 // Cursors on lists skim over quiet records, most of what is listed.
-fn resting(chart: &[u64], index: &[u32], edges: u64, n: u64, cs: [u64; 5]) -> Cursors
-    requires { ⌜ (length (now index) ≡ indexWords) × (n ≤ itemCount (now chart)) × (n ≤ 4096) ⌝ }
-    ensures { λ r. ⌜ Poised true (r .k) (r .cs) × SkimsAll (quietIn (now (chart .entry)) edges) (listsOf (now (index .entry))) n cs (r .cs) ⌝ }
+fn resting(chart: &[u64], lists: &[u16], edges: u64, n: u64, cs: [u64; 5]) -> Cursors
+    requires { ⌜ (length (now lists) ≡ 24578) × (n ≤ itemCount (now chart)) × (n ≤ 4096) ⌝ }
+    ensures { λ r. ⌜ Poised true (r .k) (r .cs) × SkimsAll (quietIn (now (chart .entry)) edges) (now (lists .entry)) n cs (r .cs) ⌝ }
 {
-    let es = index::skimmed(chart, index, edges, n, cs);
+    let es = index::skimmed(lists, chart, edges, n, cs);
     let k = lists::least(es);
     Cursors { k, cs: es }
 }
@@ -355,58 +375,59 @@ fn resting(chart: &[u64], index: &[u32], edges: u64, n: u64, cs: [u64; 5]) -> Cu
 // The first of the n records that may be a partner: by lists, or one by one where keys tell nothing of some record.
 fn opening(
     chart: &[u64],
-    index: &[u32],
+    lists: &[u16],
     edges: u64,
     n: u64,
     listed: bool,
     query: [u64; 5],
 ) -> Cursors
-    requires { ⌜ (length (now index) ≡ indexWords) × (n ≤ itemCount (now chart)) × (n ≤ 4096) × Within 2048 query ⌝ }
-    ensures { λ r. ⌜ Opens (quietIn (now (chart .entry)) edges) (listsOf (now (index .entry))) n listed query (r .k) (r .cs) ⌝ }
+    requires { ⌜ (length (now lists) ≡ 24578) × (n ≤ itemCount (now chart)) × (n ≤ 4096) × Within 2048 query ⌝ }
+    ensures { λ r. ⌜ Opens (quietIn (now (chart .entry)) edges) (now (lists .entry)) n listed query (r .k) (r .cs) ⌝ }
 {
     if !listed {
         return Cursors { k: 0, cs: query };
     }
-    let ds = index::starts(index, query);
-    resting(chart, index, edges, n, ds)
+    let ds = lists::starts(lists, query);
+    resting(chart, lists, edges, n, ds)
 }
 
 // The next one.
-fn onward(chart: &[u64], index: &[u32], edges: u64, n: u64, listed: bool, at: Cursors) -> Cursors
-    requires { ⌜ (length (now index) ≡ indexWords) × (n ≤ itemCount (now chart)) × (n ≤ 4096) × (at .k < n) × Poised listed (at .k) (at .cs) × (listed ≡ true → Within 20480 (at .cs)) ⌝ }
-    ensures { λ r. ⌜ Goes (quietIn (now (chart .entry)) edges) (listsOf (now (index .entry))) n listed (at .k) (at .cs) (r .k) (r .cs) ⌝ }
+fn onward(chart: &[u64], lists: &[u16], edges: u64, n: u64, listed: bool, at: Cursors) -> Cursors
+    requires { ⌜ (length (now lists) ≡ 24578) × (n ≤ itemCount (now chart)) × (n ≤ 4096) × (at .k < n) × Poised listed (at .k) (at .cs) × (listed ≡ true → Within 20480 (at .cs)) ⌝ }
+    ensures { λ r. ⌜ Goes (quietIn (now (chart .entry)) edges) (now (lists .entry)) n listed (at .k) (at .cs) (r .k) (r .cs) ⌝ }
 {
     let k = at.k;
     let cs = at.cs;
     if !listed {
         return Cursors { k: k + 1, cs };
     }
-    let ds = index::passed(index, cs, k);
-    resting(chart, index, edges, n, ds)
+    let ds = lists::passed(lists, cs, k);
+    resting(chart, lists, edges, n, ds)
 }
 
 // What the record at place j makes with each of the first n records. Only those that its keys let through are tried, where keys tell.
 fn add_many(
     g: &[u64],
     h: &[u64],
-    plans: &[u64; 2048],
+    plans: &[u32; 2048],
     keys: &[u64; 2240],
     graph: &[u64; 577],
     chart: &mut [u64],
+    lists: &mut [u16],
     index: &mut [u32],
     lead: bool,
     j: u64,
     n: u64,
     near: u64,
 )
-    requires { ⌜ Tables (now g) (now h) (now plans) (now keys) (now graph) × Ready (now g) (now h) (now keys) (now chart) (now index) × Handled (now g) (now h) (now chart) j near × Leads (now g) (recordAt (now chart) j) lead × (n ≤ itemCount (now chart)) ⌝ }
-    ensures { λ r. ⌜ (now (chart .exit) ≡ grownBy (now (chart .entry)) (gather n (λ k. withRecord (grammarOf (now (g .entry))) (graphOf (now (g .entry)) (now (h .entry))) (recordAt (now (chart .entry)) j) j (recordAt (now (chart .entry)) k) k))) × Ready (now (g .entry)) (now (h .entry)) (now (keys .entry)) (now (chart .exit)) (now (index .exit)) ⌝ }
+    requires { ⌜ Tables (now g) (now h) (now plans) (now keys) (now graph) × Ready (now g) (now h) (now keys) (now chart) (now index) (now lists) × Handled (now g) (now h) (now chart) j near × Leads (now g) (recordAt (now chart) j) lead × (n ≤ itemCount (now chart)) ⌝ }
+    ensures { λ r. ⌜ (now (chart .exit) ≡ grownBy (now (chart .entry)) (gather n (λ k. withRecord (grammarOf (now (g .entry))) (graphOf (now (g .entry)) (now (h .entry))) (recordAt (now (chart .entry)) j) j (recordAt (now (chart .entry)) k) k))) × Ready (now (g .entry)) (now (h .entry)) (now (keys .entry)) (now (chart .exit)) (now (index .exit)) (now (lists .exit)) ⌝ }
 {
     let own = (2 + 16 * j) as usize;
     let edges = chart[own + 3];
     let query = pivots::query(keys, &chart[own..own + 16]);
     let listed = index::regular(index);
-    let mut at = opening(chart, index, edges, n, listed, query);
+    let mut at = opening(chart, lists, edges, n, listed, query);
     let mut past: u64 = 0;
     while at.k < n {
         past = add_next(
@@ -416,6 +437,7 @@ fn add_many(
             keys,
             graph,
             chart,
+            lists,
             index,
             lead,
             j,
@@ -423,7 +445,7 @@ fn add_many(
             past,
             near,
         );
-        at = onward(chart, index, edges, n, listed, at);
+        at = onward(chart, lists, edges, n, listed, at);
     }
 }
 
@@ -431,18 +453,19 @@ fn add_many(
 fn add_each(
     g: &[u64],
     h: &[u64],
-    plans: &[u64; 2048],
+    plans: &[u32; 2048],
     keys: &[u64; 2240],
     graph: &[u64; 577],
     chart: &mut [u64],
+    lists: &mut [u16],
     index: &mut [u32],
     lead: bool,
     j: u64,
     n: u64,
     near: u64,
 )
-    requires { ⌜ Tables (now g) (now h) (now plans) (now keys) (now graph) × Ready (now g) (now h) (now keys) (now chart) (now index) × Handled (now g) (now h) (now chart) j near × Leads (now g) (recordAt (now chart) j) lead × (n ≤ itemCount (now chart)) ⌝ }
-    ensures { λ r. ⌜ (now (chart .exit) ≡ grownBy (now (chart .entry)) (gather n (λ k. withRecord (grammarOf (now (g .entry))) (graphOf (now (g .entry)) (now (h .entry))) (recordAt (now (chart .entry)) j) j (recordAt (now (chart .entry)) k) k))) × Ready (now (g .entry)) (now (h .entry)) (now (keys .entry)) (now (chart .exit)) (now (index .exit)) ⌝ }
+    requires { ⌜ Tables (now g) (now h) (now plans) (now keys) (now graph) × Ready (now g) (now h) (now keys) (now chart) (now index) (now lists) × Handled (now g) (now h) (now chart) j near × Leads (now g) (recordAt (now chart) j) lead × (n ≤ itemCount (now chart)) ⌝ }
+    ensures { λ r. ⌜ (now (chart .exit) ≡ grownBy (now (chart .entry)) (gather n (λ k. withRecord (grammarOf (now (g .entry))) (graphOf (now (g .entry)) (now (h .entry))) (recordAt (now (chart .entry)) j) j (recordAt (now (chart .entry)) k) k))) × Ready (now (g .entry)) (now (h .entry)) (now (keys .entry)) (now (chart .exit)) (now (index .exit)) (now (lists .exit)) ⌝ }
 {
     let own = (2 + 16 * j) as usize;
     let asked = pivots::asked(keys, &chart[own..own + 16]);
@@ -454,6 +477,7 @@ fn add_each(
             keys,
             graph,
             chart,
+            lists,
             index,
             lead,
             j,
@@ -463,30 +487,62 @@ fn add_each(
         );
         return;
     }
-    add_many(g, h, plans, keys, graph, chart, index, lead, j, n, near);
+    add_many(
+        g,
+        h,
+        plans,
+        keys,
+        graph,
+        chart,
+        lists,
+        index,
+        lead,
+        j,
+        n,
+        near,
+    );
 }
 
-// The same; an active item that wants nothing is tried with none.
-pub(crate) fn add_partners(
+// All that the record at place j makes. Its kind and the plan node above it are read once, and tell what it is tried with: a passive item makes nothing by itself and comes only second; an active one below no plan node is tried with the root rule alone, and any other one with all but the root rule.
+pub(crate) fn add_all(
     g: &[u64],
     h: &[u64],
-    plans: &[u64; 2048],
+    plans: &[u32; 2048],
     keys: &[u64; 2240],
     graph: &[u64; 577],
     chart: &mut [u64],
+    lists: &mut [u16],
     index: &mut [u32],
     j: u64,
-    n: u64,
     near: u64,
 )
-    requires { ⌜ Tables (now g) (now h) (now plans) (now keys) (now graph) × Ready (now g) (now h) (now keys) (now chart) (now index) × Handled (now g) (now h) (now chart) j near × (n ≤ itemCount (now chart)) ⌝ }
-    ensures { λ r. ⌜ (now (chart .exit) ≡ grownBy (now (chart .entry)) (gather n (λ k. withRecord (grammarOf (now (g .entry))) (graphOf (now (g .entry)) (now (h .entry))) (recordAt (now (chart .entry)) j) j (recordAt (now (chart .entry)) k) k))) × Ready (now (g .entry)) (now (h .entry)) (now (keys .entry)) (now (chart .exit)) (now (index .exit)) ⌝ }
+    requires { ⌜ Tables (now g) (now h) (now plans) (now keys) (now graph) × Ready (now g) (now h) (now keys) (now chart) (now index) (now lists) × Handled (now g) (now h) (now chart) j near ⌝ }
+    ensures { λ r. ⌜ (now (chart .exit) ≡ grownBy (now (chart .entry)) (consequences (grammarOf (now (g .entry))) (graphOf (now (g .entry)) (now (h .entry))) (chartOf (now (chart .entry)) .records) j)) × Ready (now (g .entry)) (now (h .entry)) (now (keys .entry)) (now (chart .exit)) (now (index .exit)) (now (lists .exit)) ⌝ }
 {
-    let own = (2 + 16 * j) as usize;
-    let want = wants::want_of(g, plans, chart[own + 1], chart[own + 2]);
-    if (chart[own] == 0) & (want == 80) {
-        return;
+    let n = records::item_count(chart);
+    let at = (2 + 16 * j) as usize;
+    let mut lead = false;
+    if chart[at] == 0 {
+        let w = rules::plans::parent_in(g, plans, chart[at + 1], chart[at + 2]).word;
+        if w % 32 >= 16 {
+            add_root(g, h, keys, chart, lists, index, j, near);
+            return;
+        }
+        add_terminals(g, h, plans, keys, graph, chart, lists, index, j, near);
+        lead = w / 32 % 4 != 3;
     }
-    let lead = rules::plans::leads(g, plans, &chart[own..own + 16]);
-    add_each(g, h, plans, keys, graph, chart, index, lead, j, n, near);
+    add_each(
+        g,
+        h,
+        plans,
+        keys,
+        graph,
+        chart,
+        lists,
+        index,
+        lead,
+        j,
+        n,
+        near,
+    );
 }

@@ -32,7 +32,7 @@ pub fn restart(g: &[u64], chart: &mut [u64])
 // The record that the next step takes becomes handled: none where nothing waits or the chart is marked.
 fn take(chart: &mut [u64], index: &mut [u32]) -> Found
     requires { ⌜ (length (now index) ≡ indexWords) × Ranked (ranksOf (now index)) (chartOf (now chart) .records) × (length (chartOf (now chart) .records) ≤ 4096) ⌝ }
-    ensures { λ r. ⌜ (r ≡ nextIn (chartOf (now (chart .entry)))) × (now (chart .exit) ≡ markedBy (now (chart .entry)) r) × ((g h keys : List ℕ) → Ready g h keys (now (chart .entry)) (now (index .entry)) → Ready g h keys (now (chart .exit)) (now (index .exit))) ⌝ }
+    ensures { λ r. ⌜ (r ≡ nextIn (chartOf (now (chart .entry)))) × (now (chart .exit) ≡ markedBy (now (chart .entry)) r) × ((g h keys ls : List ℕ) → Ready g h keys (now (chart .entry)) (now (index .entry)) ls → Ready g h keys (now (chart .exit)) (now (index .exit)) ls) ⌝ }
 {
     if records::mark_of(chart) != 0 {
         return Found::Nowhere;
@@ -50,23 +50,21 @@ fn take(chart: &mut [u64], index: &mut [u32]) -> Found
 fn step(
     g: &[u64],
     h: &[u64],
-    plans: &[u64; 2048],
+    plans: &[u32; 2048],
     keys: &[u64; 2240],
     graph: &[u64; 577],
     chart: &mut [u64],
+    lists: &mut [u16],
     index: &mut [u32],
 ) -> bool
-    requires { ⌜ Tables (now g) (now h) (now plans) (now keys) (now graph) × Ready (now g) (now h) (now keys) (now chart) (now index) ⌝ }
-    ensures { λ r. ⌜ (r ≡ isSome (nextIn (chartOf (now (chart .entry))))) × (now (chart .exit) ≡ written (now (chart .entry)) (stepWith (grammarOf (now (g .entry))) (graphOf (now (g .entry)) (now (h .entry))) (capacity (now (chart .entry))) (chartOf (now (chart .entry))) (nextIn (chartOf (now (chart .entry)))))) × Ready (now (g .entry)) (now (h .entry)) (now (keys .entry)) (now (chart .exit)) (now (index .exit)) ⌝ }
+    requires { ⌜ Tables (now g) (now h) (now plans) (now keys) (now graph) × Ready (now g) (now h) (now keys) (now chart) (now index) (now lists) ⌝ }
+    ensures { λ r. ⌜ (r ≡ isSome (nextIn (chartOf (now (chart .entry))))) × (now (chart .exit) ≡ written (now (chart .entry)) (stepWith (grammarOf (now (g .entry))) (graphOf (now (g .entry)) (now (h .entry))) (capacity (now (chart .entry))) (chartOf (now (chart .entry))) (nextIn (chartOf (now (chart .entry)))))) × Ready (now (g .entry)) (now (h .entry)) (now (keys .entry)) (now (chart .exit)) (now (index .exit)) (now (lists .exit)) ⌝ }
 {
     match take(chart, index) {
         Found::Nowhere => false,
         Found::At(j) => {
-            let n = records::item_count(chart);
             let near = index::near(index, j);
-            consequences::add_root(g, h, keys, chart, index, j, near);
-            consequences::add_terminals(g, h, plans, keys, graph, chart, index, j, near);
-            consequences::add_partners(g, h, plans, keys, graph, chart, index, j, n, near);
+            consequences::add_all(g, h, plans, keys, graph, chart, lists, index, j, near);
             true
         }
     }
@@ -76,19 +74,20 @@ fn step(
 fn advance_by(
     g: &[u64],
     h: &[u64],
-    plans: &[u64; 2048],
+    plans: &[u32; 2048],
     keys: &[u64; 2240],
     graph: &[u64; 577],
     chart: &mut [u64],
+    lists: &mut [u16],
     index: &mut [u32],
     steps: u64,
 ) -> bool
-    requires { ⌜ Tables (now g) (now h) (now plans) (now keys) (now graph) × Ready (now g) (now h) (now keys) (now chart) (now index) ⌝ }
+    requires { ⌜ Tables (now g) (now h) (now plans) (now keys) (now graph) × Ready (now g) (now h) (now keys) (now chart) (now index) (now lists) ⌝ }
     ensures { λ r. ⌜ (now (chart .exit) ≡ written (now (chart .entry)) (runChart (grammarOf (now (g .entry))) (graphOf (now (g .entry)) (now (h .entry))) (capacity (now (chart .entry))) steps (chartOf (now (chart .entry))))) × (r ≡ true → nextIn (chartOf (now (chart .exit))) ≡ Nowhere) ⌝ }
 {
     let mut i: u64 = 0;
     while i < steps {
-        if !step(g, h, plans, keys, graph, chart, index) {
+        if !step(g, h, plans, keys, graph, chart, lists, index) {
             return true;
         }
         i += 1;
@@ -101,13 +100,24 @@ pub fn advance(g: &[u64], h: &[u64], chart: &mut [u64], steps: u64) -> bool
     requires { ⌜ Accepted (now g) (now h) × Fits (now chart) × (capacity (now chart) ≤ 4096) ⌝ }
     ensures { λ r. ⌜ (now (chart .exit) ≡ written (now (chart .entry)) (runChart (grammarOf (now (g .entry))) (graphOf (now (g .entry)) (now (h .entry))) (capacity (now (chart .entry))) steps (chartOf (now (chart .entry))))) × (r ≡ true → nextIn (chartOf (now (chart .exit))) ≡ Nowhere) ⌝ }
 {
-    let mut plans = [16u64; 2048];
+    let mut plans = [0u32; 2048];
     rules::plans::fill(g, &mut plans);
     let mut keys = [0u64; 2240];
     pivots::fill(g, &plans, &mut keys);
     let mut graph = [0u64; 577];
     joins::graphs::fill(g, h, &mut graph);
-    let mut index = [0u32; 49290];
-    index::build(g, h, &graph, &keys, chart, &mut index);
-    advance_by(g, h, &plans, &keys, &graph, chart, &mut index, steps)
+    let mut lists = [0u16; 24578];
+    let mut index = [0u32; 20616];
+    index::build(g, h, &graph, &keys, chart, &mut lists, &mut index);
+    advance_by(
+        g,
+        h,
+        &plans,
+        &keys,
+        &graph,
+        chart,
+        &mut lists,
+        &mut index,
+        steps,
+    )
 }

@@ -144,6 +144,25 @@ fn write_short(
     deliver_from(grammar, graph, &buffer, start, out)
 }
 
+// The same of at most 1,024.
+fn write_middle(
+    grammar: &[u64],
+    graph: &[u64],
+    chart: &[u64],
+    j: u64,
+    list: &[u64],
+    n: usize,
+    out: &mut [u8],
+) -> Answer
+    requires { ⌜ Accepted (now grammar) (now graph) × ListedIn 4096 (listing (λ k. recordAt (now chart) k) (grammarOf (now grammar)) 4096 (j ∷ [])) (now list) n × (n ≤ length (now list)) × (n ≤ 1024) ⌝ }
+    ensures { λ r. ⌜ Leaves (writeSpelt (grammarOf (now (grammar .entry))) (graphOf (now (grammar .entry)) (now (graph .entry))) (now (out .entry)) (treeAt (λ k. recordAt (now (chart .entry)) k) (grammarOf (now (grammar .entry))) (graphOf (now (grammar .entry)) (now (graph .entry))) 4096 j)) r (now (out .exit)) ⌝ }
+{
+    let mut sizes = [0u64; 1032];
+    let mut buffer = [0u8; 75782];
+    let start = extractor::extract(grammar, graph, chart, j, list, n, &mut sizes, &mut buffer);
+    deliver_from(grammar, graph, &buffer, start, out)
+}
+
 // The same of at most 4,096 applications, which are not listed yet.
 fn write_long(grammar: &[u64], graph: &[u64], chart: &[u64], j: u64, out: &mut [u8]) -> Answer
     requires { ⌜ Accepted (now grammar) (now graph) ⌝ }
@@ -157,6 +176,20 @@ fn write_long(grammar: &[u64], graph: &[u64], chart: &[u64], j: u64, out: &mut [
     deliver_from(grammar, graph, &buffer, start, out)
 }
 
+// The same of more than a short list holds. It is called at two places, so that the compiler does not put it in line there: the pages of its long buffers
+// would then be touched at every writing, the refused ones too.
+fn write_many(grammar: &[u64], graph: &[u64], chart: &[u64], j: u64, out: &mut [u8]) -> Answer
+    requires { ⌜ Accepted (now grammar) (now graph) ⌝ }
+    ensures { λ r. ⌜ Leaves (writeSpelt (grammarOf (now (grammar .entry))) (graphOf (now (grammar .entry)) (now (graph .entry))) (now (out .entry)) (treeAt (λ k. recordAt (now (chart .entry)) k) (grammarOf (now (grammar .entry))) (graphOf (now (grammar .entry)) (now (graph .entry))) 4096 j)) r (now (out .exit)) ⌝ }
+{
+    let mut list = [0u64; 1032];
+    let n = extractor::listing::list_applications(grammar, chart, j, &mut list);
+    if n == 0 {
+        return write_long(grammar, graph, chart, j, out);
+    }
+    write_middle(grammar, graph, chart, j, &list, n, out)
+}
+
 // The derivation of the passive item at place j. Most are short: a long buffer takes longer to clear than those take to write.
 fn write_item(grammar: &[u64], graph: &[u64], chart: &[u64], j: u64, out: &mut [u8]) -> Answer
     requires { ⌜ Accepted (now grammar) (now graph) ⌝ }
@@ -165,12 +198,15 @@ fn write_item(grammar: &[u64], graph: &[u64], chart: &[u64], j: u64, out: &mut [
     let mut list = [0u64; 264];
     let n = extractor::listing::list_applications(grammar, chart, j, &mut list);
     if n == 0 {
-        return write_long(grammar, graph, chart, j, out);
+        return write_many(grammar, graph, chart, j, out);
     }
     if n <= 40 {
         return write_brief(grammar, graph, chart, j, &list, n, out);
     }
-    write_short(grammar, graph, chart, j, &list, n, out)
+    if n <= 256 {
+        return write_short(grammar, graph, chart, j, &list, n, out);
+    }
+    write_many(grammar, graph, chart, j, out)
 }
 
 // Questions 11 and 12.

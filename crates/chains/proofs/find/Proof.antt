@@ -105,7 +105,7 @@ returns-2 : tie.Need-returns-2 Inv-loop μ-loop
 returns-2 c =
     let s = c .before .before .before .before .before .before .args in
     let l = c .before .loop in
-    chain-end (ofWords (s .x .now)) _ (l .i) (s .h) (l .inv) (c .before .before .before .before .before .before .pre .2) (bit-none (l .i) (s .h / 32768 % 16) _ (omega arith) refl (c .loop-test .left))
+    chain-end (ofWords (s .x .now)) _ (l .i) (s .h) (l .inv) (c .before .before .before .before .before .before .pre .2) (bit-none (l .i) (s .h / 65536 % 16) _ (omega arith) refl (c .loop-test .left))
 
 pub find-spec : {M : Type 1} → statement M
 find-spec =

@@ -36,7 +36,7 @@ add-links-2 : tie.Need-add-links-2
 add-links-2 c = search needs
 
 cast-links : tie.Need-cast-links
-cast-links c = omega (arith, c .slice-known .given (c .before .args .h / 524288))
+cast-links c = omega (arith, c .slice-known .given (c .before .args .h / 1048576))
 
 shl-links : tie.Need-shl-links
 shl-links c = search needs
@@ -44,17 +44,17 @@ shl-links c = search needs
 mul-links-2 : tie.Need-mul-links-2
 mul-links-2 c =
     let s = c .before .args in
-    omega (arith, set-below (getD (s .links .now) (s .h / 524288) 0) (s .h / 32768 % 16) (c .slice-known .given (s .h / 524288)) (omega arith))
+    omega (arith, set-below (getD (s .links .now) (s .h / 1048576) 0) (s .h / 65536 % 16) (c .slice-known .given (s .h / 1048576)) (omega arith))
 
 add-links-3 : tie.Need-add-links-3
 add-links-3 c =
     let s = c .before .args in
-    omega (arith, set-below (getD (s .links .now) (s .h / 524288) 0) (s .h / 32768 % 16) (c .slice-known .given (s .h / 524288)) (omega arith))
+    omega (arith, set-below (getD (s .links .now) (s .h / 1048576) 0) (s .h / 65536 % 16) (c .slice-known .given (s .h / 1048576)) (omega arith))
 
 cast-links-2 : tie.Need-cast-links-2
 cast-links-2 c =
     let s = c .before .args in
-    omega (arith, set-below (getD (s .links .now) (s .h / 524288) 0) (s .h / 32768 % 16) (c .slice-known .given (s .h / 524288)) (omega arith))
+    omega (arith, set-below (getD (s .links .now) (s .h / 1048576) 0) (s .h / 65536 % 16) (c .slice-known .given (s .h / 1048576)) (omega arith))
 
 mul-links-3 : tie.Need-mul-links-3
 mul-links-3 c = search needs
@@ -67,7 +67,7 @@ same-length c = search needs
 
 returns : tie.Need-returns
 unfolding linked _∪_
-returns c = rw (shifted-single (c .before .args .h / 32768 % 16) (omega arith))
+returns c = rw (shifted-single (c .before .args .h / 65536 % 16) (omega arith))
 
 pub link-spec : {M : Type 1} → statement M
 link-spec =

@@ -60,7 +60,7 @@ returns-3 c =
     let i = c .before .before .before .before .before .before .before .before .before .before .before .before .before .if1 in
     let m = c .before .before .before .before .before .before .before .before .before .before .before .field2 in
     let t = c .before .before .before .before .before .before .recount in
-    (c .before .before .improve-words .ensures, λ keys I. again-more (s .chart .now) (s .index .now) (s .j) (ofWords (s .x .now)) (p .1) (h .result) (h .ensures) (i .left) (m .result) (m .ensures) keys (t .last .0) (c .before .before .before .before .before .before .before .before .before .if2 .left) (t .ensures .0 keys (chartOf (s .chart .now) .records) (ofWords (s .x .now)) I (inside (s .chart .now) (s .j) (p .1)) (is-waiting (s .chart .now) (s .j) (p .1) (h .result) (h .ensures) (i .left)) (has-count (s .chart .now) (s .j) (p .1) (h .result) (h .ensures) (m .result) (m .ensures)) refl), t .ensures .1)
+    (c .before .before .improve-words .ensures, λ keys ls I. again-more (s .chart .now) (s .index .now) (s .j) (ofWords (s .x .now)) (p .1) (h .result) (h .ensures) (i .left) (m .result) (m .ensures) keys (t .last .0) ls (c .before .before .before .before .before .before .before .before .before .if2 .left) (t .ensures .0 keys ls (chartOf (s .chart .now) .records) (ofWords (s .x .now)) I (inside (s .chart .now) (s .j) (p .1)) (is-waiting (s .chart .now) (s .j) (p .1) (h .result) (h .ensures) (i .left)) (has-count (s .chart .now) (s .j) (p .1) (h .result) (h .ensures) (m .result) (m .ensures)) refl), t .ensures .1)
 
 pub again-spec : {M : Type 1} → statement M
 again-spec =

@@ -8,14 +8,9 @@ use Rattle.records.specs.Words.{ofWords}
 use borrow.Author.Needs.{needs}
 use Rattle.index.proofs.enter.Statement.{statement}
 use Rattle.index.proofs.enter.Tie as tie
-use Rattle.index.proofs.enter.Reads as reads
-use Rattle.index.proofs.enter.Lts as lts
-use Rattle.chains.proofs.link.Reads as link-reads
-use Rattle.index.proofs.list.Reads as list-reads
-use Rattle.ranking.proofs.place.Reads as place-reads
 
 list-requires : tie.Need-list-requires
-list-requires c κs = (c .before .before .before .pre .0, c .before .before .before .pre .1, c .before .before .before .pre .2, c .before .before .before .pre .3)
+list-requires c κs = search needs
 
 sub-link : tie.Need-sub-link
 sub-link c = search needs
@@ -45,26 +40,28 @@ shared-slice-read-place-2 : tie.Need-shared-slice-read-place-2
 shared-slice-read-place-2 c = search needs
 
 place-requires : tie.Need-place-requires
-place-requires c κs = (let a = c .before .before .before .before .before .before .before .before .before .list .kept in let b = c .before .before .before .before .before .link .kept in omega arith, c .before .before .before .before .before .before .before .before .before .before .before .before .before .pre .2)
+place-requires c κs = search needs
 
 same-length : tie.Need-same-length
-same-length c =
-    let s = c .before .before .before .before .before .before .before .before .before .before .before .before .before .before .before .before .args in
-    let a = c .before .before .before .before .before .before .before .before .before .before .before .before .list .kept in
+same-length c = search needs
+
+same-length-2 : tie.Need-same-length-2
+same-length-2 c =
+    let a = c .before .before .before .before .before .before .before .before .before .before .before .before .before .before .list .kept in
     let b = c .before .before .before .before .before .before .before .before .link .kept in
     let d = c .before .before .place .kept in
-    length-both (s .index .now) (c .before .before .before .before .before .before .before .before .before .before .before .before .list .last .1 .0) (c .before .before .before .before .before .before .before .before .link .last .0) (c .before .before .place .last .0) (c .before .before .before .before .before .before .before .before .before .before .before .before .before .before .before .before .pre .0) (omega arith) (omega arith) (omega arith)
+    length-both (c .before .before .before .before .before .before .before .before .before .before .before .before .before .before .before .before .before .before .before .before .args .index .now) (c .before .before .before .before .before .before .before .before .before .before .before .before .before .before .list .last .1 .1 .0) (c .before .before .before .before .before .before .before .before .link .last .0) (c .before .before .place .last .0) (c .before .before .before .before .before .before .before .before .before .before .before .before .before .before .before .before .before .before .before .before .pre .0) (omega arith) (omega arith) (omega arith)
 
 returns : tie.Need-returns
 unfolding ofWords
 returns c =
-    let s = c .before .before .before .before .before .before .before .before .before .before .before .before .before .before .before .before .args in
-    let a = c .before .before .before .before .before .before .before .before .before .before .before .before .list .kept in
+    let a = c .before .before .before .before .before .before .before .before .before .before .before .before .before .before .list .kept in
     let b = c .before .before .before .before .before .before .before .before .link .kept in
     let d = c .before .before .place .kept in
-    let p : length (c .before .before .before .before .before .before .before .before .link .last .0) ≡ 12288 = omega arith in
+    let x = ofWords (c .before .before .before .before .before .before .before .before .before .before .before .before .before .before .before .before .before .before .before .before .args .x .now) in
+    let p : length (c .before .before .before .before .before .before .before .before .link .last .0) ≡ 8192 = omega arith in
     let q : length (c .before .before .place .last .0) ≡ 4231 = omega arith in
-    λ rs I e. (entered (s .keys .now) (s .index .now) _ (c .before .before .before .before .before .before .before .before .link .last .0) (c .before .before .place .last .0) (s .n) (s .h) (ofWords (s .x .now)) rs I e (c .before .before .before .before .before .before .before .before .before .before .before .before .before .before .before .before .pre .2) (c .before .before .before .before .before .before .before .before .before .before .before .before .list .ensures) (c .before .before .before .before .before .before .before .before .before .before .before .before .before .before .before .before .pre .4) (c .before .before .before .before .before .before .before .before .link .ensures) (c .before .before .place .ensures rs (rs ++ ((ofWords (s .x .now)) ∷ []))), entered-near (s .keys .now) (s .index .now) _ (c .before .before .before .before .before .before .before .before .link .last .0) (c .before .before .place .last .0) (s .n) (s .h) (ofWords (s .x .now)) rs I e (c .before .before .before .before .before .before .before .before .before .before .before .before .before .before .before .before .pre .2) (c .before .before .before .before .before .before .before .before .before .before .before .before .list .ensures) p q)
+    λ rs I e. (entered (c .before .before .before .before .before .before .before .before .before .before .before .before .before .before .before .before .before .before .before .before .args .keys .now) (c .before .before .before .before .before .before .before .before .before .before .before .before .before .before .before .before .before .before .before .before .args .index .now) (c .before .before .before .before .before .before .before .before .before .before .before .before .before .before .before .before .before .before .before .before .args .lists .now) _ _ (c .before .before .before .before .before .before .before .before .link .last .0) (c .before .before .place .last .0) (c .before .before .before .before .before .before .before .before .before .before .before .before .before .before .before .before .before .before .before .before .args .n) (c .before .before .before .before .before .before .before .before .before .before .before .before .before .before .before .before .before .before .before .before .args .h) x rs I e (c .before .before .before .before .before .before .before .before .before .before .before .before .before .before .before .before .before .before .before .before .pre .2) (c .before .before .before .before .before .before .before .before .before .before .before .before .before .before .list .ensures) (c .before .before .before .before .before .before .before .before .before .before .before .before .before .before .before .before .before .before .before .before .pre .4) (c .before .before .before .before .before .before .before .before .link .ensures) (c .before .before .place .ensures rs (rs ++ (x ∷ []))), entered-near (c .before .before .before .before .before .before .before .before .before .before .before .before .before .before .before .before .before .before .before .before .args .keys .now) (c .before .before .before .before .before .before .before .before .before .before .before .before .before .before .before .before .before .before .before .before .args .index .now) (c .before .before .before .before .before .before .before .before .before .before .before .before .before .before .before .before .before .before .before .before .args .lists .now) _ _ (c .before .before .before .before .before .before .before .before .link .last .0) (c .before .before .place .last .0) (c .before .before .before .before .before .before .before .before .before .before .before .before .before .before .before .before .before .before .before .before .args .n) (c .before .before .before .before .before .before .before .before .before .before .before .before .before .before .before .before .before .before .before .before .args .h) x rs I e (c .before .before .before .before .before .before .before .before .before .before .before .before .before .before .before .before .before .before .before .before .pre .2) (c .before .before .before .before .before .before .before .before .before .before .before .before .before .before .list .ensures) p q)
 
 pub enter-spec : {M : Type 1} → statement M
 enter-spec =
@@ -82,4 +79,5 @@ enter-spec =
     shared-slice-read-place-2
     place-requires
     same-length
+    same-length-2
     returns)

@@ -16,7 +16,7 @@ same-length : tie.Need-same-length
 same-length c = search needs
 
 returns-2 : tie.Need-returns-2
-returns-2 c = sym (ap (λ (b : Bool). cond b (c .before .args .index .now) (set (c .before .args .index .now) 41097 1)) (c .if1 .left))
+returns-2 c = sym (ap (λ (b : Bool). cond b (c .before .args .index .now) (set (c .before .args .index .now) 12423 1)) (c .if1 .left))
 
 pub mark-spec : {M : Type 1} → statement M
 mark-spec = tie.close (tie.spec returns slice-write-index same-length returns-2)

@@ -19,7 +19,7 @@ shared-slice-read-low : tie.Need-shared-slice-read-low
 shared-slice-read-low c = search needs
 
 cast-low : tie.Need-cast-low
-cast-low c = omega (arith, c .shared-slice-known .given (41098 + 2 * c .before .args .j))
+cast-low c = omega (arith, c .shared-slice-known .given (12424 + 2 * c .before .args .j))
 
 mul-high : tie.Need-mul-high
 mul-high c = search needs
@@ -34,13 +34,13 @@ shared-slice-read-high : tie.Need-shared-slice-read-high
 shared-slice-read-high c = search needs
 
 cast-high : tie.Need-cast-high
-cast-high c = omega (arith, c .before .shared-slice-known .given (41099 + 2 * c .before .before .args .j))
+cast-high c = omega (arith, c .before .shared-slice-known .given (12425 + 2 * c .before .before .args .j))
 
 mul-result : tie.Need-mul-result
-mul-result c = omega (arith, c .before .shared-slice-known .given (41099 + 2 * c .before .before .args .j))
+mul-result c = omega (arith, c .before .shared-slice-known .given (12425 + 2 * c .before .before .args .j))
 
 add-result : tie.Need-add-result
-add-result c = omega (arith, c .before .shared-slice-known .given (41098 + 2 * c .before .before .args .j), c .before .shared-slice-known .given (41099 + 2 * c .before .before .args .j))
+add-result c = omega (arith, c .before .shared-slice-known .given (12424 + 2 * c .before .before .args .j), c .before .shared-slice-known .given (12425 + 2 * c .before .before .args .j))
 
 returns : tie.Need-returns
 returns c = refl

@@ -36,7 +36,7 @@ mul-index-4 : tie.Need-mul-index-4
 mul-index-4 c = search needs
 
 slice-write-index-2 : tie.Need-slice-write-index-2
-slice-write-index-2 c = omega (arith, length-set (c .args .index .now) (41098 + 2 * c .args .j) (c .args .o % 4294967296), c .pre .0, c .pre .1)
+slice-write-index-2 c = omega (arith, length-set (c .args .index .now) (12424 + 2 * c .args .j) (c .args .o % 4294967296), c .pre .0, c .pre .1)
 
 same-length : tie.Need-same-length
 same-length c = search needs

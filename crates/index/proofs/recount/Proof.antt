@@ -26,7 +26,7 @@ returns c =
     let s = c .before .before .before .before .before .args in
     let t = c .before .before .recount in
     let d = t .kept in
-    (λ keys rs x I l h o e. recounted (s .index .now) (t .last .0) (s .j) keys rs I l x (s .old) (s .count) h o e (t .ensures rs _), near-put 12288 4231 (s .index .now) (t .last .0) (c .before .before .before .before .before .pre .0) (omega arith) (omega arith))
+    (λ keys ls rs x I l h o e. recounted (s .index .now) ls (t .last .0) (s .j) keys rs I l x (s .old) (s .count) h o e (t .ensures rs _), near-put 8192 4231 (s .index .now) (t .last .0) (c .before .before .before .before .before .pre .0) (omega arith) (omega arith))
 
 pub recount-spec : {M : Type 1} → statement M
 recount-spec =

@@ -14,7 +14,7 @@ use Rattle.index.proofs.span_all.Tie as tie
 
 abbrev Inv-loop : tie.InvT-loop
 Inv-loop g h graph chart index₀ n j₀ index j =
-    (j ≤ n) × (length index ≡ indexWords) × Spanned g h index (recordsAt chart j) × ((keys : List ℕ) (rs : List Record) → Indexed keys index₀ rs → Indexed keys index rs)
+    (j ≤ n) × (length index ≡ indexWords) × Spanned g h index (recordsAt chart j) × ((keys ls : List ℕ) (rs : List Record) → Indexed keys index₀ ls rs → Indexed keys index ls rs)
 
 abbrev μ-loop : tie.MeasureT-loop
 μ-loop g h graph chart index₀ n j₀ index j = n - j
@@ -25,7 +25,7 @@ item-count-requires c κs = search needs
 loop-holds : tie.Need-loop-holds Inv-loop μ-loop
 loop-holds c =
     let s = c .before .before .before .before .before .args in
-    (omega arith, c .before .before .before .before .before .pre .0, spanned-first (s .g .now) (s .h .now) (s .chart .now) (s .index .now), λ keys rs I. I)
+    (omega arith, c .before .before .before .before .before .pre .0, spanned-first (s .g .now) (s .h .now) (s .chart .now) (s .index .now), λ keys ls rs I. I)
 
 field-requires : tie.Need-field-requires Inv-loop μ-loop
 field-requires c κs = search needs
@@ -46,7 +46,7 @@ loop-again : tie.Need-loop-again Inv-loop μ-loop
 loop-again c =
     let s = c .before .before .before .before .before .before .before .before .before .before .before .before .before .args in
     let l = c .before .before .before .before .before .before .before .loop in
-    (omega arith, c .before .before .put-near .kept .0 ∙ l .inv .1, spanned-next (s .g .now) (s .h .now) (s .chart .now) (l .index) _ (l .j) (c .before .before .before .before .before .field .result) (c .before .before .before .before .span .result) (l .inv .1) (omega (arith, c .before .before .before .before .before .before .loop-test .taken, c .before .before .before .before .before .before .before .before .before .before .before .before .before .pre .1, c .before .before .before .before .before .before .before .before .item-count .ensures)) (c .before .before .before .before .before .field .ensures) (c .before .before .before .before .span .ensures) (c .before .before .put-near .ensures) (l .inv .2), λ keys rs I. indexed-put (l .index) (l .j) (c .before .before .before .before .span .result) _ keys rs (c .before .before .put-near .ensures) (l .inv .3 keys rs I))
+    (omega arith, c .before .before .put-near .kept .0 ∙ l .inv .1, spanned-next (s .g .now) (s .h .now) (s .chart .now) (l .index) _ (l .j) (c .before .before .before .before .before .field .result) (c .before .before .before .before .span .result) (l .inv .1) (omega (arith, c .before .before .before .before .before .before .loop-test .taken, c .before .before .before .before .before .before .before .before .before .before .before .before .before .pre .1, c .before .before .before .before .before .before .before .before .item-count .ensures)) (c .before .before .before .before .before .field .ensures) (c .before .before .before .before .span .ensures) (c .before .before .put-near .ensures) (l .inv .2), λ keys ls rs I. indexed-put (l .index) (l .j) (c .before .before .before .before .span .result) _ keys ls rs (c .before .before .put-near .ensures) (l .inv .3 keys ls rs I))
 
 same-length : tie.Need-same-length Inv-loop μ-loop
 same-length c = c .before .loop .inv .1 ∙ sym (c .before .before .before .before .before .before .before .pre .0)

@@ -26,7 +26,7 @@ returns : tie.Need-returns
 returns c =
     let t = c .before .before .take in
     let d = t .kept in
-    (t .ensures .0, λ keys I. taken-by keys (c .before .before .before .before .before .before .args .index .now) (t .last .1 .0) (chartOf (c .before .before .before .before .before .before .args .chart .now) .records) _ (t .ensures .0) (t .ensures .1) I, near-put 12288 4231 (c .before .before .before .before .before .before .args .index .now) (t .last .1 .0) (c .before .before .before .before .before .before .pre .0) (omega arith) (omega arith))
+    (t .ensures .0, λ keys ls I. taken-by keys (c .before .before .before .before .before .before .args .index .now) ls (t .last .1 .0) (chartOf (c .before .before .before .before .before .before .args .chart .now) .records) _ (t .ensures .0) (t .ensures .1) I, near-put 8192 4231 (c .before .before .before .before .before .before .args .index .now) (t .last .1 .0) (c .before .before .before .before .before .before .pre .0) (omega arith) (omega arith))
 
 pub take-spec : {M : Type 1} → statement M
 take-spec =

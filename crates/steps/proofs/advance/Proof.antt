@@ -1,6 +1,6 @@
 -- What the tables give and the index are made, then the steps are done.
 use borrow.Author.Needs.{needs}
-use Rattle.index.proofs.IndexLaws.{empty-zeros}
+use Rattle.index.proofs.IndexLaws.{empty-zeros, unlisted-zeros}
 use Rattle.steps.proofs.ReadyLaws.{built-ready, count-small}
 use Rattle.steps.proofs.advance.Statement.{statement}
 use Rattle.steps.proofs.advance.Tie as tie
@@ -26,14 +26,20 @@ fill-requires-3 c κs = search needs
 slice-aggregate-build : tie.Need-slice-aggregate-build
 slice-aggregate-build c = search needs
 
+slice-aggregate-build-2 : tie.Need-slice-aggregate-build-2
+slice-aggregate-build-2 c = search needs
+
 build-requires : tie.Need-build-requires
-build-requires c κs = (empty-zeros, count-small _ (c .before .before .before .before .before .before .before .before .before .before .before .before .before .before .before .before .before .pre .2), c .before .before .before .before .before .before .before .before .before .before .before .before .before .before .before .before .before .pre .0, c .before .before .before .before .before .fill3 .ensures)
+build-requires c κs = (empty-zeros, unlisted-zeros, count-small _ (c .before .before .before .before .before .before .before .before .before .before .before .before .before .before .before .before .before .before .pre .2), c .before .before .before .before .before .before .before .before .before .before .before .before .before .before .before .before .before .before .pre .0, c .before .before .before .before .before .before .fill3 .ensures)
 
 slice-aggregate-advance-by : tie.Need-slice-aggregate-advance-by
 slice-aggregate-advance-by c = search needs
 
+slice-aggregate-advance-by-2 : tie.Need-slice-aggregate-advance-by-2
+slice-aggregate-advance-by-2 c = search needs
+
 advance-by-requires : tie.Need-advance-by-requires
-advance-by-requires c κs = (record { accepted = c .before .before .before .before .before .before .before .before .before .before .before .before .before .before .before .before .before .before .before .before .before .before .before .before .pre .0; planned = c .before .before .before .before .before .before .before .before .before .before .before .before .before .before .before .before .before .before .before .fill .ensures; keyed = c .before .before .before .before .before .before .before .before .before .before .before .before .before .before .before .fill2 .ensures; graphed = c .before .before .before .before .before .before .before .before .before .before .before .before .fill3 .ensures }, built-ready _ _ _ _ _ (c .before .before .before .before .before .before .before .before .before .before .before .before .before .before .before .before .before .before .before .before .before .before .before .before .pre .1) (c .before .before .before .before .before .before .before .before .before .before .before .before .before .before .before .before .before .before .before .before .before .before .before .before .pre .2) (c .before .before .before .before .before .before .build .ensures .0) (c .before .before .before .before .before .before .build .ensures .1))
+advance-by-requires c κs = (record { accepted = c .before .before .before .before .before .before .before .before .before .before .before .before .before .before .before .before .before .before .before .before .before .before .before .before .before .before .before .pre .0; planned = c .before .before .before .before .before .before .before .before .before .before .before .before .before .before .before .before .before .before .before .before .before .before .fill .ensures; keyed = c .before .before .before .before .before .before .before .before .before .before .before .before .before .before .before .before .before .before .fill2 .ensures; graphed = c .before .before .before .before .before .before .before .before .before .before .before .before .before .before .before .fill3 .ensures }, built-ready _ _ _ _ _ _ (c .before .before .before .before .before .before .before .before .before .before .before .before .before .before .before .before .before .before .before .before .before .before .before .before .before .before .before .pre .1) (c .before .before .before .before .before .before .before .before .before .before .before .before .before .before .before .before .before .before .before .before .before .before .before .before .before .before .before .pre .2) (c .before .before .before .before .before .before .before .before .build .ensures .0) (c .before .before .before .before .before .before .before .before .build .ensures .1))
 
 same-length : tie.Need-same-length
 same-length c = search needs
@@ -52,8 +58,10 @@ advance-spec =
     slice-aggregate-fill-3
     fill-requires-3
     slice-aggregate-build
+    slice-aggregate-build-2
     build-requires
     slice-aggregate-advance-by
+    slice-aggregate-advance-by-2
     advance-by-requires
     same-length
     returns)

@@ -11,56 +11,62 @@ use Rattle.steps.proofs.advance_by.Statement.{statement}
 use Rattle.steps.proofs.advance_by.Tie as tie
 
 abbrev Inv-loop : tie.InvT-loop
-Inv-loop g h plans keys graph chart₀ index₀ steps i₀ chart index i = (i ≤ steps) × (length chart ≡ length chart₀) × Ran (grammarOf g) (graphOf g h) chart₀ i chart × (length index ≡ length index₀) × Ready g h keys chart index
+Inv-loop g h plans keys graph chart₀ lists₀ index₀ steps i₀ chart lists index i = (i ≤ steps) × (length chart ≡ length chart₀) × Ran (grammarOf g) (graphOf g h) chart₀ i chart × (length index ≡ length index₀) × Ready g h keys chart index lists × (length lists ≡ length lists₀)
 
 abbrev μ-loop : tie.MeasureT-loop
-μ-loop g h plans keys graph chart₀ index₀ steps i₀ chart index i = steps - i
+μ-loop g h plans keys graph chart₀ lists₀ index₀ steps i₀ chart lists index i = steps - i
 
 loop-holds : tie.Need-loop-holds Inv-loop μ-loop
 loop-holds c =
-    let s = c .before .before .before .before .args in
+    let s = c .before .before .before .before .before .args in
     let G = grammarOf (s .g .now) in
     let H = graphOf (s .g .now) (s .h .now) in
-    (omega arith, refl, ran-none G H (s .chart .now) (c .before .before .before .before .pre .1 .fits), refl, c .before .before .before .before .pre .1)
+    (omega arith, refl, ran-none G H (s .chart .now) (c .before .before .before .before .before .pre .1 .fits), refl, c .before .before .before .before .before .pre .1, refl)
 
 step-requires : tie.Need-step-requires Inv-loop μ-loop
-step-requires c κs = (c .before .before .before .before .before .before .before .before .pre .0, c .before .before .before .loop .inv .4)
+step-requires c κs = (c .before .before .before .before .before .before .before .before .before .before .pre .0, c .before .before .before .before .loop .inv .4)
 
 same-length : tie.Need-same-length Inv-loop μ-loop
-same-length c = c .before .before .before .before .before .step .kept .1 .1 .1 .1 .1 .0 ∙ c .before .before .before .before .before .before .before .before .before .loop .inv .1
+same-length c = c .before .before .before .before .before .before .before .step .kept .1 .1 .1 .1 .1 .0 ∙ c .before .before .before .before .before .before .before .before .before .before .before .before .loop .inv .1
 
 same-length-2 : tie.Need-same-length-2 Inv-loop μ-loop
-same-length-2 c = c .before .before .before .before .before .step .kept .1 .1 .1 .1 .1 .1 .0 ∙ c .before .before .before .before .before .before .before .before .before .loop .inv .3
+same-length-2 c = c .before .before .before .before .before .before .before .step .kept .1 .1 .1 .1 .1 .1 .0 ∙ c .before .before .before .before .before .before .before .before .before .before .before .before .loop .inv .5
+
+same-length-3 : tie.Need-same-length-3 Inv-loop μ-loop
+same-length-3 c = c .before .before .before .before .before .before .before .step .kept .1 .1 .1 .1 .1 .1 .1 .0 ∙ c .before .before .before .before .before .before .before .before .before .before .before .before .loop .inv .3
 
 returns : tie.Need-returns Inv-loop μ-loop
 returns c =
-    let s = c .before .before .before .before .before .before .before .before .before .before .before .before .before .before .args in
+    let s = c .before .before .before .before .before .before .before .before .before .before .before .before .before .before .before .before .before .before .args in
     let G = grammarOf (s .g .now) in
     let H = graphOf (s .g .now) (s .h .now) in
-    (ran-idle G H (s .chart .now) (c .before .before .before .before .before .before .before .before .before .loop .i) (c .before .before .before .before .before .before .before .before .before .loop .chart) (c .before .before .before .before .before .before .before .before .before .loop .inv .2) (s .steps) (c .before .before .before .before .before .step .result) _ (c .before .before .before .before .before .before .before .before .before .loop .inv .0) (c .if1 .taken) (c .before .before .before .before .before .step .ensures .0) (c .before .before .before .before .before .step .ensures .1), λ e. step-idle G H (c .before .before .before .before .before .before .before .before .before .loop .chart) _ (c .before .before .before .before .before .before .before .before .before .loop .inv .4 .fits) (c .before .before .before .before .before .step .result) (c .if1 .taken) (c .before .before .before .before .before .step .ensures .0) (c .before .before .before .before .before .step .ensures .1))
+    (ran-idle G H (s .chart .now) (c .before .before .before .before .before .before .before .before .before .before .before .before .loop .i) (c .before .before .before .before .before .before .before .before .before .before .before .before .loop .chart) (c .before .before .before .before .before .before .before .before .before .before .before .before .loop .inv .2) (s .steps) (c .before .before .before .before .before .before .before .step .result) _ (c .before .before .before .before .before .before .before .before .before .before .before .before .loop .inv .0) (c .if1 .taken) (c .before .before .before .before .before .before .before .step .ensures .0) (c .before .before .before .before .before .before .before .step .ensures .1), λ e. step-idle G H (c .before .before .before .before .before .before .before .before .before .before .before .before .loop .chart) _ (c .before .before .before .before .before .before .before .before .before .before .before .before .loop .inv .4 .fits) (c .before .before .before .before .before .before .before .step .result) (c .if1 .taken) (c .before .before .before .before .before .before .before .step .ensures .0) (c .before .before .before .before .before .before .before .step .ensures .1))
 
 add-i : tie.Need-add-i Inv-loop μ-loop
-add-i c = omega (arith, c .before .before .before .before .before .before .before .before .loop-test .taken, c .before .before .before .before .before .before .before .before .before .before .before .before .before .before .fits .steps)
+add-i c = omega (arith, c .before .before .before .before .before .before .before .before .before .before .before .loop-test .taken, c .before .before .before .before .before .before .before .before .before .before .before .before .before .before .before .before .before .before .fits .steps)
 
 loop-less : tie.Need-loop-less Inv-loop μ-loop
-loop-less c = omega (arith, c .before .before .before .before .before .before .before .before .loop-test .taken)
+loop-less c = omega (arith, c .before .before .before .before .before .before .before .before .before .before .before .loop-test .taken)
 
 loop-again : tie.Need-loop-again Inv-loop μ-loop
 loop-again c =
-    let s = c .before .before .before .before .before .before .before .before .before .before .before .before .before .before .args in
+    let s = c .before .before .before .before .before .before .before .before .before .before .before .before .before .before .before .before .before .before .args in
     let G = grammarOf (s .g .now) in
     let H = graphOf (s .g .now) (s .h .now) in
-    (omega (arith, c .before .before .before .before .before .before .before .before .loop-test .taken), c .before .before .before .before .before .step .kept .1 .1 .1 .1 .1 .0 ∙ c .before .before .before .before .before .before .before .before .before .loop .inv .1, ran-step G H (s .chart .now) (c .before .before .before .before .before .before .before .before .before .loop .i) (c .before .before .before .before .before .before .before .before .before .loop .chart) (c .before .before .before .before .before .before .before .before .before .loop .inv .2) _ _ (omega arith) (c .before .before .before .before .before .step .ensures .1), c .before .before .before .before .before .step .kept .1 .1 .1 .1 .1 .1 .0 ∙ c .before .before .before .before .before .before .before .before .before .loop .inv .3, c .before .before .before .before .before .step .ensures .2)
-
-same-length-3 : tie.Need-same-length-3 Inv-loop μ-loop
-same-length-3 c = c .before .loop .inv .1
+    (omega (arith, c .before .before .before .before .before .before .before .before .before .before .before .loop-test .taken), c .before .before .before .before .before .before .before .step .kept .1 .1 .1 .1 .1 .0 ∙ c .before .before .before .before .before .before .before .before .before .before .before .before .loop .inv .1, ran-step G H (s .chart .now) (c .before .before .before .before .before .before .before .before .before .before .before .before .loop .i) (c .before .before .before .before .before .before .before .before .before .before .before .before .loop .chart) (c .before .before .before .before .before .before .before .before .before .before .before .before .loop .inv .2) _ _ (omega arith) (c .before .before .before .before .before .before .before .step .ensures .1), c .before .before .before .before .before .before .before .step .kept .1 .1 .1 .1 .1 .1 .1 .0 ∙ c .before .before .before .before .before .before .before .before .before .before .before .before .loop .inv .3, c .before .before .before .before .before .before .before .step .ensures .2, c .before .before .before .before .before .before .before .step .kept .1 .1 .1 .1 .1 .1 .0 ∙ c .before .before .before .before .before .before .before .before .before .before .before .before .loop .inv .5)
 
 same-length-4 : tie.Need-same-length-4 Inv-loop μ-loop
-same-length-4 c = c .before .loop .inv .3
+same-length-4 c = c .before .loop .inv .1
+
+same-length-5 : tie.Need-same-length-5 Inv-loop μ-loop
+same-length-5 c = c .before .loop .inv .5
+
+same-length-6 : tie.Need-same-length-6 Inv-loop μ-loop
+same-length-6 c = c .before .loop .inv .3
 
 returns-2 : tie.Need-returns-2 Inv-loop μ-loop
 returns-2 c =
-    let s = c .before .before .before .before .before .before .args in
+    let s = c .before .before .before .before .before .before .before .args in
     let G = grammarOf (s .g .now) in
     let H = graphOf (s .g .now) (s .h .now) in
     (ran-all G H (s .chart .now) (c .before .loop .i) (c .before .loop .chart) (c .before .loop .inv .2) (s .steps) (omega (arith, c .loop-test .left, c .before .loop .inv .0)), λ e. absurd (false≢true e))
@@ -75,10 +81,12 @@ advance-by-spec =
     step-requires
     same-length
     same-length-2
+    same-length-3
     returns
     add-i
     loop-less
     loop-again
-    same-length-3
     same-length-4
+    same-length-5
+    same-length-6
     returns-2)

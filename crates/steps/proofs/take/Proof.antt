@@ -13,7 +13,7 @@ same-length : tie.Need-same-length
 same-length c = search needs
 
 returns : tie.Need-returns
-returns c = (next-marked (c .before .before .before .before .before .args .chart .now) _ (c .before .mark-of .ensures) (c .if1 .taken), refl, λ g h keys R. R)
+returns c = (next-marked (c .before .before .before .before .before .args .chart .now) _ (c .before .mark-of .ensures) (c .if1 .taken), refl, λ g h keys ls R. R)
 
 take-requires : tie.Need-take-requires
 take-requires c κs = search needs
@@ -38,7 +38,7 @@ returns-2 c =
     let s = c .before .before .before .before .before .before .before .before .before .before .before .before .args in
     let t = c .before .before .before .before .take in
     let e = c .enum-told .given .1 in
-    (next-taken (s .chart .now) _ (c .before .before .before .before .before .before .before .before .mark-of .ensures) (t .result) _ (c .before .before .before .before .before .before .before .if1 .left) e (t .ensures .0), refl, λ g h keys R. taken-ready g h keys (s .chart .now) (s .index .now) R (t .last .1 .0) (t .ensures .2) _ (t .result) _ e (t .ensures .0) refl (t .ensures .1 keys))
+    (next-taken (s .chart .now) _ (c .before .before .before .before .before .before .before .before .mark-of .ensures) (t .result) _ (c .before .before .before .before .before .before .before .if1 .left) e (t .ensures .0), refl, λ g h keys ls R. taken-ready g h keys (s .chart .now) (s .index .now) ls R (t .last .1 .0) (t .ensures .2) _ (t .result) _ e (t .ensures .0) refl (t .ensures .1 keys ls))
 
 same-length-4 : tie.Need-same-length-4
 same-length-4 c = search needs
@@ -51,7 +51,7 @@ returns-3 c =
     let s = c .before .before .before .before .before .before .before .before .before .before .before .before .before .before .before .before .before .args in
     let t = c .before .before .before .before .before .before .before .before .before .take in
     let e = c .before .before .before .before .before .j .given .1 in
-    (next-taken (s .chart .now) _ (c .before .before .before .before .before .before .before .before .before .before .before .before .before .mark-of .ensures) (t .result) _ (c .before .before .before .before .before .before .before .before .before .before .before .before .if1 .left) e (t .ensures .0), c .before .before .mark-handled .ensures, λ g h keys R. taken-ready g h keys (s .chart .now) (s .index .now) R (t .last .1 .0) (t .ensures .2) _ (t .result) _ e (t .ensures .0) (c .before .before .mark-handled .ensures) (t .ensures .1 keys))
+    (next-taken (s .chart .now) _ (c .before .before .before .before .before .before .before .before .before .before .before .before .before .mark-of .ensures) (t .result) _ (c .before .before .before .before .before .before .before .before .before .before .before .before .if1 .left) e (t .ensures .0), c .before .before .mark-handled .ensures, λ g h keys ls R. taken-ready g h keys (s .chart .now) (s .index .now) ls R (t .last .1 .0) (t .ensures .2) _ (t .result) _ e (t .ensures .0) (c .before .before .mark-handled .ensures) (t .ensures .1 keys ls))
 
 pub take-spec : {M : Type 1} → statement M
 take-spec =

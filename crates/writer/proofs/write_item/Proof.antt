@@ -1,4 +1,4 @@
--- What a short list holds is listed; more is listed again in a long one.
+-- What a short list holds is listed; more is listed again in longer ones.
 use native.Mathlib.Omega.{arith}
 use Prim.Native.Nat.{ℕ}
 use lib.ListN.{length-replicate}
@@ -14,8 +14,8 @@ slice-aggregate-list-applications c = search needs
 list-applications-requires : tie.Need-list-applications-requires
 list-applications-requires c κs = search needs
 
-write-long-requires : tie.Need-write-long-requires
-write-long-requires c κs = search needs
+write-many-requires : tie.Need-write-many-requires
+write-many-requires c κs = search needs
 
 same-length : tie.Need-same-length
 same-length c = search needs
@@ -39,7 +39,7 @@ slice-aggregate-write-short : tie.Need-slice-aggregate-write-short
 slice-aggregate-write-short c = search needs
 
 write-short-requires : tie.Need-write-short-requires
-write-short-requires c κs = (c .before .before .before .before .before .before .before .before .before .before .before .pre, listed-more _ _ 256 4096 _ _ _ (omega arith) (c .before .before .before .if1 .left) (listed-in _ _ _ 256 _ _ _ (length-replicate {A = ℕ} 264 0) (c .before .before .before .before .before .list-applications .ensures)), omega (arith, c .before .before .before .before .before .list-applications .ensures .few, c .before .before .before .before .before .list-applications .kept .1 .1 .1 .0, length-replicate {A = ℕ} 264 0), omega (arith, c .before .before .before .before .before .list-applications .ensures .few, length-replicate {A = ℕ} 264 0))
+write-short-requires c κs = (c .before .before .before .before .before .before .before .before .before .before .before .before .pre, listed-more _ _ 256 4096 _ _ _ (omega arith) (c .before .before .before .before .if1 .left) (listed-in _ _ _ 256 _ _ _ (length-replicate {A = ℕ} 264 0) (c .before .before .before .before .before .before .list-applications .ensures)), omega (arith, c .before .before .before .before .before .before .list-applications .ensures .few, c .before .before .before .before .before .before .list-applications .kept .1 .1 .1 .0, length-replicate {A = ℕ} 264 0), c .before .before .if3 .taken)
 
 same-length-3 : tie.Need-same-length-3
 same-length-3 c = search needs
@@ -47,13 +47,22 @@ same-length-3 c = search needs
 returns-3 : tie.Need-returns-3
 returns-3 c = search needs
 
+write-many-requires-2 : tie.Need-write-many-requires-2
+write-many-requires-2 c κs = search needs
+
+same-length-4 : tie.Need-same-length-4
+same-length-4 c = search needs
+
+returns-4 : tie.Need-returns-4
+returns-4 c = search needs
+
 pub write-item-spec : {M : Type 1} → statement M
 write-item-spec =
     tie.close
     (tie.spec
     slice-aggregate-list-applications
     list-applications-requires
-    write-long-requires
+    write-many-requires
     same-length
     returns
     slice-aggregate-write-brief
@@ -63,4 +72,7 @@ write-item-spec =
     slice-aggregate-write-short
     write-short-requires
     same-length-3
-    returns-3)
+    returns-3
+    write-many-requires-2
+    same-length-4
+    returns-4)

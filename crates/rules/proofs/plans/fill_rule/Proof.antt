@@ -8,7 +8,7 @@ use Rattle.joins.specs.Joins.{MasksBelow}
 use Rattle.joins.proofs.Known.{plan-few}
 use Rattle.joins.proofs.PlanMasks.{masks-none, masks-more, set-size}
 use Rattle.rules.specs.Filling.{ToldTo}
-use Rattle.rules.proofs.PlanLaws.{told-next, told-rule}
+use Rattle.rules.proofs.PlanLaws.{open-small, told-next, told-rule}
 use Rattle.rules.proofs.plans.fill_rule.Statement.{statement}
 use Rattle.rules.proofs.plans.fill_rule.Tie as tie
 
@@ -37,7 +37,7 @@ open-at-requires : tie.Need-open-at-requires Inv-loop μ-loop
 open-at-requires c κs = (record { grammar = c .before .before .before .before .before .before .before .pre .0; rule = c .before .before .before .before .before .before .before .pre .1; node = omega (arith, c .before .before .before .before .rule-plan .ensures, c .before .before .loop-test .taken) }, c .node-below .ensures)
 
 put-children-requires : tie.Need-put-children-requires Inv-loop μ-loop
-put-children-requires c κs = (record { grammar = c .before .before .before .before .before .before .before .before .before .pre .0; rule = c .before .before .before .before .before .before .before .before .before .pre .1; node = omega (arith, c .before .before .before .before .before .before .rule-plan .ensures, c .before .before .before .before .loop-test .taken) }, c .before .before .before .before .before .loop .inv .3 .size)
+put-children-requires c κs = (record { grammar = c .before .before .before .before .before .before .before .before .before .pre .0; rule = c .before .before .before .before .before .before .before .before .before .pre .1; node = omega (arith, c .before .before .before .before .before .before .rule-plan .ensures, c .before .before .before .before .loop-test .taken) }, c .before .before .before .before .before .loop .inv .3 .size, open-small _ _ _ _ (record { grammar = c .before .before .before .before .before .before .before .before .before .pre .0; rule = c .before .before .before .before .before .before .before .before .before .pre .1; node = omega (arith, c .before .before .before .before .before .before .rule-plan .ensures, c .before .before .before .before .loop-test .taken) }) (c .before .open-at .ensures) (c .before .open-at .ok))
 
 add-q : tie.Need-add-q Inv-loop μ-loop
 add-q c = omega (arith, c .before .before .before .before .before .before .before .before .before .rule-plan .ensures, c .before .before .before .before .before .before .before .loop-test .taken, plan-few _ _ (c .before .before .before .before .before .before .before .before .before .before .before .before .pre .0) (c .before .before .before .before .before .before .before .before .before .before .before .before .pre .1))

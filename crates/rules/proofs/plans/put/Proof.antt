@@ -13,11 +13,17 @@ mul-i c = search needs
 add-i : tie.Need-add-i
 add-i c = search needs
 
+cast-t : tie.Need-cast-t
+cast-t c = search needs
+
 mul-t : tie.Need-mul-t
 mul-t c = search needs
 
 slice-write-t : tie.Need-slice-write-t
 slice-write-t c = search needs
+
+cast-t-2 : tie.Need-cast-t-2
+cast-t-2 c = search needs
 
 add-t : tie.Need-add-t
 add-t c = search needs
@@ -37,4 +43,4 @@ returns c = placed _ _ _ _ _ (c .pre .0) (c .pre .1) (c .pre .2)
 pub put-spec : {M : Type 1} → statement M
 put-spec =
     tie.close
-    (tie.spec mul-i add-i mul-t slice-write-t add-t mul-t-2 slice-write-t-2 same-length returns)
+    (tie.spec mul-i add-i cast-t mul-t slice-write-t cast-t-2 add-t mul-t-2 slice-write-t-2 same-length returns)

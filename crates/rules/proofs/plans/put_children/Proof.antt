@@ -26,7 +26,7 @@ add-put : tie.Need-add-put
 add-put c = omega (arith, c .before .second-word .ensures .1, below-few _ _ _ (c .before .before .before .before .before .before .before .pre .0))
 
 put-requires : tie.Need-put-requires
-put-requires c κs = (c .before .before .before .before .before .before .before .pre .1, rule-few _ _ (c .before .before .before .before .before .before .before .pre .0 .grammar) (c .before .before .before .before .before .before .before .pre .0 .rule), first-few _ _ _ (c .before .before .before .before .before .before .before .pre .0) _ _ (c .before .before .before .before .kind-at .ensures) (c .before .before .first-at .ensures) (c .before .before .before .if1 .left))
+put-requires c κs = (c .before .before .before .before .before .before .before .pre .1, rule-few _ _ (c .before .before .before .before .before .before .before .pre .0 .grammar) (c .before .before .before .before .before .before .before .pre .0 .rule), first-few _ _ _ (c .before .before .before .before .before .before .before .pre .0) _ _ (c .before .before .before .before .kind-at .ensures) (c .before .before .first-at .ensures) (c .before .before .before .if1 .left), omega (arith, c .before .second-word .ensures .1, below-few _ _ _ (c .before .before .before .before .before .before .before .pre .0)), c .before .before .before .before .before .before .before .pre .2)
 
 same-length : tie.Need-same-length
 same-length c = search needs
@@ -50,7 +50,7 @@ add-put-3 : tie.Need-add-put-3
 add-put-3 c = omega (arith, below-few _ _ _ (c .before .before .before .before .before .before .before .before .before .before .before .before .before .pre .0), first-few _ _ _ (c .before .before .before .before .before .before .before .before .before .before .before .before .before .pre .0) _ _ (c .before .before .before .before .before .before .before .before .before .before .kind-at .ensures) (c .before .before .before .before .before .before .before .before .first-at .ensures) (c .before .before .before .before .before .before .before .before .before .if1 .left))
 
 put-requires-2 : tie.Need-put-requires-2
-put-requires-2 c κs = (c .before .before .before .before .before .put .ensures .size, rule-few _ _ (c .before .before .before .before .before .before .before .before .before .before .before .before .before .pre .0 .grammar) (c .before .before .before .before .before .before .before .before .before .before .before .before .before .pre .0 .rule), omega (arith, join-both _ _ _ (c .before .before .before .before .before .before .before .before .before .before .before .before .before .pre .0) _ _ _ (c .before .before .before .before .before .before .before .before .before .before .kind-at .ensures) (c .before .before .before .before .before .before .before .before .first-at .ensures) (c .second-at .ensures) (c .before .before .before .before .before .before .before .before .before .if1 .left) (c .before .before .if2 .left) .1, below-few _ _ _ (c .before .before .before .before .before .before .before .before .before .before .before .before .before .pre .0)))
+put-requires-2 c κs = (c .before .before .before .before .before .put .ensures .size, rule-few _ _ (c .before .before .before .before .before .before .before .before .before .before .before .before .before .pre .0 .grammar) (c .before .before .before .before .before .before .before .before .before .before .before .before .before .pre .0 .rule), omega (arith, join-both _ _ _ (c .before .before .before .before .before .before .before .before .before .before .before .before .before .pre .0) _ _ _ (c .before .before .before .before .before .before .before .before .before .before .kind-at .ensures) (c .before .before .before .before .before .before .before .before .first-at .ensures) (c .second-at .ensures) (c .before .before .before .before .before .before .before .before .before .if1 .left) (c .before .before .if2 .left) .1, below-few _ _ _ (c .before .before .before .before .before .before .before .before .before .before .before .before .before .pre .0)), omega (arith, below-few _ _ _ (c .before .before .before .before .before .before .before .before .before .before .before .before .before .pre .0), first-few _ _ _ (c .before .before .before .before .before .before .before .before .before .before .before .before .before .pre .0) _ _ (c .before .before .before .before .before .before .before .before .before .before .kind-at .ensures) (c .before .before .before .before .before .before .before .before .first-at .ensures) (c .before .before .before .before .before .before .before .before .before .if1 .left)), c .before .before .before .before .before .before .before .before .before .before .before .before .before .pre .2)
 
 same-length-2 : tie.Need-same-length-2
 same-length-2 c = search needs

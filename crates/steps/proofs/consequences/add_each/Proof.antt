@@ -12,16 +12,16 @@ use Rattle.steps.proofs.consequences.add_each.Statement.{statement}
 use Rattle.steps.proofs.consequences.add_each.Tie as tie
 
 mul-own : tie.Need-mul-own
-mul-own c = omega (arith, handled-small _ _ (c .before .before .before .before .pre .1 .small) (c .before .before .before .before .pre .2 .there))
+mul-own c = omega (arith, handled-small _ _ (c .before .before .before .before .before .pre .1 .small) (c .before .before .before .before .before .pre .2 .there))
 
 add-own : tie.Need-add-own
-add-own c = omega (arith, handled-small _ _ (c .before .before .before .before .pre .1 .small) (c .before .before .before .before .pre .2 .there))
+add-own c = omega (arith, handled-small _ _ (c .before .before .before .before .before .pre .1 .small) (c .before .before .before .before .before .pre .2 .there))
 
 add-asked : tie.Need-add-asked
-add-asked c = omega (arith, handled-small _ _ (c .before .before .before .before .pre .1 .small) (c .before .before .before .before .pre .2 .there))
+add-asked c = omega (arith, handled-small _ _ (c .before .before .before .before .before .pre .1 .small) (c .before .before .before .before .before .pre .2 .there))
 
 mul-asked : tie.Need-mul-asked
-mul-asked c = omega (arith, handled-small _ _ (c .before .before .before .before .pre .1 .small) (c .before .before .before .before .pre .2 .there))
+mul-asked c = omega (arith, handled-small _ _ (c .before .before .before .before .before .pre .1 .small) (c .before .before .before .before .before .pre .2 .there))
 
 sub-asked : tie.Need-sub-asked
 sub-asked c = search needs
@@ -30,22 +30,22 @@ part-asked-start : tie.Need-part-asked-start
 part-asked-start c = search needs
 
 part-asked-end : tie.Need-part-asked-end
-part-asked-end c = omega (arith, item-fits (c .before .before .before .before .before .args .chart .now) (c .before .before .before .before .before .args .j) (c .before .before .before .before .before .pre .2 .there))
+part-asked-end c = omega (arith, item-fits (c .before .before .before .before .before .before .args .chart .now) (c .before .before .before .before .before .before .args .j) (c .before .before .before .before .before .before .pre .2 .there))
 
 asked-requires : tie.Need-asked-requires
 asked-requires c κs =
-    let s = c .before .before .before .before .before .before .args in
-    part-length (s .chart .now) (s .j) (2 + 16 * s .j) (2 + 16 * s .j + 16 - (2 + 16 * s .j)) refl (omega arith) (item-fits (s .chart .now) (s .j) (c .before .before .before .before .before .before .pre .2 .there))
+    let s = c .before .before .before .before .before .before .before .args in
+    part-length (s .chart .now) (s .j) (2 + 16 * s .j) (2 + 16 * s .j + 16 - (2 + 16 * s .j)) refl (omega arith) (item-fits (s .chart .now) (s .j) (c .before .before .before .before .before .before .before .pre .2 .there))
 
 regular-requires : tie.Need-regular-requires
-regular-requires c κs = c .before .before .before .before .before .before .before .before .pre .1 .indexed .size
+regular-requires c κs = c .before .before .before .before .before .before .before .before .before .pre .1 .indexed .size
 
 add-listed-requires : tie.Need-add-listed-requires
 add-listed-requires c κs =
-    let s = c .before .before .before .before .before .before .before .before .before .before .before .before .before .args in
-    let both = and-true (c .before .before .before .before .before .before .asked .result .single) (c .before .before .before .before .regular .result) (c .before .before .if1 .taken) in
-    let own = part-record-at (s .chart .now) (s .j) (2 + 16 * s .j) (2 + 16 * s .j + 16 - (2 + 16 * s .j)) refl (omega arith) (item-fits (s .chart .now) (s .j) (c .before .before .before .before .before .before .before .before .before .before .before .before .before .pre .2 .there)) in
-    (c .before .before .before .before .before .before .before .before .before .before .before .before .before .pre .0, c .before .before .before .before .before .before .before .before .before .before .before .before .before .pre .1, c .before .before .before .before .before .before .before .before .before .before .before .before .before .pre .2, c .before .before .before .before .before .before .before .before .before .before .before .before .before .pre .3, c .before .before .before .before .before .before .before .before .before .before .before .before .before .pre .4, record { regular = eqb-true _ _ (sym (c .before .before .before .before .regular .ensures) ∙ both .1); only = c .before .before .before .before .before .before .asked .ensures (both .0) ∙ ap (queryOf (s .keys .now)) own })
+    let s = c .before .before .before .before .before .before .before .before .before .before .before .before .before .before .before .args in
+    let both = and-true (c .before .before .before .before .before .before .before .asked .result .single) (c .before .before .before .before .before .regular .result) (c .before .before .before .if1 .taken) in
+    let own = part-record-at (s .chart .now) (s .j) (2 + 16 * s .j) (2 + 16 * s .j + 16 - (2 + 16 * s .j)) refl (omega arith) (item-fits (s .chart .now) (s .j) (c .before .before .before .before .before .before .before .before .before .before .before .before .before .before .before .pre .2 .there)) in
+    (c .before .before .before .before .before .before .before .before .before .before .before .before .before .before .before .pre .0, c .before .before .before .before .before .before .before .before .before .before .before .before .before .before .before .pre .1, c .before .before .before .before .before .before .before .before .before .before .before .before .before .before .before .pre .2, c .before .before .before .before .before .before .before .before .before .before .before .before .before .before .before .pre .3, c .before .before .before .before .before .before .before .before .before .before .before .before .before .before .before .pre .4, record { regular = eqb-true _ _ (sym (c .before .before .before .before .before .regular .ensures) ∙ both .1); only = c .before .before .before .before .before .before .before .asked .ensures (both .0) ∙ ap (queryOf (s .keys .now)) own })
 
 same-length : tie.Need-same-length
 same-length c = search needs
@@ -53,17 +53,23 @@ same-length c = search needs
 same-length-2 : tie.Need-same-length-2
 same-length-2 c = search needs
 
+same-length-3 : tie.Need-same-length-3
+same-length-3 c = search needs
+
 returns : tie.Need-returns
 returns c = search needs
 
 add-many-requires : tie.Need-add-many-requires
 add-many-requires c κs = search needs
 
-same-length-3 : tie.Need-same-length-3
-same-length-3 c = search needs
-
 same-length-4 : tie.Need-same-length-4
 same-length-4 c = search needs
+
+same-length-5 : tie.Need-same-length-5
+same-length-5 c = search needs
+
+same-length-6 : tie.Need-same-length-6
+same-length-6 c = search needs
 
 returns-2 : tie.Need-returns-2
 returns-2 c = search needs
@@ -84,8 +90,10 @@ add-each-spec =
     add-listed-requires
     same-length
     same-length-2
+    same-length-3
     returns
     add-many-requires
-    same-length-3
     same-length-4
+    same-length-5
+    same-length-6
     returns-2)

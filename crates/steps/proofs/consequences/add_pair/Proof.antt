@@ -19,43 +19,43 @@ use Rattle.steps.proofs.consequences.add_pair.Statement.{statement}
 use Rattle.steps.proofs.consequences.add_pair.Tie as tie
 
 mul-a : tie.Need-mul-a
-mul-a c = omega (arith, handled-small _ _ (c .before .before .before .before .pre .1 .small) (c .before .before .before .before .pre .2), handled-small _ _ (c .before .before .before .before .pre .1 .small) (c .before .before .before .before .pre .3))
+mul-a c = omega (arith, handled-small _ _ (c .before .before .before .before .before .pre .1 .small) (c .before .before .before .before .before .pre .2), handled-small _ _ (c .before .before .before .before .before .pre .1 .small) (c .before .before .before .before .before .pre .3))
 
 add-a : tie.Need-add-a
-add-a c = omega (arith, handled-small _ _ (c .before .before .before .before .pre .1 .small) (c .before .before .before .before .pre .2), handled-small _ _ (c .before .before .before .before .pre .1 .small) (c .before .before .before .before .pre .3))
+add-a c = omega (arith, handled-small _ _ (c .before .before .before .before .before .pre .1 .small) (c .before .before .before .before .before .pre .2), handled-small _ _ (c .before .before .before .before .before .pre .1 .small) (c .before .before .before .before .before .pre .3))
 
 mul-b : tie.Need-mul-b
-mul-b c = omega (arith, handled-small _ _ (c .before .before .before .before .pre .1 .small) (c .before .before .before .before .pre .2), handled-small _ _ (c .before .before .before .before .pre .1 .small) (c .before .before .before .before .pre .3))
+mul-b c = omega (arith, handled-small _ _ (c .before .before .before .before .before .pre .1 .small) (c .before .before .before .before .before .pre .2), handled-small _ _ (c .before .before .before .before .before .pre .1 .small) (c .before .before .before .before .before .pre .3))
 
 add-b : tie.Need-add-b
-add-b c = omega (arith, handled-small _ _ (c .before .before .before .before .pre .1 .small) (c .before .before .before .before .pre .2), handled-small _ _ (c .before .before .before .before .pre .1 .small) (c .before .before .before .before .pre .3))
+add-b c = omega (arith, handled-small _ _ (c .before .before .before .before .before .pre .1 .small) (c .before .before .before .before .before .pre .2), handled-small _ _ (c .before .before .before .before .before .pre .1 .small) (c .before .before .before .before .before .pre .3))
 
 add-plus : tie.Need-add-plus
-add-plus c = omega (arith, handled-small _ _ (c .before .before .before .before .pre .1 .small) (c .before .before .before .before .pre .2), handled-small _ _ (c .before .before .before .before .pre .1 .small) (c .before .before .before .before .pre .3))
+add-plus c = omega (arith, handled-small _ _ (c .before .before .before .before .before .pre .1 .small) (c .before .before .before .before .before .pre .2), handled-small _ _ (c .before .before .before .before .before .pre .1 .small) (c .before .before .before .before .before .pre .3))
 
 mul-plus : tie.Need-mul-plus
-mul-plus c = omega (arith, handled-small _ _ (c .before .before .before .before .pre .1 .small) (c .before .before .before .before .pre .2), handled-small _ _ (c .before .before .before .before .pre .1 .small) (c .before .before .before .before .pre .3))
+mul-plus c = omega (arith, handled-small _ _ (c .before .before .before .before .before .pre .1 .small) (c .before .before .before .before .before .pre .2), handled-small _ _ (c .before .before .before .before .before .pre .1 .small) (c .before .before .before .before .before .pre .3))
 
 slice-read-plus : tie.Need-slice-read-plus
-slice-read-plus c = omega (arith, item-fits (c .before .before .before .before .before .args .chart .now) (c .before .before .before .before .before .args .j) (c .before .before .before .before .before .pre .2), item-fits (c .before .before .before .before .before .args .chart .now) (c .before .before .before .before .before .args .k) (c .before .before .before .before .before .pre .3))
+slice-read-plus c = omega (arith, item-fits (c .before .before .before .before .before .before .args .chart .now) (c .before .before .before .before .before .before .args .j) (c .before .before .before .before .before .before .pre .2), item-fits (c .before .before .before .before .before .before .args .chart .now) (c .before .before .before .before .before .before .args .k) (c .before .before .before .before .before .before .pre .3))
 
 add-plus-2 : tie.Need-add-plus-2
-add-plus-2 c = omega (arith, handled-small _ _ (c .before .before .before .before .before .pre .1 .small) (c .before .before .before .before .before .pre .2), handled-small _ _ (c .before .before .before .before .before .pre .1 .small) (c .before .before .before .before .before .pre .3))
+add-plus-2 c = omega (arith, handled-small _ _ (c .before .before .before .before .before .before .pre .1 .small) (c .before .before .before .before .before .before .pre .2), handled-small _ _ (c .before .before .before .before .before .before .pre .1 .small) (c .before .before .before .before .before .before .pre .3))
 
 mul-plus-2 : tie.Need-mul-plus-2
-mul-plus-2 c = omega (arith, handled-small _ _ (c .before .before .before .before .before .pre .1 .small) (c .before .before .before .before .before .pre .2), handled-small _ _ (c .before .before .before .before .before .pre .1 .small) (c .before .before .before .before .before .pre .3))
+mul-plus-2 c = omega (arith, handled-small _ _ (c .before .before .before .before .before .before .pre .1 .small) (c .before .before .before .before .before .before .pre .2), handled-small _ _ (c .before .before .before .before .before .before .pre .1 .small) (c .before .before .before .before .before .before .pre .3))
 
 slice-read-plus-2 : tie.Need-slice-read-plus-2
-slice-read-plus-2 c = omega (arith, item-fits (c .before .before .before .before .before .before .args .chart .now) (c .before .before .before .before .before .before .args .j) (c .before .before .before .before .before .before .pre .2), item-fits (c .before .before .before .before .before .before .args .chart .now) (c .before .before .before .before .before .before .args .k) (c .before .before .before .before .before .before .pre .3))
+slice-read-plus-2 c = omega (arith, item-fits (c .before .before .before .before .before .before .before .args .chart .now) (c .before .before .before .before .before .before .before .args .j) (c .before .before .before .before .before .before .before .pre .2), item-fits (c .before .before .before .before .before .before .before .args .chart .now) (c .before .before .before .before .before .before .before .args .k) (c .before .before .before .before .before .before .before .pre .3))
 
 plus-requires : tie.Need-plus-requires
 plus-requires c κs = search needs
 
 add-pair-into : tie.Need-add-pair-into
-add-pair-into c = omega (arith, handled-small _ _ (c .before .before .before .before .before .before .before .pre .1 .small) (c .before .before .before .before .before .before .before .pre .2), handled-small _ _ (c .before .before .before .before .before .before .before .pre .1 .small) (c .before .before .before .before .before .before .before .pre .3))
+add-pair-into c = omega (arith, handled-small _ _ (c .before .before .before .before .before .before .before .before .pre .1 .small) (c .before .before .before .before .before .before .before .before .pre .2), handled-small _ _ (c .before .before .before .before .before .before .before .before .pre .1 .small) (c .before .before .before .before .before .before .before .before .pre .3))
 
 mul-pair-into : tie.Need-mul-pair-into
-mul-pair-into c = omega (arith, handled-small _ _ (c .before .before .before .before .before .before .before .pre .1 .small) (c .before .before .before .before .before .before .before .pre .2), handled-small _ _ (c .before .before .before .before .before .before .before .pre .1 .small) (c .before .before .before .before .before .before .before .pre .3))
+mul-pair-into c = omega (arith, handled-small _ _ (c .before .before .before .before .before .before .before .before .pre .1 .small) (c .before .before .before .before .before .before .before .before .pre .2), handled-small _ _ (c .before .before .before .before .before .before .before .before .pre .1 .small) (c .before .before .before .before .before .before .before .before .pre .3))
 
 sub-pair-into : tie.Need-sub-pair-into
 sub-pair-into c = omega arith
@@ -64,13 +64,13 @@ part-pair-into-start : tie.Need-part-pair-into-start
 part-pair-into-start c = search needs
 
 part-pair-into-end : tie.Need-part-pair-into-end
-part-pair-into-end c = omega (arith, item-fits (c .before .before .before .before .before .before .before .before .args .chart .now) (c .before .before .before .before .before .before .before .before .args .j) (c .before .before .before .before .before .before .before .before .pre .2))
+part-pair-into-end c = omega (arith, item-fits (c .before .before .before .before .before .before .before .before .before .args .chart .now) (c .before .before .before .before .before .before .before .before .before .args .j) (c .before .before .before .before .before .before .before .before .before .pre .2))
 
 add-pair-into-2 : tie.Need-add-pair-into-2
-add-pair-into-2 c = omega (arith, handled-small _ _ (c .before .before .before .before .before .before .before .before .before .pre .1 .small) (c .before .before .before .before .before .before .before .before .before .pre .2), handled-small _ _ (c .before .before .before .before .before .before .before .before .before .pre .1 .small) (c .before .before .before .before .before .before .before .before .before .pre .3))
+add-pair-into-2 c = omega (arith, handled-small _ _ (c .before .before .before .before .before .before .before .before .before .before .pre .1 .small) (c .before .before .before .before .before .before .before .before .before .before .pre .2), handled-small _ _ (c .before .before .before .before .before .before .before .before .before .before .pre .1 .small) (c .before .before .before .before .before .before .before .before .before .before .pre .3))
 
 mul-pair-into-2 : tie.Need-mul-pair-into-2
-mul-pair-into-2 c = omega (arith, handled-small _ _ (c .before .before .before .before .before .before .before .before .before .pre .1 .small) (c .before .before .before .before .before .before .before .before .before .pre .2), handled-small _ _ (c .before .before .before .before .before .before .before .before .before .pre .1 .small) (c .before .before .before .before .before .before .before .before .before .pre .3))
+mul-pair-into-2 c = omega (arith, handled-small _ _ (c .before .before .before .before .before .before .before .before .before .before .pre .1 .small) (c .before .before .before .before .before .before .before .before .before .before .pre .2), handled-small _ _ (c .before .before .before .before .before .before .before .before .before .before .pre .1 .small) (c .before .before .before .before .before .before .before .before .before .before .pre .3))
 
 sub-pair-into-2 : tie.Need-sub-pair-into-2
 sub-pair-into-2 c = omega arith
@@ -79,7 +79,7 @@ part-pair-into-start-2 : tie.Need-part-pair-into-start-2
 part-pair-into-start-2 c = search needs
 
 part-pair-into-end-2 : tie.Need-part-pair-into-end-2
-part-pair-into-end-2 c = omega (arith, item-fits (c .before .before .before .before .before .before .before .before .before .args .chart .now) (c .before .before .before .before .before .before .before .before .before .args .k) (c .before .before .before .before .before .before .before .before .before .pre .3))
+part-pair-into-end-2 c = omega (arith, item-fits (c .before .before .before .before .before .before .before .before .before .before .args .chart .now) (c .before .before .before .before .before .before .before .before .before .before .args .k) (c .before .before .before .before .before .before .before .before .before .before .pre .3))
 
 slice-aggregate-pair-into : tie.Need-slice-aggregate-pair-into
 slice-aggregate-pair-into c = search needs
@@ -87,13 +87,13 @@ slice-aggregate-pair-into c = search needs
 pair-into-requires : tie.Need-pair-into-requires
 unfolding ofWords
 pair-into-requires c κs = (
-  c .before .before .before .before .before .before .before .before .before .before .before .pre .0 .accepted,
-  c .before .before .before .before .before .before .before .before .before .before .before .pre .0 .planned,
-  c .before .before .before .before .before .before .before .before .before .before .before .pre .0 .graphed,
-  part-length (c .before .before .before .before .before .before .before .before .before .before .before .args .chart .now) (c .before .before .before .before .before .before .before .before .before .before .before .args .j) (2 + 16 * c .before .before .before .before .before .before .before .before .before .before .before .args .j) (2 + 16 * c .before .before .before .before .before .before .before .before .before .before .before .args .j + 16 - (2 + 16 * c .before .before .before .before .before .before .before .before .before .before .before .args .j)) refl (omega arith) (item-fits (c .before .before .before .before .before .before .before .before .before .before .before .args .chart .now) (c .before .before .before .before .before .before .before .before .before .before .before .args .j) (c .before .before .before .before .before .before .before .before .before .before .before .pre .2)),
-  part-length (c .before .before .before .before .before .before .before .before .before .before .before .args .chart .now) (c .before .before .before .before .before .before .before .before .before .before .before .args .k) (2 + 16 * c .before .before .before .before .before .before .before .before .before .before .before .args .k) (2 + 16 * c .before .before .before .before .before .before .before .before .before .before .before .args .k + 16 - (2 + 16 * c .before .before .before .before .before .before .before .before .before .before .before .args .k)) refl (omega arith) (item-fits (c .before .before .before .before .before .before .before .before .before .before .before .args .chart .now) (c .before .before .before .before .before .before .before .before .before .before .before .args .k) (c .before .before .before .before .before .before .before .before .before .before .before .pre .3)),
-  span-same _ _ _ _ _ (part-record-at (c .before .before .before .before .before .before .before .before .before .before .before .args .chart .now) (c .before .before .before .before .before .before .before .before .before .before .before .args .j) (2 + 16 * c .before .before .before .before .before .before .before .before .before .before .before .args .j) (2 + 16 * c .before .before .before .before .before .before .before .before .before .before .before .args .j + 16 - (2 + 16 * c .before .before .before .before .before .before .before .before .before .before .before .args .j)) refl (omega arith) (item-fits (c .before .before .before .before .before .before .before .before .before .before .before .args .chart .now) (c .before .before .before .before .before .before .before .before .before .before .before .args .j) (c .before .before .before .before .before .before .before .before .before .before .before .pre .2))) (c .before .before .before .before .before .before .before .before .before .before .before .pre .4),
-  span-same _ _ _ _ _ (part-record-at (c .before .before .before .before .before .before .before .before .before .before .before .args .chart .now) (c .before .before .before .before .before .before .before .before .before .before .before .args .k) (2 + 16 * c .before .before .before .before .before .before .before .before .before .before .before .args .k) (2 + 16 * c .before .before .before .before .before .before .before .before .before .before .before .args .k + 16 - (2 + 16 * c .before .before .before .before .before .before .before .before .before .before .before .args .k)) refl (omega arith) (item-fits (c .before .before .before .before .before .before .before .before .before .before .before .args .chart .now) (c .before .before .before .before .before .before .before .before .before .before .before .args .k) (c .before .before .before .before .before .before .before .before .before .before .before .pre .3))) (c .before .before .before .before .before .before .before .before .before .before .before .pre .5),
+  c .before .before .before .before .before .before .before .before .before .before .before .before .pre .0 .accepted,
+  c .before .before .before .before .before .before .before .before .before .before .before .before .pre .0 .planned,
+  c .before .before .before .before .before .before .before .before .before .before .before .before .pre .0 .graphed,
+  part-length (c .before .before .before .before .before .before .before .before .before .before .before .before .args .chart .now) (c .before .before .before .before .before .before .before .before .before .before .before .before .args .j) (2 + 16 * c .before .before .before .before .before .before .before .before .before .before .before .before .args .j) (2 + 16 * c .before .before .before .before .before .before .before .before .before .before .before .before .args .j + 16 - (2 + 16 * c .before .before .before .before .before .before .before .before .before .before .before .before .args .j)) refl (omega arith) (item-fits (c .before .before .before .before .before .before .before .before .before .before .before .before .args .chart .now) (c .before .before .before .before .before .before .before .before .before .before .before .before .args .j) (c .before .before .before .before .before .before .before .before .before .before .before .before .pre .2)),
+  part-length (c .before .before .before .before .before .before .before .before .before .before .before .before .args .chart .now) (c .before .before .before .before .before .before .before .before .before .before .before .before .args .k) (2 + 16 * c .before .before .before .before .before .before .before .before .before .before .before .before .args .k) (2 + 16 * c .before .before .before .before .before .before .before .before .before .before .before .before .args .k + 16 - (2 + 16 * c .before .before .before .before .before .before .before .before .before .before .before .before .args .k)) refl (omega arith) (item-fits (c .before .before .before .before .before .before .before .before .before .before .before .before .args .chart .now) (c .before .before .before .before .before .before .before .before .before .before .before .before .args .k) (c .before .before .before .before .before .before .before .before .before .before .before .before .pre .3)),
+  span-same _ _ _ _ _ (part-record-at (c .before .before .before .before .before .before .before .before .before .before .before .before .args .chart .now) (c .before .before .before .before .before .before .before .before .before .before .before .before .args .j) (2 + 16 * c .before .before .before .before .before .before .before .before .before .before .before .before .args .j) (2 + 16 * c .before .before .before .before .before .before .before .before .before .before .before .before .args .j + 16 - (2 + 16 * c .before .before .before .before .before .before .before .before .before .before .before .before .args .j)) refl (omega arith) (item-fits (c .before .before .before .before .before .before .before .before .before .before .before .before .args .chart .now) (c .before .before .before .before .before .before .before .before .before .before .before .before .args .j) (c .before .before .before .before .before .before .before .before .before .before .before .before .pre .2))) (c .before .before .before .before .before .before .before .before .before .before .before .before .pre .4),
+  span-same _ _ _ _ _ (part-record-at (c .before .before .before .before .before .before .before .before .before .before .before .before .args .chart .now) (c .before .before .before .before .before .before .before .before .before .before .before .before .args .k) (2 + 16 * c .before .before .before .before .before .before .before .before .before .before .before .before .args .k) (2 + 16 * c .before .before .before .before .before .before .before .before .before .before .before .before .args .k + 16 - (2 + 16 * c .before .before .before .before .before .before .before .before .before .before .before .before .args .k)) refl (omega arith) (item-fits (c .before .before .before .before .before .before .before .before .before .before .before .before .args .chart .now) (c .before .before .before .before .before .before .before .before .before .before .before .before .args .k) (c .before .before .before .before .before .before .before .before .before .before .before .before .pre .3))) (c .before .before .before .before .before .before .before .before .before .before .before .before .pre .5),
   search needs,
   refl,
   refl,
@@ -106,16 +106,13 @@ same-length c = search needs
 returns : tie.Need-returns
 unfolding recordAt ofWords blockAt fieldAt tabulate
 returns c =
-    let s = c .before .before .before .before .before .before .before .before .before .before .before .before .before .before .before .args in
+    let s = c .before .before .before .before .before .before .before .before .before .before .before .before .before .before .before .before .args in
     let g = s .g .now in
     let h = s .h .now in
-    (nothing-added (s .chart .now) _ (c .before .before .before .before .before .before .before .before .before .before .before .before .before .before .before .pre .1 .fits) (pair-none g h (recordAt (s .chart .now) (s .j)) _ _ _ (recordAt (s .chart .now) (s .k)) (s .j) (s .k) (into-same g h _ _ _ _ _ (ap₂ (λ (a b : Record). binaryOf (grammarOf g) (graphOf g h) (itemOf (grammarOf g) a) (itemOf (grammarOf g) b)) (part-record-at (c .before .before .before .before .before .before .before .before .before .before .before .before .before .before .before .args .chart .now) (c .before .before .before .before .before .before .before .before .before .before .before .before .before .before .before .args .j) (2 + 16 * c .before .before .before .before .before .before .before .before .before .before .before .before .before .before .before .args .j) (2 + 16 * c .before .before .before .before .before .before .before .before .before .before .before .before .before .before .before .args .j + 16 - (2 + 16 * c .before .before .before .before .before .before .before .before .before .before .before .before .before .before .before .args .j)) refl (omega arith) (item-fits (c .before .before .before .before .before .before .before .before .before .before .before .before .before .before .before .args .chart .now) (c .before .before .before .before .before .before .before .before .before .before .before .before .before .before .before .args .j) (c .before .before .before .before .before .before .before .before .before .before .before .before .before .before .before .pre .2))) (part-record-at (c .before .before .before .before .before .before .before .before .before .before .before .before .before .before .before .args .chart .now) (c .before .before .before .before .before .before .before .before .before .before .before .before .before .before .before .args .k) (2 + 16 * c .before .before .before .before .before .before .before .before .before .before .before .before .before .before .before .args .k) (2 + 16 * c .before .before .before .before .before .before .before .before .before .before .before .before .before .before .before .args .k + 16 - (2 + 16 * c .before .before .before .before .before .before .before .before .before .before .before .before .before .before .before .args .k)) refl (omega arith) (item-fits (c .before .before .before .before .before .before .before .before .before .before .before .before .before .before .before .args .chart .now) (c .before .before .before .before .before .before .before .before .before .before .before .before .before .before .before .args .k) (c .before .before .before .before .before .before .before .before .before .before .before .before .before .before .before .pre .3)))) (c .before .before .before .pair-into .ensures)) (not-true _ (c .if1 .taken))), c .before .before .before .before .before .before .before .before .before .before .before .before .before .before .before .pre .1)
-
-slice-aggregate-add : tie.Need-slice-aggregate-add
-slice-aggregate-add c = search needs
+    (nothing-added (s .chart .now) _ (c .before .before .before .before .before .before .before .before .before .before .before .before .before .before .before .before .pre .1 .fits) (pair-none g h (recordAt (s .chart .now) (s .j)) _ _ _ (recordAt (s .chart .now) (s .k)) (s .j) (s .k) (into-same g h _ _ _ _ _ (ap₂ (λ (a b : Record). binaryOf (grammarOf g) (graphOf g h) (itemOf (grammarOf g) a) (itemOf (grammarOf g) b)) (part-record-at (c .before .before .before .before .before .before .before .before .before .before .before .before .before .before .before .before .args .chart .now) (c .before .before .before .before .before .before .before .before .before .before .before .before .before .before .before .before .args .j) (2 + 16 * c .before .before .before .before .before .before .before .before .before .before .before .before .before .before .before .before .args .j) (2 + 16 * c .before .before .before .before .before .before .before .before .before .before .before .before .before .before .before .before .args .j + 16 - (2 + 16 * c .before .before .before .before .before .before .before .before .before .before .before .before .before .before .before .before .args .j)) refl (omega arith) (item-fits (c .before .before .before .before .before .before .before .before .before .before .before .before .before .before .before .before .args .chart .now) (c .before .before .before .before .before .before .before .before .before .before .before .before .before .before .before .before .args .j) (c .before .before .before .before .before .before .before .before .before .before .before .before .before .before .before .before .pre .2))) (part-record-at (c .before .before .before .before .before .before .before .before .before .before .before .before .before .before .before .before .args .chart .now) (c .before .before .before .before .before .before .before .before .before .before .before .before .before .before .before .before .args .k) (2 + 16 * c .before .before .before .before .before .before .before .before .before .before .before .before .before .before .before .before .args .k) (2 + 16 * c .before .before .before .before .before .before .before .before .before .before .before .before .before .before .before .before .args .k + 16 - (2 + 16 * c .before .before .before .before .before .before .before .before .before .before .before .before .before .before .before .before .args .k)) refl (omega arith) (item-fits (c .before .before .before .before .before .before .before .before .before .before .before .before .before .before .before .before .args .chart .now) (c .before .before .before .before .before .before .before .before .before .before .before .before .before .before .before .before .args .k) (c .before .before .before .before .before .before .before .before .before .before .before .before .before .before .before .before .pre .3)))) (c .before .before .before .pair-into .ensures)) (not-true _ (c .if1 .taken))), c .before .before .before .before .before .before .before .before .before .before .before .before .before .before .before .before .pre .1)
 
 add-requires : tie.Need-add-requires
-add-requires c κs = (c .before .before .before .before .before .before .before .before .before .before .before .before .before .before .before .before .before .before .pre .1 .indexed, c .before .before .before .before .before .before .before .before .before .before .before .before .before .before .before .before .before .before .pre .1 .fits, c .before .before .before .before .before .before .before .before .before .before .before .before .before .before .before .before .before .before .pre .1 .small, search needs)
+add-requires c κs = (c .before .before .before .before .before .before .before .before .before .before .before .before .before .before .before .before .before .before .before .before .pre .1 .indexed, c .before .before .before .before .before .before .before .before .before .before .before .before .before .before .before .before .before .before .before .before .pre .1 .fits, c .before .before .before .before .before .before .before .before .before .before .before .before .before .before .before .before .before .before .before .before .pre .1 .small)
 
 same-length-2 : tie.Need-same-length-2
 same-length-2 c = search needs
@@ -123,15 +120,18 @@ same-length-2 c = search needs
 same-length-3 : tie.Need-same-length-3
 same-length-3 c = search needs
 
+same-length-4 : tie.Need-same-length-4
+same-length-4 c = search needs
+
 returns-2 : tie.Need-returns-2
 unfolding recordAt ofWords blockAt fieldAt tabulate
 returns-2 c =
-    let s = c .before .before .before .before .before .before .before .before .before .before .before .before .before .before .before .before .before .before .before .before .before .before .before .args in
+    let s = c .before .before .before .before .before .before .before .before .before .before .before .before .before .before .before .before .before .before .before .before .before .before .before .before .before .before .before .args in
     let g = s .g .now in
     let h = s .h .now in
-    let found = not-false _ (c .before .before .before .before .before .before .before .before .if1 .left) in (
-      pair-added g h (recordAt (s .chart .now) (s .j)) _ _ _ (s .chart .now) _ (c .before .before .before .before .before .before .before .before .before .before .before .before .before .before .before .before .before .before .before .before .before .before .before .pre .1 .fits) (recordAt (s .chart .now) (s .k)) (s .j) (s .k) (into-same g h _ _ _ _ _ (ap₂ (λ (a b : Record). binaryOf (grammarOf g) (graphOf g h) (itemOf (grammarOf g) a) (itemOf (grammarOf g) b)) (part-record-at (c .before .before .before .before .before .before .before .before .before .before .before .before .before .before .before .before .before .before .before .before .before .before .before .args .chart .now) (c .before .before .before .before .before .before .before .before .before .before .before .before .before .before .before .before .before .before .before .before .before .before .before .args .j) (2 + 16 * c .before .before .before .before .before .before .before .before .before .before .before .before .before .before .before .before .before .before .before .before .before .before .before .args .j) (2 + 16 * c .before .before .before .before .before .before .before .before .before .before .before .before .before .before .before .before .before .before .before .before .before .before .before .args .j + 16 - (2 + 16 * c .before .before .before .before .before .before .before .before .before .before .before .before .before .before .before .before .before .before .before .before .before .before .before .args .j)) refl (omega arith) (item-fits (c .before .before .before .before .before .before .before .before .before .before .before .before .before .before .before .before .before .before .before .before .before .before .before .args .chart .now) (c .before .before .before .before .before .before .before .before .before .before .before .before .before .before .before .before .before .before .before .before .before .before .before .args .j) (c .before .before .before .before .before .before .before .before .before .before .before .before .before .before .before .before .before .before .before .before .before .before .before .pre .2))) (part-record-at (c .before .before .before .before .before .before .before .before .before .before .before .before .before .before .before .before .before .before .before .before .before .before .before .args .chart .now) (c .before .before .before .before .before .before .before .before .before .before .before .before .before .before .before .before .before .before .before .before .before .before .before .args .k) (2 + 16 * c .before .before .before .before .before .before .before .before .before .before .before .before .before .before .before .before .before .before .before .before .before .before .before .args .k) (2 + 16 * c .before .before .before .before .before .before .before .before .before .before .before .before .before .before .before .before .before .before .before .before .before .before .before .args .k + 16 - (2 + 16 * c .before .before .before .before .before .before .before .before .before .before .before .before .before .before .before .before .before .before .before .before .before .before .before .args .k)) refl (omega arith) (item-fits (c .before .before .before .before .before .before .before .before .before .before .before .before .before .before .before .before .before .before .before .before .before .before .before .args .chart .now) (c .before .before .before .before .before .before .before .before .before .before .before .before .before .before .before .before .before .before .before .before .before .before .before .args .k) (c .before .before .before .before .before .before .before .before .before .before .before .before .before .before .before .before .before .before .before .before .before .before .before .pre .3)))) (c .before .before .before .before .before .before .before .before .before .before .before .pair-into .ensures)) found (c .before .before .before .before .before .before .before .before .before .before .before .before .before .before .before .before .plus .ensures) refl refl (c .before .before .before .before .add .ensures .0),
-      into-ready g h (s .keys .now) (s .chart .now) (s .index .now) (c .before .before .before .before .before .before .before .before .before .before .before .before .before .before .before .before .before .before .before .before .before .before .before .pre .1) _ _ (c .before .before .before .before .add .ensures .1) (c .before .before .before .before .add .ensures .2 g h (c .before .before .before .before .before .before .before .before .before .before .before .before .before .before .before .before .before .before .before .before .before .before .before .pre .1 .spanned) (c .before .before .before .before .before .before .before .before .before .before .before .pair-into .ensures .spans found)) _ _ _ _ (c .before .before .before .before .before .before .before .before .before .before .before .pair-into .ensures) (c .before .before .before .before .add .ensures .0),
+    let found = not-false _ (c .before .before .before .before .before .before .before .before .before .before .before .if1 .left) in (
+      pair-added g h (recordAt (s .chart .now) (s .j)) _ _ _ (s .chart .now) _ (c .before .before .before .before .before .before .before .before .before .before .before .before .before .before .before .before .before .before .before .before .before .before .before .before .before .before .before .pre .1 .fits) (recordAt (s .chart .now) (s .k)) (s .j) (s .k) (into-same g h _ _ _ _ _ (ap₂ (λ (a b : Record). binaryOf (grammarOf g) (graphOf g h) (itemOf (grammarOf g) a) (itemOf (grammarOf g) b)) (part-record-at (c .before .before .before .before .before .before .before .before .before .before .before .before .before .before .before .before .before .before .before .before .before .before .before .before .before .before .before .args .chart .now) (c .before .before .before .before .before .before .before .before .before .before .before .before .before .before .before .before .before .before .before .before .before .before .before .before .before .before .before .args .j) (2 + 16 * c .before .before .before .before .before .before .before .before .before .before .before .before .before .before .before .before .before .before .before .before .before .before .before .before .before .before .before .args .j) (2 + 16 * c .before .before .before .before .before .before .before .before .before .before .before .before .before .before .before .before .before .before .before .before .before .before .before .before .before .before .before .args .j + 16 - (2 + 16 * c .before .before .before .before .before .before .before .before .before .before .before .before .before .before .before .before .before .before .before .before .before .before .before .before .before .before .before .args .j)) refl (omega arith) (item-fits (c .before .before .before .before .before .before .before .before .before .before .before .before .before .before .before .before .before .before .before .before .before .before .before .before .before .before .before .args .chart .now) (c .before .before .before .before .before .before .before .before .before .before .before .before .before .before .before .before .before .before .before .before .before .before .before .before .before .before .before .args .j) (c .before .before .before .before .before .before .before .before .before .before .before .before .before .before .before .before .before .before .before .before .before .before .before .before .before .before .before .pre .2))) (part-record-at (c .before .before .before .before .before .before .before .before .before .before .before .before .before .before .before .before .before .before .before .before .before .before .before .before .before .before .before .args .chart .now) (c .before .before .before .before .before .before .before .before .before .before .before .before .before .before .before .before .before .before .before .before .before .before .before .before .before .before .before .args .k) (2 + 16 * c .before .before .before .before .before .before .before .before .before .before .before .before .before .before .before .before .before .before .before .before .before .before .before .before .before .before .before .args .k) (2 + 16 * c .before .before .before .before .before .before .before .before .before .before .before .before .before .before .before .before .before .before .before .before .before .before .before .before .before .before .before .args .k + 16 - (2 + 16 * c .before .before .before .before .before .before .before .before .before .before .before .before .before .before .before .before .before .before .before .before .before .before .before .before .before .before .before .args .k)) refl (omega arith) (item-fits (c .before .before .before .before .before .before .before .before .before .before .before .before .before .before .before .before .before .before .before .before .before .before .before .before .before .before .before .args .chart .now) (c .before .before .before .before .before .before .before .before .before .before .before .before .before .before .before .before .before .before .before .before .before .before .before .before .before .before .before .args .k) (c .before .before .before .before .before .before .before .before .before .before .before .before .before .before .before .before .before .before .before .before .before .before .before .before .before .before .before .pre .3)))) (c .before .before .before .before .before .before .before .before .before .before .before .before .before .before .pair-into .ensures)) found (c .before .before .before .before .before .before .before .before .before .before .before .before .before .before .before .before .before .before .before .plus .ensures) refl refl (c .before .before .before .before .before .before .add .ensures .0),
+      into-ready g h (s .keys .now) (s .chart .now) (s .index .now) (s .lists .now) (c .before .before .before .before .before .before .before .before .before .before .before .before .before .before .before .before .before .before .before .before .before .before .before .before .before .before .before .pre .1) _ _ _ (c .before .before .before .before .before .before .add .ensures .1) (c .before .before .before .before .before .before .add .ensures .2 g h (c .before .before .before .before .before .before .before .before .before .before .before .before .before .before .before .before .before .before .before .before .before .before .before .before .before .before .before .pre .1 .spanned) (c .before .before .before .before .before .before .before .before .before .before .before .before .before .before .pair-into .ensures .spans found)) _ _ _ _ (c .before .before .before .before .before .before .before .before .before .before .before .before .before .before .pair-into .ensures) (c .before .before .before .before .before .before .add .ensures .0),
     )
 
 pub add-pair-spec : {M : Type 1} → statement M
@@ -163,8 +163,8 @@ add-pair-spec =
     pair-into-requires
     same-length
     returns
-    slice-aggregate-add
     add-requires
     same-length-2
     same-length-3
+    same-length-4
     returns-2)

@@ -6,7 +6,6 @@ use mathlib.Core.List.{List}
 use Prim.Native.Nat.{ℕ}
 use borrow.Author.Tests.{not-true, not-false}
 use Rattle.lists.specs.Cursors.{SkimsAll}
-use Rattle.index.specs.Index.{listsOf}
 use Rattle.index.specs.Quiet.{quietIn}
 use Rattle.steps.proofs.consequences.onward.Statement.{statement}
 use Rattle.steps.proofs.consequences.onward.Tie as tie
@@ -29,7 +28,7 @@ returns-2 c =
     record {
       poised = record { few = c .resting .ensures .0 .few; least = λ m. c .resting .ensures .0 .least refl };
       each = λ m. absurd (false≢true (sym m ∙ not-false _ (c .before .before .if1 .left)));
-      skims = λ m. subst (λ (bs : List ℕ). SkimsAll (quietIn (s .chart .now) (s .edges)) (listsOf (s .index .now)) (s .n) bs (c .resting .result .cs)) (c .before .passed .ensures) (c .resting .ensures .1);
+      skims = λ m. subst (λ (bs : List ℕ). SkimsAll (quietIn (s .chart .now) (s .edges)) (s .lists .now) (s .n) bs (c .resting .result .cs)) (c .before .passed .ensures) (c .resting .ensures .1);
     }
 
 pub onward-spec : {M : Type 1} → statement M

@@ -2,8 +2,8 @@
 use native.Mathlib.Omega.{arith}
 use borrow.Author.Needs.{needs}
 use Rattle.index.proofs.QuietLaws.{skims-five}
-use Rattle.index.proofs.skim_all.Statement.{statement}
-use Rattle.index.proofs.skim_all.Tie as tie
+use Rattle.index.proofs.skimmed.Statement.{statement}
+use Rattle.index.proofs.skimmed.Tie as tie
 
 array-read-skim : tie.Need-array-read-skim
 array-read-skim c = search needs
@@ -38,8 +38,8 @@ skim-requires-5 c κs = search needs
 returns : tie.Need-returns
 returns c = skims-five _ _ _ (c .before .before .before .before .before .before .before .args .t5) _ _ _ _ _ (c .before .before .before .before .skim .ensures) (c .before .before .before .skim2 .ensures) (c .before .before .skim3 .ensures) (c .before .skim4 .ensures) (c .skim5 .ensures)
 
-pub skim-all-spec : {M : Type 1} → statement M
-skim-all-spec =
+pub skimmed-spec : {M : Type 1} → statement M
+skimmed-spec =
     tie.close
     (tie.spec
     array-read-skim
