@@ -216,16 +216,6 @@ pub fn attach_by(g: &[u64], r: u64, i: u64, w: u64, l: &[u64], t: &mut [u64])
     }
 }
 
-// The same, where the nodes are read off the table and t may have any words.
-pub fn attach(g: &[u64], r: u64, i: u64, l: &[u64], t: &mut [u64])
-    requires { ⌜ KnownEdge (now g) r i × (length (now l) ≡ 8) × (length (now t) ≡ 8) ⌝ }
-    ensures { λ x. ⌜ now (t .exit) ≡ padded (attach (ruleNodes (now (g .entry)) r) (edgeNodes (now (g .entry)) r i) (take (rankAt (now (g .entry)) (edgeLabel (now (g .entry)) r i)) (now (l .entry)))) ⌝ }
-{
-    let w = nodes_word(g, r, i);
-    clear(t);
-    attach_by(g, r, i, w, l, t);
-}
-
 // Whether graph node v is open in the edge set m, so that a rule node with this image must not be dropped. The words of v at the four places have its edges.
 fn lost(graph: &[u64; 577], m: u64, v: u64) -> bool
     requires { ⌜ v < 64 ⌝ }

@@ -16,9 +16,9 @@ use Rattle.agenda.specs.declared.Found.the-variants.{At, Nowhere}
 use Rattle.agenda.specs.Records.{isHandled}
 use Rattle.agenda.specs.Consequences.{recordIn, noRecord}
 use Rattle.agenda.specs.Steps.{Chart, improved, handledNow, lastSame, leastWaiting, handledCount, placed, added}
-use Rattle.records.specs.Words.{capacity, itemCount, recordAt, recordsAt, chartOf, written, addedTo, markedAt}
+use Rattle.records.specs.Words.{capacity, itemCount, recordsAt, chartOf, written, addedTo, markedAt}
 use Rattle.agenda.proofs.Adding.{cond-by}
-use Rattle.records.proofs.WordLaws.{length-records, record-in}
+use Rattle.records.proofs.WordLaws.{length-records}
 use Rattle.records.proofs.Written.{Eights, Holds, add-written, handle-written, capacity-written, fits-written, chart-of-written, written-over}
 
 -- ---- records keep their eight places
@@ -125,9 +125,6 @@ module _ (w : List ℕ) (c : Chart) (o : Holds w c) (v : List ℕ) (p : v ≡ wr
 
   pub capacity-on : capacity v ≡ capacity w
   capacity-on = ap capacity p ∙ capacity-written w c o
-
-  pub record-on : (j : ℕ) → j < length (c .records) → recordAt v j ≡ recordIn (c .records) j
-  record-on j l = sym (record-in v (itemCount v) j (omega (arith, count-on))) ∙ ap (λ (rs : List Record). recordIn rs j) records-on
 
   -- the searches of the code are those of the model
   pub same-on : (x : Record) → lastSame x (recordsAt v (itemCount v)) (itemCount v) ≡ lastSame x (c .records) (length (c .records))

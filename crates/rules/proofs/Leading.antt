@@ -6,7 +6,7 @@ use Prim.Native.Nat.{ℕ, zero, suc, _+_, _/_, _%_, _≤_, _<_}
 use native.Mathlib.Omega.{arith}
 use lib.ListN.{length, take}
 use lib.Dec.{eqb}
-use borrow.Author.Tests.{eq-eqb, ne-eqb, eqb-true, eqb-false, lt-ltb, le-ltb, not-true, not-false}
+use borrow.Author.Tests.{eq-eqb, ne-eqb, eqb-true, eqb-false, lt-ltb, not-true, not-false}
 use Rattle.hrg.specs.Counts.{hit, occurs}
 use Rattle.hrg.specs.Grammars.{Graph, PlanNode, leaf, introduce, join, Rule, Grammar, ruleOf, rightOf, planOf, planNode}
 use Rattle.hrg.specs.Items.{Item, active, passive}
@@ -24,7 +24,7 @@ use Rattle.joins.proofs.PlanMasks.{node-is}
 use Rattle.rules.specs.declared.plans.Parent.{Parent}
 use Rattle.rules.specs.Plans.{ParentAt, Leads}
 use Rattle.rules.proofs.Parents.{child-lower}
-use Rattle.rules.proofs.RuleItems.{guard-none, each-none, item-active, pair-passive, binary-nowhere}
+use Rattle.rules.proofs.RuleItems.{guard-none, each-none, item-active, pair-passive}
 use Rattle.rules.proofs.Meeting.{rule-or-none}
 use Rattle.rules.proofs.JoinWords.{join-first, join-later as word-later}
 
@@ -121,14 +121,6 @@ module _ (g : List ℕ) (checked : checkGrammar g ≡ true) (x : Record) where
 
     item : itemOf G x ≡ active (x .of) (x .plan) (x .edges) (take (rightOf G (x .of) .nodes) (x .nodes))
     item = item-active G x (eq-eqb (x .kind) 0 k)
-
-    pub leads-nowhere : 16 ≤ up → Leads g x false
-    leads-nowhere l = record {
-      not = λ e H y.
-          ap (λ (i : Item). binaryOf G H i (itemOf G y)) item
-          ∙ binary-nowhere G H _ _ _ _ (is .above .nowhere (le-ltb up 16 l) .none) (itemOf G y);
-      yes = λ e. absurd (false≢true e);
-    }
 
     module _ (l : up < 16) where
       abbrev c : ℕ

@@ -6,9 +6,8 @@ ghost use lib.ListN.{length, replicate};
 ghost use Rattle.questions.specs.Checking.{checkGrammar};
 ghost use Rattle.questions.specs.Layout.{ruleCount, planKind, planFirst, planSecond, edgeLabel, edgeNode};
 ghost use Rattle.joins.specs.Joins.{KnownNode, KnownEdge, OpenAt};
-ghost use Rattle.records.specs.Words.{ofWords};
 ghost use Rattle.rules.specs.Rules.{Above};
-ghost use Rattle.rules.specs.Plans.{secondWord, ParentAt, PlanTable, Leads};
+ghost use Rattle.rules.specs.Plans.{secondWord, ParentAt, PlanTable};
 ghost use Rattle.rules.specs.Filling.{Placed, Put, ToldTo};
 use crate::Place;
 
@@ -171,19 +170,4 @@ pub(crate) fn node_at(g: &[u64], r: u64, i: u64, k: u64) -> u64
     ensures { λ x. ⌜ x ≡ edgeNode (now (g .entry)) r i k ⌝ }
 {
     layout::word_in(g, 66 + 25 * r + i, 1 + k)
-}
-
-// Whether x comes first where it makes something with another record: the plan node above it has x's as its first child. If not, x comes second, for a plan node is a child at most once.
-pub fn leads(g: &[u64], plans: &[u32; 2048], x: &[u64]) -> bool
-    requires { ⌜ (checkGrammar (now g) ≡ true) × PlanTable (now g) (now plans) × (length (now x) ≡ 16) ⌝ }
-    ensures { λ r. ⌜ Leads (now (g .entry)) (ofWords (now (x .entry))) r ⌝ }
-{
-    if x[0] != 0 {
-        return false;
-    }
-    let w = parent_in(g, plans, x[1], x[2]).word;
-    if w % 32 >= 16 {
-        return false;
-    }
-    w / 32 % 4 != 3
 }

@@ -64,7 +64,7 @@ module _ {g h plans keys graph w ix ls : List ℕ} {j near : ℕ} (P : Tables g 
 
   -- ---- an active one, by the plan node above it
   module _ (k : x .kind ≡ 0) (up : Parent) (at : ParentAt g (x .of) (x .plan) up) where
-    -- nothing by the root rule
+    -- where there is one: nothing by the root rule
     pub alone-child : up .word % 32 < 16 → {v jx ms : List ℕ} → v ≡ grownBy w (withEdges G H x j) → Ready g h keys v jx ms → Alone g h keys w j v jx ms (not (eqb (up .word / 32 % 4) 3))
     alone-child l {v} p R = record {
       is = alone-added G H w w v x j (P .1 .fits) (skip-child g x j w (P .1 .fits) k checked up at l) p;
@@ -72,7 +72,7 @@ module _ {g h plans keys graph w ix ls : List ℕ} {j near : ℕ} (P : Tables g 
       leads = leads-first g checked x k up at l;
     }
 
-    -- nothing but by the root rule, where there is none
+    -- where there is none: nothing with graph edges and with records
     pub all-root : 16 ≤ up .word % 32 → {v : List ℕ} → v ≡ grownBy w (byRoot G H x j) → v ≡ grownBy w (consequences G H (chartOf w .records) j)
     all-root far {v} p =
         let o = added-fits w v _ (P .1 .fits) (root-whole G H _ _ _) p in

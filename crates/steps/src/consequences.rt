@@ -503,7 +503,7 @@ fn add_each(
     );
 }
 
-// All that the record at place j makes. Its kind and the plan node above it are read once, and tell what it is tried with: a passive item makes nothing by itself and comes only second; an active one below no plan node is tried with the root rule alone, and any other one with all but the root rule.
+// All that the record at place j makes. Its kind and the plan node above it are read once, here, and tell what it is tried with, since with the rest it makes nothing: a passive item only with records, where it comes second; an active one with no plan node above it only with the root rule; any other one with graph edges and records.
 pub(crate) fn add_all(
     g: &[u64],
     h: &[u64],

@@ -1,5 +1,5 @@
 -- Words that are 0: one word made of many, and a few tested one by one.
-use Prim.Native.Nat.{ℕ, _+_, _≤_, _<_}
+use Prim.Native.Nat.{ℕ, _+_, _*_, _≤_, _<_}
 use native.Mathlib.Omega.{arith}
 use native.Mathlib.Decide.{decLt}
 use mathlib.Core.Path.{_≡_, refl, sym, subst}
@@ -122,13 +122,32 @@ module _ (t : List ℕ) (at : ℕ) where
       subst (λ k. Zeros t (at + k) (at + 9) (eqb any 0)) (sym e)
       (record { yes = λ y. G .yes (eqb-true any 0 y); no = λ y z. eqb-false any 0 y (G .no z) })
 
-pub gathered-turn : (t : List ℕ) (a i any p q r s : ℕ) → Gathered t a i any → a ≤ i → p ≡ eightFrom t i any → q ≡ eightFrom t (i + 8) p → r ≡ eightFrom t (i + 16) q
-    → s ≡ eightFrom t (i + 24) r → Gathered t a (i + 32) s
-gathered-turn t a i any p q r s G l e f g h =
-    let one = gathered-eight t a i any p G l e in
-    let two = subst (λ k. Gathered t a k q) (let x : i + 8 + 8 ≡ i + 16 = omega arith in x) (gathered-eight t a (i + 8) p q one (omega arith) f) in
-    let three = subst (λ k. Gathered t a k r) (let x : i + 16 + 8 ≡ i + 24 = omega arith in x) (gathered-eight t a (i + 16) q r two (omega arith) g) in
-    subst (λ k. Gathered t a k s) (let x : i + 24 + 8 ≡ i + 32 = omega arith in x) (gathered-eight t a (i + 24) r s three (omega arith) h)
+pub gathered-turn : (t : List ℕ) (a i j any p q : ℕ) → Gathered t a i any → a ≤ i → p ≡ eightFrom t i any → q ≡ eightFrom t (i + 8) p → i + 16 ≡ j → Gathered t a j q
+gathered-turn t a i j any p q G l e f s =
+    subst (λ k. Gathered t a k q) (let x : i + 8 + 8 ≡ j = omega arith in x) (gathered-eight t a (i + 8) p q (gathered-eight t a i any p G l e) (omega arith) f)
+
+-- .. of those before i and those from there on
+pub gathered-both : (t : List ℕ) (a i b p q : ℕ) → a ≤ i → i ≤ b → Gathered t a i p → Gathered t i b q → Gathered t a b (bitOr p q)
+gathered-both t a i b p q l m G K = record { yes = λ h k c d. go (or-none p q h) k c d (decLt k i); no = both }
+  where
+    go : (p ≡ 0) × (q ≡ 0) → (k : ℕ) → a ≤ k → k < b → Dec (k < i) → getD t k 0 ≡ 0
+    go z k c d (yes e) = G .yes (z .0) k c e
+    go z k c d (no e) = K .yes (z .1) k (omega arith) d
+
+    both : Zero t a b → bitOr p q ≡ 0
+    both z =
+        let none : p ≡ 0 = G .no (λ k c d. z k c (omega arith)) in
+        let rest : q ≡ 0 = K .no (λ k c d. z k (omega arith) d) in
+        rw (none, rest)
+
+-- two halves of as many words, gone through by turns
+pub none-from : (t : List ℕ) (a : ℕ) → Gathered t a (a + 16 * 0) 0
+none-from t a = subst (λ k. Gathered t a k 0) (let e : a ≡ a + 16 * 0 = omega arith in e) (gathered-none t a)
+
+pub halves : (t : List ℕ) (a n half i p q : ℕ) → half ≡ a + 16 * n → i ≡ n → Gathered t a (a + 16 * i) p → Gathered t half (half + 16 * i) q → Gathered t a (a + 32 * n) (bitOr p q)
+halves t a n half i p q h e G K =
+    gathered-both t a half (a + 32 * n) p q (omega arith) (omega arith)
+    (subst (λ k. Gathered t a k p) (let s : a + 16 * i ≡ half = omega arith in s) G) (subst (λ k. Gathered t half k q) (let s : half + 16 * i ≡ a + 32 * n = omega arith in s) K)
 
 -- the words behind those that one word was made of
 module _ (t : List ℕ) (a b i any : ℕ) (G : Gathered t a i any) (l : i ≤ b) where

@@ -14,12 +14,6 @@ use crate::marks;
 use crate::marks::NodeSet;
 use crate::plans;
 
-// How far words were gathered, and the one word made of them.
-struct Gathering {
-    from: u64,
-    any: u64,
-}
-
 // One word made of eight from i on, and of `any`.
 fn with_eight(t: &[u64], i: usize, any: u64) -> u64
     requires { ⌜ i + 8 ≤ length (now t) ⌝ }
@@ -29,20 +23,23 @@ fn with_eight(t: &[u64], i: usize, any: u64) -> u64
     low | t[i + 4] | t[i + 5] | t[i + 6] | t[i + 7]
 }
 
-// One word made of those of t from a on, 32 a turn, as long as b is not near: how far it came, and the word.
-fn gather(t: &[u64], a: u64, b: u64) -> Gathering
-    requires { ⌜ (a ≤ b) × (b ≤ length (now t)) ⌝ }
-    ensures { λ x. ⌜ (a ≤ x .from) × (x .from ≤ b) × Gathered (now (t .entry)) a (x .from) (x .any) ⌝ }
+// One word made of 32 * n words of t from a on: of both halves at once, since one alone would wait at each page for its first words.
+fn gather(t: &[u64], a: u64, n: u64) -> u64
+    requires { ⌜ a + 32 * n ≤ length (now t) ⌝ }
+    ensures { λ x. ⌜ Gathered (now (t .entry)) a (a + 32 * n) x ⌝ }
 {
-    let mut any: u64 = 0;
-    let mut i = a;
-    while 32 <= b - i {
-        let at = i as usize;
-        let low = with_eight(t, at + 8, with_eight(t, at, any));
-        any = with_eight(t, at + 24, with_eight(t, at + 16, low));
-        i += 32;
+    let half = a + 16 * n;
+    let mut low: u64 = 0;
+    let mut high: u64 = 0;
+    let mut i: u64 = 0;
+    while i < n {
+        let at = (a + 16 * i) as usize;
+        low = with_eight(t, at + 8, with_eight(t, at, low));
+        let to = (half + 16 * i) as usize;
+        high = with_eight(t, to + 8, with_eight(t, to, high));
+        i += 1;
     }
-    Gathering { from: i, any }
+    low | high
 }
 
 // Whether the words of t from a to b are 0, for a few words: each is tested.
@@ -68,11 +65,11 @@ fn zeros(t: &[u64], a: u64, b: u64) -> bool
     if a == b {
         return true;
     }
-    let gathered = gather(t, a, b);
-    if gathered.any != 0 {
+    let n = (b - a) / 32;
+    if gather(t, a, n) != 0 {
         return false;
     }
-    few_zeros(t, gathered.from, b)
+    few_zeros(t, a + 32 * n, b)
 }
 
 // The same for the six words behind the fields of a line with three, which stands from word `at` on.
