@@ -41,7 +41,7 @@ fn mark(index: &mut [u32], regular: bool)
 }
 
 // Record n, one more than there are, is that of the words x: it comes on the lists of its keys.
-fn list_many(keys: &[u64; 2240], lists: &mut [u16], index: &mut [u32], n: u64, x: &[u64])
+fn list_many(keys: &[u32; 2240], lists: &mut [u16], index: &mut [u32], n: u64, x: &[u64])
     requires { ⌜ (length (now index) ≡ indexWords) × Ready (now lists) × (n < 4096) × (length (now x) ≡ 16) ⌝ }
     ensures { λ r. ⌜ (now (lists .exit) ≡ enteredAll (now (lists .entry)) (5 * n) (keysOf (now (keys .entry)) (ofWords (now (x .entry))))) × (now (index .exit) ≡ markedFor (now (keys .entry)) (now (index .entry)) (ofWords (now (x .entry)))) ⌝ }
 {
@@ -52,7 +52,7 @@ fn list_many(keys: &[u64; 2240], lists: &mut [u16], index: &mut [u32], n: u64, x
 }
 
 // The same; most records have one key, which comes without an array.
-fn list(keys: &[u64; 2240], lists: &mut [u16], index: &mut [u32], n: u64, x: &[u64])
+fn list(keys: &[u32; 2240], lists: &mut [u16], index: &mut [u32], n: u64, x: &[u64])
     requires { ⌜ (length (now index) ≡ indexWords) × Ready (now lists) × (n < 4096) × (length (now x) ≡ 16) ⌝ }
     ensures { λ r. ⌜ (now (lists .exit) ≡ enteredAll (now (lists .entry)) (5 * n) (keysOf (now (keys .entry)) (ofWords (now (x .entry))))) × (now (index .exit) ≡ markedFor (now (keys .entry)) (now (index .entry)) (ofWords (now (x .entry)))) ⌝ }
 {
@@ -66,7 +66,7 @@ fn list(keys: &[u64; 2240], lists: &mut [u16], index: &mut [u32], n: u64, x: &[u
 }
 
 // The lists of a chart's records, which come one after another: there is none before.
-fn list_all(keys: &[u64; 2240], chart: &[u64], lists: &mut [u16], index: &mut [u32])
+fn list_all(keys: &[u32; 2240], chart: &[u64], lists: &mut [u16], index: &mut [u32])
     requires { ⌜ (length (now index) ≡ indexWords) × Unlisted (now lists) × (itemCount (now chart) ≤ 4096) ⌝ }
     ensures { λ r. ⌜ Keyed (now (keys .entry)) (now (index .exit)) (now (lists .exit)) (chartOf (now (chart .entry)) .records) × Kept (now (index .entry)) (now (index .exit)) ⌝ }
 {
@@ -128,7 +128,7 @@ pub fn build(
     g: &[u64],
     h: &[u64],
     graph: &[u64; 577],
-    keys: &[u64; 2240],
+    keys: &[u32; 2240],
     chart: &[u64],
     lists: &mut [u16],
     index: &mut [u32],
@@ -211,7 +211,7 @@ pub fn regular(index: &[u32]) -> bool
 }
 
 // Record n, one more than there are, is that of the words x.
-fn enter(keys: &[u64; 2240], lists: &mut [u16], index: &mut [u32], n: u64, x: &[u64], h: u64)
+fn enter(keys: &[u32; 2240], lists: &mut [u16], index: &mut [u32], n: u64, x: &[u64], h: u64)
     requires { ⌜ (length (now index) ≡ indexWords) × Ready (now lists) × (n < 4096) × (length (now x) ≡ 16) × (h ≡ hashOf (ofWords (now x))) × (h < 4294967296) ⌝ }
     ensures { λ r. ⌜ ((rs : List Record) → Indexed (now (keys .entry)) (now (index .entry)) (now (lists .entry)) rs → n ≡ length rs → Indexed (now (keys .entry)) (now (index .exit)) (now (lists .exit)) (rs ++ (ofWords (now (x .entry)) ∷ [])) × NearKept (now (index .entry)) (now (index .exit))) ⌝ }
 {
@@ -246,7 +246,7 @@ fn again(chart: &mut [u64], index: &mut [u32], j: u64, x: &[u64])
 
 // The record x behind the others, with the set o beside it; where no place is left the chart is marked.
 fn behind(
-    keys: &[u64; 2240],
+    keys: &[u32; 2240],
     chart: &mut [u64],
     lists: &mut [u16],
     index: &mut [u32],
@@ -269,7 +269,7 @@ fn behind(
 
 // The record x in the chart, as `records::add` has it, with the indexes kept. The set o holds the open nodes of its edges.
 pub fn add(
-    keys: &[u64; 2240],
+    keys: &[u32; 2240],
     chart: &mut [u64],
     lists: &mut [u16],
     index: &mut [u32],

@@ -2,15 +2,17 @@
 use mathlib.Core.Path.{_≡_, refl, sym, ap, ap₂, _∙_, subst}
 use mathlib.Core.Bool.{Bool, true, false, _&&_, _||_, cond, true≢false}
 use mathlib.Core.List.{List}
-use Prim.Native.Nat.{ℕ, zero, suc, _+_, _-_, _*_, _/_, _%_, _≤_, _<_}
+use Prim.Native.Nat.{ℕ, zero, suc, _+_, _-_, _*_, _/_, _%_, _^_, _≤_, _<_}
 use native.Mathlib.Omega.{arith}
 use native.Mathlib.Decide.{decLt, ℕ-discrete}
 use native.Mathlib.Numerals.{add-one}
+use lib.Bits.{or-lt}
+use lib.Pow.{pow-lt}
 use lib.ListN.{length, length-set, getD, set, replicate, getD-replicate}
 use lib.Seq.{getD-set-same, getD-set-other}
 use lib.Dec.{eqb}
 use borrow.Author.Tests.{eq-eqb, ne-eqb, lt-ltb, le-ltb}
-use Rattle.masks.specs.Masks.{member, Added}
+use Rattle.masks.specs.Masks.{member, single, _∪_, Added}
 use Rattle.hrg.specs.Counts.{occurs}
 use Rattle.hrg.specs.Grammars.{Edge, Rule, Grammar, PlanNode, leaf, introduce, join, ruleOf, rightOf, planOf, planNode, edgeAt}
 use Rattle.hrg.specs.Trees.{at}
@@ -340,6 +342,11 @@ or-first false b h = absurd (true≢false (sym h))
 or-second : (a b : Bool) → b ≡ true → (a || b) ≡ true
 or-second true b h = refl
 or-second false b h = h
+
+-- a set in half a word, with a number below 32 more
+pub with-small : (m e u : ℕ) → Added m e u → m < 4294967296 → e < 32 → u < 4294967296
+unfolding _∪_ single
+with-small m e u added h l = omega (arith, added .value (omega arith), or-lt 32 m (2 ^ e) h (pow-lt l))
 
 module _ (t : List ℕ) (i want w x y : ℕ) (size : length t ≡ 2240) (l : i < 1024) (a : x ≡ keyWord 2 want w (i / 16) (i % 16)) (b : y ≡ keyWord 1 want w (i / 16) (want % 64)) where
   abbrev two : List ℕ

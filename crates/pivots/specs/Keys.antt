@@ -23,13 +23,13 @@ abbrev pub joinTag : ℕ
 joinTag = 3
 
 -- ---- buckets
--- What is mixed of all but the node. Each number is brought below a bound first, so that the sum stays in a word whatever they are; it is not 0, since no tag is.
+-- What is mixed of all but the node, from 1 to 2^27. Each number is brought below a bound first, so that the sum stays in a word whatever they are; of its low 32 bits the upper 27 are taken, so that 16 times it and a node stay in half a word.
 unfoldable pub baseOf : ℕ → ℕ → ℕ → ℕ
-baseOf tag s k = tag % 128 * 3266489917 + s % 128 * 2654435769 + k % 128 * 2246822519
+baseOf tag s k = (tag % 128 * 3266489917 + s % 128 * 2654435769 + k % 128 * 2246822519) % 4294967296 / 32 + 1
 
--- The base b and the node a mixed into 1 .. 2,048: bits 21 to 31 are those on which every lower bit has an effect.
+-- The base b, back in its place in 32 bits, and the node a mixed into 1 .. 2,048: bits 21 to 31 are those on which every lower bit has an effect.
 unfoldable pub mixed : ℕ → ℕ → ℕ
-mixed b a = (b + a % 128 * 668265263) % 4294967296 / 2097152 + 1
+mixed b a = (32 * b + a % 128 * 668265263) % 4294967296 / 2097152 + 1
 
 unfoldable pub bucketOf : ℕ → ℕ → ℕ → ℕ → ℕ
 unfolding baseOf mixed

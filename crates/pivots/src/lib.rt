@@ -90,23 +90,23 @@ fn pivot(g: &[u64], plans: &[u32; 2048], r: u64, p: u64) -> u64
 // ---- buckets
 // All of a key but the node, in one number.
 fn base(tag: u64, s: u64, k: u64) -> u64
-    ensures { λ b. ⌜ (b ≡ baseOf tag s k) × (b ≤ 1099511627776) ⌝ }
+    ensures { λ b. ⌜ (b ≡ baseOf tag s k) × (b ≤ 134217728) ⌝ }
 {
-    tag % 128 * 3266489917 + s % 128 * 2654435769 + k % 128 * 2246822519
+    (tag % 128 * 3266489917 + s % 128 * 2654435769 + k % 128 * 2246822519) % 4294967296 / 32 + 1
 }
 
 // The base b and the node a mixed into 1 .. 2,048.
 fn mix(b: u64, a: u64) -> u64
-    requires { ⌜ b ≤ 1152921504606846976 ⌝ }
+    requires { ⌜ b ≤ 268435456 ⌝ }
     ensures { λ x. ⌜ x ≡ mixed b a ⌝ }
 {
-    (b + a % 128 * 668265263) % 4294967296 / 2097152 + 1
+    (32 * b + a % 128 * 668265263) % 4294967296 / 2097152 + 1
 }
 
 // ---- the table
 // The word for active records of rule r that want `want` and have pivot w; a join's stands at plan node p.
 fn key_word(tag: u64, want: u64, w: u64, r: u64, p: u64) -> u64
-    ensures { λ x. ⌜ x ≡ keyWord tag want w r p ⌝ }
+    ensures { λ x. ⌜ (x ≡ keyWord tag want w r p) × (x < 4294967296) ⌝ }
 {
     if want == 80 {
         return 0;
@@ -133,7 +133,7 @@ fn place_of(u: u64) -> u64
 
 // The word for passive records of symbol s that are asked for at the places in u.
 fn place_word(tag: u64, s: u64, u: u64) -> u64
-    ensures { λ x. ⌜ x ≡ placeWord tag s u ⌝ }
+    ensures { λ x. ⌜ (x ≡ placeWord tag s u) × (x < 4294967296) ⌝ }
 {
     let i = place_of(u);
     if i >= 5 {
@@ -147,37 +147,37 @@ fn place_word(tag: u64, s: u64, u: u64) -> u64
 }
 
 // The words for place i of the rules and their plan nodes, whose pivot is w.
-fn enter(t: &mut [u64], i: u64, want: u64, w: u64)
+fn enter(t: &mut [u32], i: u64, want: u64, w: u64)
     requires { ⌜ (length (now t) ≡ 2240) × (i < 1024) × (w ≤ 72) ⌝ }
     ensures { λ r. ⌜ Entered (now (t .entry)) i want w (now (t .exit)) ⌝ }
 {
     let own = key_word(2, want, w, i / 16, i % 16);
-    t[i as usize] = own;
+    t[i as usize] = own as u32;
     let asked = key_word(1, want, w, i / 16, want % 64);
-    t[(1024 + i) as usize] = asked;
+    t[(1024 + i) as usize] = asked as u32;
     if want < 64 {
         let at = (2048 + want) as usize;
-        let u = masks::with(t[at], w / 16);
-        t[at] = u;
+        let u = masks::with(t[at] as u64, w / 16);
+        t[at] = u as u32;
     }
 }
 
 // The words for the symbols, whose uses are there.
-fn fill_places(t: &mut [u64])
+fn fill_places(t: &mut [u32])
     requires { ⌜ length (now t) ≡ 2240 ⌝ }
     ensures { λ r. ⌜ Placed (now (t .entry)) 64 (now (t .exit)) ⌝ }
 {
     let mut s: u64 = 0;
     while s < 64 {
-        let u = t[(2048 + s) as usize];
-        t[(2112 + s) as usize] = place_word(1, s, u);
-        t[(2176 + s) as usize] = place_word(2, s, u);
+        let u = t[(2048 + s) as usize] as u64;
+        t[(2112 + s) as usize] = place_word(1, s, u) as u32;
+        t[(2176 + s) as usize] = place_word(2, s, u) as u32;
         s += 1;
     }
 }
 
 // The table, into words that are 0: for all rules and plan nodes the words by which active records are listed, then those by which they ask; for each symbol the positions at which it is wanted, and the same two words of passive records.
-pub fn fill(g: &[u64], plans: &[u32; 2048], t: &mut [u64])
+pub fn fill(g: &[u64], plans: &[u32; 2048], t: &mut [u32])
     requires { ⌜ (checkGrammar (now g) ≡ true) × PlanTable (now g) (now plans) × (now t ≡ replicate 2240 0) ⌝ }
     ensures { λ r. ⌜ KeyTable (now (g .entry)) (now (t .exit)) ⌝ }
 {
@@ -195,9 +195,9 @@ pub fn fill(g: &[u64], plans: &[u32; 2048], t: &mut [u64])
 }
 
 // A word for rule r and plan node p, read off a table: 0 where it has none.
-fn rule_word(t: &[u64; 2240], from: u64, r: u64, p: u64) -> u64
-    requires { ⌜ from ≤ 1024 ⌝ }
-    ensures { λ w. ⌜ w ≡ ruleWord (now (t .entry)) from r p ⌝ }
+fn rule_word(t: &[u32], from: u64, r: u64, p: u64) -> u64
+    requires { ⌜ (length (now t) ≡ 2240) × (from ≤ 1024) ⌝ }
+    ensures { λ w. ⌜ (w ≡ ruleWord (now (t .entry)) from r p) × (w < 4294967296) ⌝ }
 {
     if r >= 64 {
         return 0;
@@ -205,25 +205,25 @@ fn rule_word(t: &[u64; 2240], from: u64, r: u64, p: u64) -> u64
     if p >= 16 {
         return 0;
     }
-    t[(from + 16 * r + p) as usize]
+    t[(from + 16 * r + p) as usize] as u64
 }
 
 // And for symbol s.
-fn symbol_word(t: &[u64; 2240], from: u64, s: u64) -> u64
-    requires { ⌜ from ≤ 2176 ⌝ }
-    ensures { λ w. ⌜ w ≡ symbolWord (now (t .entry)) from s ⌝ }
+fn symbol_word(t: &[u32], from: u64, s: u64) -> u64
+    requires { ⌜ (length (now t) ≡ 2240) × (from ≤ 2176) ⌝ }
+    ensures { λ w. ⌜ (w ≡ symbolWord (now (t .entry)) from s) × (w < 4294967296) ⌝ }
 {
     if s >= 64 {
         return 0;
     }
-    t[(from + s) as usize]
+    t[(from + s) as usize] as u64
 }
 
 // ---- keys
 // The word of a record: an active one's from word `rules` on, a passive one's from `symbols` on.
-fn word_for(t: &[u64; 2240], rules: u64, symbols: u64, x: &[u64]) -> u64
-    requires { ⌜ (length (now x) ≡ 16) × (rules ≤ 1024) × (symbols ≤ 2176) ⌝ }
-    ensures { λ w. ⌜ w ≡ wordFor (now (t .entry)) rules symbols (ofWords (now (x .entry))) ⌝ }
+fn word_for(t: &[u32], rules: u64, symbols: u64, x: &[u64]) -> u64
+    requires { ⌜ (length (now t) ≡ 2240) × (length (now x) ≡ 16) × (rules ≤ 1024) × (symbols ≤ 2176) ⌝ }
+    ensures { λ w. ⌜ (w ≡ wordFor (now (t .entry)) rules symbols (ofWords (now (x .entry)))) × (w < 4294967296) ⌝ }
 {
     if x[0] == 0 {
         return rule_word(t, rules, x[1], x[2]);
@@ -232,8 +232,8 @@ fn word_for(t: &[u64; 2240], rules: u64, symbols: u64, x: &[u64]) -> u64
 }
 
 // The positions at which it is asked for, if it is passive.
-fn uses_of(t: &[u64; 2240], x: &[u64]) -> u64
-    requires { ⌜ length (now x) ≡ 16 ⌝ }
+fn uses_of(t: &[u32], x: &[u64]) -> u64
+    requires { ⌜ (length (now t) ≡ 2240) × (length (now x) ≡ 16) ⌝ }
     ensures { λ u. ⌜ u ≡ usesOf (now (t .entry)) (ofWords (now (x .entry))) ⌝ }
 {
     if x[0] == 0 {
@@ -271,7 +271,7 @@ pub struct AskedKey {
 }
 
 // Of a record.
-pub fn asked(keys: &[u64; 2240], x: &[u64]) -> AskedKey
+pub fn asked(keys: &[u32; 2240], x: &[u64]) -> AskedKey
     requires { ⌜ length (now x) ≡ 16 ⌝ }
     ensures { λ r. ⌜ (r .single ≡ true → (r .key ∷ 0 ∷ 0 ∷ 0 ∷ 0 ∷ []) ≡ queryOf (now (keys .entry)) (ofWords (now (x .entry)))) ⌝ }
 {
@@ -288,7 +288,7 @@ pub fn asked(keys: &[u64; 2240], x: &[u64]) -> AskedKey
 }
 
 // The keys that the partners of a record have, 0 for none. The five places are written out here and in `listing`: a function for both would hand an array over by value.
-pub fn query(keys: &[u64; 2240], x: &[u64]) -> [u64; 5]
+pub fn query(keys: &[u32; 2240], x: &[u64]) -> [u64; 5]
     requires { ⌜ length (now x) ≡ 16 ⌝ }
     ensures { λ ks. ⌜ ks ≡ queryOf (now (keys .entry)) (ofWords (now (x .entry))) ⌝ }
 {
@@ -328,7 +328,7 @@ pub struct Entries {
 }
 
 // Of a record. An only key comes first.
-pub fn listing(keys: &[u64; 2240], x: &[u64]) -> Entries
+pub fn listing(keys: &[u32; 2240], x: &[u64]) -> Entries
     requires { ⌜ length (now x) ≡ 16 ⌝ }
     ensures { λ r. ⌜ (r .keys ≡ keysOf (now (keys .entry)) (ofWords (now (x .entry)))) × (r .regular ≡ regularOf (now (keys .entry)) (ofWords (now (x .entry)))) ⌝ }
 {
@@ -368,7 +368,7 @@ pub struct OwnKey {
 }
 
 // Of a record.
-pub fn entry(keys: &[u64; 2240], x: &[u64]) -> OwnKey
+pub fn entry(keys: &[u32; 2240], x: &[u64]) -> OwnKey
     requires { ⌜ length (now x) ≡ 16 ⌝ }
     ensures { λ r. ⌜ (r .single ≡ true → ((r .key ∷ 0 ∷ 0 ∷ 0 ∷ 0 ∷ []) ≡ keysOf (now (keys .entry)) (ofWords (now (x .entry)))) × (r .regular ≡ regularOf (now (keys .entry)) (ofWords (now (x .entry))))) ⌝ }
 {

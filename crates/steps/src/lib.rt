@@ -51,7 +51,7 @@ fn step(
     g: &[u64],
     h: &[u64],
     plans: &[u32; 2048],
-    keys: &[u64; 2240],
+    keys: &[u32; 2240],
     graph: &[u64; 577],
     chart: &mut [u64],
     lists: &mut [u16],
@@ -75,7 +75,7 @@ fn advance_by(
     g: &[u64],
     h: &[u64],
     plans: &[u32; 2048],
-    keys: &[u64; 2240],
+    keys: &[u32; 2240],
     graph: &[u64; 577],
     chart: &mut [u64],
     lists: &mut [u16],
@@ -102,7 +102,7 @@ pub fn advance(g: &[u64], h: &[u64], chart: &mut [u64], steps: u64) -> bool
 {
     let mut plans = [0u32; 2048];
     rules::plans::fill(g, &mut plans);
-    let mut keys = [0u64; 2240];
+    let mut keys = [0u32; 2240];
     pivots::fill(g, &plans, &mut keys);
     let mut graph = [0u64; 577];
     joins::graphs::fill(g, h, &mut graph);

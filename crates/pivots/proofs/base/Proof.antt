@@ -22,10 +22,13 @@ mul-result-3 c = search needs
 add-result-2 : tie.Need-add-result-2
 add-result-2 c = search needs
 
+add-result-3 : tie.Need-add-result-3
+add-result-3 c = search needs
+
 returns : tie.Need-returns
 unfolding baseOf
 returns c = (refl, omega arith)
 
 pub base-spec : {M : Type 1} → statement M
 base-spec =
-    tie.close (tie.spec mul-result mul-result-2 add-result mul-result-3 add-result-2 returns)
+    tie.close (tie.spec mul-result mul-result-2 add-result mul-result-3 add-result-2 add-result-3 returns)

@@ -27,8 +27,14 @@ mul-u c = search needs
 slice-read-u : tie.Need-slice-read-u Inv-loop μ-loop
 slice-read-u c = omega (arith, c .before .before .loop .inv .1 .size)
 
+cast-u : tie.Need-cast-u Inv-loop μ-loop
+cast-u c = omega (arith, c .slice-known2 .given (2048 + c .before .before .loop .s))
+
 place-word-requires : tie.Need-place-word-requires Inv-loop μ-loop
 place-word-requires c κs = search needs
+
+cast-t : tie.Need-cast-t Inv-loop μ-loop
+cast-t c = omega (arith, c .place-word .ensures .1)
 
 add-t : tie.Need-add-t Inv-loop μ-loop
 add-t c = search needs
@@ -41,6 +47,9 @@ slice-write-t c = omega (arith, c .before .before .before .loop .inv .1 .size)
 
 place-word-requires-2 : tie.Need-place-word-requires-2 Inv-loop μ-loop
 place-word-requires-2 c κs = search needs
+
+cast-t-2 : tie.Need-cast-t-2 Inv-loop μ-loop
+cast-t-2 c = omega (arith, c .place-word2 .ensures .1)
 
 add-t-2 : tie.Need-add-t-2 Inv-loop μ-loop
 add-t-2 c = search needs
@@ -58,7 +67,7 @@ loop-less : tie.Need-loop-less Inv-loop μ-loop
 loop-less c = search needs
 
 loop-again : tie.Need-loop-again Inv-loop μ-loop
-loop-again c = (omega (arith, c .before .before .before .loop-test .taken), placed-more _ _ _ _ _ _ (c .before .before .before .before .loop .inv .1) (c .before .before .before .loop-test .taken) refl (c .before .place-word .ensures) (c .place-word2 .ensures) _ (omega arith) _ refl)
+loop-again c = (omega (arith, c .before .before .before .loop-test .taken), placed-more _ _ _ _ _ _ (c .before .before .before .before .loop .inv .1) (c .before .before .before .loop-test .taken) refl (c .before .place-word .ensures .0) (c .place-word2 .ensures .0) _ (omega arith) _ refl)
 
 same-length : tie.Need-same-length Inv-loop μ-loop
 same-length c = omega (arith, c .before .loop .inv .1 .size)
@@ -76,11 +85,14 @@ fill-places-spec =
     add-u
     mul-u
     slice-read-u
+    cast-u
     place-word-requires
+    cast-t
     add-t
     mul-t
     slice-write-t
     place-word-requires-2
+    cast-t-2
     add-t-2
     mul-t-2
     slice-write-t-2

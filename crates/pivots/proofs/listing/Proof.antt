@@ -16,13 +16,13 @@ mix-requires : tie.Need-mix-requires
 mix-requires c κs = search needs
 
 returns : tie.Need-returns
-returns c = (keys-are _ _ _ _ refl _ (c .before .before .before .word-for .ensures) (by-word _ _ _ _ _ _ (c .before .before .if1 .taken) (c .before .image .ensures) (c .mix .ensures)), regular-is _ _ _ _ refl _ (c .before .before .before .word-for .ensures) (regular-word _ _ _ _ (c .before .before .if1 .taken) (c .before .image .ensures)))
+returns c = (keys-are _ _ _ _ refl _ (c .before .before .before .word-for .ensures .0) (by-word _ _ _ _ _ _ (c .before .before .if1 .taken) (c .before .image .ensures) (c .mix .ensures)), regular-is _ _ _ _ refl _ (c .before .before .before .word-for .ensures .0) (regular-word _ _ _ _ (c .before .before .if1 .taken) (c .before .image .ensures)))
 
 uses-of-requires : tie.Need-uses-of-requires
 uses-of-requires c κs = search needs
 
 returns-2 : tie.Need-returns-2
-returns-2 c = (keys-are _ _ _ _ (c .before .uses-of .ensures) _ (c .before .before .before .word-for .ensures) (by-none (c .before .before .before .before .before .args .x .now) _ _ _ (c .before .before .if1 .left) (c .if2 .taken)), regular-is _ _ _ _ (c .before .uses-of .ensures) _ (c .before .before .before .word-for .ensures) (regular-none _ _ _ (c .before .before .if1 .left) (c .if2 .taken)))
+returns-2 c = (keys-are _ _ _ _ (c .before .uses-of .ensures) _ (c .before .before .before .before .word-for .ensures .0) (by-none (c .before .before .before .before .before .before .before .args .x .now) _ _ _ (c .before .before .before .if1 .left) (c .if2 .taken)), regular-is _ _ _ _ (c .before .uses-of .ensures) _ (c .before .before .before .before .word-for .ensures .0) (regular-none _ _ _ (c .before .before .before .if1 .left) (c .if2 .taken)))
 
 shared-slice-read-s : tie.Need-shared-slice-read-s
 shared-slice-read-s c = search needs
@@ -58,7 +58,7 @@ all-placed-requires : tie.Need-all-placed-requires
 all-placed-requires c κs = search needs
 
 returns-3 : tie.Need-returns-3
-returns-3 c = (keys-are _ _ _ _ (c .before .before .before .before .before .before .before .before .before .before .before .before .uses-of .ensures) _ (c .before .before .before .before .before .before .before .before .before .before .before .before .before .before .word-for .ensures) (by-five (c .before .before .before .before .before .before .before .before .before .before .before .before .before .before .before .before .args .x .now) _ _ _ (c .before .before .before .before .before .before .before .before .before .before .before .before .before .if1 .left) _ _ _ _ _ (c .before .before .before .before .before .before .before .before .place-key .ensures) (c .before .before .before .before .before .before .place-key2 .ensures) (c .before .before .before .before .place-key3 .ensures) (c .before .before .place-key4 .ensures) (c .before .place-key5 .ensures)), regular-is _ _ _ _ (c .before .before .before .before .before .before .before .before .before .before .before .before .uses-of .ensures) _ (c .before .before .before .before .before .before .before .before .before .before .before .before .before .before .word-for .ensures) (regular-five _ _ _ _ (c .before .before .before .before .before .before .before .before .before .before .before .before .before .if1 .left) (c .all-placed .ensures)))
+returns-3 c = (keys-are _ _ _ _ (c .before .before .before .before .before .before .before .before .before .before .before .before .uses-of .ensures) _ (c .before .before .before .before .before .before .before .before .before .before .before .before .before .before .before .word-for .ensures .0) (by-five (c .before .before .before .before .before .before .before .before .before .before .before .before .before .before .before .before .before .before .args .x .now) _ _ _ (c .before .before .before .before .before .before .before .before .before .before .before .before .before .before .if1 .left) _ _ _ _ _ (c .before .before .before .before .before .before .before .before .place-key .ensures) (c .before .before .before .before .before .before .place-key2 .ensures) (c .before .before .before .before .place-key3 .ensures) (c .before .before .place-key4 .ensures) (c .before .place-key5 .ensures)), regular-is _ _ _ _ (c .before .before .before .before .before .before .before .before .before .before .before .before .uses-of .ensures) _ (c .before .before .before .before .before .before .before .before .before .before .before .before .before .before .before .word-for .ensures .0) (regular-five _ _ _ _ (c .before .before .before .before .before .before .before .before .before .before .before .before .before .before .if1 .left) (c .all-placed .ensures)))
 
 pub listing-spec : {M : Type 1} → statement M
 listing-spec =

@@ -9,6 +9,9 @@ use Rattle.pivots.proofs.mix.Tie as tie
 mul-result : tie.Need-mul-result
 mul-result c = search needs
 
+mul-result-2 : tie.Need-mul-result-2
+mul-result-2 c = search needs
+
 add-result : tie.Need-add-result
 add-result c = search needs
 
@@ -20,4 +23,4 @@ unfolding mixed
 returns c = refl
 
 pub mix-spec : {M : Type 1} → statement M
-mix-spec = tie.close (tie.spec mul-result add-result add-result-2 returns)
+mix-spec = tie.close (tie.spec mul-result mul-result-2 add-result add-result-2 returns)

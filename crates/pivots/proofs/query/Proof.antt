@@ -16,13 +16,13 @@ mix-requires : tie.Need-mix-requires
 mix-requires c κs = search needs
 
 returns : tie.Need-returns
-returns c = query-is _ _ _ _ refl _ (c .before .before .before .word-for .ensures) (by-word _ _ _ _ _ _ (c .before .before .if1 .taken) (c .before .image .ensures) (c .mix .ensures))
+returns c = query-is _ _ _ _ refl _ (c .before .before .before .word-for .ensures .0) (by-word _ _ _ _ _ _ (c .before .before .if1 .taken) (c .before .image .ensures) (c .mix .ensures))
 
 uses-of-requires : tie.Need-uses-of-requires
 uses-of-requires c κs = search needs
 
 returns-2 : tie.Need-returns-2
-returns-2 c = query-is _ _ _ _ (c .before .uses-of .ensures) _ (c .before .before .before .word-for .ensures) (by-none (c .before .before .before .before .before .args .x .now) _ _ _ (c .before .before .if1 .left) (c .if2 .taken))
+returns-2 c = query-is _ _ _ _ (c .before .uses-of .ensures) _ (c .before .before .before .before .word-for .ensures .0) (by-none (c .before .before .before .before .before .before .before .args .x .now) _ _ _ (c .before .before .before .if1 .left) (c .if2 .taken))
 
 shared-slice-read-s : tie.Need-shared-slice-read-s
 shared-slice-read-s c = search needs
@@ -55,7 +55,7 @@ place-key-requires-5 : tie.Need-place-key-requires-5
 place-key-requires-5 c κs = search needs
 
 returns-3 : tie.Need-returns-3
-returns-3 c = query-is _ _ _ _ (c .before .before .before .before .before .before .before .before .before .before .before .uses-of .ensures) _ (c .before .before .before .before .before .before .before .before .before .before .before .before .before .word-for .ensures) (by-five (c .before .before .before .before .before .before .before .before .before .before .before .before .before .before .before .args .x .now) _ _ _ (c .before .before .before .before .before .before .before .before .before .before .before .before .if1 .left) _ _ _ _ _ (c .before .before .before .before .before .before .before .place-key .ensures) (c .before .before .before .before .before .place-key2 .ensures) (c .before .before .before .place-key3 .ensures) (c .before .place-key4 .ensures) (c .place-key5 .ensures))
+returns-3 c = query-is _ _ _ _ (c .before .before .before .before .before .before .before .before .before .before .before .uses-of .ensures) _ (c .before .before .before .before .before .before .before .before .before .before .before .before .before .before .word-for .ensures .0) (by-five (c .before .before .before .before .before .before .before .before .before .before .before .before .before .before .before .before .before .args .x .now) _ _ _ (c .before .before .before .before .before .before .before .before .before .before .before .before .before .if1 .left) _ _ _ _ _ (c .before .before .before .before .before .before .before .place-key .ensures) (c .before .before .before .before .before .place-key2 .ensures) (c .before .before .before .place-key3 .ensures) (c .before .place-key4 .ensures) (c .place-key5 .ensures))
 
 pub query-spec : {M : Type 1} → statement M
 query-spec =

@@ -18,7 +18,7 @@ symbol-word-requires : tie.Need-symbol-word-requires
 symbol-word-requires c κs = search needs
 
 returns-2 : tie.Need-returns-2
-returns-2 c = uses-passive _ _ _ (c .before .before .if1 .left) (c .symbol-word .ensures)
+returns-2 c = uses-passive _ _ _ (c .before .before .if1 .left) (c .symbol-word .ensures .0)
 
 pub uses-of-spec : {M : Type 1} → statement M
 uses-of-spec =

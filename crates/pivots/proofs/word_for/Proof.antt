@@ -18,7 +18,7 @@ rule-word-requires : tie.Need-rule-word-requires
 rule-word-requires c κs = search needs
 
 returns : tie.Need-returns
-returns c = active-word _ _ _ _ _ (c .before .before .before .if1 .taken) (c .rule-word .ensures)
+returns c = (active-word _ _ _ _ _ (c .before .before .before .if1 .taken) (c .rule-word .ensures .0), c .rule-word .ensures .1)
 
 shared-slice-read-symbol-word : tie.Need-shared-slice-read-symbol-word
 shared-slice-read-symbol-word c = search needs
@@ -27,7 +27,7 @@ symbol-word-requires : tie.Need-symbol-word-requires
 symbol-word-requires c κs = search needs
 
 returns-2 : tie.Need-returns-2
-returns-2 c = passive-word _ _ _ _ _ (c .before .before .if1 .left) (c .symbol-word .ensures)
+returns-2 c = (passive-word _ _ _ _ _ (c .before .before .if1 .left) (c .symbol-word .ensures .0), c .symbol-word .ensures .1)
 
 pub word-for-spec : {M : Type 1} → statement M
 word-for-spec =
