@@ -23,7 +23,7 @@ fn with_eight(t: &[u64], i: usize, any: u64) -> u64
     low | t[i + 4] | t[i + 5] | t[i + 6] | t[i + 7]
 }
 
-// One word made of 32 * n words of t from a on: of both halves at once, since one alone would wait at each page for its first words.
+// One word made of 32 * n words of t from a on: of both halves at once, which takes less time than one after the other.
 fn gather(t: &[u64], a: u64, n: u64) -> u64
     requires { ⌜ a + 32 * n ≤ length (now t) ⌝ }
     ensures { λ x. ⌜ Gathered (now (t .entry)) a (a + 32 * n) x ⌝ }
