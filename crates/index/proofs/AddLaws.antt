@@ -19,9 +19,9 @@ use Rattle.records.proofs.Written.{add-written, handle-written, chart-of-writte
 use Rattle.records.proofs.Rewritten.{handledIn, grown-added, grown-handled}
 use Rattle.records.proofs.Grown.{holds-own}
 use Rattle.chains.proofs.ChainLaws.{counted, same-found}
-use Rattle.index.specs.Index.{indexWords, Indexed, Spanned, nearPut, NearKept}
-use Rattle.joins.specs.Joins.{Spans}
-use Rattle.index.proofs.NearLaws.{spanned-kept, spanned-again, spanned-handled, spanned-more}
+use Rattle.rules.specs.Coverage.{Covering}
+use Rattle.index.specs.Index.{doubtOf, Indexed, Covered, DoubtKept}
+use Rattle.index.proofs.CoverLaws.{covered-kept, covered-again, covered-handled, covered-more}
 
 -- ---- the records of a chart with one record more
 module _ (cap : ℕ) (x : Record) (c : Chart) where
@@ -104,15 +104,15 @@ module _ (keys w ix ls : List ℕ) (x : Record) (n cap : ℕ) (p : n ≡ itemCou
   pub behind-full : cap ≤ n → Indexed keys ix ls (chartOf w .records) → Indexed keys ix ls (placed (capacity w) x (chartOf w) Nowhere .records)
   behind-full h I = rw (placed-full (capacity w) x (chartOf w) (omega (arith, number w n p))) I
 
-  -- .. with a set beside it
-  pub room-spanned : (g h mid new : List ℕ) (o : ℕ) → length ix ≡ indexWords → n < 4096 → n < cap → mid ≡ nearPut ix n o → NearKept mid new → Spanned g h ix (chartOf w .records)
-      → Spans g h (x .edges) o → Spanned g h new (placed (capacity w) x (chartOf w) Nowhere .records)
-  room-spanned g h mid new o s few room e k S t =
+  -- .. and covers its open nodes
+  pub room-covered : (g h new : List ℕ) → n < cap → DoubtKept ix new → Covered g h ix (chartOf w .records) → (doubtOf ix ≡ 0 → Covering g h x)
+      → Covered g h new (placed (capacity w) x (chartOf w) Nowhere .records)
+  room-covered g h new room k C f =
       rw (placed-room (capacity w) x (chartOf w) (omega (arith, number w n p)))
-      (spanned-kept g h mid new (chartOf w .records ++ (x ∷ [])) k (spanned-more g h ix mid n o x (chartOf w .records) s few (number w n p) e S t))
+      (covered-kept g h ix new (chartOf w .records ++ (x ∷ [])) k (covered-more g h ix x (chartOf w .records) C f))
 
-  pub full-spanned : (g h : List ℕ) → cap ≤ n → Spanned g h ix (chartOf w .records) → Spanned g h ix (placed (capacity w) x (chartOf w) Nowhere .records)
-  full-spanned g h l S = rw (placed-full (capacity w) x (chartOf w) (omega (arith, number w n p))) S
+  pub full-covered : (g h : List ℕ) → cap ≤ n → Covered g h ix (chartOf w .records) → Covered g h ix (placed (capacity w) x (chartOf w) Nowhere .records)
+  full-covered g h l C = rw (placed-full (capacity w) x (chartOf w) (omega (arith, number w n p))) C
 
 -- ---- either way
 at-below : (n j : ℕ) (g : Found) → g ≡ At j → Below n g → j < n
@@ -147,15 +147,15 @@ module _ (w : List ℕ) (x : Record) (o : Found) (p : o ≡ lastSame x (chartOf 
         → (v ≡ addedTo w x) × Indexed keys ix ls (chartOf v .records)
     add-behind v ix ls t q I = by v ix ls (add-new w x m (itemCount w) o is z refl (p ∙ same-found x w) v t q) (rw t I)
 
-    spanned-by : (g h v ix : List ℕ) → v ≡ addedTo w x → Spanned g h ix (placed (capacity w) x (chartOf w) o .records) → Spanned g h ix (chartOf v .records)
-    spanned-by g h v ix q S = subst (λ (d : Chart). Spanned g h ix (d .records)) (sym (ap chartOf q ∙ chart-added)) S
+    covered-by : (g h v ix : List ℕ) → v ≡ addedTo w x → Covered g h ix (placed (capacity w) x (chartOf w) o .records) → Covered g h ix (chartOf v .records)
+    covered-by g h v ix q C = subst (λ (d : Chart). Covered g h ix (d .records)) (sym (ap chartOf q ∙ chart-added)) C
 
-    -- the sets: those of a record found again stay
-    pub again-spanned : (v ix new : List ℕ) (j : ℕ) → o ≡ At j → v ≡ addedTo w x → NearKept ix new → (g h : List ℕ) → Spanned g h ix (chartOf w .records) → Spanned g h new (chartOf v .records)
-    again-spanned v ix new j t q k g h S = spanned-by g h v new q (rw t (spanned-again g h new (capacity w) x (chartOf w) j (spanned-kept g h ix new (chartOf w .records) k S)))
+    -- a record found again covers what it did
+    pub again-covered : (v ix new : List ℕ) (j : ℕ) → o ≡ At j → v ≡ addedTo w x → DoubtKept ix new → (g h : List ℕ) → Covered g h ix (chartOf w .records) → Covered g h new (chartOf v .records)
+    again-covered v ix new j t q k g h C = covered-by g h v new q (rw t (covered-again g h new (capacity w) x (chartOf w) j (covered-kept g h ix new (chartOf w .records) k C)))
 
-    pub behind-spanned : (v ix : List ℕ) → o ≡ Nowhere → v ≡ addedTo w x → (g h : List ℕ) → Spanned g h ix (placed (capacity w) x (chartOf w) Nowhere .records) → Spanned g h ix (chartOf v .records)
-    behind-spanned v ix t q g h S = spanned-by g h v ix q (rw t S)
+    pub behind-covered : (v ix : List ℕ) → o ≡ Nowhere → v ≡ addedTo w x → (g h : List ℕ) → Covered g h ix (placed (capacity w) x (chartOf w) Nowhere .records) → Covered g h ix (chartOf v .records)
+    behind-covered v ix t q g h C = covered-by g h v ix q (rw t C)
 
 -- ---- handled
 module _ (w v : List ℕ) (j : ℕ) (f : Fits w) (l : j < itemCount w) (q : v ≡ markedAt w j) where
@@ -165,6 +165,6 @@ module _ (w v : List ℕ) (j : ℕ) (f : Fits w) (l : j < itemCount w) (q : v �
   pub handled-beside : (keys ix ls : List ℕ) → Indexed keys ix ls (set (chartOf w .records) j (handledNow (recordIn (chartOf w .records) j))) → Indexed keys ix ls (chartOf v .records)
   handled-beside keys ix ls I = subst (λ (d : Chart). Indexed keys ix ls (d .records)) (sym beside) I
 
-  pub handled-spanned : (g h ix new : List ℕ) → NearKept ix new → Spanned g h ix (chartOf w .records) → Spanned g h new (chartOf v .records)
-  handled-spanned g h ix new k S =
-      subst (λ (d : Chart). Spanned g h new (d .records)) (sym beside) (spanned-handled g h new (chartOf w .records) j (spanned-kept g h ix new (chartOf w .records) k S))
+  pub handled-covered : (g h ix new : List ℕ) → DoubtKept ix new → Covered g h ix (chartOf w .records) → Covered g h new (chartOf v .records)
+  handled-covered g h ix new k C =
+      subst (λ (d : Chart). Covered g h new (d .records)) (sym beside) (covered-handled g h new (chartOf w .records) j (covered-kept g h ix new (chartOf w .records) k C))

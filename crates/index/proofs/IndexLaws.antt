@@ -1,6 +1,6 @@
 -- The indexes as a record comes, is improved or taken.
 use Prim.Native.Nat.{ℕ, _+_, _*_, _≤_, _<_}
-use mathlib.Core.Path.{_≡_, refl, sym, ap, ap₂, _∙_, subst}
+use mathlib.Core.Path.{_≡_, refl, sym, ap, _∙_, subst}
 use mathlib.Core.List.{List, [], _∷_, _++_}
 use mathlib.Core.Bool.{Bool, true, false, not, cond}
 use native.Mathlib.Omega.{arith}
@@ -25,9 +25,9 @@ use Rattle.lists.specs.Lists.{Listed, Unlisted, Ready, Within, enteredAll}
 use Rattle.lists.proofs.ListLaws.{listed-none, listed-ready, listed-entered-all}
 use Rattle.pivots.specs.Keys.{keysOf, regularOf}
 use Rattle.pivots.proofs.KeyLaws.{keys-few, improved-keys, handled-keys, improved-regular, handled-regular}
-use Rattle.index.specs.Index.{indexWords, linksOf, ranksOf, markOf, keysFor, Indexed, Empty, Keyed, Kept, markedFor, NearKept}
+use Rattle.index.specs.Index.{indexWords, linksOf, ranksOf, markOf, keysFor, Indexed, Empty, Keyed, Kept, markedFor, DoubtKept}
 use Rattle.ranking.proofs.Parts.{part-zeros, length-part, part-set, put, length-put, put-same, put-before, put-behind, word-behind}
-use Rattle.index.proofs.NearLaws.{near-same, near-on, near-put, near-marked}
+use Rattle.index.proofs.CoverLaws.{doubt-same, doubt-on, doubt-put, doubt-marked}
 use Rattle.index.proofs.KeyLists.{keys-five, keys-length, keys-more, keys-set}
 
 -- ---- the words are 0
@@ -78,6 +78,13 @@ module _ (ix new : List ℕ) (s : length ix ≡ indexWords) (e : length new ≡ 
 
   ranks-mark : markOf (put 8192 4231 ix new) ≡ markOf ix
   ranks-mark = word-behind 8192 4231 ix new (omega arith) e 12423 (omega arith)
+
+-- how long the parts are
+pub links-long : (ix : List ℕ) → length ix ≡ indexWords → length (linksOf ix) ≡ 8192
+links-long ix s = length-part 0 8192 ix (omega (arith, s))
+
+pub ranks-long : (ix : List ℕ) → length ix ≡ indexWords → length (ranksOf ix) ≡ 4231
+ranks-long ix s = length-part 8192 4231 ix (omega (arith, s))
 
 -- the links and the ranking one after the other
 pub length-both : (ix listed links ranks : List ℕ) → length ix ≡ indexWords → length listed ≡ length ix → length links ≡ 8192 → length ranks ≡ 4231
@@ -141,7 +148,7 @@ module _ (keys : List ℕ) where
       go true = refl
       go false = length-set ix 12423 1
 
-  -- links and ranking are not touched by the mark, nor are the sets beside the records
+  -- links and ranking are not touched by the mark, nor is the last word
   marked-kept : (ix : List ℕ) (x : Record) → Kept ix (markedFor keys ix x)
   unfolding markedFor
   marked-kept ix x = go (regularOf keys x)
@@ -150,13 +157,13 @@ module _ (keys : List ℕ) where
       go true = kept-same ix
       go false = record { links = part-set 0 8192 12423 1 ix (omega arith); ranks = part-set 8192 4231 12423 1 ix (omega arith) }
 
-  near-more : (ix : List ℕ) (x : Record) → NearKept ix (markedFor keys ix x)
+  doubt-more : (ix : List ℕ) (x : Record) → DoubtKept ix (markedFor keys ix x)
   unfolding markedFor
-  near-more ix x = go (regularOf keys x)
+  doubt-more ix x = go (regularOf keys x)
     where
-      go : (t : Bool) → NearKept ix (cond t ix (set ix 12423 1))
-      go true = near-same ix
-      go false = near-marked ix 1
+      go : (t : Bool) → DoubtKept ix (cond t ix (set ix 12423 1))
+      go true = doubt-same ix
+      go false = doubt-marked ix 1
 
   module _ (ix ls : List ℕ) (n : ℕ) (x : Record) (rs : List Record) (K : Keyed keys ix ls rs) (e : n ≡ length rs) (h : n < 4096) where
     more-listed : Listed (enteredAll ls (5 * n) (keysOf keys x)) (keysFor keys (rs ++ (x ∷ [])))
@@ -268,13 +275,13 @@ module _ (keys ix ls listed new links ranks : List ℕ) (n h : ℕ) (x : Record)
       let c = longer k p q in
       indexed-both keys listed links ranks new (rs ++ (x ∷ [])) K c (r (rw (links-ranks listed links (K .size) (c .words), k .ranks) (I .ranked)) (order-past rs n (omega arith)) order)
 
-  pub entered-near : Lists → length links ≡ 8192 → length ranks ≡ 4231 → NearKept ix (put 8192 4231 (put 0 8192 listed links) ranks)
-  entered-near o p q =
+  pub entered-doubt : Lists → length links ≡ 8192 → length ranks ≡ 4231 → DoubtKept ix (put 8192 4231 (put 0 8192 listed links) ranks)
+  entered-doubt o p q =
       let s = keyed o .size in
-      near-on ix listed (put 8192 4231 (put 0 8192 listed links) ranks)
-      (rw (o .1) (near-more keys ix x))
-      (near-on listed (put 0 8192 listed links) (put 8192 4231 (put 0 8192 listed links) ranks) (near-put 0 8192 listed links s p (omega arith))
-      (near-put 8192 4231 (put 0 8192 listed links) ranks (links-size listed links s p) q (omega arith)))
+      doubt-on ix listed (put 8192 4231 (put 0 8192 listed links) ranks)
+      (rw (o .1) (doubt-more keys ix x))
+      (doubt-on listed (put 0 8192 listed links) (put 8192 4231 (put 0 8192 listed links) ranks) (doubt-put 0 8192 listed links s p (omega arith))
+      (doubt-put 8192 4231 (put 0 8192 listed links) ranks (links-size listed links s p) q (omega arith)))
 
 -- ---- a record that is improved or handled
 module _ (ix ls ranks : List ℕ) (j : ℕ) (keys : List ℕ) (rs : List Record) (I : Indexed keys ix ls rs) (l : j < length rs) where

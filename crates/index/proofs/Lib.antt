@@ -1,6 +1,6 @@
 -- The root of the laws.
--- the sets beside the records
-pub mod NearLaws
+-- the word that tells whether each record covers its open nodes
+pub mod CoverLaws
 -- the keys of the records
 pub mod KeyLists
 -- the indexes as records come, are improved and handled

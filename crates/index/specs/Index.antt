@@ -1,20 +1,20 @@
--- The indexes of a chart's records: links, ranking, mark and sets one behind another in the words of one slice, the lists in one of their own.
+-- The indexes of a chart's records: links, ranking and two marks one behind another in the words of one slice, the lists in one of their own.
 use mathlib.Core.Bool.{true, cond}
 use mathlib.Core.List.{List, [], _∷_, _++_}
 use mathlib.Core.Path.{_≡_}
-use Prim.Native.Nat.{ℕ, _+_, _*_, _/_, _%_, _≤_, _<_}
+use Prim.Native.Nat.{ℕ, _<_}
 use lib.ListN.{length, getD, take, drop, set}
 use Rattle.agenda.specs.declared.Record.{Record}
 use Rattle.agenda.specs.Consequences.{recordIn}
 use Rattle.chains.specs.Chains.{Chained}
 use Rattle.ranking.specs.Ranking.{Ranked}
 use Rattle.lists.specs.Lists.{Listed}
-use Rattle.joins.specs.Joins.{Spans}
+use Rattle.rules.specs.Coverage.{Covering}
 use Rattle.pivots.specs.Keys.{keysOf, regularOf}
 
 -- how many words there are
 abbrev pub indexWords : ℕ
-indexWords = 20616
+indexWords = 12425
 
 -- ---- the parts
 abbrev pub linksOf : List ℕ → List ℕ
@@ -27,9 +27,9 @@ ranksOf ix = take 4231 (drop 8192 ix)
 abbrev pub markOf : List ℕ → ℕ
 markOf ix = getD ix 12423 0
 
--- the set of graph nodes that stands beside record j, in two words behind the mark
-abbrev pub nearOf : List ℕ → ℕ → ℕ
-nearOf ix j = getD ix (12424 + 2 * j) 0 + 4294967296 * getD ix (12425 + 2 * j) 0
+-- the last word, 0 only where every record covers its open graph nodes
+abbrev pub doubtOf : List ℕ → ℕ
+doubtOf ix = getD ix 12424 0
 
 -- the keys of records, five of each: entry 5 * j + i is key i of record j
 unfoldable pub keysFor : List ℕ → List Record → List ℕ
@@ -66,15 +66,11 @@ unfoldable pub markedFor : List ℕ → List ℕ → Record → List ℕ
 unfolding regularOf
 markedFor keys ix x = cond (regularOf keys x) ix (set ix 12423 1)
 
--- ---- the sets beside the records
--- each holds the open graph nodes of its record's edges
-pub record Spanned (g h ix : List ℕ) (rs : List Record) : Type 0 where
-  pub each : (j : ℕ) → j < length rs → Spans g h (recordIn rs j .edges) (nearOf ix j)
+-- ---- the last word on its own
+-- where it is 0, each record covers its open graph nodes
+pub record Covered (g h ix : List ℕ) (rs : List Record) : Type 0 where
+  pub each : doubtOf ix ≡ 0 → (j : ℕ) → j < length rs → Covering g h (recordIn rs j)
 
--- the set o beside record j
-unfoldable pub nearPut : List ℕ → ℕ → ℕ → List ℕ
-nearPut ix j o = set (set ix (12424 + 2 * j) (o % 4294967296)) (12425 + 2 * j) (o / 4294967296)
-
--- the sets are as they were
-pub record NearKept (ix new : List ℕ) : Type 0 where
-  pub words : (i : ℕ) → 12424 ≤ i → getD new i 0 ≡ getD ix i 0
+-- it is as it was
+pub record DoubtKept (ix new : List ℕ) : Type 0 where
+  pub word : doubtOf new ≡ doubtOf ix

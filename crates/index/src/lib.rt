@@ -1,6 +1,6 @@
 // The indexes of a chart's records, which live for one run. In the parts of one lent slice: the links of crate `chains`, the set of crate `ranking`,
-// a word that tells whether some record is irregular, and beside each record a set that holds the open graph nodes of its edges, so that whoever
-// joins it need not look for them. In a slice of half as long words: the lists of crate `lists` by which records that can be joined find each other.
+// a word that tells whether some record is irregular, and one that tells whether some record does not cover its open graph nodes, which whoever
+// joins records looks for then. In a slice of half as long words: the lists of crate `lists` by which records that can be joined find each other.
 ghost use mathlib.Core.Path.{_≡_};
 ghost use mathlib.Core.Bool.{false, cond};
 ghost use mathlib.Core.List.{List, [], _∷_, _++_};
@@ -16,18 +16,22 @@ ghost use Rattle.records.specs.Words.{Fits, ofWords, capacity, itemCount, chart
 ghost use Rattle.chains.specs.Chains.{hashOf};
 ghost use Rattle.ranking.specs.Ranking.{Ranked, takenFrom};
 ghost use Rattle.pivots.specs.Keys.{keysOf};
-ghost use Rattle.joins.specs.Joins.{Accepted, Spans};
+ghost use Rattle.joins.specs.Joins.{Accepted};
 ghost use Rattle.joins.specs.Graphs.{GraphTable};
-ghost use Rattle.lists.specs.Lists.{Within, Ready, Unlisted, enteredAll};
-ghost use Rattle.lists.specs.Cursors.{startsOf, passedOf, Skims, SkimsAll};
+ghost use Rattle.rules.specs.Plans.{PlanTable};
+ghost use Rattle.rules.specs.Coverage.{Covering};
+ghost use Rattle.lists.specs.Lists.{Ready, Unlisted, enteredAll};
+ghost use Rattle.lists.specs.Cursors.{Skims, SkimsAll};
 ghost use Rattle.index.specs.Quiet.{quietIn};
-ghost use Rattle.index.specs.Index.{indexWords, ranksOf, nearOf, Indexed, Empty, Keyed, Kept, markedFor, Spanned, nearPut, NearKept};
+ghost use Rattle.index.specs.Index.{indexWords, ranksOf, doubtOf, Indexed, Empty, Keyed, Kept, markedFor, Covered, DoubtKept};
 use agenda::Found;
 
 // where the links end and the ranking starts
 const RANKS: usize = 8192;
-// where the ranking ends: the word that is not 0 once a record was irregular, and behind it the sets, two words each
+// where the ranking ends: the word that is not 0 once a record was irregular
 const MARK: usize = 12423;
+// the last word, not 0 where some record may not cover its open nodes
+const DOUBT: usize = 12424;
 
 // That a record is irregular is kept in mind.
 fn mark(index: &mut [u32], regular: bool)
@@ -79,46 +83,26 @@ fn list_all(keys: &[u32; 2240], chart: &[u64], lists: &mut [u16], index: &mut [u
     }
 }
 
-// The set that stands beside record j.
-pub fn near(index: &[u32], j: u64) -> u64
-    requires { ⌜ (length (now index) ≡ indexWords) × (j < 4096) ⌝ }
-    ensures { λ r. ⌜ r ≡ nearOf (now (index .entry)) j ⌝ }
-{
-    let low = index[(12424 + 2 * j) as usize] as u64;
-    let high = index[(12425 + 2 * j) as usize] as u64;
-    low + 4294967296 * high
-}
-
-// The set o beside record j.
-fn put_near(index: &mut [u32], j: u64, o: u64)
-    requires { ⌜ (length (now index) ≡ indexWords) × (j < 4096) ⌝ }
-    ensures { λ r. ⌜ now (index .exit) ≡ nearPut (now (index .entry)) j o ⌝ }
-{
-    index[(12424 + 2 * j) as usize] = (o % 4294967296) as u32;
-    index[(12425 + 2 * j) as usize] = (o / 4294967296) as u32;
-}
-
-// A set that holds the open nodes of the edges m. A fresh chart has records without edges only, and those have none.
-fn span(g: &[u64], h: &[u64], graph: &[u64; 577], m: u64) -> u64
-    requires { ⌜ Accepted (now g) (now h) × GraphTable (now g) (now h) (now graph) ⌝ }
-    ensures { λ r. ⌜ Spans (now (g .entry)) (now (h .entry)) m r ⌝ }
-{
-    if m == 0 {
-        return 0;
-    }
-    joins::open_in(g, h, graph, m)
-}
-
-// A set beside each of a chart's records.
-fn span_all(g: &[u64], h: &[u64], graph: &[u64; 577], chart: &[u64], index: &mut [u32])
-    requires { ⌜ (length (now index) ≡ indexWords) × (itemCount (now chart) ≤ 4096) × Accepted (now g) (now h) × GraphTable (now g) (now h) (now graph) ⌝ }
-    ensures { λ r. ⌜ Spanned (now (g .entry)) (now (h .entry)) (now (index .exit)) (chartOf (now (chart .entry)) .records) × ((keys ls : List ℕ) (rs : List Record) → Indexed keys (now (index .entry)) ls rs → Indexed keys (now (index .exit)) ls rs) ⌝ }
+// Whether each of a chart's records covers its open nodes is kept in mind.
+fn cover_all(
+    g: &[u64],
+    h: &[u64],
+    plans: &[u32; 2048],
+    graph: &[u64; 577],
+    chart: &[u64],
+    index: &mut [u32],
+)
+    requires { ⌜ (length (now index) ≡ indexWords) × (itemCount (now chart) ≤ 4096) × Accepted (now g) (now h) × PlanTable (now g) (now plans) × GraphTable (now g) (now h) (now graph) ⌝ }
+    ensures { λ r. ⌜ Covered (now (g .entry)) (now (h .entry)) (now (index .exit)) (chartOf (now (chart .entry)) .records) × ((keys ls : List ℕ) (rs : List Record) → Indexed keys (now (index .entry)) ls rs → Indexed keys (now (index .exit)) ls rs) ⌝ }
 {
     let n = records::item_count(chart);
     let mut j = 0;
     while j < n {
-        let o = span(g, h, graph, records::field(chart, j, 3));
-        put_near(index, j, o);
+        let at = (2 + 16 * j) as usize;
+        if !rules::coverage::covers(g, h, plans, graph, &chart[at..at + 16]) {
+            index[DOUBT] = 1;
+            return;
+        }
         j += 1;
     }
 }
@@ -127,25 +111,26 @@ fn span_all(g: &[u64], h: &[u64], graph: &[u64; 577], chart: &[u64], index: &mut
 pub fn build(
     g: &[u64],
     h: &[u64],
+    plans: &[u32; 2048],
     graph: &[u64; 577],
     keys: &[u32; 2240],
     chart: &[u64],
     lists: &mut [u16],
     index: &mut [u32],
 )
-    requires { ⌜ Empty (now index) × Unlisted (now lists) × (itemCount (now chart) ≤ 4096) × Accepted (now g) (now h) × GraphTable (now g) (now h) (now graph) ⌝ }
-    ensures { λ r. ⌜ Indexed (now (keys .entry)) (now (index .exit)) (now (lists .exit)) (chartOf (now (chart .entry)) .records) × Spanned (now (g .entry)) (now (h .entry)) (now (index .exit)) (chartOf (now (chart .entry)) .records) ⌝ }
+    requires { ⌜ Empty (now index) × Unlisted (now lists) × (itemCount (now chart) ≤ 4096) × Accepted (now g) (now h) × PlanTable (now g) (now plans) × GraphTable (now g) (now h) (now graph) ⌝ }
+    ensures { λ r. ⌜ Indexed (now (keys .entry)) (now (index .exit)) (now (lists .exit)) (chartOf (now (chart .entry)) .records) × Covered (now (g .entry)) (now (h .entry)) (now (index .exit)) (chartOf (now (chart .entry)) .records) ⌝ }
 {
     chains::build(chart, &mut index[0..RANKS]);
     ranking::build(chart, &mut index[RANKS..MARK]);
     list_all(keys, chart, lists, index);
-    span_all(g, h, graph, chart, index);
+    cover_all(g, h, plans, graph, chart, index);
 }
 
 // The first waiting record of least count waits no more: whoever takes it marks it in the chart. The ranking may be made anew for it.
 pub fn take(chart: &[u64], index: &mut [u32]) -> Found
     requires { ⌜ (length (now index) ≡ indexWords) × Ranked (ranksOf (now index)) (chartOf (now chart) .records) × (length (chartOf (now chart) .records) ≤ 4096) ⌝ }
-    ensures { λ r. ⌜ (r ≡ leastWaiting (chartOf (now (chart .entry)) .records) (length (chartOf (now (chart .entry)) .records))) × ((keys ls : List ℕ) → Indexed keys (now (index .entry)) ls (chartOf (now (chart .entry)) .records) → Indexed keys (now (index .exit)) ls (takenFrom (chartOf (now (chart .entry)) .records) r)) × NearKept (now (index .entry)) (now (index .exit)) ⌝ }
+    ensures { λ r. ⌜ (r ≡ leastWaiting (chartOf (now (chart .entry)) .records) (length (chartOf (now (chart .entry)) .records))) × ((keys ls : List ℕ) → Indexed keys (now (index .entry)) ls (chartOf (now (chart .entry)) .records) → Indexed keys (now (index .exit)) ls (takenFrom (chartOf (now (chart .entry)) .records) r)) × DoubtKept (now (index .entry)) (now (index .exit)) ⌝ }
 {
     ranking::take(chart, &mut index[RANKS..MARK])
 }
@@ -210,10 +195,18 @@ pub fn regular(index: &[u32]) -> bool
     index[MARK] == 0
 }
 
+// Whether it is sure that each record covers its open nodes.
+pub fn sure(index: &[u32]) -> bool
+    requires { ⌜ length (now index) ≡ indexWords ⌝ }
+    ensures { λ r. ⌜ r ≡ eqb (doubtOf (now (index .entry))) 0 ⌝ }
+{
+    index[DOUBT] == 0
+}
+
 // Record n, one more than there are, is that of the words x.
 fn enter(keys: &[u32; 2240], lists: &mut [u16], index: &mut [u32], n: u64, x: &[u64], h: u64)
     requires { ⌜ (length (now index) ≡ indexWords) × Ready (now lists) × (n < 4096) × (length (now x) ≡ 16) × (h ≡ hashOf (ofWords (now x))) × (h < 4294967296) ⌝ }
-    ensures { λ r. ⌜ ((rs : List Record) → Indexed (now (keys .entry)) (now (index .entry)) (now (lists .entry)) rs → n ≡ length rs → Indexed (now (keys .entry)) (now (index .exit)) (now (lists .exit)) (rs ++ (ofWords (now (x .entry)) ∷ [])) × NearKept (now (index .entry)) (now (index .exit))) ⌝ }
+    ensures { λ r. ⌜ ((rs : List Record) → Indexed (now (keys .entry)) (now (index .entry)) (now (lists .entry)) rs → n ≡ length rs → Indexed (now (keys .entry)) (now (index .exit)) (now (lists .exit)) (rs ++ (ofWords (now (x .entry)) ∷ [])) × DoubtKept (now (index .entry)) (now (index .exit))) ⌝ }
 {
     list(keys, lists, index, n, x);
     chains::link(&mut index[0..RANKS], n, h);
@@ -223,7 +216,7 @@ fn enter(keys: &[u32; 2240], lists: &mut [u16], index: &mut [u32], n: u64, x: &[
 // Record j, which waits with the count `old`, has the count of x.
 fn recount(index: &mut [u32], j: u64, old: u64, count: u64)
     requires { ⌜ (length (now index) ≡ indexWords) × (j < 4096) ⌝ }
-    ensures { λ r. ⌜ ((keys ls : List ℕ) (rs : List Record) (x : Record) → Indexed keys (now (index .entry)) ls rs → j < length rs → isHandled (recordIn rs j) ≡ false → old ≡ recordIn rs j .count → count ≡ x .count → Indexed keys (now (index .exit)) ls (set rs j (improved (recordIn rs j) x))) × NearKept (now (index .entry)) (now (index .exit)) ⌝ }
+    ensures { λ r. ⌜ ((keys ls : List ℕ) (rs : List Record) (x : Record) → Indexed keys (now (index .entry)) ls rs → j < length rs → isHandled (recordIn rs j) ≡ false → old ≡ recordIn rs j .count → count ≡ x .count → Indexed keys (now (index .exit)) ls (set rs j (improved (recordIn rs j) x))) × DoubtKept (now (index .entry)) (now (index .exit)) ⌝ }
 {
     ranking::recount(&mut index[RANKS..MARK], j, old, count);
 }
@@ -231,7 +224,7 @@ fn recount(index: &mut [u32], j: u64, old: u64, count: u64)
 // The record at place j, found again with the item of x, takes the count and the partners of x if that is better.
 fn again(chart: &mut [u64], index: &mut [u32], j: u64, x: &[u64])
     requires { ⌜ (length (now index) ≡ indexWords) × (j < itemCount (now chart)) × (j < 4096) × (length (now x) ≡ 16) ⌝ }
-    ensures { λ r. ⌜ (now (chart .exit) ≡ improvedAt (now (chart .entry)) j (ofWords (now (x .entry)))) × ((keys ls : List ℕ) → Indexed keys (now (index .entry)) ls (chartOf (now (chart .entry)) .records) → Indexed keys (now (index .exit)) ls (placed (capacity (now (chart .entry))) (ofWords (now (x .entry))) (chartOf (now (chart .entry))) (At j) .records)) × NearKept (now (index .entry)) (now (index .exit)) ⌝ }
+    ensures { λ r. ⌜ (now (chart .exit) ≡ improvedAt (now (chart .entry)) j (ofWords (now (x .entry)))) × ((keys ls : List ℕ) → Indexed keys (now (index .entry)) ls (chartOf (now (chart .entry)) .records) → Indexed keys (now (index .exit)) ls (placed (capacity (now (chart .entry))) (ofWords (now (x .entry))) (chartOf (now (chart .entry))) (At j) .records)) × DoubtKept (now (index .entry)) (now (index .exit)) ⌝ }
 {
     if records::field(chart, j, 5) != 0 {
         return;
@@ -244,7 +237,7 @@ fn again(chart: &mut [u64], index: &mut [u32], j: u64, x: &[u64])
     records::improve_words(chart, j, x);
 }
 
-// The record x behind the others, with the set o beside it; where no place is left the chart is marked.
+// The record x behind the others; where no place is left the chart is marked.
 fn behind(
     keys: &[u32; 2240],
     chart: &mut [u64],
@@ -252,14 +245,12 @@ fn behind(
     index: &mut [u32],
     x: &[u64],
     h: u64,
-    o: u64,
 )
     requires { ⌜ Indexed (now keys) (now index) (now lists) (chartOf (now chart) .records) × (capacity (now chart) ≤ 4096) × (length (now x) ≡ 16) × (h ≡ hashOf (ofWords (now x))) × (h < 4294967296) ⌝ }
-    ensures { λ r. ⌜ (now (chart .exit) ≡ appendedTo (now (chart .entry)) (itemCount (now (chart .entry))) (ofWords (now (x .entry)))) × Indexed (now (keys .entry)) (now (index .exit)) (now (lists .exit)) (placed (capacity (now (chart .entry))) (ofWords (now (x .entry))) (chartOf (now (chart .entry))) Nowhere .records) × ((g h : List ℕ) → Spanned g h (now (index .entry)) (chartOf (now (chart .entry)) .records) → Spans g h (ofWords (now (x .entry)) .edges) o → Spanned g h (now (index .exit)) (placed (capacity (now (chart .entry))) (ofWords (now (x .entry))) (chartOf (now (chart .entry))) Nowhere .records)) ⌝ }
+    ensures { λ r. ⌜ (now (chart .exit) ≡ appendedTo (now (chart .entry)) (itemCount (now (chart .entry))) (ofWords (now (x .entry)))) × Indexed (now (keys .entry)) (now (index .exit)) (now (lists .exit)) (placed (capacity (now (chart .entry))) (ofWords (now (x .entry))) (chartOf (now (chart .entry))) Nowhere .records) × ((g h : List ℕ) → Covered g h (now (index .entry)) (chartOf (now (chart .entry)) .records) → (doubtOf (now (index .entry)) ≡ 0 → Covering g h (ofWords (now (x .entry)))) → Covered g h (now (index .exit)) (placed (capacity (now (chart .entry))) (ofWords (now (x .entry))) (chartOf (now (chart .entry))) Nowhere .records)) ⌝ }
 {
     let n = records::item_count(chart);
     if n < records::capacity_of(chart) {
-        put_near(index, n, o);
         enter(keys, lists, index, n, x, h);
         records::append_words(chart, n, x);
         return;
@@ -267,17 +258,16 @@ fn behind(
     records::append_words(chart, n, x);
 }
 
-// The record x in the chart, as `records::add` has it, with the indexes kept. The set o holds the open nodes of its edges.
+// The record x in the chart, as `records::add` has it, with the indexes kept.
 pub fn add(
     keys: &[u32; 2240],
     chart: &mut [u64],
     lists: &mut [u16],
     index: &mut [u32],
     x: &[u64; 16],
-    o: u64,
 )
     requires { ⌜ Indexed (now keys) (now index) (now lists) (chartOf (now chart) .records) × Fits (now chart) × (capacity (now chart) ≤ 4096) ⌝ }
-    ensures { λ r. ⌜ (now (chart .exit) ≡ addedTo (now (chart .entry)) (ofWords (now (x .entry)))) × Indexed (now (keys .entry)) (now (index .exit)) (now (lists .exit)) (chartOf (now (chart .exit)) .records) × ((g h : List ℕ) → Spanned g h (now (index .entry)) (chartOf (now (chart .entry)) .records) → Spans g h (ofWords (now (x .entry)) .edges) o → Spanned g h (now (index .exit)) (chartOf (now (chart .exit)) .records)) ⌝ }
+    ensures { λ r. ⌜ (now (chart .exit) ≡ addedTo (now (chart .entry)) (ofWords (now (x .entry)))) × Indexed (now (keys .entry)) (now (index .exit)) (now (lists .exit)) (chartOf (now (chart .exit)) .records) × ((g h : List ℕ) → Covered g h (now (index .entry)) (chartOf (now (chart .entry)) .records) → (doubtOf (now (index .entry)) ≡ 0 → Covering g h (ofWords (now (x .entry)))) → Covered g h (now (index .exit)) (chartOf (now (chart .exit)) .records)) ⌝ }
 {
     if records::mark_of(chart) != 0 {
         return;
@@ -285,6 +275,6 @@ pub fn add(
     let h = chains::hash(x);
     match chains::find(chart, &index[0..RANKS], x, h) {
         Found::At(j) => again(chart, index, j, x),
-        Found::Nowhere => behind(keys, chart, lists, index, x, h, o),
+        Found::Nowhere => behind(keys, chart, lists, index, x, h),
     }
 }

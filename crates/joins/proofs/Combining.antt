@@ -9,7 +9,7 @@ use lib.ListN.{length, take}
 use lib.Seq.{getD-take}
 use lib.Bits.{bitAnd}
 use lib.Dec.{eqb, leb, ltb}
-use borrow.Author.Tests.{lt-ltb, ltb-true, leb-true, lt-leb, ne-eqb, eqb-true, not-true, not-false}
+use borrow.Author.Tests.{lt-ltb, ltb-true, leb-true, lt-leb, eq-eqb, ne-eqb, eqb-true, not-true, not-false}
 use Rattle.masks.specs.Masks.{bit, member, _∪_, disjoint, within, Subset}
 use Rattle.masks.specs.Laws.{bit-le, member-true, member-false, true-member, lt-bits, within-holds, holds-within}
 use Rattle.hrg.specs.Counts.{hit, occurs, tabulate}
@@ -23,13 +23,12 @@ use Rattle.hrg.proofs.Degrees.{test-T, T-test, and-true}
 use Rattle.hrg.proofs.WellFormedTest.{every-false}
 use Rattle.questions.specs.Layout.{ruleNodes, graphNodes}
 use Rattle.questions.specs.Abstract.{grammarOf, graphOf}
-use Rattle.joins.specs.declared.Joined.{Joined}
 use Rattle.joins.specs.declared.Merged.{Merged}
-use Rattle.joins.specs.Joins.{Accepted, KnownNode, NodesIn, OpenAt, OpenIn, Spans, Keeps, openBy, openJoined, lostAt, noneLost, Merges, Makes}
+use Rattle.joins.specs.Joins.{Accepted, KnownNode, NodesIn, OpenAt, OpenIn, Spans, Keeps, Holds, Plain, openBy, openJoined, lostAt, noneLost, Merges, Makes}
 use Rattle.joins.specs.Graphs.{GraphTable}
 use Rattle.joins.proofs.Known.{right-nodes, nodes-few, graph-ok, graph-nodes, graph-nodes-few}
-use Rattle.joins.proofs.Touching.{member-both, touches-some}
-use Rattle.joins.proofs.Openness.{bool-same, some-find, open-by, open-few}
+use Rattle.joins.proofs.Touching.{touches-some}
+use Rattle.joins.proofs.Openness.{bool-same, some-find, open-by, open-few, spans-united}
 use Rattle.joins.proofs.MapLaws.{every-true, every-same, agreeAt, length-joined, at-joined}
 
 -- ---- only the first n places count
@@ -68,7 +67,7 @@ unfolding isOpen
 open-known g h m v accepted o = boundary-inside (λ e. member m e) (graphOf g h) v (λ i l. graph-ok g h accepted .side .edge i l .listed .inside v) o
 
 -- ---- every open node is an image
-every-at : (n : ℕ) (t : ℕ → Bool) → every n t ≡ true → (i : ℕ) → i < n → t i ≡ true
+pub every-at : (n : ℕ) (t : ℕ → Bool) → every n t ≡ true → (i : ℕ) → i < n → t i ≡ true
 unfolding every
 every-at zero t h i l = absurd (omega arith)
 every-at (suc n) t h zero l = and-true (t 0) (every n (λ i. t (suc i))) h .0
@@ -111,34 +110,56 @@ module _ (g h : List ℕ) (m o im : ℕ) (t : List ℕ) (accepted : Accepted g h
       (λ p. every-true (graphOf g h .nodes) seenAt (to-seen (within-holds o im (test-T (eqb (bitAnd o im) o) p))))
       (λ p. T-test (eqb (bitAnd o im) o) (holds-within o im (to-subset (every-at (graphOf g h .nodes) seenAt p))))
 
--- every open node is in `near`, and those that are seen are images
-module _ (g h : List ℕ) (m near seen im : ℕ) (accepted : Accepted g h) (spans : Spans g h m near) (keeps : Keeps g h m seen im) where
-  pub covers-near : eqb (bitAnd near seen) near ≡ true → (t : List ℕ) → NodesIn im t → true ≡ covering (graphOf g h) m t
+-- every open node is seen, and those that are seen are images
+module _ (g h : List ℕ) (m seen im : ℕ) (accepted : Accepted g h) (spans : Spans g h m seen) (keeps : Keeps g h m seen im) where
+  pub covers-seen : (t : List ℕ) → NodesIn im t → true ≡ covering (graphOf g h) m t
   unfolding covering
-  covers-near e t images = sym (every-true (graphOf g h .nodes) (λ v. not (isOpen (graphOf g h) m v) || ltb 0 (occurs v t)) (λ v l. go v l (isOpen (graphOf g h) m v) refl))
+  covers-seen t images = sym (every-true (graphOf g h .nodes) (λ v. not (isOpen (graphOf g h) m v) || ltb 0 (occurs v t)) (λ v l. go v l (isOpen (graphOf g h) m v) refl))
     where
       few : graphOf g h .nodes ≤ 64
       few = omega (arith, graph-nodes-few g h accepted, graph-nodes g h)
 
-      there : (v : ℕ) → member near v ≡ true → member seen v ≡ true
-      there v p = and-true (member near v) (member seen v) (sym (member-both near seen v) ∙ ap (λ k. member k v) (eqb-true (bitAnd near seen) near e) ∙ p) .1
-
       go : (v : ℕ) → v < graphOf g h .nodes → (p : Bool) → isOpen (graphOf g h) m v ≡ p → (not (isOpen (graphOf g h) m v) || ltb 0 (occurs v t)) ≡ true
       go v l true p =
           let d : v < 64 = omega (arith, few) in
-          let here : ltb 0 (occurs v t) ≡ true = sym (images .members v d) ∙ keeps .each v d (there v (spans .each v d p)) p in
+          let here : ltb 0 (occurs v t) ≡ true = sym (images .members v d) ∙ keeps .each v d (spans .each v d p) p in
           ap (λ b. not (isOpen (graphOf g h) m v) || b) here ∙ or-true (not (isOpen (graphOf g h) m v))
       go v l false p = ap (λ b. not b || ltb 0 (occurs v t)) p
 
--- a covered set's open nodes are images
-covered-spans : (g h : List ℕ) (m im : ℕ) (t : List ℕ) → Accepted g h → covering (graphOf g h) m t ≡ true → NodesIn im t → Spans g h m im
-unfolding covering
-covered-spans g h m im t accepted c images = record {
-  each = λ v l p.
-      images .members v l
-      ∙ ap (λ b. not b || ltb 0 (occurs v t)) (sym p)
-      ∙ every-at (graphOf g h .nodes) (λ v. not (isOpen (graphOf g h) m v) || ltb 0 (occurs v t)) c v (open-known g h m v accepted p);
-}
+-- ---- images of both maps are images of the joined one
+first-image : (a b v : ℕ) → v < 64 → a ≡ v → orElse a b ≡ v
+first-image a b v l e = rw (ne-eqb a unplaced (λ q. omega (arith, l, e, q))) e
+
+second-image : (a b v : ℕ) → v < 64 → a ≤ unplaced → (leb unplaced a || leb unplaced b || eqb a b) ≡ true → b ≡ v → orElse a b ≡ v
+second-image a b v l plain same e = go (decLt a 64)
+  where
+    go : Dec (a < 64) → orElse a b ≡ v
+    go (yes d) =
+        let is : eqb a b ≡ true = ap₂ (λ (p q : Bool). p || q || eqb a b) (sym (lt-leb unplaced a d)) (sym (lt-leb unplaced b (omega (arith, l, e)))) ∙ same in
+        first-image a b v l (eqb-true a b is ∙ e)
+    go (no d) = rw (eq-eqb a unplaced (omega (arith, d, plain))) e
+
+module _ (g h : List ℕ) (n seen : ℕ) (f k : List ℕ) (all : NodesIn seen (joined n f k)) where
+  joined-image : (v i : ℕ) → v < 64 → i < n → orElse (at f i) (at k i) ≡ v → member seen v ≡ true
+  joined-image v i l inside e =
+      let j = joined n f k in
+      let here : at j i ≡ v = at-joined n f k i inside ∙ e in
+      all .members v l ∙ lt-ltb 0 (occurs v j) (rw here at (occurs-at j i (omega (arith, inside, length-joined n f k))))
+
+  holds-first : (m : ℕ) → Holds g h m n f → Spans g h m seen
+  holds-first m holds = record {
+    each = λ v l p.
+        let (i, inside, e) = holds .each v l p in
+        joined-image v i l inside (first-image (at f i) (at k i) v l e);
+  }
+
+  holds-second : (m : ℕ) → Plain f → agree n f k ≡ true → Holds g h m n k → Spans g h m seen
+  unfolding agree
+  holds-second m plain same holds = record {
+    each = λ v l p.
+        let (i, inside, e) = holds .each v l p in
+        joined-image v i l inside (second-image (at f i) (at k i) v l (plain i) (every-at n (agreeAt f k) same i inside) e);
+  }
 
 -- ---- images of dropped nodes
 -- a number that stands once in a list does not stand in it where its place is dropped
@@ -264,8 +285,8 @@ module _ (g h : List ℕ) (r q m₁ m₂ : ℕ) (f k : List ℕ) (accepted : Acc
   made = combine (graphOf g h) R r q m₁ m₂ (take n f) (take n k)
 
   -- what is promised of the answer
-  abbrev Answer : List ℕ → Joined → Type 0
-  Answer t y = Makes g h made r q (m₁ ∪ m₂) t y
+  abbrev Answer : List ℕ → Bool → Type 0
+  Answer t y = Makes made r q (m₁ ∪ m₂) t y
 
   whole : made ≡ stages (graphOf g h) R r q m₁ m₂ (agree n f k) (joined n f k)
   whole =
@@ -274,11 +295,11 @@ module _ (g h : List ℕ) (r q m₁ m₂ : ℕ) (f k : List ℕ) (accepted : Acc
       ∙ ap₂ (stages (graphOf g h) R r q m₁ m₂)
       (ap (λ i. agree i (take n f) (take n k)) size ∙ agree-take n f k) (ap (λ i. joined i (take n f) (take n k)) size ∙ joined-take n f k)
 
-  none-made : (t : List ℕ) (y : Joined) → y .found ≡ false → stages (graphOf g h) R r q m₁ m₂ (agree n f k) (joined n f k) ≡ [] → Answer t y
-  none-made t y e none = record { none = λ _. whole ∙ none; one = λ p. absurd (false≢true (sym e ∙ p)); spans = λ p. absurd (false≢true (sym e ∙ p)) }
+  none-made : (t : List ℕ) → stages (graphOf g h) R r q m₁ m₂ (agree n f k) (joined n f k) ≡ [] → Answer t false
+  none-made t none = record { none = λ _. whole ∙ none; one = λ p. absurd (false≢true p) }
 
-  pub combine-apart : (b : Bool) → b ≡ disjoint m₁ m₂ → b ≡ false → (t : List ℕ) (y : Joined) → y .found ≡ false → Answer t y
-  combine-apart b e fails t y is = none-made t y is (apart-no (graphOf g h) R r q m₁ m₂ (agree n f k) (joined n f k) (sym e ∙ fails))
+  pub combine-apart : (b : Bool) → b ≡ disjoint m₁ m₂ → b ≡ false → (t : List ℕ) → Answer t false
+  combine-apart b e fails t = none-made t (apart-no (graphOf g h) R r q m₁ m₂ (agree n f k) (joined n f k) (sym e ∙ fails))
 
   module _ (w : List ℕ) (table : GraphTable g h w) (size nodes stays : ℕ) (opened : OpenAt g r q stays) (e : size ≡ ruleNodes g r) (e′ : nodes ≡ graphNodes h) (m : ℕ) (small : m < 2 ^ 64) (u : m ≡ m₁ ∪ m₂)
       (t : List ℕ) (x : Merged) (merges : Merges size nodes stays w m f k t x) where
@@ -293,8 +314,8 @@ module _ (g h : List ℕ) (r q m₁ m₂ : ℕ) (f k : List ℕ) (accepted : Acc
     map : openJoined size stays f k ≡ restrict R q (joined n f k)
     map = ap (λ i. openJoined i stays f k) e ∙ closed g r q stays f k known opened
 
-    pub combine-clash : x .ok ≡ false → (y : Joined) → y .found ≡ false → Answer t y
-    combine-clash fails y is = none-made t y is (go fits refl (test ∙ fails))
+    pub combine-clash : x .ok ≡ false → Answer t false
+    combine-clash fails = none-made t (go fits refl (test ∙ fails))
       where
         go : (b : Bool) → fits ≡ b → (b && noneLost n stays w m f k) ≡ false → stages (graphOf g h) R r q m₁ m₂ (agree n f k) (joined n f k) ≡ []
         go false p z = merge-not (graphOf g h) R r q m₁ m₂ (agree n f k) (joined n f k) p
@@ -312,26 +333,25 @@ module _ (g h : List ℕ) (r q m₁ m₂ : ℕ) (f k : List ℕ) (accepted : Acc
           none-lost g h w accepted table m small n stays f k (x .seen) (x .images) (passed .1)
           (subst (λ i. NodesIn (x .seen) (joined i f k)) e (merges .seen ok)) (subst (λ i. NodesIn (x .images) (openJoined i stays f k)) e (merges .images ok))
 
-      module _ (c : Bool) (covered : (t : List ℕ) → NodesIn (x .images) t → c ≡ covering (graphOf g h) m t) where
-        bare : c ≡ covering (graphOf g h) m (openJoined size stays f k)
-        bare = covered (openJoined size stays f k) (merges .images ok)
+      -- where each map has the open nodes of its set, all that are open are seen
+      pub combine-spans : Holds g h m₁ n f × Plain f → Holds g h m₂ n k → Spans g h m (x .seen)
+      combine-spans first second =
+          let all = subst (λ i. NodesIn (x .seen) (joined i f k)) e (merges .seen ok) in
+          spans-united g h m m₁ m₂ (x .seen) u (holds-first g h n (x .seen) f k all m₁ (first .0))
+          (holds-second g h n (x .seen) f k all m₂ (first .1) (and-true (agree n f k) (oneToOne (graphOf g h .nodes) (joined n f k)) (passed .0) .0) second)
 
-        cover : c ≡ covering (graphOf g h) (m₁ ∪ m₂) (restrict R q (joined n f k))
-        cover = bare ∙ ap₂ (covering (graphOf g h)) u map
-
-        pub combine-bare : c ≡ false → (y : Joined) → y .found ≡ false → Answer t y
-        combine-bare fails y is = none-made t y is (cover-no (graphOf g h) R r q m₁ m₂ (agree n f k) (joined n f k) (sym cover ∙ fails))
-
-        pub combine-found : (b : Bool) → b ≡ disjoint m₁ m₂ → b ≡ true → c ≡ true → Answer t (record { found = true; images = x .images })
-        combine-found b d holds p = record {
-          none = λ z. absurd (false≢true (sym z));
-          one = λ _. record {
-            map = restrict R q (joined n f k);
-            item = whole ∙ all-pass (graphOf g h) R r q m₁ m₂ (agree n f k) (joined n f k) (sym d ∙ holds) (passed .0) (sym cover ∙ p);
-            places = merges .map ok ∙ ap padded map;
-          };
-          spans = λ _. subst (λ i. Spans g h i (x .images)) u (covered-spans g h m (x .images) (openJoined size stays f k) accepted (sym bare ∙ p) (merges .images ok));
-        }
+      pub combine-covered : (b : Bool) → b ≡ disjoint m₁ m₂ → b ≡ true → (c : Bool) → ((t : List ℕ) → NodesIn (x .images) t → c ≡ covering (graphOf g h) m t) → Answer t c
+      combine-covered b d holds c covered = record {
+        none = λ p. whole ∙ cover-no (graphOf g h) R r q m₁ m₂ (agree n f k) (joined n f k) (sym cover ∙ p);
+        one = λ p. record {
+          map = restrict R q (joined n f k);
+          item = whole ∙ all-pass (graphOf g h) R r q m₁ m₂ (agree n f k) (joined n f k) (sym d ∙ holds) (passed .0) (sym cover ∙ p);
+          places = merges .map ok ∙ ap padded map;
+        };
+      }
+        where
+          cover : c ≡ covering (graphOf g h) (m₁ ∪ m₂) (restrict R q (joined n f k))
+          cover = covered (openJoined size stays f k) (merges .images ok) ∙ ap₂ (covering (graphOf g h)) u map
 
 -- two maps that differ at a rule node where both have an image make nothing
 pub combine-differ : (H : Graph) (R : Rule) (r q m₁ m₂ : ℕ) (f k : List ℕ) (x : ℕ) → x < R .production .right .nodes → at f x < unplaced → at k x < unplaced → (at f x ≡ at k x → ⊥)

@@ -132,7 +132,7 @@ octal-next : (f : ℕ → ℕ) (k : ℕ) → octal f (k + 1) ≡ 8 * octal f k +
 unfolding octal
 octal-next f k = ap (octal f) (let e : k + 1 ≡ suc k = omega arith in e)
 
-rank-cap : (g : List ℕ) (s : ℕ) → rankAt g s ≤ 4
+pub rank-cap : (g : List ℕ) (s : ℕ) → rankAt g s ≤ 4
 rank-cap g s = omega arith
 
 -- ---- an edge of an accepted grammar table

@@ -7,3 +7,4 @@ pub mod Openness
 pub mod EdgeMaps
 pub mod MapLaws
 pub mod Combining
+pub mod Showing

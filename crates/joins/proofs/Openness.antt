@@ -12,7 +12,7 @@ use lib.Pow.{shr-shr}
 use lib.Dec.{eqb, ltb}
 use borrow.Author.Tests.{eq-eqb, ne-eqb, eqb-true, eqb-false, lt-ltb, ltb-true, not-true}
 use Rattle.masks.specs.Masks.{bit, member, _∪_, single, Found}
-use Rattle.masks.specs.Laws.{member-true, true-member, member-false, false-member, nonempty, lt-bits, member-union, member-single, shifted-single}
+use Rattle.masks.specs.Laws.{member-true, true-member, member-false, false-member, nonempty, lt-bits, member-union, member-single}
 use Rattle.hrg.specs.Counts.{occurs, tabulate}
 use Rattle.hrg.specs.Grammars.{touches}
 use Rattle.hrg.specs.Items.{isBoundary, isOpen}
@@ -20,7 +20,7 @@ use Rattle.hrg.proofs.Sums.{occurs-at, occurs-find, at-tabulate, length-tabulat
 use Rattle.hrg.proofs.Degrees.{and-true}
 use Rattle.questions.specs.Layout.{rankAt, graphEdges, graphLabel, graphNode}
 use Rattle.questions.specs.Abstract.{graphOf}
-use Rattle.joins.specs.Joins.{Accepted, someBoth, OpenIn, Spans, edgesOn, openBy}
+use Rattle.joins.specs.Joins.{Accepted, someBoth, Spans, edgesOn, openBy}
 use Rattle.joins.specs.Graphs.{onEdge, marksTo, marks, GraphTable}
 use Rattle.joins.proofs.Known.{graph-size}
 use Rattle.joins.proofs.PlanMasks.{member-none}
@@ -201,9 +201,11 @@ open-edge : (g h : List ℕ) (m v : ℕ) → isOpen (graphOf g h) m v ≡ true �
 unfolding isOpen isBoundary
 open-edge g h m v p = touches-find g h (λ e. member m e) v (and-true (touches (λ e. member m e) (graphOf g h .edges) v) _ p .0)
 
-pub single-few : (e : ℕ) → single (e % 4) < 16
-unfolding single
-single-few e = by-four (λ k. 2 ^ k < 16) (omega arith) (omega arith) (omega arith) (omega arith) (e % 4) (omega arith)
+-- an open node of one edge is a node of that edge
+pub open-single : (g h : List ℕ) (e v : ℕ) → isOpen (graphOf g h) (single e) v ≡ true → onEdge g h v e ≡ true
+open-single g h e v p =
+    let (i, _, x, y) = open-edge g h (single e) v p in
+    ap (onEdge g h v) (sym (eqb-true i e (sym (member-single e i) ∙ x))) ∙ y
 
 -- ---- sets that hold the open nodes
 module _ (g h : List ℕ) where
@@ -219,32 +221,6 @@ module _ (g h : List ℕ) where
   pub spans-united : (m a b o : ℕ) → m ≡ a ∪ b → Spans g h a o → Spans g h b o → Spans g h m o
   spans-united m a b o e first second = rw e (spans-union a b o first second)
 
-  -- any set holds the open nodes of no edges, and the set of all nodes those of any
+  -- any set holds the open nodes of no edges
   pub spans-none : (o : ℕ) → Spans g h 0 o
   spans-none o = record { each = λ v l p. let (e, _, x, _) = open-edge g h 0 v p in absurd (false≢true (sym (member-none e) ∙ x)) }
-
-  pub spans-open : (m o : ℕ) → OpenIn g h m o → Spans g h m o
-  spans-open m o opened = record { each = λ v l p. opened .members v l ∙ p }
-
-  -- a larger set
-  pub spans-left : (m a b : ℕ) → Spans g h m a → Spans g h m (a ∪ b)
-  spans-left m a b s = record { each = λ v l p. member-union a b v ∙ ap (λ c. c || member b v) (s .each v l p) }
-
-  pub spans-right : (m a b : ℕ) → Spans g h m b → Spans g h m (a ∪ b)
-  spans-right m a b s = record { each = λ v l p. member-union a b v ∙ ap (λ c. member a v || c) (s .each v l p) ∙ or-true (member a v) }
-
-  -- the word of a graph's table that has the nodes of one edge
-  pub spans-edge : (t : List ℕ) (e : ℕ) → GraphTable g h t → e < graphEdges h → Spans g h (single e) (getD t (16 * (e / 4) + single (e % 4)) 0)
-  unfolding single
-  spans-edge t e table known = record {
-    each = λ v l p.
-        let (i, _, x, y) = open-edge g h (single e) v p in
-        let same : i ≡ e = eqb-true i e (sym (member-single e i) ∙ x) in
-        let parts : 4 * (e / 4) + e % 4 ≡ i = omega arith in
-        table .touched (e / 4) (single (e % 4)) v (omega arith) (single-few e) l
-        ∙ some-in (λ k. member (single (e % 4)) k) (λ k. onEdge g h v (4 * (e / 4) + k)) 4 (e % 4) (omega arith) (member-single (e % 4) (e % 4) ∙ eq-eqb (e % 4) (e % 4) refl) (ap (onEdge g h v) parts ∙ y);
-  }
-
-  -- .. as the machine makes its number, by a shift
-  pub edge-spans : (t : List ℕ) (e : ℕ) → GraphTable g h t → e < graphEdges h → Spans g h (single e) (getD t (16 * (e / 4) + 1 * 2 ^ (e % 4) % 2 ^ 64) 0)
-  edge-spans t e table known = rw (shifted-single (e % 4) (omega arith)) (spans-edge t e table known)

@@ -18,7 +18,6 @@ use Rattle.questions.specs.Checking.{checkGrammar, checkGraph}
 use Rattle.questions.specs.Abstract.{grammarOf, graphOf}
 use Rattle.joins.specs.declared.Sides.{Sides}
 use Rattle.joins.specs.declared.Merged.{Merged}
-use Rattle.joins.specs.declared.Joined.{Joined}
 
 -- ---- what callers know
 -- an accepted grammar table and a graph table accepted with it
@@ -120,6 +119,14 @@ nodesWord g r i = rankAt g (edgeLabel g r i) + 8 * octal (λ k. edgeNode g r i k
 pub record BareFrom (n : ℕ) (t : List ℕ) : Type 0 where
   pub past : (x : ℕ) → n ≤ x → at t x ≡ unplaced
 
+-- every open graph node of the edge set m is the image of one of the first n rule nodes by the map f
+pub record Holds (g h : List ℕ) (m n : ℕ) (f : List ℕ) : Type 0 where
+  pub each : (v : ℕ) → v < 64 → isOpen (graphOf g h) m v ≡ true → (i : ℕ) × (i < n) × (at f i ≡ v)
+
+-- every place of f has a number of a graph node, or 64
+abbrev pub Plain : List ℕ → Type 0
+Plain f = (i : ℕ) → at f i ≤ unplaced
+
 -- ---- what two sets and maps make
 -- two maps of n nodes as one, without the nodes that are not in the set `stays`
 abbrev pub openJoined : ℕ → ℕ → List ℕ → List ℕ → List ℕ
@@ -147,8 +154,7 @@ pub record OneItem (l : List Item) (r q m : ℕ) (t : List ℕ) : Type 0 where
   pub item : l ≡ active r q m map ∷ []
   pub places : t ≡ padded map
 
--- x says whether a list of items has one; the images have the open graph nodes of its set
-pub record Makes (g h : List ℕ) (l : List Item) (r q m : ℕ) (t : List ℕ) (x : Joined) : Type 0 where
-  pub none : x .found ≡ false → l ≡ []
-  pub one : x .found ≡ true → OneItem l r q m t
-  pub spans : x .found ≡ true → Spans g h m (x .images)
+-- x says whether a list of items has one
+pub record Makes (l : List Item) (r q m : ℕ) (t : List ℕ) (x : Bool) : Type 0 where
+  pub none : x ≡ false → l ≡ []
+  pub one : x ≡ true → OneItem l r q m t

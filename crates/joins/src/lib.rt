@@ -4,16 +4,16 @@ ghost use mathlib.Core.Bool.{true, false};
 ghost use mathlib.Core.List.{List};
 ghost use Prim.Native.Nat.{ℕ, _+_, _*_, _≤_, _<_};
 ghost use lib.ListN.{length, take, replicate};
-ghost use Rattle.masks.specs.Masks.{single, _∪_};
+ghost use Rattle.masks.specs.Masks.{_∪_};
 ghost use Rattle.hrg.specs.Trees.{unplaced, padded};
 ghost use Rattle.hrg.specs.Counts.{tabulate};
 ghost use Rattle.hrg.specs.Grammars.{ruleOf};
 ghost use Rattle.hrg.specs.Items.{attach};
 ghost use Rattle.hrg.specs.ClosureRun.{covering, combine};
-ghost use Rattle.questions.specs.Layout.{word, rankAt, startSymbol, ruleSymbol, ruleNodes, ruleExternal, edgeLabel, graphEdges, graphExternal};
+ghost use Rattle.questions.specs.Layout.{word, rankAt, startSymbol, ruleSymbol, ruleNodes, ruleExternal, edgeLabel, graphExternal};
 ghost use Rattle.questions.specs.Checking.{checkGrammar};
 ghost use Rattle.questions.specs.Abstract.{grammarOf, graphOf};
-ghost use Rattle.joins.specs.Joins.{KnownNode, KnownEdge, Accepted, EdgesBelow, MasksBelow, NodesIn, sideWith, SidesOf, Boundary, OpenAt, OpenIn, Spans, Keeps, edgeNodes, nodesWord, openBy, BareFrom, Merges, Makes};
+ghost use Rattle.joins.specs.Joins.{KnownNode, KnownEdge, Accepted, EdgesBelow, MasksBelow, NodesIn, sideWith, SidesOf, Boundary, OpenAt, OpenIn, Spans, Keeps, Holds, Plain, edgeNodes, nodesWord, openBy, BareFrom, Merges, Makes};
 ghost use Rattle.joins.specs.Graphs.{GraphTable, Touched};
 
 pub mod graphs;
@@ -153,14 +153,6 @@ pub fn open_in(g: &[u64], h: &[u64], graph: &[u64; 577], m: u64) -> u64
     boundary(s, graph[256])
 }
 
-// The nodes of graph edge e, among which are the open nodes of that edge alone.
-pub fn edge_span(g: &[u64], h: &[u64], graph: &[u64; 577], e: u64) -> u64
-    requires { ⌜ Accepted (now g) (now h) × GraphTable (now g) (now h) (now graph) × (e < graphEdges (now h)) ⌝ }
-    ensures { λ x. ⌜ Spans (now (g .entry)) (now (h .entry)) (single e) x ⌝ }
-{
-    graph[(16 * (e / 4) + (1u64 << (e % 4))) as usize]
-}
-
 // The rank of a symbol below 64 of an accepted table, which has that symbol's line.
 pub fn rank_of(g: &[u64], s: u64) -> u64
     requires { ⌜ (checkGrammar (now g) ≡ true) × (s < 64) ⌝ }
@@ -291,43 +283,28 @@ fn merge_maps(
     }
 }
 
-// Whether every open graph node of the edge set m is one of the images. The open nodes are in `near`; those in `seen` are images.
+// Whether every open graph node of the edge set m is one of the images. Those in `seen` are images; where it is sure that `seen` has all open nodes, they need not be looked for.
 fn covered(
     g: &[u64],
     h: &[u64],
     graph: &[u64; 577],
     m: u64,
-    near: u64,
+    sure: bool,
     seen: u64,
     images: u64,
 ) -> bool
-    requires { ⌜ Accepted (now g) (now h) × GraphTable (now g) (now h) (now graph) × Spans (now g) (now h) m near × Keeps (now g) (now h) m seen images ⌝ }
+    requires { ⌜ Accepted (now g) (now h) × GraphTable (now g) (now h) (now graph) × (sure ≡ true → Spans (now g) (now h) m seen) × Keeps (now g) (now h) m seen images ⌝ }
     ensures { λ x. ⌜ ((t : List ℕ) → NodesIn images t → x ≡ covering (graphOf (now (g .entry)) (now (h .entry))) m t) ⌝ }
 {
-    if near & seen == near {
+    if sure {
         return true;
     }
     let nodes = open_in(g, h, graph, m);
     nodes & images == nodes
 }
 
-// Whether two sets and maps make an item, and the graph nodes of its map.
-pub struct Joined {
-    pub found: bool,
-    pub images: u64,
-}
-
-fn not_joined() -> Joined
-    ensures { λ x. ⌜ x .found ≡ false ⌝ }
-{
-    Joined {
-        found: false,
-        images: 0,
-    }
-}
-
-// The item of rule r at plan node q that two sets and maps of rule nodes make, if they do: the rule nodes in `stays` are open there. The second map is t's, and the item's is put over it.
-// The open graph nodes of both sets are in `near`: the fewer others are, the sooner it is known that the union's are covered.
+// Whether two sets and maps of rule nodes make an item of rule r at plan node q: the rule nodes in `stays` are open there. The second map is t's, and the item's is put over it.
+// It may be sure that each map has the open graph nodes of its set: then those of the union, which are among them, are covered if none is dropped.
 pub fn combine(
     g: &[u64],
     h: &[u64],
@@ -337,28 +314,22 @@ pub fn combine(
     stays: u64,
     m1: u64,
     m2: u64,
-    near: u64,
+    sure: bool,
     f: &[u64],
     t: &mut [u64],
-) -> Joined
-    requires { ⌜ Accepted (now g) (now h) × KnownNode (now g) r q × GraphTable (now g) (now h) (now graph) × OpenAt (now g) r q stays × Spans (now g) (now h) m1 near × Spans (now g) (now h) m2 near × (length (now f) ≡ 8) × (length (now t) ≡ 8) × BareFrom (ruleNodes (now g) r) (now t) ⌝ }
-    ensures { λ x. ⌜ Makes (now (g .entry)) (now (h .entry)) (combine (graphOf (now (g .entry)) (now (h .entry))) (ruleOf (grammarOf (now (g .entry))) r) r q m1 m2 (take (ruleNodes (now (g .entry)) r) (now (f .entry))) (take (ruleNodes (now (g .entry)) r) (now (t .entry)))) r q (m1 ∪ m2) (now (t .exit)) x ⌝ }
+) -> bool
+    requires { ⌜ Accepted (now g) (now h) × KnownNode (now g) r q × GraphTable (now g) (now h) (now graph) × OpenAt (now g) r q stays × (sure ≡ true → Holds (now g) (now h) m1 (ruleNodes (now g) r) (now f) × Plain (now f)) × (sure ≡ true → Holds (now g) (now h) m2 (ruleNodes (now g) r) (now t)) × (length (now f) ≡ 8) × (length (now t) ≡ 8) × BareFrom (ruleNodes (now g) r) (now t) ⌝ }
+    ensures { λ x. ⌜ Makes (combine (graphOf (now (g .entry)) (now (h .entry))) (ruleOf (grammarOf (now (g .entry))) r) r q m1 m2 (take (ruleNodes (now (g .entry)) r) (now (f .entry))) (take (ruleNodes (now (g .entry)) r) (now (t .entry)))) r q (m1 ∪ m2) (now (t .exit)) x ⌝ }
 {
     if !masks::disjoint(m1, m2) {
-        return not_joined();
+        return false;
     }
     let n = layout::word_in(g, 65 + 25 * r, 2);
     let nodes = layout::graph_nodes(h);
     let m = masks::union(m1, m2);
     let merged = merge_maps(n, nodes, stays, graph, m, f, t);
     if !merged.ok {
-        return not_joined();
+        return false;
     }
-    if !covered(g, h, graph, m, near, merged.seen, merged.images) {
-        return not_joined();
-    }
-    Joined {
-        found: true,
-        images: merged.images,
-    }
+    covered(g, h, graph, m, sure, merged.seen, merged.images)
 }

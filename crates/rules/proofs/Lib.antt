@@ -7,6 +7,8 @@ pub mod JoinWords
 -- what a rule makes, as at most one item
 pub mod RuleItems
 pub mod RuleAnswers
+-- what the rules make covers its open nodes
+pub mod Covering
 -- a record as its sixteen words
 pub mod RecordWords
 -- what an item wants, and what meets at no plan node
@@ -16,5 +18,7 @@ pub mod Meeting
 pub mod PlanLaws
 -- which of two records comes first
 pub mod Leading
+-- records that show each open graph node of their edges
+pub mod CoverageLaws
 -- graph edges that make nothing with a record
 pub mod CandidateLaws

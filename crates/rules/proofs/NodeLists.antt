@@ -46,11 +46,13 @@ module _ (g : List ℕ) (r : ℕ) (checked : checkGrammar g ≡ true) (known : r
   unfolding ruleFrom
   externals-are = ap (λ (R : Rule). R .production .right .externals) (rule-is g r known)
 
+  pub externals-size : length (rightOf (grammarOf g) r .externals) ≡ rank
+  externals-size = ap length externals-are ∙ length-tabulate rank (λ k. ruleExternal g r k)
+
   external-known : (k x : ℕ) → k < rank → x ≡ ruleExternal g r k → x < ruleNodes g r
   external-known k x h e =
       let there : at (rightOf (grammarOf g) r .externals) k ≡ ruleExternal g r k = ap (λ (l : List ℕ). at l k) externals-are ∙ at-tabulate rank (λ k. ruleExternal g r k) k h in
-      let size : length (rightOf (grammarOf g) r .externals) ≡ rank = ap length externals-are ∙ length-tabulate rank (λ k. ruleExternal g r k) in
-      let found = rw there at (occurs-at (rightOf (grammarOf g) r .externals) k (omega (arith, size))) in
+      let found = rw there at (occurs-at (rightOf (grammarOf g) r .externals) k (omega (arith, externals-size))) in
       omega (arith, right-nodes g r checked known, rule-ok g r checked known .right .externals .inside (ruleExternal g r k) found)
 
   pub external-few : (k x : ℕ) → k < rank → x ≡ ruleExternal g r k → x < 8

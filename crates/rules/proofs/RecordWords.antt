@@ -16,12 +16,13 @@ use Rattle.agenda.specs.declared.Record.{Record}
 use Rattle.records.specs.Words.{ofWords}
 use Rattle.questions.specs.Layout.{ruleNodes, planFirst}
 use Rattle.questions.specs.Abstract.{grammarOf, graphOf}
-use Rattle.joins.specs.declared.Joined.{Joined}
-use Rattle.joins.specs.Joins.{Makes}
+use Rattle.joins.specs.Joins.{Accepted, Plain, Makes}
 use Rattle.rules.specs.declared.Place.{Place}
+use Rattle.rules.specs.Coverage.{Covering}
 use Rattle.rules.specs.Rules.{Rest, Into, Second, Above}
 use Rattle.joins.proofs.EdgeMaps.{as-words}
 use Rattle.rules.proofs.RuleAnswers.{pair-both, into-made}
+use Rattle.rules.proofs.Covering.{made-covering}
 
 -- ---- the map
 abbrev pub mapIn : List ℕ → List ℕ
@@ -127,7 +128,7 @@ module _ (w k t : List ℕ) (r q m : ℕ) (long : length w ≡ 16) (kept : lengt
   }
 
 -- ---- what a pair makes, in words
-module _ (g h x y w k t : List ℕ) (j : Joined) (p : Place) (b : Bool) (size : length x ≡ 16) (long : length w ≡ 16) (kind : ofWords w .kind ≡ 0) (handled : ofWords w .handled ≡ 0) (kept : length k ≡ length (mapIn w)) where
+module _ (g h x y w k t : List ℕ) (sure j : Bool) (p : Place) (b : Bool) (size : length x ≡ 16) (long : length w ≡ 16) (kind : ofWords w .kind ≡ 0) (handled : ofWords w .handled ≡ 0) (kept : length k ≡ length (mapIn w)) where
   abbrev r : ℕ
   r = ofWords x .of
 
@@ -139,14 +140,21 @@ module _ (g h x y w k t : List ℕ) (j : Joined) (p : Place) (b : Bool) (size : 
 
   pub pair-into-made : length t ≡ length (mapIn (withItem w k r (p .node) m)) → ofWords x .kind ≡ 0 → (above : Above g (ofWords x .of) (ofWords x .plan) p) (found : p .found ≡ true)
       → Second g r (p .node) (ofWords y) k b → b ≡ true → planFirst g r (p .node) ≡ ofWords x .plan
-      → Makes g h (combine (graphOf g h) (ruleOf (grammarOf g) r) r (p .node) (ofWords x .edges) (ofWords y .edges) (take nodes (mapIn x)) (take nodes (mapIn (withItem w k r (p .node) m)))) r (p .node) (ofWords x .edges ∪ ofWords y .edges) t j
-      → Into g h (binaryOf (grammarOf g) (graphOf g h) (itemOf (grammarOf g) (ofWords x)) (itemOf (grammarOf g) (ofWords y))) w (record { found = j .found; images = j .images }) (withMap (withItem w k r (p .node) m) t)
+      → Makes (combine (graphOf g h) (ruleOf (grammarOf g) r) r (p .node) (ofWords x .edges) (ofWords y .edges) (take nodes (mapIn x)) (take nodes (mapIn (withItem w k r (p .node) m)))) r (p .node) (ofWords x .edges ∪ ofWords y .edges) t j
+      → (sure ≡ true → Covering g h (ofWords x)) → (sure ≡ true → Covering g h (ofWords y)) → Accepted g h
+      → Into g h sure (binaryOf (grammarOf g) (graphOf g h) (itemOf (grammarOf g) (ofWords x)) (itemOf (grammarOf g) (ofWords y))) w j (withMap (withItem w k r (p .node) m) t)
   unfolding _∪_
-  pair-into-made kept′ isActive above found second holds first makes =
-      into-made g h
+  pair-into-made kept′ isActive above found second holds first makes covers-x covers-y accepted =
+      into-made g h sure
       (combine (graphOf g h) (ruleOf (grammarOf g) r) r (p .node) (ofWords x .edges) (ofWords y .edges) (take nodes (mapIn x)) (take nodes (mapIn (withItem w k r (p .node) m))))
       (binaryOf (grammarOf g) (graphOf g h) (itemOf (grammarOf g) (ofWords x)) (itemOf (grammarOf g) (ofWords y)))
       r (p .node) m t j w (withMap (withItem w k r (p .node) m) t) makes
       (ap (λ (k : List ℕ). combine (graphOf g h) (ruleOf (grammarOf g) r) r (p .node) (ofWords x .edges) (ofWords y .edges) (take nodes (mapIn x)) (take nodes k)) (item-map w k long kept r (p .node) m)
       ∙ pair-both g h (ofWords x) (ofWords y) isActive p above found k b second holds first (mapIn x) (map-words x size))
-      (made-record w k t r (p .node) m long kept kept′ kind handled) (made-rest w k t r (p .node) m long kept kept′ kind handled)
+      (made-record w k t r (p .node) m long kept kept′ kind handled)
+      (λ s e.
+      subst (Covering g h) (sym (made-record w k t r (p .node) m long kept kept′ kind handled))
+      (made-covering g h r (p .node) (ofWords x .edges) (ofWords y .edges) (mapIn x) (mapIn (withItem w k r (p .node) m)) t accepted (above .known found) (subst Plain (map-words x size) (covers-x s .plain)) (map-size x size)
+      (subst Plain (sym (item-map w k long kept r (p .node) m)) (second .plain holds (covers-y s .plain))) (map-size (withItem w k r (p .node) m) (item-size w k long kept r (p .node) m)) j makes e
+      (ofWords w .count) 0 (ofWords w .first) (ofWords w .second)))
+      (made-rest w k t r (p .node) m long kept kept′ kind handled)

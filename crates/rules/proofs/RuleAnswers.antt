@@ -4,20 +4,20 @@ use mathlib.Core.Bool.{Bool, true, false, _&&_, cond, true≢false, false≢true
 use mathlib.Core.List.{List, [], _∷_, map}
 use Prim.Native.Nat.{ℕ, _/_, _%_, _≤_, _<_}
 use native.Mathlib.Omega.{arith}
+use native.Mathlib.Decide.{decLt}
 use lib.ListN.{length, take}
-use lib.Seq.{length-take-le}
-use lib.Bits.{bitOr}
+use lib.Seq.{getD-take, length-take-le}
 use lib.Dec.{eqb}
-use borrow.Author.Tests.{eq-eqb, ne-eqb}
-use Rattle.masks.specs.Masks.{_∪_, disjoint, single, Added}
+use borrow.Author.Tests.{eq-eqb, ne-eqb, ltb-true}
+use Rattle.masks.specs.Masks.{disjoint, single, Added}
 use Rattle.masks.specs.Laws.{bit-empty, union-of}
 use Rattle.hrg.specs.Counts.{occurs}
 use Rattle.hrg.specs.Grammars.{Edge, Graph, PlanNode, leaf, introduce, join, Rule, Grammar, rankOf, ruleOf, rightOf, planOf, planNode, edgeAt}
-use Rattle.hrg.specs.Trees.{padded}
-use Rattle.hrg.specs.Items.{Item, active, passive, attach}
+use Rattle.hrg.specs.Trees.{unplaced, at, padded}
+use Rattle.hrg.specs.Items.{Item, active, passive, isOpen, attach}
 use Rattle.hrg.specs.WellFormed.{children, EdgeOk}
 use Rattle.hrg.specs.ClosureRun.{guard, combine, nonterminalAt, joinAt, binaryOf}
-use Rattle.hrg.proofs.Sums.{none-left}
+use Rattle.hrg.proofs.Sums.{none-left, occurs-at, occurs-find}
 use Rattle.agenda.specs.Records.{recordOf, itemOf, plus}
 use Rattle.agenda.specs.Consequences.{withTerminal, pair}
 use Rattle.agenda.specs.declared.Record.{Record}
@@ -25,18 +25,18 @@ use Rattle.records.specs.Words.{ofWords}
 use Rattle.questions.specs.Layout.{rankAt, ruleNodes, edgeLabel, planKind, planFirst, planSecond, graphEdges, graphLabel}
 use Rattle.questions.specs.Abstract.{grammarOf, graphOf}
 use Rattle.questions.proofs.WellFormedLent.{checked-grammar-ok}
-use Rattle.joins.specs.declared.Joined.{Joined}
-use Rattle.rules.specs.declared.Filled.{Filled}
 use Rattle.rules.specs.declared.Place.{Place}
-use Rattle.joins.specs.Joins.{Accepted, KnownNode, KnownEdge, Spans, BareFrom, Makes, edgeNodes}
+use Rattle.joins.specs.Joins.{Accepted, KnownNode, KnownEdge, BareFrom, Plain, Makes, edgeNodes}
 use Rattle.rules.specs.Plans.{secondWord}
+use Rattle.rules.specs.Coverage.{Shown, Covering}
 use Rattle.rules.specs.Rules.{Rest, Into, Second, terminalItems, binaryAt, Above}
-use Rattle.joins.proofs.Known.{right-nodes, nodes-few, plan-size, graph-size, graph-ok, graph-edges-few}
+use Rattle.joins.proofs.Known.{right-nodes, nodes-few, plan-size, graph-size, graph-nodes, graph-ok, graph-edges-few, graph-nodes-few}
 use Rattle.joins.proofs.PlanMasks.{node-is, joined-is}
-use Rattle.joins.proofs.EdgeMaps.{edge-ok, edge-label as rule-label, edge-rank, take-padded, padded-bare, length-attach}
-use Rattle.joins.proofs.Openness.{spans-left, spans-right}
+use Rattle.joins.proofs.EdgeMaps.{edge-ok, edge-label as rule-label, edge-rank, rank-cap, node-there, edge-node-known, at-padded, at-past, take-padded, padded-bare, length-attach, attach-place}
+use Rattle.joins.proofs.Openness.{open-single}
+use Rattle.joins.proofs.Showing.{plain-padded, plain-take, plain-attach}
 use Rattle.rules.proofs.JoinWords.{introduced, second-edge, asked-known, asked-label, second-other}
-use Rattle.rules.proofs.NodeLists.{label-is}
+use Rattle.rules.proofs.NodeLists.{label-is, edge-ranked}
 use Rattle.rules.proofs.RuleItems.{guard-none, binary-nowhere, binary-place, firstIs, first-none, item-active, item-passive, item-edges, with-terminal, binary-apart, pair-passive, edge-pair}
 
 -- ---- the one plan node above
@@ -65,10 +65,6 @@ and-no false b h = refl
 
 single-added : (e m : ℕ) → e < 64 → Added 0 e m → m ≡ single e
 single-added e m h added = added .value h ∙ sym (union-of (single e) 0 (single e) (λ k. omega (arith, bit-empty k)))
-
-pub near-more : (g h : List ℕ) (m near o : ℕ) → Spans g h m near → Spans g h m (bitOr near o)
-unfolding _∪_
-near-more g h m near o s = spans-left g h m near o s
 
 -- ---- the rules at one plan node
 module _ (g : List ℕ) (r q : ℕ) (known : KnownNode g r q) where
@@ -99,10 +95,11 @@ module _ (g : List ℕ) (r q : ℕ) (known : KnownNode g r q) where
 
   module _ (y : Record) (t : List ℕ) where
     second-none : ((H : Graph) (p m : ℕ) (f : List ℕ) → binaryAt G H (active r p m f) (itemOf G y) q ≡ []) → Second g r q y t false
-    second-none h = record { none = λ _. h; some = λ e. absurd (false≢true e); bare = λ e. absurd (false≢true e) }
+    second-none h = record { none = λ _. h; some = λ e. absurd (false≢true e); bare = λ e. absurd (false≢true e); held = λ e. absurd (false≢true e); plain = λ e. absurd (false≢true e) }
 
-    second-some : ((H : Graph) (p m : ℕ) (f : List ℕ) → planFirst g r q ≡ p → binaryAt G H (active r p m f) (itemOf G y) q ≡ combine H R r q m (y .edges) f (take n t)) → BareFrom n t → Second g r q y t true
-    second-some h past = record { none = λ e. absurd (true≢false e); some = λ _. h; bare = λ _. past }
+    second-some : ((H : Graph) (p m : ℕ) (f : List ℕ) → planFirst g r q ≡ p → binaryAt G H (active r p m f) (itemOf G y) q ≡ combine H R r q m (y .edges) f (take n t)) → BareFrom n t
+        → ((v : ℕ) → Shown g y v → (i : ℕ) × (i < n) × (at t i ≡ v)) → (Plain (y .nodes) → Plain t) → Second g r q y t true
+    second-some h past held plain = record { none = λ e. absurd (true≢false e); some = λ _. h; bare = λ _. past; held = λ _. held; plain = λ _. plain }
 
     with-active : y .kind ≡ 0 → (H : Graph) (p m : ℕ) (f : List ℕ)
         → binaryAt G H (active r p m f) (itemOf G y) q ≡ guard (eqb r (y .of)) (joinAt H R r p m f (y .plan) (y .edges) (take (rightOf G (y .of) .nodes) (y .nodes)) q node)
@@ -158,15 +155,42 @@ module _ (g : List ℕ) (r q : ℕ) (known : KnownNode g r q) where
             filled-items isPassive H p m f
             ∙ ap (λ b. guard b (joint H m f)) (and-no (eqb (planFirst g r q) p) (eqb (y .of) (edge .label)) (ne-eqb (y .of) (edge .label) (λ s. e (label ∙ sym (s ∙ edge-label))))))
 
-        pub filled-made : w / 4 % 64 ≡ y .of → (places : List ℕ) → y .nodes ≡ places → t ≡ padded (attach n (edgeNodes g r i) (take (rankAt g (edgeLabel g r i)) places)) → Second g r q y t true
-        filled-made s places nodes t-is =
+        pub filled-made : w / 4 % 64 ≡ y .of → (places : List ℕ) → y .nodes ≡ places → length places ≡ 8 → t ≡ padded (attach n (edgeNodes g r i) (take (rankAt g (edgeLabel g r i)) places)) → Second g r q y t true
+        filled-made s places nodes eight t-is =
             second-some
             (λ H p m f d.
             filled-items isPassive H p m f
             ∙ ap₂ (λ a b. guard (a && b) (joint H m f)) (eq-eqb (planFirst g r q) p d) (eq-eqb (y .of) (edge .label) same)
             ∙ ap (combine H R r q m (y .edges) f) map-is)
-            (subst (BareFrom n) (sym t-is) (padded-bare n (attach n (edge .attachment) (take (rankAt g (edgeLabel g r i)) places)) (omega (arith, length-attach n (edge .attachment) (take (rankAt g (edgeLabel g r i)) places)))))
+            (subst (BareFrom n) (sym t-is) (padded-bare n (attach n (edge .attachment) L) (omega (arith, length-attach n (edge .attachment) L))))
+            (λ v shown.
+            let (k, l, e) = shown .passive isPassive in
+            let there : k < rank = omega (arith, l, ap (rankAt g) (sym s ∙ label)) in
+            let x = at (edge .attachment) k in
+            let inside : x < n = edge-node-known g r i edge-known k x there (node-there g r i edge-known k there) in (
+              x,
+              inside,
+              ap (λ (t : List ℕ). at t x) t-is
+                  ∙ at-padded (attach n (edge .attachment) L) x (omega (arith, inside, nodes-few g r (known .grammar) (known .rule)))
+                  ∙ attach-place n (edge .attachment) L k x (edge-ok g r i edge-known .listed .once) (omega (arith, there, edge-rank g r i edge-known)) (omega (arith, there, long)) refl inside
+                  ∙ getD-take rank places k unplaced there
+                  ∙ ap (λ (l : List ℕ). at l k) (sym nodes)
+                  ∙ e,
+            ))
+            (λ plain. subst Plain (sym t-is) (plain-padded (attach n (edge .attachment) L) (plain-attach n (edge .attachment) L (plain-take rank places short (subst Plain nodes plain)))))
           where
+            rank : ℕ
+            rank = rankAt g (edgeLabel g r i)
+
+            L : List ℕ
+            L = take rank places
+
+            short : rank ≤ length places
+            short = omega (arith, eight, rank-cap g (edgeLabel g r i))
+
+            long : length L ≡ rank
+            long = length-take-le rank places short
+
             same : y .of ≡ edge .label
             same = sym s ∙ label ∙ sym edge-label
 
@@ -232,6 +256,14 @@ module _ (g : List ℕ) (r q : ℕ) (known : KnownNode g r q) where
             ∙ ap₂ (λ a b. guard (a && b) (both H m f (take (rightOf G (y .of) .nodes) (y .nodes)))) (eq-eqb (planFirst g r q) p c) (eq-eqb d (y .plan) e)
             ∙ ap (both H m f) (ap (λ i. take (rightOf G i .nodes) (y .nodes)) s ∙ ap₂ (λ (i : ℕ) (l : List ℕ). take i l) size nodes ∙ sym (ap (take n) t-is ∙ take-padded n (take n places) long few)))
             (subst (BareFrom n) (sym t-is) (padded-bare n (take n places) (omega (arith, long))))
+            (λ v shown.
+            let (i, l, _, e′) = shown .active isActive in
+            let inside : i < n = omega (arith, l, ap (ruleNodes g) s) in (
+              i,
+              inside,
+              ap (λ (t : List ℕ). at t i) t-is ∙ at-padded (take n places) i (omega (arith, inside, few)) ∙ getD-take n places i unplaced inside ∙ ap (λ (l : List ℕ). at l i) (sym nodes) ∙ e′,
+            ))
+            (λ plain. subst Plain (sym t-is) (plain-padded (take n places) (plain-take n places (omega (arith, few, eight)) (subst Plain nodes plain))))
           where
             few : n ≤ 8
             few = nodes-few g r (known .grammar) (known .rule)
@@ -254,14 +286,14 @@ module _ (g h : List ℕ) where
   H = graphOf g h
 
   -- ---- answers
-  pub into-none : (l : List Item) (w v : List ℕ) (o : ℕ) → l ≡ [] → Rest (ofWords w) (ofWords v) → Into g h l w (record { found = false; images = o }) v
-  into-none l w v o e rest = record { none = λ _. e; one = λ p. absurd (false≢true p); spans = λ p. absurd (false≢true p); rest = rest }
+  pub into-none : (sure : Bool) (l : List Item) (w v : List ℕ) → l ≡ [] → Rest (ofWords w) (ofWords v) → Into g h sure l w false v
+  into-none sure l w v e rest = record { none = λ _. e; one = λ p. absurd (false≢true p); covering = λ _ p. absurd (false≢true p); rest = rest }
 
-  pub into-same : (l k : List Item) (w v : List ℕ) (z : Filled) → l ≡ k → Into g h l w z v → Into g h k w z v
-  into-same l k w v z e a = record {
+  pub into-same : (sure : Bool) (l k : List Item) (w v : List ℕ) (z : Bool) → l ≡ k → Into g h sure l w z v → Into g h sure k w z v
+  into-same sure l k w v z e a = record {
     none = λ p. sym e ∙ a .none p;
     one = λ p. ap (map (λ (i : Item). recordOf i (ofWords w .count) (ofWords w .first) (ofWords w .second))) (sym e) ∙ a .one p;
-    spans = a .spans;
+    covering = a .covering;
     rest = a .rest;
   }
 
@@ -301,17 +333,17 @@ module _ (g h : List ℕ) where
               (right-nodes g (x .of) (known .grammar) (known .rule)) nodes)
 
   -- the one item as a record
-  pub into-made : (l k : List Item) (r q m : ℕ) (t : List ℕ) (j : Joined) (w v : List ℕ) → Makes g h l r q m t j → l ≡ k
+  pub into-made : (sure : Bool) (l k : List Item) (r q m : ℕ) (t : List ℕ) (j : Bool) (w v : List ℕ) → Makes l r q m t j → l ≡ k
       → ofWords v ≡ record { kind = 0; of = r; plan = q; edges = m; count = ofWords w .count; handled = 0; nodes = t; first = ofWords w .first; second = ofWords w .second }
-      → Rest (ofWords w) (ofWords v) → Into g h k w (record { found = j .found; images = j .images }) v
-  into-made l k r q m t j w v makes e is rest = record {
+      → (sure ≡ true → j ≡ true → Covering g h (ofWords v)) → Rest (ofWords w) (ofWords v) → Into g h sure k w j v
+  into-made sure l k r q m t j w v makes e is covering rest = record {
     none = λ p. sym e ∙ makes .none p;
     one = λ p.
         let one = makes .one p in
         ap (map (λ (i : Item). recordOf i (ofWords w .count) (ofWords w .first) (ofWords w .second))) (sym e ∙ one .item)
         ∙ ap (λ (t : List ℕ). record { kind = 0; of = r; plan = q; edges = m; count = ofWords w .count; handled = 0; nodes = t; first = ofWords w .first; second = ofWords w .second } ∷ []) (sym (one .places))
         ∙ ap (λ (z : Record). z ∷ []) (sym is);
-    spans = λ p. subst (λ i. Spans g h i (j .images)) (sym (ap (λ (z : Record). z .edges) is)) (makes .spans p);
+    covering = covering;
     rest = rest;
   }
 
@@ -335,11 +367,6 @@ module _ (g h : List ℕ) where
     module _ (m : ℕ) (added : Added 0 e m) where
       set-is : m ≡ single e
       set-is = single-added e m (omega (arith, graph-edges-few g h accepted)) added
-
-      -- the open nodes of the record's set and of the edge
-      pub edge-near : (near o : ℕ) → Spans g h (single e) o → Spans g h m (bitOr near o)
-      unfolding _∪_
-      edge-near near o s = spans-right g h m near o (subst (λ k. Spans g h k o) (sym set-is) s)
 
       pub edge-apart : (b : Bool) → b ≡ disjoint (x .edges) m → b ≡ false → edge-items ≡ []
       edge-apart b t f =
@@ -367,17 +394,37 @@ module _ (g h : List ℕ) where
             ∙ ap₂ (λ (s m : ℕ). passive s m (take (rankOf G′ (edge-record .of)) l)) (label ∙ sym (label-is g h e known)) set-is
             ∙ ap (passive (graph-edge .label) (single e)) list-is
 
+        -- its open nodes are those of the edge
+        edge-covering : Covering g h edge-record
+        edge-covering = record {
+          plain = subst Plain (sym nodes) (plain-padded (graph-edge .attachment) (λ i. place i (decLt i (length (graph-edge .attachment)))));
+          shown = λ v l p.
+              let on = open-single g h e v (ap (λ i. isOpen H i v) (sym set-is) ∙ p) in
+              let (k, d, q) = occurs-find v (graph-edge .attachment) (ltb-true 0 (occurs v (graph-edge .attachment)) on) in
+              record {
+                active = λ z. absurd (omega (arith, z));
+                passive = λ _. (k, omega (arith, d, edge-ranked g h e known, ap (rankAt g) label), ap (λ (l : List ℕ). at l k) nodes ∙ at-padded (graph-edge .attachment) k (omega (arith, d, few, ok .listed .ranked)) ∙ q);
+              };
+        }
+          where
+            place : (i : ℕ) → Dec (i < length (graph-edge .attachment)) → at (graph-edge .attachment) i ≤ unplaced
+            place i (yes d) = omega (arith, ok .listed .inside (at (graph-edge .attachment) i) (occurs-at (graph-edge .attachment) i d), graph-nodes g h, graph-nodes-few g h accepted)
+            place i (no d) = omega (arith, at-past (graph-edge .attachment) i (omega (arith, d)))
+
+        pub edge-covers : (y : Record) → y ≡ edge-record → Covering g h y
+        edge-covers y is = subst (Covering g h) (sym is) edge-covering
+
         pub edge-pairs : (y : Record) → y ≡ edge-record → binaryOf G′ H (itemOf G′ x) (itemOf G′ y) ≡ edge-items
         edge-pairs y is = ap (λ (y : Record). binaryOf G′ H (itemOf G′ x) (itemOf G′ y)) is ∙ ap (binaryOf G′ H (itemOf G′ x)) y-is ∙ sym as-pair
 
   -- ---- what callers read off an answer: the records that the rule makes
-  module _ (x : Record) (w v : List ℕ) (z : Filled) where
-    module _ (y : Record) (j k : ℕ) (answer : Into g h (binaryOf G′ H (itemOf G′ x) (itemOf G′ y)) w z v) where
-      pub pair-none : z .found ≡ false → pair G′ H x j y k ≡ []
+  module _ (sure : Bool) (x : Record) (w v : List ℕ) (z : Bool) where
+    module _ (y : Record) (j k : ℕ) (answer : Into g h sure (binaryOf G′ H (itemOf G′ x) (itemOf G′ y)) w z v) where
+      pub pair-none : z ≡ false → pair G′ H x j y k ≡ []
       unfolding pair
       pair-none p = ap (map (λ (i : Item). recordOf i (plus (x .count) (y .count)) j k)) (answer .none p)
 
-      pub pair-one : z .found ≡ true → ofWords w .count ≡ plus (x .count) (y .count) → ofWords w .first ≡ j → ofWords w .second ≡ k → pair G′ H x j y k ≡ ofWords v ∷ []
+      pub pair-one : z ≡ true → ofWords w .count ≡ plus (x .count) (y .count) → ofWords w .first ≡ j → ofWords w .second ≡ k → pair G′ H x j y k ≡ ofWords v ∷ []
       unfolding pair
       pair-one p n a b =
           sym
@@ -385,11 +432,11 @@ module _ (g h : List ℕ) where
           ∙ ap₂ (λ (a b : ℕ). map (λ (c : Item). recordOf c (plus (x .count) (y .count)) a b) (binaryOf G′ H (itemOf G′ x) (itemOf G′ y))) a b)
           ∙ answer .one p
 
-    module _ (n j e : ℕ) (answer : Into g h (terminalItems G′ H (itemOf G′ x) e) w z v) where
-      pub terminal-none : z .found ≡ false → withTerminal G′ H (itemOf G′ x) n j e ≡ []
+    module _ (n j e : ℕ) (answer : Into g h sure (terminalItems G′ H (itemOf G′ x) e) w z v) where
+      pub terminal-none : z ≡ false → withTerminal G′ H (itemOf G′ x) n j e ≡ []
       terminal-none p = with-terminal G′ H (itemOf G′ x) n j e ∙ ap (map (λ (i : Item). recordOf i n j e)) (answer .none p)
 
-      pub terminal-one : z .found ≡ true → ofWords w .count ≡ n → ofWords w .first ≡ j → ofWords w .second ≡ e → withTerminal G′ H (itemOf G′ x) n j e ≡ ofWords v ∷ []
+      pub terminal-one : z ≡ true → ofWords w .count ≡ n → ofWords w .first ≡ j → ofWords w .second ≡ e → withTerminal G′ H (itemOf G′ x) n j e ≡ ofWords v ∷ []
       terminal-one p c a b =
           with-terminal G′ H (itemOf G′ x) n j e
           ∙ sym

@@ -1,4 +1,5 @@
 -- The root of the definitions.
+pub mod Coverage
 pub mod Rules
 pub mod Wants
 pub mod Plans

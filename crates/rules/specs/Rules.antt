@@ -7,6 +7,7 @@ use lib.ListN.{length, take}
 use lib.Dec.{eqb}
 use Rattle.hrg.specs.Counts.{occurs}
 use Rattle.hrg.specs.Grammars.{Grammar, Graph, ruleOf, planOf, planNode}
+use Rattle.hrg.specs.Trees.{at}
 use Rattle.hrg.specs.Items.{Item, active, passive}
 use Rattle.hrg.specs.WellFormed.{children}
 use Rattle.hrg.specs.ClosureRun.{guard, eachTo, combine, nonterminalAt, joinAt}
@@ -16,8 +17,8 @@ use Rattle.agenda.specs.declared.Record.{Record}
 use Rattle.records.specs.Words.{ofWords}
 use Rattle.questions.specs.Layout.{ruleNodes, rulePlan, planFirst}
 use Rattle.questions.specs.Abstract.{grammarOf}
-use Rattle.joins.specs.Joins.{Accepted, KnownNode, Spans, BareFrom}
-use Rattle.rules.specs.declared.Filled.{Filled}
+use Rattle.joins.specs.Joins.{Accepted, KnownNode, BareFrom, Plain}
+use Rattle.rules.specs.Coverage.{Shown, Covering}
 use Rattle.rules.specs.declared.Place.{Place}
 
 -- ---- the rules
@@ -40,6 +41,8 @@ pub record Second (g : List ℕ) (r q : ℕ) (y : Record) (t : List ℕ) (b : Bo
   pub some : b ≡ true → (H : Graph) (p m : ℕ) (f : List ℕ) → planFirst g r q ≡ p
       → binaryAt (grammarOf g) H (active r p m f) (itemOf (grammarOf g) y) q ≡ combine H (ruleOf (grammarOf g) r) r q m (y .edges) f (take (ruleNodes g r) t)
   pub bare : b ≡ true → BareFrom (ruleNodes g r) t
+  pub held : b ≡ true → (v : ℕ) → Shown g y v → (i : ℕ) × (i < ruleNodes g r) × (at t i ≡ v)
+  pub plain : b ≡ true → Plain (y .nodes) → Plain t
 
 -- ---- the item that a rule makes, put into the sixteen words of a record
 -- the words that stay
@@ -50,11 +53,11 @@ pub record Rest (before after : Record) : Type 0 where
   pub first : after .first ≡ before .first
   pub second : after .second ≡ before .second
 
--- z says whether a list of items has one; the words are its record then, with the count and the partners that they had, and the images have the open graph nodes of its set
-pub record Into (g h : List ℕ) (l : List Item) (before : List ℕ) (z : Filled) (after : List ℕ) : Type 0 where
-  pub none : z .found ≡ false → l ≡ []
-  pub one : z .found ≡ true → map (λ (i : Item). recordOf i (ofWords before .count) (ofWords before .first) (ofWords before .second)) l ≡ ofWords after ∷ []
-  pub spans : z .found ≡ true → Spans g h (ofWords after .edges) (z .images)
+-- z says whether a list of items has one; the words are its record then, with the count and the partners that they had. Where it is sure that what makes the item covers its open nodes, the record does
+pub record Into (g h : List ℕ) (sure : Bool) (l : List Item) (before : List ℕ) (z : Bool) (after : List ℕ) : Type 0 where
+  pub none : z ≡ false → l ≡ []
+  pub one : z ≡ true → map (λ (i : Item). recordOf i (ofWords before .count) (ofWords before .first) (ofWords before .second)) l ≡ ofWords after ∷ []
+  pub covering : sure ≡ true → z ≡ true → Covering g h (ofWords after)
   pub rest : Rest (ofWords before) (ofWords after)
 
 -- ---- the plan

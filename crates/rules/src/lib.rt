@@ -13,21 +13,17 @@ ghost use Rattle.records.specs.Words.{ofWords};
 ghost use Rattle.questions.specs.Layout.{ruleCount, ruleNodes, planKind, graphEdges};
 ghost use Rattle.questions.specs.Checking.{checkGrammar};
 ghost use Rattle.questions.specs.Abstract.{grammarOf, graphOf};
-ghost use Rattle.joins.specs.Joins.{KnownNode, Accepted, Spans};
+ghost use Rattle.joins.specs.Joins.{KnownNode, Accepted};
 ghost use Rattle.joins.specs.Graphs.{GraphTable};
 ghost use Rattle.rules.specs.Rules.{Into, Second, terminalItems};
+ghost use Rattle.rules.specs.Coverage.{Covering};
 ghost use Rattle.rules.specs.Wants.{wantOf};
 ghost use Rattle.rules.specs.Plans.{secondWord, PlanTable};
 ghost use Rattle.rules.specs.Candidates.{Introduces, Candidates};
 
+pub mod coverage;
 pub mod plans;
 pub mod wants;
-
-// Whether a rule makes an item, and the graph nodes of its map.
-pub struct Filled {
-    pub found: bool,
-    pub images: u64,
-}
 
 // A plan node: none where found is false.
 pub struct Place {
@@ -109,7 +105,7 @@ fn second_map(g: &[u64], of: u64, q: u64, w: u64, y: &[u64], t: &mut [u64]) -> b
     true
 }
 
-// What x first and y second make, each given as its sixteen words. Records may hold any words: an unknown rule or plan node makes nothing.
+// Whether x first and y second make an item, each given as its sixteen words. Records may hold any words: an unknown rule or plan node makes nothing.
 // The item goes into the words of `out`: its rule, plan node, edges and map. The other words stay. The map comes with no images, so that places that get none need no store.
 pub fn pair_into(
     g: &[u64],
@@ -118,36 +114,32 @@ pub fn pair_into(
     graph: &[u64; 577],
     x: &[u64],
     y: &[u64],
-    near: u64,
+    sure: bool,
     out: &mut [u64],
-) -> Filled
-    requires { ⌜ Accepted (now g) (now h) × PlanTable (now g) (now plans) × GraphTable (now g) (now h) (now graph) × (length (now x) ≡ 16) × (length (now y) ≡ 16) × Spans (now g) (now h) (ofWords (now x) .edges) near × Spans (now g) (now h) (ofWords (now y) .edges) near × (length (now out) ≡ 16) × (ofWords (now out) .kind ≡ 0) × (ofWords (now out) .handled ≡ 0) × (ofWords (now out) .nodes ≡ replicate 8 unplaced) ⌝ }
-    ensures { λ z. ⌜ Into (now (g .entry)) (now (h .entry)) (binaryOf (grammarOf (now (g .entry))) (graphOf (now (g .entry)) (now (h .entry))) (itemOf (grammarOf (now (g .entry))) (ofWords (now (x .entry)))) (itemOf (grammarOf (now (g .entry))) (ofWords (now (y .entry))))) (now (out .entry)) z (now (out .exit)) ⌝ }
+) -> bool
+    requires { ⌜ Accepted (now g) (now h) × PlanTable (now g) (now plans) × GraphTable (now g) (now h) (now graph) × (length (now x) ≡ 16) × (length (now y) ≡ 16) × (sure ≡ true → Covering (now g) (now h) (ofWords (now x))) × (sure ≡ true → Covering (now g) (now h) (ofWords (now y))) × (length (now out) ≡ 16) × (ofWords (now out) .kind ≡ 0) × (ofWords (now out) .handled ≡ 0) × (ofWords (now out) .nodes ≡ replicate 8 unplaced) ⌝ }
+    ensures { λ z. ⌜ Into (now (g .entry)) (now (h .entry)) sure (binaryOf (grammarOf (now (g .entry))) (graphOf (now (g .entry)) (now (h .entry))) (itemOf (grammarOf (now (g .entry))) (ofWords (now (x .entry)))) (itemOf (grammarOf (now (g .entry))) (ofWords (now (y .entry))))) (now (out .entry)) z (now (out .exit)) ⌝ }
 {
-    let none = Filled {
-        found: false,
-        images: 0,
-    };
     if x[0] != 0 {
-        return none;
+        return false;
     }
     let of = x[1];
     let above = plans::parent_in(g, plans, of, x[2]);
     let q = above.word % 32;
     if q >= 16 {
-        return none;
+        return false;
     }
     let w = above.word / 32;
     if w % 4 == 3 {
-        return none;
+        return false;
     }
     if !second_map(g, of, q, w, y, &mut out[6..14]) {
-        return none;
+        return false;
     }
     out[1] = of;
     out[2] = q;
     out[3] = x[3] | y[3];
-    let j = joins::combine(
+    joins::combine(
         g,
         h,
         graph,
@@ -156,17 +148,13 @@ pub fn pair_into(
         above.stays,
         x[3],
         y[3],
-        near,
+        sure,
         &x[6..14],
         &mut out[6..14],
-    );
-    Filled {
-        found: j.found,
-        images: j.images,
-    }
+    )
 }
 
-// What x and graph edge e make: the same as with a passive item of the edge's symbol, set and nodes.
+// Whether x and graph edge e make an item: the same as with a passive item of the edge's symbol, set and nodes.
 pub fn terminal_into(
     g: &[u64],
     h: &[u64],
@@ -174,22 +162,18 @@ pub fn terminal_into(
     graph: &[u64; 577],
     x: &[u64],
     e: u64,
-    near: u64,
+    sure: bool,
     out: &mut [u64],
-) -> Filled
-    requires { ⌜ Accepted (now g) (now h) × (e < graphEdges (now h)) × PlanTable (now g) (now plans) × GraphTable (now g) (now h) (now graph) × (length (now x) ≡ 16) × Spans (now g) (now h) (ofWords (now x) .edges) near × (length (now out) ≡ 16) × (ofWords (now out) .kind ≡ 0) × (ofWords (now out) .handled ≡ 0) × (ofWords (now out) .nodes ≡ replicate 8 unplaced) ⌝ }
-    ensures { λ z. ⌜ Into (now (g .entry)) (now (h .entry)) (terminalItems (grammarOf (now (g .entry))) (graphOf (now (g .entry)) (now (h .entry))) (itemOf (grammarOf (now (g .entry))) (ofWords (now (x .entry)))) e) (now (out .entry)) z (now (out .exit)) ⌝ }
+) -> bool
+    requires { ⌜ Accepted (now g) (now h) × (e < graphEdges (now h)) × PlanTable (now g) (now plans) × GraphTable (now g) (now h) (now graph) × (length (now x) ≡ 16) × (sure ≡ true → Covering (now g) (now h) (ofWords (now x))) × (length (now out) ≡ 16) × (ofWords (now out) .kind ≡ 0) × (ofWords (now out) .handled ≡ 0) × (ofWords (now out) .nodes ≡ replicate 8 unplaced) ⌝ }
+    ensures { λ z. ⌜ Into (now (g .entry)) (now (h .entry)) sure (terminalItems (grammarOf (now (g .entry))) (graphOf (now (g .entry)) (now (h .entry))) (itemOf (grammarOf (now (g .entry))) (ofWords (now (x .entry)))) e) (now (out .entry)) z (now (out .exit)) ⌝ }
 {
-    let none = Filled {
-        found: false,
-        images: 0,
-    };
     if x[0] != 0 {
-        return none;
+        return false;
     }
     let edges = masks::with(0, e);
     if !masks::disjoint(x[3], edges) {
-        return none;
+        return false;
     }
     let of = layout::graph_label(h, e);
     let l = edge_nodes(g, h, e);
@@ -211,8 +195,7 @@ pub fn terminal_into(
         0,
         0,
     ];
-    let all = near | joins::edge_span(g, h, graph, e);
-    pair_into(g, h, plans, graph, x, &y, all, out)
+    pair_into(g, h, plans, graph, x, &y, sure, out)
 }
 
 // Those of the edges m whose node at place k is a, if that is one.

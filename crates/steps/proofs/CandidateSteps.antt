@@ -2,7 +2,7 @@
 use Prim.Native.Nat.{ℕ, suc, _<_}
 use mathlib.Core.Path.{_≡_, refl, sym, ap, _∙_, subst}
 use mathlib.Core.Bool.{Bool, false}
-use mathlib.Core.List.{List, []}
+use mathlib.Core.List.{List}
 use native.Mathlib.Omega.{arith}
 use Rattle.masks.specs.Masks.{member}
 use Rattle.agenda.specs.declared.Record.{Record}
@@ -36,7 +36,7 @@ module _ (g h : List ℕ) (x : Record) (m : ℕ) (C : Candidates g h x m) (w : L
       subst-member e = rw z (member-none e)
 
 -- ---- the loop over the graph edges: the record at place j stays as it is
-module _ (g h w : List ℕ) (j near : ℕ) (o : Fits w) (D : Handled g h w j near) where
+module _ (g h w : List ℕ) (j : ℕ) (o : Fits w) (D : Handled w j) where
   abbrev x : Record
   x = recordAt w j
 
@@ -54,10 +54,10 @@ module _ (g h w : List ℕ) (j near : ℕ) (o : Fits w) (D : Handled g h w j nea
 
   module _ (v : List ℕ) (e : ℕ) (S : Gathered w with v e) where
     edge-record : recordAt v j ≡ x
-    edge-record = stays-record g h w v j near (gather e with) o (whole-gather e with with-whole) (S .is) D
+    edge-record = stays-record w v j (gather e with) o (whole-gather e with with-whole) (S .is) D
 
-    pub edge-handled : Handled g h v j near
-    edge-handled = stays-handled g h w v j near (gather e with) o (whole-gather e with with-whole) (S .is) D
+    pub edge-handled : Handled v j
+    edge-handled = stays-handled w v j (gather e with) o (whole-gather e with with-whole) (S .is) D
 
     pub edge-candidates : (m : ℕ) → Candidates g h x m → Candidates g h (recordAt v j) m
     edge-candidates m C = subst (λ (y : Record). Candidates g h y m) (sym edge-record) C

@@ -39,7 +39,7 @@ alone-same {g} {h} {keys} {w} {j} {v} {jx} {ms} {u} {kx} {ns} {lead} a b l e A =
     (subst (λ (t : List ℕ). Alone g h keys w j u t ms lead) (sym b)
     (subst (λ (t : List ℕ). Alone g h keys w j u kx t lead) (sym l) (subst (Alone g h keys w j u kx ns) (sym e) A)))
 
-module _ {g h plans keys graph w ix ls : List ℕ} {j near : ℕ} (P : Tables g h plans keys graph × Ready g h keys w ix ls × Handled g h w j near) where
+module _ {g h plans keys graph w ix ls : List ℕ} {j : ℕ} (P : Tables g h plans keys graph × Ready g h keys w ix ls × Handled w j) where
   abbrev G : Grammar
   G = grammarOf g
 
@@ -85,10 +85,10 @@ module _ {g h plans keys graph w ix ls : List ℕ} {j near : ℕ} (P : Tables g 
   -- ---- on to the records
   module _ {v jx ms : List ℕ} {lead : Bool} (A : Alone g h keys w j v jx ms lead) where
     same : recordAt v j ≡ x
-    same = stays-record g h w v j near _ (P .1 .fits) (alone-whole G H x j) (A .is) (P .2)
+    same = stays-record w v j _ (P .1 .fits) (alone-whole G H x j) (A .is) (P .2)
 
-    pub alone-handled : Handled g h v j near
-    alone-handled = stays-handled g h w v j near _ (P .1 .fits) (alone-whole G H x j) (A .is) (P .2)
+    pub alone-handled : Handled v j
+    alone-handled = stays-handled w v j _ (P .1 .fits) (alone-whole G H x j) (A .is) (P .2)
 
     pub alone-leads : Leads g (recordAt v j) lead
     alone-leads = subst (λ (y : Record). Leads g y lead) (sym same) (A .leads)

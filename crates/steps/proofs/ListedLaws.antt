@@ -90,7 +90,7 @@ quiet-grown w v xs edges k f e p l = ap (λ (u : List ℕ). quietIn u edges k) p
     go false h = rw (grown-flag w f xs e k l ∙ h, h) (waits (disjoint edges (recordAt (grownBy w xs) k .edges)) ∙ sym (waits (disjoint edges (recordAt w k .edges))))
 
 -- ---- the record at place j is what it was while its partners are dealt with
-module _ (g h w : List ℕ) (H : Graph) (j near : ℕ) (f : Fits w) (D : Handled g h w j near) (v : List ℕ) (done : ℕ) (A : Gathered w (λ i. withRecord (grammarOf g) H (recordAt w j) j (recordAt w i) i) v done) where
+module _ (g h w : List ℕ) (H : Graph) (j : ℕ) (f : Fits w) (D : Handled w j) (v : List ℕ) (done : ℕ) (A : Gathered w (λ i. withRecord (grammarOf g) H (recordAt w j) j (recordAt w i) i) v done) where
   abbrev partners : List Record
   partners = gather done (λ i. withRecord (grammarOf g) H (recordAt w j) j (recordAt w i) i)
 
@@ -101,10 +101,10 @@ module _ (g h w : List ℕ) (H : Graph) (j near : ℕ) (f : Fits w) (D : Handled
   dealt-longer = added-longer w v partners f partners-whole (A .is)
 
   pub dealt-record : recordAt v j ≡ recordAt w j
-  dealt-record = stays-record g h w v j near partners f partners-whole (A .is) D
+  dealt-record = stays-record w v j partners f partners-whole (A .is) D
 
-  pub dealt-handled : Handled g h v j near
-  dealt-handled = stays-handled g h w v j near partners f partners-whole (A .is) D
+  pub dealt-handled : Handled v j
+  dealt-handled = stays-handled w v j partners f partners-whole (A .is) D
 
   pub dealt-lead : (lead : Bool) → Leads g (recordAt w j) lead → Leads g (recordAt v j) lead
   dealt-lead lead L = subst (λ (y : Record). Leads g y lead) (sym dealt-record) L
@@ -113,9 +113,9 @@ module _ (g h w : List ℕ) (H : Graph) (j near : ℕ) (f : Fits w) (D : Handled
   dealt-quiet edges k l = quiet-grown w v partners edges k f partners-whole (A .is) l
 
 -- it is regular where none is irregular
-pub regular-own : (g h keys w ix ls : List ℕ) (j near : ℕ) → Ready g h keys w ix ls → Handled g h w j near → markOf ix ≡ 0 → regularOf keys (recordAt w j) ≡ true
+pub regular-own : (g h keys w ix ls : List ℕ) (j : ℕ) → Ready g h keys w ix ls → Handled w j → markOf ix ≡ 0 → regularOf keys (recordAt w j) ≡ true
 unfolding chartOf
-regular-own g h keys w ix ls j near R D m = subst (λ (y : Record). regularOf keys y ≡ true) (record-in w (itemCount w) j (D .there)) (R .indexed .regular m j (omega (arith, D .there, length-records w (itemCount w))))
+regular-own g h keys w ix ls j R D m = subst (λ (y : Record). regularOf keys y ≡ true) (record-in w (itemCount w) j (D .there)) (R .indexed .regular m j (omega (arith, D .there, length-records w (itemCount w))))
 
 -- ---- the loop
 module _ (g h keys : List ℕ) (H : Graph) (w : List ℕ) (x : Record) (j n : ℕ) where

@@ -59,12 +59,12 @@ module _ (g h keys : List ℕ) (H : Graph) (w : List ℕ) (j n : ℕ) where
     pub each : listed ≡ false → past ≡ k
     pub going : listed ≡ true → Going g h keys H w x j n v ix ls cs k past
 
-  module _ (plans graph ix₀ ls₀ : List ℕ) (near : ℕ) (T : Tables g h plans keys graph) (R₀ : Ready g h keys w ix₀ ls₀) (D : Handled g h w j near) (all : n ≤ itemCount w) (listed : Bool) (M : listed ≡ true → markOf ix₀ ≡ 0) (edges : ℕ) (same : edges ≡ x .edges) where
+  module _ (plans graph ix₀ ls₀ : List ℕ) (T : Tables g h plans keys graph) (R₀ : Ready g h keys w ix₀ ls₀) (D : Handled w j) (all : n ≤ itemCount w) (listed : Bool) (M : listed ≡ true → markOf ix₀ ≡ 0) (edges : ℕ) (same : edges ≡ x .edges) where
     others : listed ≡ true → Regular keys (chartOf w .records)
     others m = R₀ .indexed .regular (M m)
 
     own : listed ≡ true → regularOf keys x ≡ true
-    own m = regular-own g h keys w ix₀ ls₀ j near R₀ D (M m)
+    own m = regular-own g h keys w ix₀ ls₀ j R₀ D (M m)
 
     skims : (v ws bs ds : List ℕ) → SkimsAll (quietIn v edges) ws n bs ds → SkimsAll (quietIn v (x .edges)) ws n bs ds
     skims v ws bs ds s = subst (λ (e : ℕ). SkimsAll (quietIn v e) ws n bs ds) same s
@@ -81,16 +81,16 @@ module _ (g h keys : List ℕ) (H : Graph) (w : List ℕ) (j n : ℕ) where
 
     module _ (v ix ls : List ℕ) (k : ℕ) (cs : List ℕ) (past : ℕ) (S : Turning listed v ix ls k cs past) where
       longer : itemCount w ≤ itemCount v
-      longer = dealt-longer g h w H j near (R₀ .fits) D v past (S .gathered)
+      longer = dealt-longer g h w H j (R₀ .fits) D v past (S .gathered)
 
       pub turning-known : k < n → k < itemCount v
       turning-known l = omega (arith, longer)
 
-      pub turning-handled : Handled g h v j near
-      turning-handled = dealt-handled g h w H j near (R₀ .fits) D v past (S .gathered)
+      pub turning-handled : Handled v j
+      turning-handled = dealt-handled g h w H j (R₀ .fits) D v past (S .gathered)
 
       pub turning-lead : (lead : Bool) → Leads g x lead → Leads g (recordAt v j) lead
-      turning-lead = dealt-lead g h w H j near (R₀ .fits) D v past (S .gathered)
+      turning-lead = dealt-lead g h w H j (R₀ .fits) D v past (S .gathered)
 
       pub turning-end : n ≤ k → v ≡ grownBy w (gather n partner)
       turning-end l = go listed refl
@@ -102,7 +102,7 @@ module _ (g h keys : List ℕ) (H : Graph) (w : List ℕ) (j n : ℕ) where
       -- one turn: record k is dealt with unless it was
       module _ (u jx ms : List ℕ) (later : ℕ) (l : k < n) (p : u ≡ grownBy v (guard (leb past k) (withRecord G H (recordAt v j) j (recordAt v k) k))) (R : Ready g h keys u jx ms) (q : later ≡ max past (k + 1)) where
         dealt : u ≡ grownBy v (guard (leb past k) (withRecord G H x j (recordAt v k) k))
-        dealt = p ∙ ap (λ (y : Record). grownBy v (guard (leb past k) (withRecord G H y j (recordAt v k) k))) (dealt-record g h w H j near (R₀ .fits) D v past (S .gathered))
+        dealt = p ∙ ap (λ (y : Record). grownBy v (guard (leb past k) (withRecord G H y j (recordAt v k) k))) (dealt-record g h w H j (R₀ .fits) D v past (S .gathered))
 
         pub turn-count : n ≤ itemCount u
         turn-count = omega (arith, longer, added-longer v u _ (S .ready .fits) (whole-guard (leb past k) (withRecord G H x j (recordAt v k) k) (record-whole G H x j (recordAt v k) k)) dealt)

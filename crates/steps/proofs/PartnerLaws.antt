@@ -18,7 +18,6 @@ use Rattle.rules.specs.Wants.{wantOf}
 use Rattle.rules.specs.Plans.{Leads}
 use Rattle.rules.proofs.RuleItems.{pair-apart}
 use Rattle.rules.specs.Rules.{terminalItems, Into}
-use Rattle.rules.specs.declared.Filled.{Filled}
 use Rattle.rules.proofs.RuleAnswers.{terminal-one, pair-one}
 use Rattle.rules.proofs.Meeting.{unwanting}
 use Rattle.records.specs.Words.{Fits, ofWords, recordAt, addedTo, grownBy}
@@ -30,14 +29,14 @@ use Rattle.steps.specs.Partners.{withRecord}
 words-added : (w v xs : List ℕ) (ys : List Record) → Fits w → v ≡ addedTo w (ofWords xs) → ys ≡ ofWords xs ∷ [] → v ≡ grownBy w ys
 words-added w v xs ys o p q = p ∙ grown-one w o (ofWords xs) (eight-words xs) ∙ ap (grownBy w) (sym q)
 
-module _ (g h : List ℕ) (x : Record) (before after : List ℕ) (z : Filled) (w v : List ℕ) (o : Fits w) where
-  pub terminal-added : (n j e : ℕ) → Into g h (terminalItems (grammarOf g) (graphOf g h) (itemOf (grammarOf g) x) e) before z after → z .found ≡ true → ofWords before .count ≡ n → ofWords before .first ≡ j → ofWords before .second ≡ e
+module _ (g h : List ℕ) (sure : Bool) (x : Record) (before after : List ℕ) (z : Bool) (w v : List ℕ) (o : Fits w) where
+  pub terminal-added : (n j e : ℕ) → Into g h sure (terminalItems (grammarOf g) (graphOf g h) (itemOf (grammarOf g) x) e) before z after → z ≡ true → ofWords before .count ≡ n → ofWords before .first ≡ j → ofWords before .second ≡ e
       → v ≡ addedTo w (ofWords after) → v ≡ grownBy w (withTerminal (grammarOf g) (graphOf g h) (itemOf (grammarOf g) x) n j e)
-  terminal-added n j e answer found c a b p = words-added w v after _ o p (terminal-one g h x before after z n j e answer found c a b)
+  terminal-added n j e answer found c a b p = words-added w v after _ o p (terminal-one g h sure x before after z n j e answer found c a b)
 
-  pub pair-added : (y : Record) (j k : ℕ) → Into g h (binaryOf (grammarOf g) (graphOf g h) (itemOf (grammarOf g) x) (itemOf (grammarOf g) y)) before z after → z .found ≡ true → ofWords before .count ≡ plus (x .count) (y .count) → ofWords before .first ≡ j → ofWords before .second ≡ k
+  pub pair-added : (y : Record) (j k : ℕ) → Into g h sure (binaryOf (grammarOf g) (graphOf g h) (itemOf (grammarOf g) x) (itemOf (grammarOf g) y)) before z after → z ≡ true → ofWords before .count ≡ plus (x .count) (y .count) → ofWords before .first ≡ j → ofWords before .second ≡ k
       → v ≡ addedTo w (ofWords after) → v ≡ grownBy w (pair (grammarOf g) (graphOf g h) x j y k)
-  pair-added y j k answer found c a b p = words-added w v after _ o p (pair-one g h x before after z y j k answer found c a b)
+  pair-added y j k answer found c a b p = words-added w v after _ o p (pair-one g h sure x before after z y j k answer found c a b)
 
 -- ---- pairs that can make nothing
 disjoint-flip : (a b : ℕ) → disjoint a b ≡ false → disjoint b a ≡ false

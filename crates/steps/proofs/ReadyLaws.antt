@@ -1,42 +1,41 @@
 -- Words and index stay ready as records are added and handled.
 use Prim.Native.Nat.{ℕ, _+_, _-_, _*_, _/_, _≤_, _<_, min}
-use mathlib.Core.Path.{_≡_, refl, sym, ap, ap₂, _∙_, subst}
+use mathlib.Core.Path.{_≡_, sym, ap, ap₂, _∙_, subst}
 use mathlib.Core.List.{List, [], _∷_, List·Memᴰ·head as here, List·Memᴰ·tail as there, List·Memᴰ·not-nil as in-nil}
 use native.Mathlib.Omega.{arith}
 use lib.ListN.{length, set, length-set}
 use lib.Seq.{getD-set-same, getD-set-other}
-use Rattle.masks.specs.Masks.{_∪_}
+use mathlib.Core.Bool.{Bool, true}
+use lib.Dec.{eqb}
+use borrow.Author.Tests.{eq-eqb, eqb-true}
 use Rattle.agenda.specs.Records.{isHandled}
-use Rattle.agenda.specs.Consequences.{recordIn}
 use Rattle.hrg.specs.Items.{Item}
-use Rattle.joins.specs.Joins.{Spans}
 use Rattle.rules.specs.Rules.{Into}
-use Rattle.rules.specs.declared.Filled.{Filled}
-use Rattle.joins.proofs.Openness.{spans-left, spans-right}
+use Rattle.rules.specs.Coverage.{Covering}
 use Rattle.agenda.specs.declared.Record.{Record}
 use Rattle.agenda.specs.declared.Found.{Found}
 use Rattle.agenda.specs.declared.Found.the-variants.{At, Nowhere}
 use Rattle.agenda.specs.Steps.{leastWaiting}
-use Rattle.records.specs.Words.{Fits, ofWords, capacity, itemCount, fieldAt, recordAt, recordsAt, chartOf, addedTo, markedAt, grownBy}
+use Rattle.records.specs.Words.{Fits, ofWords, capacity, itemCount, fieldAt, recordAt, chartOf, addedTo, markedAt, grownBy}
 use Rattle.records.proofs.WordLaws.{eight-words, length-records, record-in, mark-some, item-fits, handled-yes, Below, one, least-below}
 use Rattle.records.proofs.Written.{handle-written, capacity-written, fits-written}
 use Rattle.records.proofs.Rewritten.{handledIn, grown-handled}
 use Rattle.records.proofs.Grown.{Whole, holds-own, grown-one, grown-fits, grown-capacity, grown-longer, grown-record}
-use Rattle.index.specs.Index.{Indexed, nearOf, Spanned, NearKept}
-use Rattle.index.proofs.NearLaws.{spanned-kept}
-use Rattle.index.proofs.AddLaws.{handled-beside, handled-spanned}
+use Rattle.index.specs.Index.{Indexed, doubtOf, Covered, DoubtKept}
+use Rattle.index.proofs.CoverLaws.{covered-kept}
+use Rattle.index.proofs.AddLaws.{handled-beside, handled-covered}
 use Rattle.ranking.specs.Ranking.{takenFrom}
 use Rattle.steps.specs.Runs.{markedBy}
 use Rattle.steps.specs.Ready.{Ready, Handled}
 
-module _ (g h keys w ix ls : List ℕ) (R : Ready g h keys w ix ls) (v jx ms : List ℕ) (I : Indexed keys jx ms (chartOf v .records)) (S : Spanned g h jx (chartOf v .records)) where
+module _ (g h keys w ix ls : List ℕ) (R : Ready g h keys w ix ls) (v jx ms : List ℕ) (I : Indexed keys jx ms (chartOf v .records)) (S : Covered g h jx (chartOf v .records)) where
   -- a record is added
   added-ready : (x : Record) → length (x .nodes) ≡ 8 → v ≡ addedTo w x → Ready g h keys v jx ms
   added-ready x e p = record {
     fits = subst Fits (sym is) (grown-fits w (R .fits) (x ∷ []) whole);
     small = omega (arith, ap capacity is, grown-capacity w (R .fits) (x ∷ []) whole, R .small);
     indexed = I;
-    spanned = S;
+    covered = S;
   }
     where
       is : v ≡ grownBy w (x ∷ [])
@@ -50,8 +49,8 @@ module _ (g h keys w ix ls : List ℕ) (R : Ready g h keys w ix ls) (v jx ms : L
   words-ready xs = added-ready (ofWords xs) (eight-words xs)
 
   -- .. by the words that a rule put it into
-  pub into-ready : (l : List Item) (before after : List ℕ) (z : Filled) → Into g h l before z after → v ≡ addedTo w (ofWords after) → Ready g h keys v jx ms
-  into-ready l before after z answer = words-ready after
+  pub into-ready : (sure : Bool) (l : List Item) (before after : List ℕ) (z : Bool) → Into g h sure l before z after → v ≡ addedTo w (ofWords after) → Ready g h keys v jx ms
+  into-ready sure l before after z answer = words-ready after
 
   -- a record is handled
   handled-ready : (j : ℕ) → j < itemCount w → v ≡ markedAt w j → Ready g h keys v jx ms
@@ -62,12 +61,12 @@ module _ (g h keys w ix ls : List ℕ) (R : Ready g h keys w ix ls) (v jx ms : L
         fits = subst Fits (sym is) (fits-written w (handledIn j (chartOf w)) held);
         small = omega (arith, ap capacity is, capacity-written w (handledIn j (chartOf w)) held, R .small);
         indexed = I;
-        spanned = S;
+        covered = S;
       }
 
 -- the index of a chart that question 8 passed
-pub built-ready : (g h keys w ix ls : List ℕ) → Fits w → capacity w ≤ 4096 → Indexed keys ix ls (chartOf w .records) → Spanned g h ix (chartOf w .records) → Ready g h keys w ix ls
-built-ready g h keys w ix ls f s i n = record { fits = f; small = s; indexed = i; spanned = n }
+pub built-ready : (g h keys w ix ls : List ℕ) → Fits w → capacity w ≤ 4096 → Indexed keys ix ls (chartOf w .records) → Covered g h ix (chartOf w .records) → Ready g h keys w ix ls
+built-ready g h keys w ix ls f s i n = record { fits = f; small = s; indexed = i; covered = n }
 
 pub count-small : (w : List ℕ) → capacity w ≤ 4096 → itemCount w ≤ 4096
 unfolding itemCount
@@ -80,24 +79,19 @@ pub records-small : (w : List ℕ) → capacity w ≤ 4096 → length (chartOf w
 unfolding chartOf
 records-small w h = omega (arith, length-records w (itemCount w), count-small w h)
 
--- ---- the sets that span the edges of records
-pub span-own : (g h : List ℕ) (m a b u : ℕ) → u ≡ a ∪ b → Spans g h m a → Spans g h m u
-span-own g h m a b u e s = subst (Spans g h m) (sym e) (spans-left g h m a b s)
-
-pub span-other : (g h : List ℕ) (m a b u : ℕ) → u ≡ a ∪ b → Spans g h m b → Spans g h m u
-span-other g h m a b u e s = subst (Spans g h m) (sym e) (spans-right g h m a b s)
-
--- .. by the words of one
-pub span-same : (g h : List ℕ) (x y : Record) (o : ℕ) → x ≡ y → Spans g h (y .edges) o → Spans g h (x .edges) o
-span-same g h x y o e s = subst (λ (z : Record). Spans g h (z .edges) o) (sym e) s
-
--- that of the record at place k
-pub span-of : (g h w ix : List ℕ) (k : ℕ) → Spanned g h ix (chartOf w .records) → k < itemCount w → (x : Record) → x ≡ recordAt w k → (o : ℕ) → o ≡ nearOf ix k → Spans g h (x .edges) o
+-- ---- records that cover their open nodes
+-- the record at place k, where there is no doubt
+pub covering-at : (g h w ix : List ℕ) (k : ℕ) → Covered g h ix (chartOf w .records) → k < itemCount w → doubtOf ix ≡ 0 → Covering g h (recordAt w k)
 unfolding chartOf
-span-of g h w ix k S l x e o q =
-    let here : recordIn (recordsAt w (itemCount w)) k ≡ x = record-in w (itemCount w) k l ∙ sym e in
-    subst (Spans g h (x .edges)) (sym q)
-    (subst (λ (y : Record). Spans g h (y .edges) (nearOf ix k)) here (S .each k (omega (arith, length-records w (itemCount w)))))
+covering-at g h w ix k S l d = subst (Covering g h) (record-in w (itemCount w) k l) (S .each d k (omega (arith, length-records w (itemCount w))))
+
+-- .. by its words, where the index says so
+pub covering-of : (g h w ix : List ℕ) (k : ℕ) (x : Record) (sure : Bool) → Covered g h ix (chartOf w .records) → k < itemCount w → x ≡ recordAt w k → sure ≡ eqb (doubtOf ix) 0 → sure ≡ true → Covering g h x
+covering-of g h w ix k x sure S l e q s = subst (Covering g h) (sym e) (covering-at g h w ix k S l (eqb-true (doubtOf ix) 0 (sym q ∙ s)))
+
+-- a record that a rule made
+pub covering-made : (g h ix : List ℕ) (sure : Bool) (l : List Item) (before after : List ℕ) (z : Bool) → Into g h sure l before z after → z ≡ true → sure ≡ eqb (doubtOf ix) 0 → doubtOf ix ≡ 0 → Covering g h (ofWords after)
+covering-made g h ix sure l before after z answer found q e = answer .covering (q ∙ eq-eqb (doubtOf ix) 0 e) found
 
 -- a handled record leaves the number of items
 pub marked-count : (w v : List ℕ) (j : ℕ) → j < itemCount w → v ≡ markedAt w j → itemCount v ≡ itemCount w
@@ -107,42 +101,40 @@ marked-count w v j l p =
     rw is (ap₂ (λ a b. min a ((b - 2) / 16)) (getD-set-other w (2 + 16 * j + 5) 0 1 0 (λ e. omega arith)) (length-set w (2 + 16 * j + 5) 1))
 
 -- ---- the record that a step handles
-pub handled-now : (g h w v ix : List ℕ) (j near : ℕ) → j < itemCount w → v ≡ markedAt w j → Spanned g h ix (chartOf v .records) → near ≡ nearOf ix j → Handled g h v j near
+pub handled-now : (w v : List ℕ) (j : ℕ) → j < itemCount w → v ≡ markedAt w j → Handled v j
 unfolding fieldAt capacity itemCount
-handled-now g h w v ix j near l p S q =
+handled-now w v j l p =
     let is : v ≡ set w (2 + 16 * j + 5) 1 = p ∙ sym (mark-some w j (omega arith)) in
     let inside : j < itemCount v = subst (λ n. j < n) (sym (marked-count w v j l p)) l in
     let one : 1 ≡ fieldAt v j 5 = sym (ap (λ (u : List ℕ). fieldAt u j 5) is ∙ getD-set-same w (2 + 16 * j + 5) 1 0 (omega (arith, item-fits w j l))) in
     record {
       there = inside;
       done = handled-yes v j 1 one (λ e. omega arith);
-      spans = span-of g h v ix j S inside (recordAt v j) refl near q;
     }
 
 -- it stays as it is while others are added
-module _ (g h w v : List ℕ) (j near : ℕ) (xs : List Record) (f : Fits w) (e : Whole xs) (p : v ≡ grownBy w xs) (D : Handled g h w j near) where
+module _ (w v : List ℕ) (j : ℕ) (xs : List Record) (f : Fits w) (e : Whole xs) (p : v ≡ grownBy w xs) (D : Handled w j) where
   pub stays-record : recordAt v j ≡ recordAt w j
   stays-record = ap (λ (u : List ℕ). recordAt u j) p ∙ grown-record w f xs e j (D .there) (D .done)
 
-  pub stays-handled : Handled g h v j near
+  pub stays-handled : Handled v j
   stays-handled = record {
     there = omega (arith, D .there, ap itemCount p, grown-longer w f xs e);
     done = ap isHandled stays-record ∙ D .done;
-    spans = subst (λ (y : Record). Spans g h (y .edges) near) (sym stays-record) (D .spans);
   }
 
 -- a record is taken, or none: then the ranking may be made anew
-module _ (g h keys w ix ls : List ℕ) (R : Ready g h keys w ix ls) (new : List ℕ) (k : NearKept ix new) where
+module _ (g h keys w ix ls : List ℕ) (R : Ready g h keys w ix ls) (new : List ℕ) (k : DoubtKept ix new) where
   abbrev rs : List Record
   rs = chartOf w .records
 
   ready-by : (v : List ℕ) (f : Found) → Below (length rs) f → v ≡ markedBy w f → Indexed keys new ls (takenFrom rs f) → Ready g h keys v new ls
   unfolding chartOf
   ready-by v Nowhere b q I =
-      subst (λ (u : List ℕ). Ready g h keys u new ls) (sym q) (record { fits = R .fits; small = R .small; indexed = I; spanned = spanned-kept g h ix new rs k (R .spanned) })
+      subst (λ (u : List ℕ). Ready g h keys u new ls) (sym q) (record { fits = R .fits; small = R .small; indexed = I; covered = covered-kept g h ix new rs k (R .covered) })
   ready-by v (At j) (one b) q I =
       let l : j < itemCount w = omega (arith, length-records w (itemCount w)) in
-      handled-ready g h keys w ix ls R v new ls (handled-beside w v j (R .fits) l q keys new ls I) (handled-spanned w v j (R .fits) l q g h ix new k (R .spanned)) j l q
+      handled-ready g h keys w ix ls R v new ls (handled-beside w v j (R .fits) l q keys new ls I) (handled-covered w v j (R .fits) l q g h ix new k (R .covered)) j l q
 
   pub taken-ready : (v : List ℕ) (t f : Found) → t ≡ f → t ≡ leastWaiting rs (length rs) → v ≡ markedBy w f
       → (Indexed keys ix ls rs → Indexed keys new ls (takenFrom rs t)) → Ready g h keys v new ls

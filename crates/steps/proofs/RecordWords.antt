@@ -1,14 +1,15 @@
 -- Records written as sixteen words, and their nodes as a part of the words.
 use Prim.Native.Nat.{ℕ, _+_, _*_, _≤_, _<_}
-use mathlib.Core.Path.{_≡_, refl, sym, ap, _∙_}
+use mathlib.Core.Path.{_≡_, refl, sym, ap, _∙_, subst}
 use mathlib.Core.List.{List, [], _∷_, _++_}
 use native.Mathlib.Omega.{arith}
 use lib.ListN.{length, getD, take, drop, length-take, length-drop, length-append}
 use lib.Seq.{getD-take, getD-drop, ext-getD}
+use Rattle.hrg.specs.Counts.{tabulate}
 use Rattle.hrg.specs.Trees.{padded}
 use Rattle.agenda.specs.declared.Record.{Record}
 use Rattle.joins.proofs.EdgeMaps.{length-padded}
-use Rattle.records.specs.Words.{ofWords, blockAt, recordAt, wordsOf, addedTo}
+use Rattle.records.specs.Words.{ofWords, fieldAt, blockAt, recordAt, wordsOf, addedTo}
 use Rattle.records.proofs.WordLaws.{first-word, kind-of, block-word, node-words, words-record}
 use Rattle.records.proofs.Written.{own-words, eight-nodes}
 
@@ -30,12 +31,20 @@ module _ (ns f : List ℕ) (is : ns ≡ padded f) (k o p e n h a b : ℕ) where
   unfolding wordsOf
   spelt-is = own-words meant spelt eight-long refl
 
+  pub spelt-holds : (P : Record → Type 0) → P meant → P (ofWords spelt)
+  spelt-holds P p = subst P (sym spelt-is) p
+
   pub spelt-added : (w v : List ℕ) → v ≡ addedTo w (ofWords spelt) → v ≡ addedTo w meant
   spelt-added w v q = q ∙ ap (addedTo w) spelt-is
 
 -- the kind of a record is its first word
 pub kind-word : (w : List ℕ) (j : ℕ) → getD w (2 + 16 * j) 0 ≡ recordAt w j .kind
 kind-word w j = first-word w j ∙ sym (kind-of w j)
+
+-- .. and its edges are the fourth
+pub edges-word : (w : List ℕ) (j : ℕ) → getD w (2 + 16 * j + 3) 0 ≡ recordAt w j .edges
+unfolding recordAt ofWords blockAt fieldAt tabulate
+edges-word w j = refl
 
 -- the nodes of a record as a part of the chart's words
 pub part-nodes : (w : List ℕ) (j at n : ℕ) → at ≡ 2 + 16 * j + 6 → n ≡ 8 → 2 + 16 * j + 16 ≤ length w → take n (drop at w) ≡ recordAt w j .nodes

@@ -50,7 +50,7 @@ module _ (g h keys w : List ℕ) (j n : ℕ) where
         → t ≡ grownBy v (guard (leb past ((c - 1) / 5)) (withRecord (grammarOf g) (graphOf g h) (recordAt v j) j (recordAt v ((c - 1) / 5)) ((c - 1) / 5))) → Ready g h keys t kx ns → m ≡ max past ((c - 1) / 5 + 1)
         → Met v ix ls c past u jx ms later
 
-module _ {g h plans keys graph w ix₀ ls₀ : List ℕ} {j n near key : ℕ} {lead : Bool} (P : Tables g h plans keys graph × Ready g h keys w ix₀ ls₀ × Handled g h w j near × Leads g (recordAt w j) lead × (n ≤ itemCount w) × Single keys w ix₀ j key) where
+module _ {g h plans keys graph w ix₀ ls₀ : List ℕ} {j n key : ℕ} {lead : Bool} (P : Tables g h plans keys graph × Ready g h keys w ix₀ ls₀ × Handled w j × Leads g (recordAt w j) lead × (n ≤ itemCount w) × Single keys w ix₀ j key) where
   abbrev H : Graph
   H = graphOf g h
 
@@ -70,14 +70,14 @@ module _ {g h plans keys graph w ix₀ ls₀ : List ℕ} {j n near key : ℕ} {l
       (skims-none (quietIn w (x .edges)) ls₀ n (alone c)) refl (least-few (alone c))
 
   module _ {v ix ls : List ℕ} {c past : ℕ} (S : Along g h keys w j n v ix ls c past) where
-    pub single-handled : Handled g h v j near
-    single-handled = dealt-handled g h w H j near (P .1 .fits) (P .2) v past (S .gathered)
+    pub single-handled : Handled v j
+    single-handled = dealt-handled g h w H j (P .1 .fits) (P .2) v past (S .gathered)
 
     pub single-lead : Leads g (recordAt v j) lead
-    single-lead = dealt-lead g h w H j near (P .1 .fits) (P .2) v past (S .gathered) lead (P .3)
+    single-lead = dealt-lead g h w H j (P .1 .fits) (P .2) v past (S .gathered) lead (P .3)
 
     own : regularOf keys x ≡ true
-    own = regular-own g h keys w ix₀ ls₀ j near (P .1) (P .2) (P .5 .regular)
+    own = regular-own g h keys w ix₀ ls₀ j (P .1) (P .2) (P .5 .regular)
 
     pub single-end : not (eqb c 0) && leb c (5 * n) ≡ false → v ≡ grownBy w (gather n (λ k. withRecord (grammarOf g) H x j (recordAt w k) k))
     single-end t =
@@ -101,7 +101,7 @@ module _ {g h plans keys graph w ix₀ ls₀ : List ℕ} {j n near key : ℕ} {l
       here = subst (λ i. Going g h keys H w x j n v ix ls (alone c) i past) (sym (alone-least c z (omega (arith, single-low, single-few)))) S
 
       pub single-known : k < itemCount v
-      single-known = omega (arith, z, single-low, P .4, dealt-longer g h w H j near (P .1 .fits) (P .2) v past (S .gathered))
+      single-known = omega (arith, z, single-low, P .4, dealt-longer g h w H j (P .1 .fits) (P .2) v past (S .gathered))
 
       passed : (ws : List ℕ) (d : ℕ) → d ≡ getD ws (4097 + c) 0 → alone d ≡ passedOf ws (alone c) k
       passed ws d e = alone-passed ws c k d (omega (arith, z, single-low)) (omega (arith, z, single-low)) e
@@ -109,7 +109,7 @@ module _ {g h plans keys graph w ix₀ ls₀ : List ℕ} {j n near key : ℕ} {l
       -- past a quiet record
       module _ (s : quietIn v (x .edges) k ≡ true) (d : ℕ) (e : d ≡ getD ls (4097 + c) 0) where
         hushed : quietIn w (x .edges) k ≡ true
-        hushed = sym (dealt-quiet g h w H j near (P .1 .fits) (P .2) v past (S .gathered) (x .edges) k (omega (arith, z, single-low, P .4))) ∙ s
+        hushed = sym (dealt-quiet g h w H j (P .1 .fits) (P .2) v past (S .gathered) (x .edges) k (omega (arith, z, single-low, P .4))) ∙ s
 
         quiet-next : Along g h keys w j n v ix ls d past
         quiet-next = record {
@@ -127,7 +127,7 @@ module _ {g h plans keys graph w ix₀ ls₀ : List ℕ} {j n near key : ℕ} {l
       -- past one that is dealt with
       module _ (u jx ms : List ℕ) (later : ℕ) (p : u ≡ grownBy v (guard (leb past k) (withRecord (grammarOf g) H (recordAt v j) j (recordAt v k) k))) (R : Ready g h keys u jx ms) (q : later ≡ max past (k + 1)) (d : ℕ) (e : d ≡ getD ms (4097 + c) 0) where
         made : u ≡ grownBy v (guard (leb past k) (withRecord (grammarOf g) H x j (recordAt v k) k))
-        made = p ∙ ap (λ (y : Record). grownBy v (guard (leb past k) (withRecord (grammarOf g) H y j (recordAt v k) k))) (dealt-record g h w H j near (P .1 .fits) (P .2) v past (S .gathered))
+        made = p ∙ ap (λ (y : Record). grownBy v (guard (leb past k) (withRecord (grammarOf g) H y j (recordAt v k) k))) (dealt-record g h w H j (P .1 .fits) (P .2) v past (S .gathered))
 
         loud-next : Along g h keys w j n u jx ms d later
         loud-next =

@@ -10,7 +10,6 @@ ghost use Rattle.agenda.specs.Consequences.{gather, atRoot, withTerminal, pair,
 ghost use Rattle.questions.specs.Layout.{graphEdges};
 ghost use Rattle.questions.specs.Checking.{checkGrammar};
 ghost use Rattle.questions.specs.Abstract.{grammarOf, graphOf};
-ghost use Rattle.joins.specs.Joins.{Spans};
 ghost use Rattle.rules.specs.Plans.{Leads};
 ghost use Rattle.rules.specs.Candidates.{Candidates};
 ghost use Rattle.lists.specs.Lists.{Within};
@@ -41,9 +40,8 @@ fn add_root(
     lists: &mut [u16],
     index: &mut [u32],
     j: u64,
-    near: u64,
 )
-    requires { ⌜ (checkGrammar (now g) ≡ true) × Ready (now g) (now h) (now keys) (now chart) (now index) (now lists) × Handled (now g) (now h) (now chart) j near ⌝ }
+    requires { ⌜ (checkGrammar (now g) ≡ true) × Ready (now g) (now h) (now keys) (now chart) (now index) (now lists) × Handled (now chart) j ⌝ }
     ensures { λ r. ⌜ (now (chart .exit) ≡ grownBy (now (chart .entry)) (atRoot (grammarOf (now (g .entry))) (itemOf (grammarOf (now (g .entry))) (recordAt (now (chart .entry)) j)) (recordAt (now (chart .entry)) j .count) j)) × Ready (now (g .entry)) (now (h .entry)) (now (keys .entry)) (now (chart .exit)) (now (index .exit)) (now (lists .exit)) ⌝ }
 {
     let at = (2 + 16 * j) as usize;
@@ -81,7 +79,7 @@ fn add_root(
         0,
     ];
     rules::root_into(g, of, &chart[at + 6..at + 14], &mut y[6..14]);
-    index::add(keys, chart, lists, index, &y, near);
+    index::add(keys, chart, lists, index, &y);
 }
 
 // What it makes with graph edge e, if that is one of the candidates m.
@@ -97,9 +95,8 @@ fn add_candidate(
     j: u64,
     m: u64,
     e: u64,
-    near: u64,
 )
-    requires { ⌜ Tables (now g) (now h) (now plans) (now keys) (now graph) × Ready (now g) (now h) (now keys) (now chart) (now index) (now lists) × Handled (now g) (now h) (now chart) j near × Candidates (now g) (now h) (recordAt (now chart) j) m × (e < graphEdges (now h)) ⌝ }
+    requires { ⌜ Tables (now g) (now h) (now plans) (now keys) (now graph) × Ready (now g) (now h) (now keys) (now chart) (now index) (now lists) × Handled (now chart) j × Candidates (now g) (now h) (recordAt (now chart) j) m × (e < graphEdges (now h)) ⌝ }
     ensures { λ r. ⌜ (now (chart .exit) ≡ grownBy (now (chart .entry)) (withTerminal (grammarOf (now (g .entry))) (graphOf (now (g .entry)) (now (h .entry))) (itemOf (grammarOf (now (g .entry))) (recordAt (now (chart .entry)) j)) (recordAt (now (chart .entry)) j .count) j e)) × Ready (now (g .entry)) (now (h .entry)) (now (keys .entry)) (now (chart .exit)) (now (index .exit)) (now (lists .exit)) ⌝ }
 {
     if !masks::has(m, e) {
@@ -125,11 +122,11 @@ fn add_candidate(
         j,
         e,
     ];
-    let made = rules::terminal_into(g, h, plans, graph, &chart[at..at + 16], e, near, &mut out);
-    if !made.found {
+    let sure = index::sure(index);
+    if !rules::terminal_into(g, h, plans, graph, &chart[at..at + 16], e, sure, &mut out) {
         return;
     }
-    index::add(keys, chart, lists, index, &out, made.images);
+    index::add(keys, chart, lists, index, &out);
 }
 
 // What it makes with each graph edge: only those of the label that it wants, and that fit its map, are tried.
@@ -143,9 +140,8 @@ fn add_terminals(
     lists: &mut [u16],
     index: &mut [u32],
     j: u64,
-    near: u64,
 )
-    requires { ⌜ Tables (now g) (now h) (now plans) (now keys) (now graph) × Ready (now g) (now h) (now keys) (now chart) (now index) (now lists) × Handled (now g) (now h) (now chart) j near ⌝ }
+    requires { ⌜ Tables (now g) (now h) (now plans) (now keys) (now graph) × Ready (now g) (now h) (now keys) (now chart) (now index) (now lists) × Handled (now chart) j ⌝ }
     ensures { λ r. ⌜ (now (chart .exit) ≡ grownBy (now (chart .entry)) (gather (length (graphOf (now (g .entry)) (now (h .entry)) .edges)) (λ e. withTerminal (grammarOf (now (g .entry))) (graphOf (now (g .entry)) (now (h .entry))) (itemOf (grammarOf (now (g .entry))) (recordAt (now (chart .entry)) j)) (recordAt (now (chart .entry)) j .count) j e))) × Ready (now (g .entry)) (now (h .entry)) (now (keys .entry)) (now (chart .exit)) (now (index .exit)) (now (lists .exit)) ⌝ }
 {
     let at = (2 + 16 * j) as usize;
@@ -157,7 +153,7 @@ fn add_terminals(
     let n = layout::graph_edges(h);
     let mut e: u64 = 0;
     while e < n {
-        add_candidate(g, h, plans, keys, graph, chart, lists, index, j, m, e, near);
+        add_candidate(g, h, plans, keys, graph, chart, lists, index, j, m, e);
         e += 1;
     }
 }
@@ -174,9 +170,8 @@ fn add_pair(
     index: &mut [u32],
     j: u64,
     k: u64,
-    near: u64,
 )
-    requires { ⌜ Tables (now g) (now h) (now plans) (now keys) (now graph) × Ready (now g) (now h) (now keys) (now chart) (now index) (now lists) × (j < itemCount (now chart)) × (k < itemCount (now chart)) × Spans (now g) (now h) (recordAt (now chart) j .edges) near × Spans (now g) (now h) (recordAt (now chart) k .edges) near ⌝ }
+    requires { ⌜ Tables (now g) (now h) (now plans) (now keys) (now graph) × Ready (now g) (now h) (now keys) (now chart) (now index) (now lists) × (j < itemCount (now chart)) × (k < itemCount (now chart)) ⌝ }
     ensures { λ r. ⌜ (now (chart .exit) ≡ grownBy (now (chart .entry)) (pair (grammarOf (now (g .entry))) (graphOf (now (g .entry)) (now (h .entry))) (recordAt (now (chart .entry)) j) j (recordAt (now (chart .entry)) k) k)) × Ready (now (g .entry)) (now (h .entry)) (now (keys .entry)) (now (chart .exit)) (now (index .exit)) (now (lists .exit)) ⌝ }
 {
     let a = (2 + 16 * j) as usize;
@@ -199,6 +194,7 @@ fn add_pair(
         j,
         k,
     ];
+    let sure = index::sure(index);
     let made = rules::pair_into(
         g,
         h,
@@ -206,13 +202,13 @@ fn add_pair(
         graph,
         &chart[a..a + 16],
         &chart[b..b + 16],
-        near,
+        sure,
         &mut out,
     );
-    if !made.found {
+    if !made {
         return;
     }
-    index::add(keys, chart, lists, index, &out, made.images);
+    index::add(keys, chart, lists, index, &out);
 }
 
 // The one of two that comes first.
@@ -239,30 +235,16 @@ fn add_met(
     j: u64,
     k: u64,
     past: u64,
-    near: u64,
 ) -> u64
-    requires { ⌜ Tables (now g) (now h) (now plans) (now keys) (now graph) × Ready (now g) (now h) (now keys) (now chart) (now index) (now lists) × Handled (now g) (now h) (now chart) j near × Leads (now g) (recordAt (now chart) j) lead × (k < itemCount (now chart)) × (isHandled (recordAt (now chart) k) ≡ true) ⌝ }
+    requires { ⌜ Tables (now g) (now h) (now plans) (now keys) (now graph) × Ready (now g) (now h) (now keys) (now chart) (now index) (now lists) × Handled (now chart) j × Leads (now g) (recordAt (now chart) j) lead × (k < itemCount (now chart)) × (isHandled (recordAt (now chart) k) ≡ true) ⌝ }
     ensures { λ r. ⌜ (now (chart .exit) ≡ grownBy (now (chart .entry)) (guard (leb past k) (withRecord (grammarOf (now (g .entry))) (graphOf (now (g .entry)) (now (h .entry))) (recordAt (now (chart .entry)) j) j (recordAt (now (chart .entry)) k) k))) × Ready (now (g .entry)) (now (h .entry)) (now (keys .entry)) (now (chart .exit)) (now (index .exit)) (now (lists .exit)) × (r ≡ max past (k + 1)) ⌝ }
 {
     if k < past {
         return past;
     }
-    let both = masks::union(near, index::near(index, k));
     let first = pick(lead, j, k);
     let second = pick(lead, k, j);
-    add_pair(
-        g,
-        h,
-        plans,
-        keys,
-        graph,
-        chart,
-        lists,
-        index,
-        first,
-        second,
-        both,
-    );
+    add_pair(g, h, plans, keys, graph, chart, lists, index, first, second);
     k + 1
 }
 
@@ -280,9 +262,8 @@ fn add_next(
     j: u64,
     k: u64,
     past: u64,
-    near: u64,
 ) -> u64
-    requires { ⌜ Tables (now g) (now h) (now plans) (now keys) (now graph) × Ready (now g) (now h) (now keys) (now chart) (now index) (now lists) × Handled (now g) (now h) (now chart) j near × Leads (now g) (recordAt (now chart) j) lead × (k < itemCount (now chart)) ⌝ }
+    requires { ⌜ Tables (now g) (now h) (now plans) (now keys) (now graph) × Ready (now g) (now h) (now keys) (now chart) (now index) (now lists) × Handled (now chart) j × Leads (now g) (recordAt (now chart) j) lead × (k < itemCount (now chart)) ⌝ }
     ensures { λ r. ⌜ (now (chart .exit) ≡ grownBy (now (chart .entry)) (guard (leb past k) (withRecord (grammarOf (now (g .entry))) (graphOf (now (g .entry)) (now (h .entry))) (recordAt (now (chart .entry)) j) j (recordAt (now (chart .entry)) k) k))) × Ready (now (g .entry)) (now (h .entry)) (now (keys .entry)) (now (chart .exit)) (now (index .exit)) (now (lists .exit)) × (r ≡ max past (k + 1)) ⌝ }
 {
     if k < past {
@@ -305,7 +286,6 @@ fn add_next(
         j,
         k,
         past,
-        near,
     )
 }
 
@@ -322,10 +302,9 @@ fn add_listed(
     lead: bool,
     j: u64,
     n: u64,
-    near: u64,
     key: u64,
 )
-    requires { ⌜ Tables (now g) (now h) (now plans) (now keys) (now graph) × Ready (now g) (now h) (now keys) (now chart) (now index) (now lists) × Handled (now g) (now h) (now chart) j near × Leads (now g) (recordAt (now chart) j) lead × (n ≤ itemCount (now chart)) × Single (now keys) (now chart) (now index) j key ⌝ }
+    requires { ⌜ Tables (now g) (now h) (now plans) (now keys) (now graph) × Ready (now g) (now h) (now keys) (now chart) (now index) (now lists) × Handled (now chart) j × Leads (now g) (recordAt (now chart) j) lead × (n ≤ itemCount (now chart)) × Single (now keys) (now chart) (now index) j key ⌝ }
     ensures { λ r. ⌜ (now (chart .exit) ≡ grownBy (now (chart .entry)) (gather n (λ k. withRecord (grammarOf (now (g .entry))) (graphOf (now (g .entry)) (now (h .entry))) (recordAt (now (chart .entry)) j) j (recordAt (now (chart .entry)) k) k))) × Ready (now (g .entry)) (now (h .entry)) (now (keys .entry)) (now (chart .exit)) (now (index .exit)) (now (lists .exit)) ⌝ }
 {
     let own = (2 + 16 * j) as usize;
@@ -349,7 +328,6 @@ fn add_listed(
                 j,
                 k,
                 past,
-                near,
             );
         }
         c = lists::after(lists, c);
@@ -418,9 +396,8 @@ fn add_many(
     lead: bool,
     j: u64,
     n: u64,
-    near: u64,
 )
-    requires { ⌜ Tables (now g) (now h) (now plans) (now keys) (now graph) × Ready (now g) (now h) (now keys) (now chart) (now index) (now lists) × Handled (now g) (now h) (now chart) j near × Leads (now g) (recordAt (now chart) j) lead × (n ≤ itemCount (now chart)) ⌝ }
+    requires { ⌜ Tables (now g) (now h) (now plans) (now keys) (now graph) × Ready (now g) (now h) (now keys) (now chart) (now index) (now lists) × Handled (now chart) j × Leads (now g) (recordAt (now chart) j) lead × (n ≤ itemCount (now chart)) ⌝ }
     ensures { λ r. ⌜ (now (chart .exit) ≡ grownBy (now (chart .entry)) (gather n (λ k. withRecord (grammarOf (now (g .entry))) (graphOf (now (g .entry)) (now (h .entry))) (recordAt (now (chart .entry)) j) j (recordAt (now (chart .entry)) k) k))) × Ready (now (g .entry)) (now (h .entry)) (now (keys .entry)) (now (chart .exit)) (now (index .exit)) (now (lists .exit)) ⌝ }
 {
     let own = (2 + 16 * j) as usize;
@@ -443,7 +420,6 @@ fn add_many(
             j,
             at.k,
             past,
-            near,
         );
         at = onward(chart, lists, edges, n, listed, at);
     }
@@ -462,9 +438,8 @@ fn add_each(
     lead: bool,
     j: u64,
     n: u64,
-    near: u64,
 )
-    requires { ⌜ Tables (now g) (now h) (now plans) (now keys) (now graph) × Ready (now g) (now h) (now keys) (now chart) (now index) (now lists) × Handled (now g) (now h) (now chart) j near × Leads (now g) (recordAt (now chart) j) lead × (n ≤ itemCount (now chart)) ⌝ }
+    requires { ⌜ Tables (now g) (now h) (now plans) (now keys) (now graph) × Ready (now g) (now h) (now keys) (now chart) (now index) (now lists) × Handled (now chart) j × Leads (now g) (recordAt (now chart) j) lead × (n ≤ itemCount (now chart)) ⌝ }
     ensures { λ r. ⌜ (now (chart .exit) ≡ grownBy (now (chart .entry)) (gather n (λ k. withRecord (grammarOf (now (g .entry))) (graphOf (now (g .entry)) (now (h .entry))) (recordAt (now (chart .entry)) j) j (recordAt (now (chart .entry)) k) k))) × Ready (now (g .entry)) (now (h .entry)) (now (keys .entry)) (now (chart .exit)) (now (index .exit)) (now (lists .exit)) ⌝ }
 {
     let own = (2 + 16 * j) as usize;
@@ -482,25 +457,11 @@ fn add_each(
             lead,
             j,
             n,
-            near,
             asked.key,
         );
         return;
     }
-    add_many(
-        g,
-        h,
-        plans,
-        keys,
-        graph,
-        chart,
-        lists,
-        index,
-        lead,
-        j,
-        n,
-        near,
-    );
+    add_many(g, h, plans, keys, graph, chart, lists, index, lead, j, n);
 }
 
 // All that the record at place j makes. Its kind and the plan node above it are read once, here, and tell what it is tried with, since with the rest it makes nothing: a passive item only with records, where it comes second; an active one with no plan node above it only with the root rule; any other one with graph edges and records.
@@ -514,9 +475,8 @@ pub(crate) fn add_all(
     lists: &mut [u16],
     index: &mut [u32],
     j: u64,
-    near: u64,
 )
-    requires { ⌜ Tables (now g) (now h) (now plans) (now keys) (now graph) × Ready (now g) (now h) (now keys) (now chart) (now index) (now lists) × Handled (now g) (now h) (now chart) j near ⌝ }
+    requires { ⌜ Tables (now g) (now h) (now plans) (now keys) (now graph) × Ready (now g) (now h) (now keys) (now chart) (now index) (now lists) × Handled (now chart) j ⌝ }
     ensures { λ r. ⌜ (now (chart .exit) ≡ grownBy (now (chart .entry)) (consequences (grammarOf (now (g .entry))) (graphOf (now (g .entry)) (now (h .entry))) (chartOf (now (chart .entry)) .records) j)) × Ready (now (g .entry)) (now (h .entry)) (now (keys .entry)) (now (chart .exit)) (now (index .exit)) (now (lists .exit)) ⌝ }
 {
     let n = records::item_count(chart);
@@ -525,24 +485,11 @@ pub(crate) fn add_all(
     if chart[at] == 0 {
         let w = rules::plans::parent_in(g, plans, chart[at + 1], chart[at + 2]).word;
         if w % 32 >= 16 {
-            add_root(g, h, keys, chart, lists, index, j, near);
+            add_root(g, h, keys, chart, lists, index, j);
             return;
         }
-        add_terminals(g, h, plans, keys, graph, chart, lists, index, j, near);
+        add_terminals(g, h, plans, keys, graph, chart, lists, index, j);
         lead = w / 32 % 4 != 3;
     }
-    add_each(
-        g,
-        h,
-        plans,
-        keys,
-        graph,
-        chart,
-        lists,
-        index,
-        lead,
-        j,
-        n,
-        near,
-    );
+    add_each(g, h, plans, keys, graph, chart, lists, index, lead, j, n);
 }

@@ -63,8 +63,7 @@ fn step(
     match take(chart, index) {
         Found::Nowhere => false,
         Found::At(j) => {
-            let near = index::near(index, j);
-            consequences::add_all(g, h, plans, keys, graph, chart, lists, index, j, near);
+            consequences::add_all(g, h, plans, keys, graph, chart, lists, index, j);
             true
         }
     }
@@ -107,8 +106,8 @@ pub fn advance(g: &[u64], h: &[u64], chart: &mut [u64], steps: u64) -> bool
     let mut graph = [0u64; 577];
     joins::graphs::fill(g, h, &mut graph);
     let mut lists = [0u16; 24578];
-    let mut index = [0u32; 20616];
-    index::build(g, h, &graph, &keys, chart, &mut lists, &mut index);
+    let mut index = [0u32; 12425];
+    index::build(g, h, &plans, &graph, &keys, chart, &mut lists, &mut index);
     advance_by(
         g,
         h,

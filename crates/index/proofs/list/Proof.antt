@@ -4,40 +4,39 @@ use borrow.Author.Tests.{not-false}
 use Rattle.records.specs.Words.{ofWords}
 use Rattle.lists.specs.Cursors.{alone}
 use Rattle.index.proofs.IndexLaws.{keys-within, list-marked}
-use borrow.Author.Needs.{needs}
 use Rattle.index.proofs.list.Statement.{statement}
 use Rattle.index.proofs.list.Tie as tie
 
 entry-requires : tie.Need-entry-requires
-entry-requires c κs = search needs
+entry-requires c κs = c .before .before .before .pre .3
 
 list-many-requires : tie.Need-list-many-requires
-list-many-requires c κs = search needs
+list-many-requires c κs = c .before .before .before .before .before .before .before .before .pre
 
 same-length : tie.Need-same-length
-same-length c = search needs
+same-length c = c .before .before .before .before .list-many .kept .1 .0
 
 same-length-2 : tie.Need-same-length-2
-same-length-2 c = search needs
+same-length-2 c = c .before .before .before .before .list-many .kept .1 .1 .0
 
 returns : tie.Need-returns
-returns c = search needs
+returns c = c .before .before .before .before .list-many .ensures
 
 mul-enter-one : tie.Need-mul-enter-one
-mul-enter-one c = search needs
+mul-enter-one c = omega (arith, c .before .before .before .before .before .before .before .pre .2)
 
 enter-one-requires : tie.Need-enter-one-requires
 enter-one-requires c κs =
     (c .before .before .before .before .before .before .before .pre .1, omega (arith, c .before .before .before .before .before .before .before .pre .2), keys-within (c .before .before .before .before .before .before .before .args .keys .now) (ofWords (c .before .before .before .before .before .before .before .args .x .now)) (alone (c .before .before .before .entry .result .key)) (c .before .before .before .entry .ensures (not-false _ (c .before .if1 .left)) .0) 0 (omega arith))
 
 mark-requires : tie.Need-mark-requires
-mark-requires c κs = search needs
+mark-requires c κs = c .before .before .before .before .before .before .before .before .before .before .before .pre .0
 
 same-length-3 : tie.Need-same-length-3
-same-length-3 c = search needs
+same-length-3 c = c .before .before .before .before .before .before .enter-one .kept .0
 
 same-length-4 : tie.Need-same-length-4
-same-length-4 c = search needs
+same-length-4 c = c .before .before .mark .kept .0
 
 returns-2 : tie.Need-returns-2
 returns-2 c =

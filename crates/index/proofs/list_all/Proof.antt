@@ -6,7 +6,6 @@ use Rattle.records.specs.Words.{recordsAt}
 use Rattle.records.proofs.WordLaws.{item-fits, part-length, part-record-at}
 use Rattle.index.specs.Index.{Keyed, Kept}
 use Rattle.index.proofs.IndexLaws.{keyed-first, keyed-ready, keyed-next, keyed-all, kept-same, kept-on}
-use borrow.Author.Needs.{needs}
 use Rattle.index.proofs.list_all.Statement.{statement}
 use Rattle.index.proofs.list_all.Tie as tie
 
@@ -17,7 +16,7 @@ abbrev μ-loop : tie.MeasureT-loop
 μ-loop keys chart lists₀ index₀ n j₀ lists index j = n - j
 
 item-count-requires : tie.Need-item-count-requires Inv-loop μ-loop
-item-count-requires c κs = search needs
+item-count-requires c κs = tt
 
 loop-holds : tie.Need-loop-holds Inv-loop μ-loop
 loop-holds c =

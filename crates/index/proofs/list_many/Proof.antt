@@ -2,28 +2,27 @@
 use native.Mathlib.Omega.{arith}
 use Rattle.records.specs.Words.{ofWords}
 use Rattle.index.proofs.IndexLaws.{keys-within, list-marked}
-use borrow.Author.Needs.{needs}
 use Rattle.index.proofs.list_many.Statement.{statement}
 use Rattle.index.proofs.list_many.Tie as tie
 
 listing-requires : tie.Need-listing-requires
-listing-requires c κs = search needs
+listing-requires c κs = c .before .before .before .pre .3
 
 mul-enter-all : tie.Need-mul-enter-all
-mul-enter-all c = search needs
+mul-enter-all c = omega (arith, c .before .before .before .before .before .before .pre .2)
 
 enter-all-requires : tie.Need-enter-all-requires
 enter-all-requires c κs =
     (c .before .before .before .before .before .before .pre .1, omega (arith, c .before .before .before .before .before .before .pre .2), keys-within (c .before .before .before .before .before .before .args .keys .now) (ofWords (c .before .before .before .before .before .before .args .x .now)) (c .before .before .listing .result .keys) (c .before .before .listing .ensures .0))
 
 mark-requires : tie.Need-mark-requires
-mark-requires c κs = search needs
+mark-requires c κs = c .before .before .before .before .before .before .before .before .before .before .pre .0
 
 same-length : tie.Need-same-length
-same-length c = search needs
+same-length c = c .before .before .before .before .before .before .enter-all .kept .0
 
 same-length-2 : tie.Need-same-length-2
-same-length-2 c = search needs
+same-length-2 c = c .before .before .mark .kept .0
 
 returns : tie.Need-returns
 returns c =

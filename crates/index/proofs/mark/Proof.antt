@@ -1,19 +1,19 @@
 -- One word, or none.
+use native.Mathlib.Omega.{arith}
 use mathlib.Core.Path.{sym, ap}
 use mathlib.Core.Bool.{Bool, cond}
-use borrow.Author.Needs.{needs}
-use lib.ListN.{set}
+use lib.ListN.{set, length-set}
 use Rattle.index.proofs.mark.Statement.{statement}
 use Rattle.index.proofs.mark.Tie as tie
 
 returns : tie.Need-returns
-returns c = search needs
+returns c = sym (ap (λ (b : Bool). cond b (c .before .args .index .now) (set (c .before .args .index .now) 12423 1)) (c .if1 .taken))
 
 slice-write-index : tie.Need-slice-write-index
-slice-write-index c = search needs
+slice-write-index c = omega (arith, c .before .pre)
 
 same-length : tie.Need-same-length
-same-length c = search needs
+same-length c = length-set (c .before .args .index .now) 12423 1
 
 returns-2 : tie.Need-returns-2
 returns-2 c = sym (ap (λ (b : Bool). cond b (c .before .args .index .now) (set (c .before .args .index .now) 12423 1)) (c .if1 .left))

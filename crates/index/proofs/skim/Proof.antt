@@ -2,7 +2,6 @@
 use native.Mathlib.Omega.{arith}
 use Prim.Native.Nat.{_+_, _-_, _*_, _≤_, _<_}
 use mathlib.Core.Path.{_≡_, refl, sym}
-use borrow.Author.Needs.{needs}
 use borrow.Author.Tests.{not-false}
 use Rattle.lists.specs.Cursors.{Skims, stays}
 use Rattle.index.specs.Quiet.{quietIn}
@@ -20,7 +19,7 @@ returns : tie.Need-returns Inv-loop μ-loop
 returns c = stays _ (sym (c .if1 .taken))
 
 mul-end : tie.Need-mul-end Inv-loop μ-loop
-mul-end c = search needs
+mul-end c = omega (arith, c .before .before .before .pre .2)
 
 loop-holds : tie.Need-loop-holds Inv-loop μ-loop
 loop-holds c = (omega (arith, c .if1 .left), refl, stays _ refl)

@@ -1,39 +1,38 @@
 -- Each cursor by itself.
 use native.Mathlib.Omega.{arith}
-use borrow.Author.Needs.{needs}
 use Rattle.index.proofs.QuietLaws.{skims-five}
 use Rattle.index.proofs.skimmed.Statement.{statement}
 use Rattle.index.proofs.skimmed.Tie as tie
 
 array-read-skim : tie.Need-array-read-skim
-array-read-skim c = search needs
+array-read-skim c = omega arith
 
 skim-requires : tie.Need-skim-requires
-skim-requires c κs = search needs
+skim-requires c κs = c .before .before .pre
 
 array-read-skim-2 : tie.Need-array-read-skim-2
-array-read-skim-2 c = search needs
+array-read-skim-2 c = omega arith
 
 skim-requires-2 : tie.Need-skim-requires-2
-skim-requires-2 c κs = search needs
+skim-requires-2 c κs = c .before .before .before .pre
 
 array-read-skim-3 : tie.Need-array-read-skim-3
-array-read-skim-3 c = search needs
+array-read-skim-3 c = omega arith
 
 skim-requires-3 : tie.Need-skim-requires-3
-skim-requires-3 c κs = search needs
+skim-requires-3 c κs = c .before .before .before .before .pre
 
 array-read-skim-4 : tie.Need-array-read-skim-4
-array-read-skim-4 c = search needs
+array-read-skim-4 c = omega arith
 
 skim-requires-4 : tie.Need-skim-requires-4
-skim-requires-4 c κs = search needs
+skim-requires-4 c κs = c .before .before .before .before .before .pre
 
 array-read-skim-5 : tie.Need-array-read-skim-5
-array-read-skim-5 c = search needs
+array-read-skim-5 c = omega arith
 
 skim-requires-5 : tie.Need-skim-requires-5
-skim-requires-5 c κs = search needs
+skim-requires-5 c κs = c .before .before .before .before .before .before .pre
 
 returns : tie.Need-returns
 returns c = skims-five _ _ _ (c .before .before .before .before .before .before .before .args .t5) _ _ _ _ _ (c .before .before .before .before .skim .ensures) (c .before .before .before .skim2 .ensures) (c .before .before .skim3 .ensures) (c .before .skim4 .ensures) (c .skim5 .ensures)

@@ -1,12 +1,11 @@
--- Where every node near is seen, the open nodes are images. Else a subset of the images, since open nodes are nodes of the graph.
+-- Where it is sure that open nodes are seen, they are images. Else a subset of the images, since open nodes are nodes of the graph.
 use native.Mathlib.Omega.{arith}
-use borrow.Author.Tests.{eq-eqb}
-use Rattle.joins.proofs.Combining.{covers, covers-near}
+use Rattle.joins.proofs.Combining.{covers, covers-seen}
 use Rattle.joins.proofs.covered.Statement.{statement}
 use Rattle.joins.proofs.covered.Tie as tie
 
 returns : tie.Need-returns
-returns c = λ t images. covers-near _ _ _ _ _ _ (c .before .before .before .pre .0) (c .before .before .before .pre .2) (c .before .before .before .pre .3) (eq-eqb _ _ (c .if1 .taken)) t images
+returns c = λ t images. covers-seen _ _ _ _ _ (c .before .before .before .pre .0) (c .before .before .before .pre .2 (c .if1 .taken)) (c .before .before .before .pre .3) t images
 
 open-in-requires : tie.Need-open-in-requires
 open-in-requires c κs = (c .before .before .before .pre .0, c .before .before .before .pre .1)

@@ -6,7 +6,7 @@ use lib.ListN.{length}
 use borrow.Author.Tests.{not-true}
 use Rattle.records.specs.Words.{ofWords}
 use Rattle.joins.proofs.EdgeMaps.{length-padded}
-use Rattle.rules.proofs.RuleAnswers.{into-none, into-same, rest-same, near-more, edge-passive, edge-near, edge-apart, edge-pairs}
+use Rattle.rules.proofs.RuleAnswers.{into-none, into-same, rest-same, edge-passive, edge-apart, edge-covers, edge-pairs}
 use Rattle.rules.proofs.RecordWords.{edge-words}
 use Rattle.rules.proofs.terminal_into.Statement.{statement}
 use Rattle.rules.proofs.terminal_into.Tie as tie
@@ -37,45 +37,42 @@ graph-label-requires c κs = search needs
 edge-nodes-requires : tie.Need-edge-nodes-requires
 edge-nodes-requires c κs = (c .before .before .before .before .before .before .before .before .before .before .before .pre .0, c .before .before .before .before .before .before .before .before .before .before .before .pre .1)
 
-array-read-all : tie.Need-array-read-all
-array-read-all c = search needs
+array-read-t14 : tie.Need-array-read-t14
+array-read-t14 c = search needs
 
-array-read-t25 : tie.Need-array-read-t25
-array-read-t25 c = search needs
+array-read-t23 : tie.Need-array-read-t23
+array-read-t23 c = search needs
 
-array-read-t28 : tie.Need-array-read-t28
-array-read-t28 c = search needs
+array-read-t26 : tie.Need-array-read-t26
+array-read-t26 c = search needs
 
-array-read-t31 : tie.Need-array-read-t31
-array-read-t31 c = search needs
+array-read-t29 : tie.Need-array-read-t29
+array-read-t29 c = search needs
 
-array-read-t34 : tie.Need-array-read-t34
-array-read-t34 c = search needs
+array-read-t32 : tie.Need-array-read-t32
+array-read-t32 c = search needs
 
-array-read-t37 : tie.Need-array-read-t37
-array-read-t37 c = search needs
+array-read-t35 : tie.Need-array-read-t35
+array-read-t35 c = search needs
 
-array-read-t40 : tie.Need-array-read-t40
-array-read-t40 c = search needs
+array-read-t38 : tie.Need-array-read-t38
+array-read-t38 c = search needs
 
-array-read-t43 : tie.Need-array-read-t43
-array-read-t43 c = search needs
-
-edge-span-requires : tie.Need-edge-span-requires
-edge-span-requires c κs = (c .before .before .before .before .before .before .before .before .before .before .before .before .pre .0, c .before .before .before .before .before .before .before .before .before .before .before .before .pre .3, c .before .before .before .before .before .before .before .before .before .before .before .before .pre .1)
+array-read-t41 : tie.Need-array-read-t41
+array-read-t41 c = search needs
 
 slice-aggregate-pair-into : tie.Need-slice-aggregate-pair-into
 slice-aggregate-pair-into c = search needs
 
 pair-into-requires : tie.Need-pair-into-requires
 unfolding ofWords
-pair-into-requires c κs = (c .before .before .before .before .before .before .before .before .before .before .before .before .before .before .before .pre .0, c .before .before .before .before .before .before .before .before .before .before .before .before .before .before .before .pre .2, c .before .before .before .before .before .before .before .before .before .before .before .before .before .before .before .pre .3, c .before .before .before .before .before .before .before .before .before .before .before .before .before .before .before .pre .4, refl, near-more _ _ _ _ _ (c .before .before .before .before .before .before .before .before .before .before .before .before .before .before .before .pre .5), edge-near _ _ (ofWords (c .before .before .before .before .before .before .before .before .before .before .before .before .before .before .before .args .x .now)) _ (c .before .before .before .before .before .before .before .before .before .before .before .before .before .before .before .pre .0) (c .before .before .before .before .before .before .before .before .before .before .before .before .before .before .before .pre .1) _ (c .before .before .before .before .before .before .before .before .with .ensures) (c .before .before .before .before .before .before .before .before .before .before .before .before .before .before .before .args .near) _ (c .before .before .edge-span .ensures), c .before .before .before .before .before .before .before .before .before .before .before .before .before .before .before .pre .6, c .before .before .before .before .before .before .before .before .before .before .before .before .before .before .before .pre .7, c .before .before .before .before .before .before .before .before .before .before .before .before .before .before .before .pre .8, c .before .before .before .before .before .before .before .before .before .before .before .before .before .before .before .pre .9)
+pair-into-requires c κs = (c .before .before .before .before .before .before .before .before .before .before .before .before .before .before .pre .0, c .before .before .before .before .before .before .before .before .before .before .before .before .before .before .pre .2, c .before .before .before .before .before .before .before .before .before .before .before .before .before .before .pre .3, c .before .before .before .before .before .before .before .before .before .before .before .before .before .before .pre .4, refl, c .before .before .before .before .before .before .before .before .before .before .before .before .before .before .pre .5, λ _. edge-covers _ _ (ofWords (c .before .before .before .before .before .before .before .before .before .before .before .before .before .before .args .x .now)) _ (c .before .before .before .before .before .before .before .before .before .before .before .before .before .before .pre .0) (c .before .before .before .before .before .before .before .before .before .before .before .before .before .before .pre .1) _ (c .before .before .before .before .before .before .before .with .ensures) _ _ (c .before .before .before .graph-label .ensures) (c .before .before .edge-nodes .ensures) _ (edge-words _ _ _ (ap length (c .before .before .edge-nodes .ensures) ∙ length-padded _)), c .before .before .before .before .before .before .before .before .before .before .before .before .before .before .pre .6, c .before .before .before .before .before .before .before .before .before .before .before .before .before .before .pre .7, c .before .before .before .before .before .before .before .before .before .before .before .before .before .before .pre .8, c .before .before .before .before .before .before .before .before .before .before .before .before .before .before .pre .9)
 
 same-length : tie.Need-same-length
 same-length c = search needs
 
 returns-3 : tie.Need-returns-3
-returns-3 c = into-same _ _ _ _ _ _ _ (edge-pairs _ _ (ofWords (c .before .before .before .before .before .before .before .before .before .before .before .before .before .before .before .before .before .before .args .x .now)) _ (c .before .before .before .before .before .before .before .before .before .before .before .before .before .before .before .before .before .before .pre .0) (c .before .before .before .before .before .before .before .before .before .before .before .before .before .before .before .before .before .before .pre .1) _ (c .before .before .before .before .before .before .before .before .before .before .before .with .ensures) _ _ (c .before .before .before .before .before .before .before .graph-label .ensures) (c .before .before .before .before .before .before .edge-nodes .ensures) _ (edge-words _ _ _ (ap length (c .before .before .before .before .before .before .edge-nodes .ensures) ∙ length-padded _))) (c .before .before .pair-into .ensures)
+returns-3 c = into-same _ _ _ _ _ _ _ _ (edge-pairs _ _ (ofWords (c .before .before .before .before .before .before .before .before .before .before .before .before .before .before .before .before .before .args .x .now)) _ (c .before .before .before .before .before .before .before .before .before .before .before .before .before .before .before .before .before .pre .0) (c .before .before .before .before .before .before .before .before .before .before .before .before .before .before .before .before .before .pre .1) _ (c .before .before .before .before .before .before .before .before .before .before .with .ensures) _ _ (c .before .before .before .before .before .before .graph-label .ensures) (c .before .before .before .before .before .edge-nodes .ensures) _ (edge-words _ _ _ (ap length (c .before .before .before .before .before .edge-nodes .ensures) ∙ length-padded _))) (c .before .before .pair-into .ensures)
 
 pub terminal-into-spec : {M : Type 1} → statement M
 terminal-into-spec =
@@ -89,15 +86,14 @@ terminal-into-spec =
     returns-2
     graph-label-requires
     edge-nodes-requires
-    array-read-all
-    array-read-t25
-    array-read-t28
-    array-read-t31
-    array-read-t34
-    array-read-t37
-    array-read-t40
-    array-read-t43
-    edge-span-requires
+    array-read-t14
+    array-read-t23
+    array-read-t26
+    array-read-t29
+    array-read-t32
+    array-read-t35
+    array-read-t38
+    array-read-t41
     slice-aggregate-pair-into
     pair-into-requires
     same-length

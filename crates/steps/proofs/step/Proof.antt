@@ -1,7 +1,7 @@
 -- The record that is taken is handled, and all that it makes is added.
-use borrow.Author.Needs.{needs}
+use mathlib.Core.Path.{_∙_}
 use Rattle.questions.specs.Abstract.{grammarOf, graphOf}
-use Rattle.steps.proofs.ReadyLaws.{handled-small, records-small, handled-now}
+use Rattle.steps.proofs.ReadyLaws.{records-small, handled-now}
 use Rattle.steps.proofs.StepLaws.{step-by}
 use Rattle.steps.proofs.RunLaws.{next-known, step-marked, step-some, step-none}
 use Rattle.steps.proofs.step.Statement.{statement}
@@ -11,34 +11,26 @@ take-requires : tie.Need-take-requires
 take-requires c κs = (c .before .before .before .before .before .before .before .pre .1 .indexed .size, c .before .before .before .before .before .before .before .pre .1 .indexed .ranked, records-small _ (c .before .before .before .before .before .before .before .pre .1 .small))
 
 enum-told : tie.Need-enum-told
-enum-told c = search needs
+enum-told c = c .match .keys1
 
 enum-known-j : tie.Need-enum-known-j
-enum-known-j c = search needs
-
-near-requires : tie.Need-near-requires
-near-requires c κs =
-    let s = c .before .before .before .before .before .before .before .before .before .before .before .before .before .before .before .before .args in
-    let p = c .before .before .before .before .before .before .before .before .before .before .before .before .before .before .before .before .pre in
-    let t = c .before .before .before .before .before .before .before .before .take in
-    let l = next-known (s .chart .now) _ (t .result) (c .before .before .j .given .1) (t .ensures .0) in
-    (t .ensures .2 (s .g .now) (s .h .now) (s .keys .now) (s .lists .now) (p .1) .indexed .size, handled-small _ _ (p .1 .small) l)
+enum-known-j c = c .match .keys2
 
 add-all-requires : tie.Need-add-all-requires
 add-all-requires c κs =
-    let s = c .before .before .before .before .before .before .before .before .before .before .before .before .before .before .before .before .before .before .before .before .args in
-    let p = c .before .before .before .before .before .before .before .before .before .before .before .before .before .before .before .before .before .before .before .before .pre in
-    let t = c .before .before .before .before .before .before .before .before .before .before .before .before .take in
-    let e = c .before .before .before .before .before .before .j .given .1 in
+    let s = c .before .before .before .before .before .before .before .before .before .before .before .before .before .before .before .before .before .before .args in
+    let p = c .before .before .before .before .before .before .before .before .before .before .before .before .before .before .before .before .before .before .pre in
+    let t = c .before .before .before .before .before .before .before .before .before .before .take in
+    let e = c .before .before .before .before .j .given .1 in
     let l = next-known (s .chart .now) _ (t .result) e (t .ensures .0) in
     let R = t .ensures .2 (s .g .now) (s .h .now) (s .keys .now) (s .lists .now) (p .1) in
-    (p .0, R, handled-now (s .g .now) (s .h .now) (s .chart .now) _ _ _ _ l (step-marked (s .chart .now) _ (t .result) _ e (t .ensures .1)) (R .spanned) (c .before .before .before .near .ensures))
+    (p .0, R, handled-now (s .chart .now) _ _ l (step-marked (s .chart .now) _ (t .result) _ e (t .ensures .1)))
 
 same-length : tie.Need-same-length
-same-length c = search needs
+same-length c = c .before .before .before .before .before .before .take .kept .0
 
 same-length-2 : tie.Need-same-length-2
-same-length-2 c = search needs
+same-length-2 c = c .before .before .before .before .before .before .take .kept .1 .0
 
 returns : tie.Need-returns
 returns c =
@@ -51,23 +43,23 @@ returns c =
     (r .0, r .1, t .ensures .2 (s .g .now) (s .h .now) (s .keys .now) (s .lists .now) (p .1))
 
 same-length-3 : tie.Need-same-length-3
-same-length-3 c = search needs
+same-length-3 c = c .before .before .before .before .before .before .add-all .kept .1 .1 .1 .1 .1 .0 ∙ c .before .before .before .before .before .before .before .before .before .before .before .before .before .before .before .before .before .take .kept .0
 
 same-length-4 : tie.Need-same-length-4
-same-length-4 c = search needs
+same-length-4 c = c .before .before .before .before .before .before .add-all .kept .1 .1 .1 .1 .1 .1 .0
 
 same-length-5 : tie.Need-same-length-5
-same-length-5 c = search needs
+same-length-5 c = c .before .before .before .before .before .before .add-all .kept .1 .1 .1 .1 .1 .1 .1 .0 ∙ c .before .before .before .before .before .before .before .before .before .before .before .before .before .before .before .before .before .take .kept .1 .0
 
 returns-2 : tie.Need-returns-2
 returns-2 c =
-    let s = c .before .before .before .before .before .before .before .before .before .before .before .before .before .before .before .before .before .before .before .before .before .before .before .before .before .before .before .args in
-    let t = c .before .before .before .before .before .before .before .before .before .before .before .before .before .before .before .before .before .before .before .take in
-    let e = c .before .before .before .before .before .before .before .before .before .before .before .before .before .j .given .1 in
+    let s = c .before .before .before .before .before .before .before .before .before .before .before .before .before .before .before .before .before .before .before .before .before .before .before .before .before .args in
+    let t = c .before .before .before .before .before .before .before .before .before .before .before .before .before .before .before .before .before .take in
+    let e = c .before .before .before .before .before .before .before .before .before .before .before .j .given .1 in
     let l = next-known (s .chart .now) _ (t .result) e (t .ensures .0) in
     let G = grammarOf (s .g .now) in
     let H = graphOf (s .g .now) (s .h .now) in
-    let done = step-by G H (s .chart .now) (c .before .before .before .before .before .before .before .before .before .before .before .before .before .before .before .before .before .before .before .before .before .before .before .before .before .before .before .pre .1 .fits) _ l _ _ (step-marked (s .chart .now) _ (t .result) _ e (t .ensures .1)) (c .before .before .before .before .before .before .add-all .ensures .0) in
+    let done = step-by G H (s .chart .now) (c .before .before .before .before .before .before .before .before .before .before .before .before .before .before .before .before .before .before .before .before .before .before .before .before .before .pre .1 .fits) _ l _ _ (step-marked (s .chart .now) _ (t .result) _ e (t .ensures .1)) (c .before .before .before .before .before .before .add-all .ensures .0) in
     let r = step-some G H (s .chart .now) _ (t .result) (t .ensures .0) _ e done in
     (r .0, r .1, c .before .before .before .before .before .before .add-all .ensures .1)
 
@@ -78,7 +70,6 @@ step-spec =
     take-requires
     enum-told
     enum-known-j
-    near-requires
     add-all-requires
     same-length
     same-length-2

@@ -3,7 +3,6 @@ use native.Mathlib.Omega.{arith}
 use mathlib.Core.Path.{sym, ap, _∙_}
 use mathlib.Core.Logic.{⊎-elim}
 use lib.ListN.{length}
-use borrow.Author.Needs.{needs}
 use Rattle.hrg.specs.Counts.{tabulate}
 use Rattle.records.specs.Words.{ofWords, fieldAt, blockAt, recordAt}
 use Rattle.records.proofs.WordLaws.{item-fits}
@@ -14,7 +13,7 @@ use Rattle.steps.proofs.consequences.add_all.Statement.{statement}
 use Rattle.steps.proofs.consequences.add_all.Tie as tie
 
 item-count-requires : tie.Need-item-count-requires
-item-count-requires c κs = search needs
+item-count-requires c κs = tt
 
 mul-at : tie.Need-mul-at
 mul-at c = omega (arith, handled-small _ _ (c .before .before .before .before .before .before .before .pre .1 .small) (c .before .before .before .before .before .before .before .pre .2 .there))
@@ -47,19 +46,19 @@ slice-read-parent-in-2 : tie.Need-slice-read-parent-in-2
 slice-read-parent-in-2 c = omega (arith, item-fits (c .before .before .before .before .before .before .before .before .before .before .before .args .chart .now) (c .before .before .before .before .before .before .before .before .before .before .before .args .j) (c .before .before .before .before .before .before .before .before .before .before .before .pre .2 .there))
 
 parent-in-requires : tie.Need-parent-in-requires
-parent-in-requires c κs = search needs
+parent-in-requires c κs = (c .before .before .before .before .before .before .before .before .before .before .before .pre .0 .accepted .grammar, c .before .before .before .before .before .before .before .before .before .before .before .pre .0 .planned)
 
 add-root-requires : tie.Need-add-root-requires
-add-root-requires c κs = search needs
+add-root-requires c κs = (c .before .before .before .before .before .before .before .before .before .before .before .before .before .before .before .before .pre .0 .accepted .grammar, c .before .before .before .before .before .before .before .before .before .before .before .before .before .before .before .before .pre .1, c .before .before .before .before .before .before .before .before .before .before .before .before .before .before .before .before .pre .2)
 
 same-length : tie.Need-same-length
-same-length c = search needs
+same-length c = c .before .before .before .before .before .before .add-root .kept .1 .1 .1 .0
 
 same-length-2 : tie.Need-same-length-2
-same-length-2 c = search needs
+same-length-2 c = c .before .before .before .before .before .before .add-root .kept .1 .1 .1 .1 .0
 
 same-length-3 : tie.Need-same-length-3
-same-length-3 c = search needs
+same-length-3 c = c .before .before .before .before .before .before .add-root .kept .1 .1 .1 .1 .1 .0
 
 returns : tie.Need-returns
 unfolding recordAt ofWords blockAt fieldAt tabulate
@@ -68,7 +67,7 @@ returns c =
     (all-root (c .before .before .before .before .before .before .before .before .before .before .before .before .before .before .before .before .before .before .before .before .before .before .before .pre) (sym (kind-word (s .chart .now) (s .j)) ∙ c .before .before .before .before .before .before .before .before .before .before .before .before .before .before .if1 .taken) _ (c .before .before .before .before .before .before .before .before .before .before .before .parent-in .ensures) (c .before .before .before .before .before .before .before .before .before .before .if2 .taken) (c .before .before .before .before .before .before .add-root .ensures .0), c .before .before .before .before .before .before .add-root .ensures .1)
 
 add-terminals-requires : tie.Need-add-terminals-requires
-add-terminals-requires c κs = search needs
+add-terminals-requires c κs = c .before .before .before .before .before .before .before .before .before .before .before .before .before .before .before .before .pre
 
 -- where the ways meet
 met : (c : tie.Joined1)

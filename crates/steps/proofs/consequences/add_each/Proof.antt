@@ -2,7 +2,6 @@
 use native.Mathlib.Omega.{arith}
 use Prim.Native.Nat.{_+_, _*_, _-_}
 use mathlib.Core.Path.{refl, sym, ap, _∙_}
-use borrow.Author.Needs.{needs}
 use borrow.Author.Tests.{eqb-true}
 use Rattle.hrg.proofs.Degrees.{and-true}
 use Rattle.pivots.specs.Keys.{queryOf}
@@ -24,10 +23,10 @@ mul-asked : tie.Need-mul-asked
 mul-asked c = omega (arith, handled-small _ _ (c .before .before .before .before .before .pre .1 .small) (c .before .before .before .before .before .pre .2 .there))
 
 sub-asked : tie.Need-sub-asked
-sub-asked c = search needs
+sub-asked c = omega arith
 
 part-asked-start : tie.Need-part-asked-start
-part-asked-start c = search needs
+part-asked-start c = omega arith
 
 part-asked-end : tie.Need-part-asked-end
 part-asked-end c = omega (arith, item-fits (c .before .before .before .before .before .before .args .chart .now) (c .before .before .before .before .before .before .args .j) (c .before .before .before .before .before .before .pre .2 .there))
@@ -48,31 +47,31 @@ add-listed-requires c κs =
     (c .before .before .before .before .before .before .before .before .before .before .before .before .before .before .before .pre .0, c .before .before .before .before .before .before .before .before .before .before .before .before .before .before .before .pre .1, c .before .before .before .before .before .before .before .before .before .before .before .before .before .before .before .pre .2, c .before .before .before .before .before .before .before .before .before .before .before .before .before .before .before .pre .3, c .before .before .before .before .before .before .before .before .before .before .before .before .before .before .before .pre .4, record { regular = eqb-true _ _ (sym (c .before .before .before .before .before .regular .ensures) ∙ both .1); only = c .before .before .before .before .before .before .before .asked .ensures (both .0) ∙ ap (queryOf (s .keys .now)) own })
 
 same-length : tie.Need-same-length
-same-length c = search needs
+same-length c = c .before .before .before .before .before .before .add-listed .kept .1 .1 .1 .1 .1 .0
 
 same-length-2 : tie.Need-same-length-2
-same-length-2 c = search needs
+same-length-2 c = c .before .before .before .before .before .before .add-listed .kept .1 .1 .1 .1 .1 .1 .0
 
 same-length-3 : tie.Need-same-length-3
-same-length-3 c = search needs
+same-length-3 c = c .before .before .before .before .before .before .add-listed .kept .1 .1 .1 .1 .1 .1 .1 .0
 
 returns : tie.Need-returns
-returns c = search needs
+returns c = c .before .before .before .before .before .before .add-listed .ensures
 
 add-many-requires : tie.Need-add-many-requires
-add-many-requires c κs = search needs
+add-many-requires c κs = (c .before .before .before .before .before .before .before .before .before .before .before .before .before .before .before .pre .0, c .before .before .before .before .before .before .before .before .before .before .before .before .before .before .before .pre .1, c .before .before .before .before .before .before .before .before .before .before .before .before .before .before .before .pre .2, c .before .before .before .before .before .before .before .before .before .before .before .before .before .before .before .pre .3, c .before .before .before .before .before .before .before .before .before .before .before .before .before .before .before .pre .4)
 
 same-length-4 : tie.Need-same-length-4
-same-length-4 c = search needs
+same-length-4 c = c .before .before .before .before .before .before .add-many .kept .1 .1 .1 .1 .1 .0
 
 same-length-5 : tie.Need-same-length-5
-same-length-5 c = search needs
+same-length-5 c = c .before .before .before .before .before .before .add-many .kept .1 .1 .1 .1 .1 .1 .0
 
 same-length-6 : tie.Need-same-length-6
-same-length-6 c = search needs
+same-length-6 c = c .before .before .before .before .before .before .add-many .kept .1 .1 .1 .1 .1 .1 .1 .0
 
 returns-2 : tie.Need-returns-2
-returns-2 c = search needs
+returns-2 c = c .before .before .before .before .before .before .add-many .ensures
 
 pub add-each-spec : {M : Type 1} → statement M
 add-each-spec =

@@ -15,11 +15,11 @@ use Rattle.steps.proofs.consequences.add_listed.Statement.{statement}
 use Rattle.steps.proofs.consequences.add_listed.Tie as tie
 
 abbrev Inv-loop : tie.InvT-loop
-Inv-loop g h plans keys graph chart₀ lists₀ index₀ lead j n near key own edges end c₀ past₀ chart lists index c past =
+Inv-loop g h plans keys graph chart₀ lists₀ index₀ lead j n key own edges end c₀ past₀ chart lists index c past =
     (length chart ≡ length chart₀) × (length index ≡ length index₀) × Along g h keys chart₀ j n chart index lists c past × (length lists ≡ length lists₀)
 
 abbrev μ-loop : tie.MeasureT-loop
-μ-loop g h plans keys graph chart₀ lists₀ index₀ lead j n near key own edges end c₀ past₀ chart lists index c past = leftAll (alone c)
+μ-loop g h plans keys graph chart₀ lists₀ index₀ lead j n key own edges end c₀ past₀ chart lists index c past = leftAll (alone c)
 
 mul-own : tie.Need-mul-own Inv-loop μ-loop
 mul-own c = omega (arith, handled-small _ _ (c .before .before .before .before .before .pre .1 .small) (c .before .before .before .before .before .pre .2 .there))

@@ -1,7 +1,6 @@
 -- A record that is past already is passed by, and a quiet one makes nothing.
 use native.Mathlib.Omega.{arith}
-use mathlib.Core.Path.{refl, sym, _∙_}
-use borrow.Author.Needs.{needs}
+use mathlib.Core.Path.{refl}
 use Rattle.questions.specs.Abstract.{grammarOf, graphOf}
 use Rattle.records.proofs.WordLaws.{item-fits}
 use Rattle.steps.proofs.ReadyLaws.{count-small, handled-small}
@@ -36,7 +35,7 @@ add-result : tie.Need-add-result
 add-result c = omega (arith, c .before .before .before .before .before .before .before .before .before .pre .4, count-small _ (c .before .before .before .before .before .before .before .before .before .pre .1 .small))
 
 same-length : tie.Need-same-length
-same-length c = search needs
+same-length c = refl
 
 returns-2 : tie.Need-returns-2
 returns-2 c =
@@ -47,16 +46,16 @@ add-met-requires : tie.Need-add-met-requires
 add-met-requires c κs = (c .before .before .before .before .before .before .before .before .before .before .before .before .pre .0, c .before .before .before .before .before .before .before .before .before .before .before .before .pre .1, c .before .before .before .before .before .before .before .before .before .before .before .before .pre .2, c .before .before .before .before .before .before .before .before .before .before .before .before .pre .3, c .before .before .before .before .before .before .before .before .before .before .before .before .pre .4, loud-handled (c .before .before .before .before .before .before .before .before .before .before .before .before .args .chart .now) (c .before .before .before .before .before .before .before .before .before .before .before .before .args .k) _ _ (c .before .before .before .before .quiet .ensures) (c .before .before .before .if2 .left))
 
 same-length-2 : tie.Need-same-length-2
-same-length-2 c = search needs
+same-length-2 c = c .before .before .before .before .before .before .add-met .kept .1 .1 .1 .1 .1 .0
 
 same-length-3 : tie.Need-same-length-3
-same-length-3 c = search needs
+same-length-3 c = c .before .before .before .before .before .before .add-met .kept .1 .1 .1 .1 .1 .1 .0
 
 same-length-4 : tie.Need-same-length-4
-same-length-4 c = search needs
+same-length-4 c = c .before .before .before .before .before .before .add-met .kept .1 .1 .1 .1 .1 .1 .1 .0
 
 returns-3 : tie.Need-returns-3
-returns-3 c = search needs
+returns-3 c = c .before .before .before .before .before .before .add-met .ensures
 
 pub add-next-spec : {M : Type 1} → statement M
 add-next-spec =

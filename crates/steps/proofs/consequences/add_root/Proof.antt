@@ -4,18 +4,19 @@ use mathlib.Core.Path.{refl, sym, ap, _∙_}
 use mathlib.Core.List.{List}
 use Prim.Native.Nat.{ℕ, _+_, _*_, _-_}
 use lib.ListN.{length, take}
-use borrow.Author.Needs.{needs}
 use Rattle.hrg.specs.Counts.{tabulate}
 use Rattle.hrg.specs.Grammars.{rightOf}
 use Rattle.hrg.specs.Trees.{padded, images}
 use Rattle.questions.specs.Layout.{ruleNodes}
 use Rattle.questions.specs.Abstract.{grammarOf}
+use Rattle.rules.specs.Coverage.{Covering}
+use Rattle.rules.proofs.Covering.{root-covering}
 use Rattle.records.specs.Words.{ofWords, fieldAt, blockAt, recordAt}
 use Rattle.records.proofs.WordLaws.{item-fits}
 use Rattle.records.proofs.Written.{eight-nodes}
-use Rattle.steps.proofs.RecordWords.{spelt, spelt-long, spelt-added, kind-word, part-nodes}
+use Rattle.steps.proofs.RecordWords.{spelt, spelt-holds, spelt-added, kind-word, part-nodes}
 use Rattle.steps.proofs.RootLaws.{skip-passive, skip-unknown, skip-inner, root-added}
-use Rattle.steps.proofs.ReadyLaws.{handled-small, words-ready}
+use Rattle.steps.proofs.ReadyLaws.{handled-small, covering-at, words-ready}
 use Rattle.steps.proofs.consequences.add_root.Statement.{statement}
 use Rattle.steps.proofs.consequences.add_root.Tie as tie
 
@@ -45,14 +46,14 @@ slice-read-of : tie.Need-slice-read-of
 slice-read-of c = omega (arith, item-fits (c .before .before .before .before .before .before .before .before .args .chart .now) (c .before .before .before .before .before .before .before .before .args .j) (c .before .before .before .before .before .before .before .before .pre .2 .there))
 
 rule-count-requires : tie.Need-rule-count-requires
-rule-count-requires c κs = search needs
+rule-count-requires c κs = tt
 
 returns-2 : tie.Need-returns-2
 unfolding recordAt ofWords blockAt fieldAt tabulate
 returns-2 c = (skip-unknown (c .before .before .before .before .before .before .before .before .before .before .args .g .now) (recordAt (c .before .before .before .before .before .before .before .before .before .before .args .chart .now) (c .before .before .before .before .before .before .before .before .before .before .args .j)) (c .before .before .before .before .before .before .before .before .before .before .args .j) (c .before .before .before .before .before .before .before .before .before .before .args .chart .now) (c .before .before .before .before .before .before .before .before .before .before .pre .1 .fits) (c .before .rule-count .result) (sym (kind-word (c .before .before .before .before .before .before .before .before .before .before .args .chart .now) (c .before .before .before .before .before .before .before .before .before .before .args .j)) ∙ c .before .before .before .if1 .left) (c .before .rule-count .ensures) (c .if2 .taken), c .before .before .before .before .before .before .before .before .before .before .pre .1)
 
 rule-plan-requires : tie.Need-rule-plan-requires
-rule-plan-requires c κs = search needs
+rule-plan-requires c κs = tt
 
 add-p : tie.Need-add-p
 add-p c = omega (arith, handled-small _ _ (c .before .before .before .before .before .before .before .before .before .before .before .pre .1 .small) (c .before .before .before .before .before .before .before .before .before .before .before .pre .2 .there))
@@ -68,23 +69,23 @@ unfolding recordAt ofWords blockAt fieldAt tabulate
 returns-3 c = (skip-inner (c .before .before .before .before .before .before .before .before .before .before .before .before .before .args .g .now) (recordAt (c .before .before .before .before .before .before .before .before .before .before .before .before .before .args .chart .now) (c .before .before .before .before .before .before .before .before .before .before .before .before .before .args .j)) (c .before .before .before .before .before .before .before .before .before .before .before .before .before .args .j) (c .before .before .before .before .before .before .before .before .before .before .before .before .before .args .chart .now) (c .before .before .before .before .before .before .before .before .before .before .before .before .before .pre .1 .fits) (sym (kind-word (c .before .before .before .before .before .before .before .before .before .before .before .before .before .args .chart .now) (c .before .before .before .before .before .before .before .before .before .before .before .before .before .args .j)) ∙ c .before .before .before .before .before .before .if1 .left) (c .before .before .before .before .before .before .before .before .before .before .before .before .before .pre .0) (omega (arith, c .before .before .before .before .rule-count .ensures, c .before .before .before .if2 .left)) (c .before .before .rule-plan .result) (c .before .before .rule-plan .ensures) (λ q. omega (arith, c .if3 .taken)), c .before .before .before .before .before .before .before .before .before .before .before .before .before .pre .1)
 
 add-if4 : tie.Need-add-if4
-add-if4 c = search needs
+add-if4 c = omega (arith, c .if3 .left, c .before .before .rule-plan .ok)
 
 returns-4 : tie.Need-returns-4
 unfolding recordAt ofWords blockAt fieldAt tabulate
 returns-4 c = (skip-inner (c .before .before .before .before .before .before .before .before .before .before .before .before .before .before .args .g .now) (recordAt (c .before .before .before .before .before .before .before .before .before .before .before .before .before .before .args .chart .now) (c .before .before .before .before .before .before .before .before .before .before .before .before .before .before .args .j)) (c .before .before .before .before .before .before .before .before .before .before .before .before .before .before .args .j) (c .before .before .before .before .before .before .before .before .before .before .before .before .before .before .args .chart .now) (c .before .before .before .before .before .before .before .before .before .before .before .before .before .before .pre .1 .fits) (sym (kind-word (c .before .before .before .before .before .before .before .before .before .before .before .before .before .before .args .chart .now) (c .before .before .before .before .before .before .before .before .before .before .before .before .before .before .args .j)) ∙ c .before .before .before .before .before .before .before .if1 .left) (c .before .before .before .before .before .before .before .before .before .before .before .before .before .before .pre .0) (omega (arith, c .before .before .before .before .before .rule-count .ensures, c .before .before .before .before .if2 .left)) (c .before .before .before .rule-plan .result) (c .before .before .before .rule-plan .ensures) (λ q. c .if4 .taken (omega arith)), c .before .before .before .before .before .before .before .before .before .before .before .before .before .before .pre .1)
 
 rule-symbol-requires : tie.Need-rule-symbol-requires
-rule-symbol-requires c κs = search needs
+rule-symbol-requires c κs = tt
 
-add-t16 : tie.Need-add-t16
-add-t16 c = omega (arith, handled-small _ _ (c .before .before .before .before .before .before .before .before .before .before .before .before .before .before .before .pre .1 .small) (c .before .before .before .before .before .before .before .before .before .before .before .before .before .before .before .pre .2 .there))
+add-t15 : tie.Need-add-t15
+add-t15 c = omega (arith, handled-small _ _ (c .before .before .before .before .before .before .before .before .before .before .before .before .before .before .before .pre .1 .small) (c .before .before .before .before .before .before .before .before .before .before .before .before .before .before .before .pre .2 .there))
 
-mul-t19 : tie.Need-mul-t19
-mul-t19 c = omega (arith, handled-small _ _ (c .before .before .before .before .before .before .before .before .before .before .before .before .before .before .before .pre .1 .small) (c .before .before .before .before .before .before .before .before .before .before .before .before .before .before .before .pre .2 .there))
+mul-t18 : tie.Need-mul-t18
+mul-t18 c = omega (arith, handled-small _ _ (c .before .before .before .before .before .before .before .before .before .before .before .before .before .before .before .pre .1 .small) (c .before .before .before .before .before .before .before .before .before .before .before .before .before .before .before .pre .2 .there))
 
-slice-read-t14 : tie.Need-slice-read-t14
-slice-read-t14 c = omega (arith, item-fits (c .before .before .before .before .before .before .before .before .before .before .before .before .before .before .before .before .args .chart .now) (c .before .before .before .before .before .before .before .before .before .before .before .before .before .before .before .before .args .j) (c .before .before .before .before .before .before .before .before .before .before .before .before .before .before .before .before .pre .2 .there))
+slice-read-t13 : tie.Need-slice-read-t13
+slice-read-t13 c = omega (arith, item-fits (c .before .before .before .before .before .before .before .before .before .before .before .before .before .before .before .before .args .chart .now) (c .before .before .before .before .before .before .before .before .before .before .before .before .before .before .before .before .args .j) (c .before .before .before .before .before .before .before .before .before .before .before .before .before .before .before .before .pre .2 .there))
 
 add-plus : tie.Need-add-plus
 add-plus c = omega (arith, handled-small _ _ (c .before .before .before .before .before .before .before .before .before .before .before .before .before .before .before .before .pre .1 .small) (c .before .before .before .before .before .before .before .before .before .before .before .before .before .before .before .before .pre .2 .there))
@@ -96,7 +97,7 @@ slice-read-plus : tie.Need-slice-read-plus
 slice-read-plus c = omega (arith, item-fits (c .before .before .before .before .before .before .before .before .before .before .before .before .before .before .before .before .before .args .chart .now) (c .before .before .before .before .before .before .before .before .before .before .before .before .before .before .before .before .before .args .j) (c .before .before .before .before .before .before .before .before .before .before .before .before .before .before .before .before .before .pre .2 .there))
 
 plus-requires : tie.Need-plus-requires
-plus-requires c κs = search needs
+plus-requires c κs = tt
 
 add-root-into : tie.Need-add-root-into
 add-root-into c = omega (arith, handled-small _ _ (c .before .before .before .before .before .before .before .before .before .before .before .before .before .before .before .before .before .before .pre .1 .small) (c .before .before .before .before .before .before .before .before .before .before .before .before .before .before .before .before .before .before .pre .2 .there))
@@ -126,29 +127,30 @@ part-y-end : tie.Need-part-y-end
 part-y-end c = omega arith
 
 root-into-requires : tie.Need-root-into-requires
-root-into-requires c κs = (c .before .before .before .before .before .before .before .before .before .before .before .before .before .before .before .before .before .before .before .before .before .pre .0, (omega (arith, c .before .before .before .before .before .before .before .before .before .before .before .before .rule-count .ensures, c .before .before .before .before .before .before .before .before .before .before .before .if2 .left)), ap (λ (l : List ℕ). length l) (part-nodes (c .before .before .before .before .before .before .before .before .before .before .before .before .before .before .before .before .before .before .before .before .before .args .chart .now) (c .before .before .before .before .before .before .before .before .before .before .before .before .before .before .before .before .before .before .before .before .before .args .j) (2 + 16 * c .before .before .before .before .before .before .before .before .before .before .before .before .before .before .before .before .before .before .before .before .before .args .j + 6) (2 + 16 * c .before .before .before .before .before .before .before .before .before .before .before .before .before .before .before .before .before .before .before .before .before .args .j + 14 - (2 + 16 * c .before .before .before .before .before .before .before .before .before .before .before .before .before .before .before .before .before .before .before .before .before .args .j + 6)) refl (omega arith) (item-fits (c .before .before .before .before .before .before .before .before .before .before .before .before .before .before .before .before .before .before .before .before .before .args .chart .now) (c .before .before .before .before .before .before .before .before .before .before .before .before .before .before .before .before .before .before .before .before .before .args .j) (c .before .before .before .before .before .before .before .before .before .before .before .before .before .before .before .before .before .before .before .before .before .pre .2 .there))) ∙ eight-nodes (c .before .before .before .before .before .before .before .before .before .before .before .before .before .before .before .before .before .before .before .before .before .args .chart .now) (c .before .before .before .before .before .before .before .before .before .before .before .before .before .before .before .before .before .before .before .before .before .args .j), search needs)
+root-into-requires c κs = (c .before .before .before .before .before .before .before .before .before .before .before .before .before .before .before .before .before .before .before .before .before .pre .0, (omega (arith, c .before .before .before .before .before .before .before .before .before .before .before .before .rule-count .ensures, c .before .before .before .before .before .before .before .before .before .before .before .if2 .left)), ap (λ (l : List ℕ). length l) (part-nodes (c .before .before .before .before .before .before .before .before .before .before .before .before .before .before .before .before .before .before .before .before .before .args .chart .now) (c .before .before .before .before .before .before .before .before .before .before .before .before .before .before .before .before .before .before .before .before .before .args .j) (2 + 16 * c .before .before .before .before .before .before .before .before .before .before .before .before .before .before .before .before .before .before .before .before .before .args .j + 6) (2 + 16 * c .before .before .before .before .before .before .before .before .before .before .before .before .before .before .before .before .before .before .before .before .before .args .j + 14 - (2 + 16 * c .before .before .before .before .before .before .before .before .before .before .before .before .before .before .before .before .before .before .before .before .before .args .j + 6)) refl (omega arith) (item-fits (c .before .before .before .before .before .before .before .before .before .before .before .before .before .before .before .before .before .before .before .before .before .args .chart .now) (c .before .before .before .before .before .before .before .before .before .before .before .before .before .before .before .before .before .before .before .before .before .args .j) (c .before .before .before .before .before .before .before .before .before .before .before .before .before .before .before .before .before .before .before .before .before .pre .2 .there))) ∙ eight-nodes (c .before .before .before .before .before .before .before .before .before .before .before .before .before .before .before .before .before .before .before .before .before .args .chart .now) (c .before .before .before .before .before .before .before .before .before .before .before .before .before .before .before .before .before .before .before .before .before .args .j), refl)
 
 add-requires : tie.Need-add-requires
 add-requires c κs = (c .before .before .before .before .before .before .before .before .before .before .before .before .before .before .before .before .before .before .before .before .before .before .before .before .before .before .before .pre .1 .indexed, c .before .before .before .before .before .before .before .before .before .before .before .before .before .before .before .before .before .before .before .before .before .before .before .before .before .before .before .pre .1 .fits, c .before .before .before .before .before .before .before .before .before .before .before .before .before .before .before .before .before .before .before .before .before .before .before .before .before .before .before .pre .1 .small)
 
 same-length : tie.Need-same-length
-same-length c = search needs
+same-length c = c .before .before .before .before .before .before .add .kept .1 .0
 
 same-length-2 : tie.Need-same-length-2
-same-length-2 c = search needs
+same-length-2 c = c .before .before .before .before .before .before .add .kept .1 .1 .0
 
 same-length-3 : tie.Need-same-length-3
-same-length-3 c = search needs
+same-length-3 c = c .before .before .before .before .before .before .add .kept .1 .1 .1 .0
 
 returns-5 : tie.Need-returns-5
 unfolding recordAt ofWords blockAt fieldAt tabulate
 returns-5 c =
     let s = c .before .before .before .before .before .before .before .before .before .before .before .before .before .before .before .before .before .before .before .before .before .before .before .before .before .before .before .before .before .before .before .before .before .before .args in
     let x = recordAt (s .chart .now) (s .j) in
-    let g = s .g .now in (
+    let g = s .g .now in
+    let nodes = c .before .before .before .before .before .before .before .before .before .before .before .before .root-into .ensures ∙ ap (λ (l : List ℕ). padded (images (take (ruleNodes g (x .of)) l) (rightOf (grammarOf g) (x .of) .externals))) (part-nodes (c .before .before .before .before .before .before .before .before .before .before .before .before .before .before .before .before .before .before .before .before .before .before .before .before .before .before .before .before .before .before .before .before .before .before .args .chart .now) (c .before .before .before .before .before .before .before .before .before .before .before .before .before .before .before .before .before .before .before .before .before .before .before .before .before .before .before .before .before .before .before .before .before .before .args .j) (2 + 16 * c .before .before .before .before .before .before .before .before .before .before .before .before .before .before .before .before .before .before .before .before .before .before .before .before .before .before .before .before .before .before .before .before .before .before .args .j + 6) (2 + 16 * c .before .before .before .before .before .before .before .before .before .before .before .before .before .before .before .before .before .before .before .before .before .before .before .before .before .before .before .before .before .before .before .before .before .before .args .j + 14 - (2 + 16 * c .before .before .before .before .before .before .before .before .before .before .before .before .before .before .before .before .before .before .before .before .before .before .before .before .before .before .before .before .before .before .before .before .before .before .args .j + 6)) refl (omega arith) (item-fits (c .before .before .before .before .before .before .before .before .before .before .before .before .before .before .before .before .before .before .before .before .before .before .before .before .before .before .before .before .before .before .before .before .before .before .args .chart .now) (c .before .before .before .before .before .before .before .before .before .before .before .before .before .before .before .before .before .before .before .before .before .before .before .before .before .before .before .before .before .before .before .before .before .before .args .j) (c .before .before .before .before .before .before .before .before .before .before .before .before .before .before .before .before .before .before .before .before .before .before .before .before .before .before .before .before .before .before .before .before .before .before .pre .2 .there))) in (
       root-added (c .before .before .before .before .before .before .before .before .before .before .before .before .before .before .before .before .before .before .before .before .before .before .before .before .before .before .before .before .before .before .before .before .before .before .args .g .now) (recordAt (c .before .before .before .before .before .before .before .before .before .before .before .before .before .before .before .before .before .before .before .before .before .before .before .before .before .before .before .before .before .before .before .before .before .before .args .chart .now) (c .before .before .before .before .before .before .before .before .before .before .before .before .before .before .before .before .before .before .before .before .before .before .before .before .before .before .before .before .before .before .before .before .before .before .args .j)) (c .before .before .before .before .before .before .before .before .before .before .before .before .before .before .before .before .before .before .before .before .before .before .before .before .before .before .before .before .before .before .before .before .before .before .args .j) (c .before .before .before .before .before .before .before .before .before .before .before .before .before .before .before .before .before .before .before .before .before .before .before .before .before .before .before .before .before .before .before .before .before .before .args .chart .now) (c .before .before .before .before .before .before .before .before .before .before .before .before .before .before .before .before .before .before .before .before .before .before .before .before .before .before .before .before .before .before .before .before .before .before .pre .1 .fits) (sym (kind-word (c .before .before .before .before .before .before .before .before .before .before .before .before .before .before .before .before .before .before .before .before .before .before .before .before .before .before .before .before .before .before .before .before .before .before .args .chart .now) (c .before .before .before .before .before .before .before .before .before .before .before .before .before .before .before .before .before .before .before .before .before .before .before .before .before .before .before .before .before .before .before .before .before .before .args .j)) ∙ c .before .before .before .before .before .before .before .before .before .before .before .before .before .before .before .before .before .before .before .before .before .before .before .before .before .before .before .if1 .left) (c .before .before .before .before .before .before .before .before .before .before .before .before .before .before .before .before .before .before .before .before .before .before .before .before .before .before .before .before .before .before .before .before .before .before .pre .0) (omega (arith, c .before .before .before .before .before .before .before .before .before .before .before .before .before .before .before .before .before .before .before .before .before .before .before .before .before .rule-count .ensures, c .before .before .before .before .before .before .before .before .before .before .before .before .before .before .before .before .before .before .before .before .before .before .before .before .if2 .left)) (c .before .before .before .before .before .before .before .before .before .before .before .before .before .before .before .before .before .before .before .before .before .before .before .rule-plan .result) (c .before .before .before .before .before .before .before .before .before .before .before .before .before .before .before .before .before .before .before .before .before .before .before .rule-plan .ensures) _ _ _ _ (omega (arith, c .before .before .before .before .before .before .before .before .before .before .before .before .before .before .before .before .before .before .before .before .if4 .left)) (c .before .before .before .before .before .before .before .before .before .before .before .before .before .before .before .before .before .before .before .rule-symbol .ensures) (c .before .before .before .before .before .before .before .before .before .before .before .before .before .before .before .before .plus .ensures)
-          (c .before .before .before .before .before .before .before .before .before .before .before .before .root-into .ensures ∙ ap (λ (l : List ℕ). padded (images (take (ruleNodes g (x .of)) l) (rightOf (grammarOf g) (x .of) .externals))) (part-nodes (c .before .before .before .before .before .before .before .before .before .before .before .before .before .before .before .before .before .before .before .before .before .before .before .before .before .before .before .before .before .before .before .before .before .before .args .chart .now) (c .before .before .before .before .before .before .before .before .before .before .before .before .before .before .before .before .before .before .before .before .before .before .before .before .before .before .before .before .before .before .before .before .before .before .args .j) (2 + 16 * c .before .before .before .before .before .before .before .before .before .before .before .before .before .before .before .before .before .before .before .before .before .before .before .before .before .before .before .before .before .before .before .before .before .before .args .j + 6) (2 + 16 * c .before .before .before .before .before .before .before .before .before .before .before .before .before .before .before .before .before .before .before .before .before .before .before .before .before .before .before .before .before .before .before .before .before .before .args .j + 14 - (2 + 16 * c .before .before .before .before .before .before .before .before .before .before .before .before .before .before .before .before .before .before .before .before .before .before .before .before .before .before .before .before .before .before .before .before .before .before .args .j + 6)) refl (omega arith) (item-fits (c .before .before .before .before .before .before .before .before .before .before .before .before .before .before .before .before .before .before .before .before .before .before .before .before .before .before .before .before .before .before .before .before .before .before .args .chart .now) (c .before .before .before .before .before .before .before .before .before .before .before .before .before .before .before .before .before .before .before .before .before .before .before .before .before .before .before .before .before .before .before .before .before .before .args .j) (c .before .before .before .before .before .before .before .before .before .before .before .before .before .before .before .before .before .before .before .before .before .before .before .before .before .before .before .before .before .before .before .before .before .before .pre .2 .there)))) (spelt-added _ _ (c .before .before .before .before .before .before .before .before .before .before .before .before .root-into .ensures) 1 (c .before .before .before .before .before .before .before .before .before .before .before .before .before .before .before .before .before .before .before .rule-symbol .result) 0 (x .edges) (c .before .before .before .before .before .before .before .before .before .before .before .before .before .before .before .before .plus .result) 0 (s .j) 0 (s .chart .now) _ (c .before .before .before .before .before .before .add .ensures .0)),
-      words-ready g (s .h .now) (s .keys .now) (s .chart .now) (s .index .now) (s .lists .now) (c .before .before .before .before .before .before .before .before .before .before .before .before .before .before .before .before .before .before .before .before .before .before .before .before .before .before .before .before .before .before .before .before .before .before .pre .1) _ _ _ (c .before .before .before .before .before .before .add .ensures .1) (c .before .before .before .before .before .before .add .ensures .2 g (s .h .now) (c .before .before .before .before .before .before .before .before .before .before .before .before .before .before .before .before .before .before .before .before .before .before .before .before .before .before .before .before .before .before .before .before .before .before .pre .1 .spanned) (c .before .before .before .before .before .before .before .before .before .before .before .before .before .before .before .before .before .before .before .before .before .before .before .before .before .before .before .before .before .before .before .before .before .before .pre .2 .spans)) (spelt _ _ (c .before .before .before .before .before .before .before .before .before .before .before .before .root-into .ensures) 1 (c .before .before .before .before .before .before .before .before .before .before .before .before .before .before .before .before .before .before .before .rule-symbol .result) 0 (x .edges) (c .before .before .before .before .before .before .before .before .before .before .before .before .before .before .before .before .plus .result) 0 (s .j) 0) (c .before .before .before .before .before .before .add .ensures .0),
+          nodes (spelt-added _ _ (c .before .before .before .before .before .before .before .before .before .before .before .before .root-into .ensures) 1 (c .before .before .before .before .before .before .before .before .before .before .before .before .before .before .before .before .before .before .before .rule-symbol .result) 0 (x .edges) (c .before .before .before .before .before .before .before .before .before .before .before .before .before .before .before .before .plus .result) 0 (s .j) 0 (s .chart .now) _ (c .before .before .before .before .before .before .add .ensures .0)),
+      words-ready g (s .h .now) (s .keys .now) (s .chart .now) (s .index .now) (s .lists .now) (c .before .before .before .before .before .before .before .before .before .before .before .before .before .before .before .before .before .before .before .before .before .before .before .before .before .before .before .before .before .before .before .before .before .before .pre .1) _ _ _ (c .before .before .before .before .before .before .add .ensures .1) (c .before .before .before .before .before .before .add .ensures .2 g (s .h .now) (c .before .before .before .before .before .before .before .before .before .before .before .before .before .before .before .before .before .before .before .before .before .before .before .before .before .before .before .before .before .before .before .before .before .before .pre .1 .covered) (λ d. spelt-holds _ _ (c .before .before .before .before .before .before .before .before .before .before .before .before .root-into .ensures) 1 (c .before .before .before .before .before .before .before .before .before .before .before .before .before .before .before .before .before .before .before .rule-symbol .result) 0 (x .edges) (c .before .before .before .before .before .before .before .before .before .before .before .before .before .before .before .before .plus .result) 0 (s .j) 0 (Covering g (s .h .now)) (root-covering g (s .h .now) x (c .before .before .before .before .before .before .before .before .before .before .before .before .before .before .before .before .before .before .before .before .before .before .before .before .before .before .before .before .before .before .before .before .before .before .pre .0) (omega (arith, c .before .before .before .before .before .before .before .before .before .before .before .before .before .before .before .before .before .before .before .before .before .before .before .before .before .rule-count .ensures, c .before .before .before .before .before .before .before .before .before .before .before .before .before .before .before .before .before .before .before .before .before .before .before .before .if2 .left)) (sym (kind-word (c .before .before .before .before .before .before .before .before .before .before .before .before .before .before .before .before .before .before .before .before .before .before .before .before .before .before .before .before .before .before .before .before .before .before .args .chart .now) (c .before .before .before .before .before .before .before .before .before .before .before .before .before .before .before .before .before .before .before .before .before .before .before .before .before .before .before .before .before .before .before .before .before .before .args .j)) ∙ c .before .before .before .before .before .before .before .before .before .before .before .before .before .before .before .before .before .before .before .before .before .before .before .before .before .before .before .if1 .left) (omega (arith, c .before .before .before .before .before .before .before .before .before .before .before .before .before .before .before .before .before .before .before .before .if4 .left, c .before .before .before .before .before .before .before .before .before .before .before .before .before .before .before .before .before .before .before .before .before .before .before .rule-plan .ensures)) (eight-nodes (c .before .before .before .before .before .before .before .before .before .before .before .before .before .before .before .before .before .before .before .before .before .before .before .before .before .before .before .before .before .before .before .before .before .before .args .chart .now) (c .before .before .before .before .before .before .before .before .before .before .before .before .before .before .before .before .before .before .before .before .before .before .before .before .before .before .before .before .before .before .before .before .before .before .args .j)) (covering-at g (s .h .now) (s .chart .now) (s .index .now) (s .j) (c .before .before .before .before .before .before .before .before .before .before .before .before .before .before .before .before .before .before .before .before .before .before .before .before .before .before .before .before .before .before .before .before .before .before .pre .1 .covered) (c .before .before .before .before .before .before .before .before .before .before .before .before .before .before .before .before .before .before .before .before .before .before .before .before .before .before .before .before .before .before .before .before .before .before .pre .2 .there) d) _ _ (c .before .before .before .before .before .before .before .before .before .before .before .before .before .before .before .before .before .before .before .rule-symbol .ensures) nodes _ _))) (spelt _ _ (c .before .before .before .before .before .before .before .before .before .before .before .before .root-into .ensures) 1 (c .before .before .before .before .before .before .before .before .before .before .before .before .before .before .before .before .before .before .before .rule-symbol .result) 0 (x .edges) (c .before .before .before .before .before .before .before .before .before .before .before .before .before .before .before .before .plus .result) 0 (s .j) 0) (c .before .before .before .before .before .before .add .ensures .0),
     )
 
 pub add-root-spec : {M : Type 1} → statement M
@@ -173,9 +175,9 @@ add-root-spec =
     add-if4
     returns-4
     rule-symbol-requires
-    add-t16
-    mul-t19
-    slice-read-t14
+    add-t15
+    mul-t18
+    slice-read-t13
     add-plus
     mul-plus
     slice-read-plus

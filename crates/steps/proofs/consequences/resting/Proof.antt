@@ -1,5 +1,4 @@
 -- The least record at which a cursor is then.
-use borrow.Author.Needs.{needs}
 use Rattle.steps.proofs.consequences.resting.Statement.{statement}
 use Rattle.steps.proofs.consequences.resting.Tie as tie
 
@@ -7,7 +6,7 @@ skimmed-requires : tie.Need-skimmed-requires
 skimmed-requires c κs = c .before .before .pre
 
 least-requires : tie.Need-least-requires
-least-requires c κs = search needs
+least-requires c κs = tt
 
 returns : tie.Need-returns
 returns c = (record { few = c .least .ensures .1; least = λ m. c .least .ensures .0 }, c .before .skimmed .ensures)

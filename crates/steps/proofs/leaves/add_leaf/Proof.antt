@@ -1,18 +1,16 @@
 -- A `match` on the plan node's kind: a law for each way.
-use Prim.Native.Nat.{_-_}
-use borrow.Author.Needs.{needs}
 use Rattle.steps.proofs.LeafLoops.{leaf-added, leaf-skipped}
 use Rattle.steps.proofs.leaves.add_leaf.Statement.{statement}
 use Rattle.steps.proofs.leaves.add_leaf.Tie as tie
 
 plan-kind-requires : tie.Need-plan-kind-requires
-plan-kind-requires c κs = search needs
+plan-kind-requires c κs = tt
 
 add-requires : tie.Need-add-requires
-add-requires c κs = search needs
+add-requires c κs = tt
 
 same-length : tie.Need-same-length
-same-length c = search needs
+same-length c = c .before .before .add .kept .0
 
 returns : tie.Need-returns
 returns c =

@@ -1,9 +1,8 @@
 -- What is left to add gives the leaf items of all rules.
 use native.Mathlib.Omega.{arith}
-use Prim.Native.Nat.{_-_, _≤_}
+use Prim.Native.Nat.{_≤_}
 use mathlib.Core.Path.{_≡_, refl, sym, ap, _∙_}
 use lib.ListN.{length}
-use borrow.Author.Needs.{needs}
 use Rattle.questions.specs.Layout.{ruleCount}
 use Rattle.questions.specs.Abstract.{grammarOf}
 use Rattle.records.specs.Words.{grownBy}
@@ -19,7 +18,7 @@ abbrev μ-loop : tie.MeasureT-loop
 μ-loop g chart₀ r₀ chart r = r
 
 rule-count-requires : tie.Need-rule-count-requires Inv-loop μ-loop
-rule-count-requires c κs = search needs
+rule-count-requires c κs = tt
 
 loop-holds : tie.Need-loop-holds Inv-loop μ-loop
 loop-holds c =
@@ -27,7 +26,7 @@ loop-holds c =
     (omega (arith, c .rule-count .ensures), refl, left-all (s .chart .now) _ (λ q. ruleLeaves (grammarOf (s .g .now)) q) (λ q. rule-whole (grammarOf (s .g .now)) q) (c .before .before .before .pre .1) _ (rule-number (s .g .now) _ (c .rule-count .ensures)))
 
 sub-r : tie.Need-sub-r Inv-loop μ-loop
-sub-r c = search needs
+sub-r c = c .loop-test .taken
 
 add-rule-requires : tie.Need-add-rule-requires Inv-loop μ-loop
 add-rule-requires c κs =
@@ -35,7 +34,7 @@ add-rule-requires c κs =
     (c .before .before .before .before .before .before .pre .0, omega (arith, i .0, c .before .loop-test .taken), i .2 .fits)
 
 loop-less : tie.Need-loop-less Inv-loop μ-loop
-loop-less c = search needs
+loop-less c = omega (arith, c .before .before .before .before .loop-test .taken)
 
 loop-again : tie.Need-loop-again Inv-loop μ-loop
 loop-again c =

@@ -1,9 +1,8 @@
 -- What is left to add gives all the leaf items of the rule.
 use native.Mathlib.Omega.{arith}
-use Prim.Native.Nat.{_-_, _≤_}
+use Prim.Native.Nat.{_≤_}
 use mathlib.Core.Path.{_≡_, refl, _∙_}
 use lib.ListN.{length}
-use borrow.Author.Needs.{needs}
 use Rattle.hrg.specs.Grammars.{planOf}
 use Rattle.questions.specs.Layout.{rulePlan}
 use Rattle.questions.specs.Abstract.{grammarOf}
@@ -19,7 +18,7 @@ abbrev μ-loop : tie.MeasureT-loop
 μ-loop g chart₀ r p₀ chart p = p
 
 rule-plan-requires : tie.Need-rule-plan-requires Inv-loop μ-loop
-rule-plan-requires c κs = search needs
+rule-plan-requires c κs = tt
 
 loop-holds : tie.Need-loop-holds Inv-loop μ-loop
 loop-holds c =
@@ -28,7 +27,7 @@ loop-holds c =
     (omega (arith, c .rule-plan .ensures), refl, left-all (s .chart .now) _ (λ q. leafRecord (grammarOf (s .g .now)) (s .r) q) (λ q. leaf-whole (grammarOf (s .g .now)) (s .r) q) (pre .2) _ (rule-plan (s .g .now) (s .r) _ (pre .0) (pre .1) (c .rule-plan .ensures)))
 
 sub-p : tie.Need-sub-p Inv-loop μ-loop
-sub-p c = search needs
+sub-p c = c .loop-test .taken
 
 add-leaf-requires : tie.Need-add-leaf-requires Inv-loop μ-loop
 add-leaf-requires c κs =
@@ -36,7 +35,7 @@ add-leaf-requires c κs =
     (record { grammar = c .before .before .before .before .before .before .pre .0; rule = c .before .before .before .before .before .before .pre .1; node = omega (arith, i .0, c .before .loop-test .taken) }, i .2 .fits)
 
 loop-less : tie.Need-loop-less Inv-loop μ-loop
-loop-less c = search needs
+loop-less c = omega (arith, c .before .before .before .before .loop-test .taken)
 
 loop-again : tie.Need-loop-again Inv-loop μ-loop
 loop-again c =

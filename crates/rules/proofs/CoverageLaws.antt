@@ -1,0 +1,143 @@
+-- Which graph nodes the places of a map show, and that a record shows each open one.
+use mathlib.Core.Path.{_≡_, sym, ap, _∙_, subst}
+use mathlib.Core.Bool.{Bool, true, _&&_, false≢true}
+use mathlib.Core.List.{List}
+use Prim.Native.Nat.{ℕ, zero, suc, _+_, _≤_, _<_}
+use native.Mathlib.Omega.{arith}
+use native.Mathlib.Decide.{decLt}
+use lib.ListN.{length, getD}
+use lib.Bits.{bitAnd}
+use lib.Dec.{eqb, leb}
+use borrow.Author.Tests.{eqb-true, leb-true}
+use Rattle.masks.specs.Masks.{member, Added, Found}
+use Rattle.hrg.specs.Trees.{unplaced, at}
+use Rattle.hrg.specs.Items.{isOpen}
+use Rattle.hrg.proofs.Degrees.{and-true}
+use Rattle.questions.specs.Layout.{rankAt, ruleCount, ruleNodes, rulePlan}
+use Rattle.questions.specs.Checking.{checkGrammar}
+use Rattle.questions.specs.Abstract.{graphOf}
+use Rattle.records.specs.Words.{ofWords}
+use Rattle.joins.specs.Joins.{KnownNode, OpenAt, OpenIn, Plain}
+use Rattle.joins.proofs.Known.{nodes-few}
+use Rattle.joins.proofs.PlanMasks.{member-none}
+use Rattle.joins.proofs.Touching.{member-both}
+use Rattle.joins.proofs.Openness.{spans-none, either-way}
+use Rattle.joins.proofs.EdgeMaps.{at-past}
+use Rattle.joins.proofs.MapLaws.{getD-any}
+use Rattle.rules.specs.Coverage.{Shown, Covering}
+use Rattle.rules.proofs.RecordWords.{mapIn, map-words}
+
+-- ---- eight tests, for any place
+module _ (l : List ℕ) (size : length l ≡ 8) where
+  abbrev fits : ℕ → Bool
+  fits i = leb (getD l i 0) 64
+
+  all-near : ((fits 0 && fits 1 && fits 2 && fits 3) && (fits 4 && fits 5 && fits 6 && fits 7)) ≡ true → (i : ℕ) → i < 8 → getD l i 0 ≤ unplaced
+  all-near p i h =
+      let (low, high) = and-true (fits 0 && fits 1 && fits 2 && fits 3) (fits 4 && fits 5 && fits 6 && fits 7) p in
+      leb-true (getD l i 0) 64 (by i h (four 0 1 2 3 low) (four 4 5 6 7 high))
+    where
+      four : (a b c d : ℕ) → (fits a && fits b && fits c && fits d) ≡ true → (fits a ≡ true) × (fits b ≡ true) × (fits c ≡ true) × (fits d ≡ true)
+      four a b c d q =
+          let (abc, d′) = and-true (fits a && fits b && fits c) (fits d) q in
+          let (ab, c′) = and-true (fits a && fits b) (fits c) abc in
+          let (a′, b′) = and-true (fits a) (fits b) ab in
+          (a′, b′, c′, d′)
+
+      by : (i : ℕ) → i < 8 → (fits 0 ≡ true) × (fits 1 ≡ true) × (fits 2 ≡ true) × (fits 3 ≡ true) → (fits 4 ≡ true) × (fits 5 ≡ true) × (fits 6 ≡ true) × (fits 7 ≡ true) → fits i ≡ true
+      by zero h x y = x .0
+      by (suc zero) h x y = x .1
+      by (suc (suc zero)) h x y = x .2
+      by (suc (suc (suc zero))) h x y = x .3
+      by (suc (suc (suc (suc zero)))) h x y = y .0
+      by (suc (suc (suc (suc (suc zero))))) h x y = y .1
+      by (suc (suc (suc (suc (suc (suc zero)))))) h x y = y .2
+      by (suc (suc (suc (suc (suc (suc (suc zero))))))) h x y = y .3
+      by (suc (suc (suc (suc (suc (suc (suc (suc i)))))))) h x y = absurd (omega arith)
+
+  pub plain-all : ((fits 0 && fits 1 && fits 2 && fits 3) && (fits 4 && fits 5 && fits 6 && fits 7)) ≡ true → Plain l
+  plain-all p i = go (decLt i 8)
+    where
+      go : Dec (i < 8) → at l i ≤ unplaced
+      go (yes h) = omega (arith, all-near p i h, getD-any l i unplaced 0 (omega (arith, size)))
+      go (no h) = omega (arith, at-past l i (omega (arith, size)))
+
+-- ---- the images of chosen places
+-- each node of the set is at one of the first n places of l that are chosen
+abbrev pub Imaged : List ℕ → ℕ → ℕ → ℕ → Type 0
+Imaged l chosen n set = (v : ℕ) → v < 64 → member set v ≡ true → (i : ℕ) × (i < n) × (member chosen i ≡ true) × (at l i ≡ v)
+
+pub imaged-none : (l : List ℕ) (chosen n : ℕ) → Imaged l chosen n 0
+imaged-none l chosen n v h p = absurd (false≢true (sym (member-none v) ∙ p))
+
+-- places passed without a change of the set
+pub imaged-more : (l : List ℕ) (chosen i n set : ℕ) → i ≤ n → Imaged l chosen i set → Imaged l chosen n set
+imaged-more l chosen i n set le before v h p = let (k, a, b, c) = before v h p in (k, omega (arith, a), b, c)
+
+pub imaged-skip : (l : List ℕ) (chosen i set after : ℕ) → after ≡ set → Imaged l chosen i set → Imaged l chosen (i + 1) after
+imaged-skip l chosen i set after e before = rw e (imaged-more l chosen i (i + 1) set (omega arith) before)
+
+-- the node at one place more
+pub imaged-with : (l : List ℕ) (chosen i set more after : ℕ) (here : Bool) → i < length l → Found chosen i here → here ≡ true → Added set (getD l i 0) more → after ≡ more → Imaged l chosen i set → Imaged l chosen (i + 1) after
+imaged-with l chosen i set more after here inside found sure added e before v h p =
+    either-way (member set v) (eqb v (getD l i 0)) (sym (added .members v h) ∙ ap (λ m. member m v) (sym e) ∙ p)
+    (λ q. imaged-more l chosen i (i + 1) set (omega arith) before v h q)
+    (λ q. (i, omega arith, sym (found .value) ∙ sure, getD-any l i unplaced 0 inside ∙ sym (eqb-true v (getD l i 0) q)))
+
+-- ---- a plan node that passes both tests
+pub known-by : (g : List ℕ) (r p rules nodes : ℕ) → checkGrammar g ≡ true → rules ≡ ruleCount g → r < rules → nodes ≡ rulePlan g r → p < nodes → KnownNode g r p
+known-by g r p rules nodes checked a x b y = record { grammar = checked; rule = omega (arith, a, x); node = omega (arith, b, y) }
+
+pub known-few : (g : List ℕ) (r p n : ℕ) → KnownNode g r p → n ≡ ruleNodes g r → n ≤ 8
+known-few g r p n known e = omega (arith, e, nodes-few g r (known .grammar) (known .rule))
+
+-- ---- what a record shows
+module _ (g w : List ℕ) (long : length w ≡ 16) where
+  -- a place of the map in the words
+  place-of : (i v : ℕ) → at (mapIn w) i ≡ v → at (ofWords w .nodes) i ≡ v
+  place-of i v e = ap (λ (l : List ℕ). at l i) (map-words w long) ∙ e
+
+  pub shown-passive : (chosen n set : ℕ) → (getD w 0 0 ≡ 0 → ⊥) → n ≡ rankAt g (getD w 1 0) → Imaged (mapIn w) chosen n set → (v : ℕ) → v < 64 → member set v ≡ true → Shown g (ofWords w) v
+  unfolding ofWords
+  shown-passive chosen n set other rank imaged v h p = record {
+    active = λ e. absurd (other e);
+    passive = λ _. let (i, a, _, c) = imaged v h p in (i, omega (arith, a, rank), place-of i v c);
+  }
+
+  pub shown-active : (o n set : ℕ) → getD w 0 0 ≡ 0 → KnownNode g (getD w 1 0) (getD w 2 0) → n ≡ ruleNodes g (getD w 1 0) → OpenAt g (getD w 1 0) (getD w 2 0) o → Imaged (mapIn w) o n set
+      → (v : ℕ) → v < 64 → member set v ≡ true → Shown g (ofWords w) v
+  unfolding ofWords
+  shown-active o n set kind known size opened imaged v h p = record {
+    active = λ _.
+        let (i, a, b, c) = imaged v h p in
+        let inside : i < ruleNodes g (getD w 1 0) = omega (arith, a, size) in
+        (i, inside, sym (opened .members i (omega (arith, nodes-few g (getD w 1 0) (known .grammar) (known .rule)))) ∙ b, place-of i v c);
+    passive = λ other. absurd (other kind);
+  }
+
+  -- the empty set
+  pub shown-none : (v : ℕ) → v < 64 → member 0 v ≡ true → Shown g (ofWords w) v
+  shown-none v h p = absurd (false≢true (sym (member-none v) ∙ p))
+
+-- ---- a record that shows each
+module _ (g h w : List ℕ) (long : length w ≡ 16) (plain : Plain (mapIn w)) where
+  nodes-plain : Plain (ofWords w .nodes)
+  nodes-plain = subst Plain (sym (map-words w long)) plain
+
+  -- no edges have no open nodes
+  pub covering-none : getD w 3 0 ≡ 0 → Covering g h (ofWords w)
+  unfolding ofWords
+  covering-none e = record {
+    plain = nodes-plain;
+    shown = λ v l p. absurd (false≢true (sym (member-none v) ∙ spans-none g h 0 .each v l (ap (λ m. isOpen (graphOf g h) m v) (sym e) ∙ p)));
+  }
+
+  pub covering-all : (nodes set : ℕ) → OpenIn g h (getD w 3 0) nodes → ((v : ℕ) → v < 64 → member set v ≡ true → Shown g (ofWords w) v) → eqb (bitAnd nodes set) nodes ≡ true → Covering g h (ofWords w)
+  unfolding ofWords
+  covering-all nodes set opened each e = record {
+    plain = nodes-plain;
+    shown = λ v l p. each v l (there v (opened .members v l ∙ p));
+  }
+    where
+      there : (v : ℕ) → member nodes v ≡ true → member set v ≡ true
+      there v p = and-true (member nodes v) (member set v) (sym (member-both nodes set v) ∙ ap (λ k. member k v) (eqb-true (bitAnd nodes set) nodes e) ∙ p) .1
