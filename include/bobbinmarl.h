@@ -37,7 +37,7 @@
 extern "C" {
 #endif
 
-/* How many words to lend: the tables of the largest grammar (14,985) and of the largest graph (585), and a chart that holds so many items
+/* How many words to lend: the tables of the largest grammar (1,665) and of the largest graph (65), and a chart that holds so many items
  * (2 words, and 16 for each item; 0 where items is 0 or above 4,096). Longer tables and charts are taken too: words behind the table stay, and a chart
  * holds as many items as fit. */
 size_t bobbinmarl_grammar_words(void);

@@ -11,7 +11,7 @@
 #include "bobbinmarl.h"
 
 /* The words of the two tables; a shorter table is refused 8. */
-enum { GRAMMAR_WORDS = 14985, GRAPH_WORDS = 585 };
+enum { GRAMMAR_WORDS = 1665, GRAPH_WORDS = 65 };
 /* A chart takes 2 words and 16 for each item. */
 enum { ITEMS = 2048, CHART_WORDS = 2 + 16 * ITEMS };
 enum { FILE_BYTES = 32768, OUT_BYTES = 32768, PATH_BYTES = 4096 };

@@ -21,7 +21,7 @@ static void check(int holds, const char *fact, const char *where, int line)
 
 /* ---- what is lent, with guards around each part; `kept` is a copy from before a call */
 
-enum { GUARD = 8, GRAMMAR = 14985, GRAPH = 585, CHART = 2 + 16 * 4097, OUT = 64, ROWS = 2048 };
+enum { GUARD = 8, GRAMMAR = 1665, GRAPH = 65, CHART = 2 + 16 * 4097, OUT = 64, ROWS = 2048 };
 
 static struct lent {
     uint64_t guard0[GUARD];

@@ -23,14 +23,14 @@ use writing::Application;
 pub extern "C" fn bobbinmarl_grammar_words() -> usize
     ensures { λ r. ⌜ r ≡ grammarWords ⌝ }
 {
-    14985
+    1665
 }
 
 #[no_mangle]
 pub extern "C" fn bobbinmarl_graph_words() -> usize
     ensures { λ r. ⌜ r ≡ graphWords ⌝ }
 {
-    585
+    65
 }
 
 // The words of a chart that holds so many items, 0 where no chart does.

@@ -7,7 +7,7 @@ use native.Mathlib.Numerals.{add-one}
 use native.Mathlib.Omega.{arith}
 use native.Mathlib.Decide.{decLt}
 use lib.ListN.{length, getD, set, take, drop, replicate, length-set, length-take, length-drop, drop-of-length-le, List·getD-eq-default}
-use lib.Seq.{drop-cons, getD-set-same, getD-set-other, getD-take, getD-drop, ext-getD, length-take-le}
+use lib.Seq.{drop-cons, getD-set-same, getD-set-other, getD-take, getD-drop, ext-getD}
 use lib.Dec.{eqb}
 use borrow.Author.Tests.{eq-eqb, ne-eqb, eqb-true, eqb-false}
 use Rattle.hrg.specs.Counts.{hit, occurs, tabulate}
@@ -15,8 +15,9 @@ use Rattle.hrg.specs.Grammars.{Kind, terminal, nonterminal, Edge, Graph, Gramma
 use Rattle.hrg.specs.Trees.{unplaced, at, padded}
 use Rattle.hrg.specs.Items.{either, orElse, joined, nodeFor, attach}
 use Rattle.hrg.proofs.Sums.{hit-self, length-tabulate, at-tabulate, tabulate-ext, occurs-around, none-left}
-use Rattle.questions.specs.Layout.{word, rankAt, ruleNodes, edgeLabel, edgeNode, graphEdges, graphLabel, graphNode}
+use Rattle.questions.specs.Layout.{rankAt, ruleNodes, edgeLabel, edgeNode, graphEdges, graphLabel, graphNode}
 use Rattle.questions.specs.Abstract.{grammarOf, graphOf}
+use Rattle.questions.proofs.StoredLaws.{take-tabulate}
 use Rattle.joins.specs.Joins.{KnownEdge, edgeNodes, BareFrom}
 use Rattle.joins.proofs.Known.{graph-size}
 use Rattle.joins.proofs.GraphLaws.{edge-nodes}
@@ -230,27 +231,11 @@ part-nodes w j from n p q h =
         ∙ sym (node-words (blockAt w j) i l)
         ∙ ap (λ (x : Record). getD (x .nodes) i 0) (words-record w j)
 
--- of a graph edge, as a part of the graph's words
-pub part-edge : (g h : List ℕ) (b from n : ℕ) → b < graphEdges h → from ≡ 10 + 9 * b → n ≡ rankAt g (graphLabel h b) → from + n ≤ length h
-    → take n (drop from h) ≡ edgeAt (graphOf g h .edges) b .attachment
-unfolding word
-part-edge g h b from n known p q room =
-    ext-getD 0 (take n (drop from h)) (tabulate rank (λ k. graphNode h b k)) (long ∙ q ∙ sym (length-tabulate rank (λ k. graphNode h b k))) (λ i l. node i (omega (arith, long)))
-    ∙ sym (edge-nodes g h b known)
-  where
-    rank : ℕ
-    rank = rankAt g (graphLabel h b)
-
-    long : length (take n (drop from h)) ≡ n
-    long = length-take-le n (drop from h) (omega (arith, length-drop from h))
-
-    node : (i : ℕ) → i < n → getD (take n (drop from h)) i 0 ≡ getD (tabulate rank (λ k. graphNode h b k)) i 0
-    node i l =
-        getD-take n (drop from h) i 0 l
-        ∙ getD-drop from h i 0
-        ∙ ap (λ k. getD h k 0) (let e : from + i ≡ 9 * (1 + b) + (1 + i) = omega arith in e)
-        ∙ sym (at-tabulate rank (λ k. graphNode h b k) i (omega arith))
-        ∙ getD-any (tabulate rank (λ k. graphNode h b k)) i unplaced 0 (omega (arith, length-tabulate rank (λ k. graphNode h b k)))
+-- of a graph edge, the first of four places, as many as the rank of its label
+pub part-edge : (g h l : List ℕ) (b n : ℕ) → b < graphEdges h → n ≡ rankAt g (graphLabel h b) → l ≡ tabulate 4 (λ k. graphNode h b k)
+    → take n l ≡ edgeAt (graphOf g h .edges) b .attachment
+part-edge g h l b n known rank four =
+    ap (take n) four ∙ take-tabulate n 4 (λ k. graphNode h b k) (omega arith) ∙ ap (λ m. tabulate m (λ k. graphNode h b k)) rank ∙ sym (edge-nodes g h b known)
 
 module _ (w : List ℕ) where
   abbrev look : ℕ → Record

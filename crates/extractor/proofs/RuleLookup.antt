@@ -11,7 +11,7 @@ use borrow.Author.Tests.{eqb-true, eqb-false, ne-eqb}
 use Rattle.hrg.specs.Grammars.{terminal, nonterminal, Edge, introduce, join, Rule, noRule, kindOf, rankOf, ruleOf, rightOf, planOf, planNode, edgeAt}
 use Rattle.hrg.specs.WellFormed.{PlanOk}
 use Rattle.hrg.proofs.Plans.{introduce-known, introduce-lower, join-lower}
-use Rattle.questions.specs.Layout.{ruleCount, ruleNodes, ruleEdges, rulePlan, rankAt, kindWord, edgeLabel, planKind, planFirst, planSecond}
+use Rattle.questions.specs.Layout.{ruleCount, ruleNodes, ruleEdges, rulePlan, rankAt, kindField, edgeLabel, planKind, planFirst, planSecond}
 use Rattle.questions.specs.Checking.{checkGrammar}
 use Rattle.questions.specs.Abstract.{kindFrom, planFrom, grammarOf}
 use Rattle.questions.proofs.WellFormedAccepted.{symbols-length, rules-length, kind-is, rank-is, rule-is, edge-is, plan-length}
@@ -116,11 +116,11 @@ module _ (g : List ℕ) (r i : ℕ) (known : KnownEdge g r i) where
   pub label-rank : rankOf (grammarOf g) (edgeAt (rightOf (grammarOf g) r .edges) i .label) ≡ rankAt g (edgeLabel g r i)
   label-rank = ap (λ s. rankOf (grammarOf g) s) label-is ∙ rank-is g (edgeLabel g r i) (omega (arith, label-known, symbols-length g))
 
-  pub label-kind : (s w : ℕ) → s ≡ edgeLabel g r i → w ≡ kindWord g s → kindOf (grammarOf g) (edgeAt (rightOf (grammarOf g) r .edges) i .label) ≡ kindFrom w
+  pub label-kind : (s w : ℕ) → s ≡ edgeLabel g r i → w ≡ kindField g s → kindOf (grammarOf g) (edgeAt (rightOf (grammarOf g) r .edges) i .label) ≡ kindFrom w
   label-kind s w a b =
       ap (λ s. kindOf (grammarOf g) s) label-is ∙ kind-is g (edgeLabel g r i) (omega (arith, label-known, symbols-length g)) ∙ rw (b, a)
 
-  pub label-test : (s w : ℕ) → s ≡ edgeLabel g r i → w ≡ kindWord g s → not (eqb w 0) ≡ isNonterminal (kindOf (grammarOf g) (edgeAt (rightOf (grammarOf g) r .edges) i .label))
+  pub label-test : (s w : ℕ) → s ≡ edgeLabel g r i → w ≡ kindField g s → not (eqb w 0) ≡ isNonterminal (kindOf (grammarOf g) (edgeAt (rightOf (grammarOf g) r .edges) i .label))
   label-test s w a b = test (eqb w 0) ∙ ap isNonterminal (sym (label-kind s w a b))
     where
       test : (b : Bool) → not b ≡ isNonterminal (cond b terminal nonterminal)

@@ -1,16 +1,31 @@
 // Where an application places the nodes of its rule: by the nodes that its edges stand on, the first edge counting. Maps have eight places, 64 where a node has none
 // yet, and are filled where they stand.
 ghost use mathlib.Core.Path.{_≡_};
-ghost use Prim.Native.Nat.{_≤_, _<_};
+ghost use Prim.Native.Nat.{_+_, _≤_, _<_};
 ghost use lib.ListN.{length, take};
+ghost use Rattle.hrg.specs.Counts.{tabulate};
 ghost use Rattle.hrg.specs.Grammars.{rightOf, edgeAt};
 ghost use Rattle.hrg.specs.Trees.{padded};
 ghost use Rattle.hrg.specs.Items.{joined, attach};
-ghost use Rattle.questions.specs.Layout.{rankAt, ruleNodes, edgeLabel, graphEdges};
+ghost use Rattle.questions.specs.Layout.{rankAt, ruleNodes, edgeLabel, graphEdges, graphNode};
 ghost use Rattle.questions.specs.Abstract.{grammarOf, graphOf};
 ghost use Rattle.joins.specs.Joins.{Accepted, KnownEdge, edgeNodes, BareFrom};
 ghost use Rattle.records.specs.Words.{recordAt};
 ghost use Rattle.extraction.specs.Extraction.{partNodes, placedBy};
+
+// The nodes of graph edge b, in four places.
+fn nodes_of(graph: &[u64], b: u64) -> [u64; 4]
+    requires { ⌜ 1 + b < length (now graph) ⌝ }
+    ensures { λ l. ⌜ l ≡ tabulate 4 (λ k. graphNode (now (graph .entry)) b k) ⌝ }
+{
+    let p = 1 + b;
+    [
+        layout::field_in(graph, p, 1),
+        layout::field_in(graph, p, 2),
+        layout::field_in(graph, p, 3),
+        layout::field_in(graph, p, 4),
+    ]
+}
 
 // Places the nodes of edge i of rule r that have no place yet: at the first nodes of l, in order. Its nodes are different, so that each is written once.
 fn place_nodes(grammar: &[u64], r: u64, i: u64, l: &[u64], f: &mut [u64])
@@ -18,26 +33,25 @@ fn place_nodes(grammar: &[u64], r: u64, i: u64, l: &[u64], f: &mut [u64])
     ensures { λ x. ⌜ now (f .exit) ≡ padded (joined (ruleNodes (now (grammar .entry)) r) (now (f .entry)) (attach (ruleNodes (now (grammar .entry)) r) (edgeNodes (now (grammar .entry)) r i) (take (rankAt (now (grammar .entry)) (edgeLabel (now (grammar .entry)) r i)) (now (l .entry))))) ⌝ }
 {
     let p = 66 + 25 * r + i;
-    let rank = joins::rank_of(grammar, layout::word_in(grammar, p, 0));
+    let rank = joins::rank_of(grammar, layout::field_in(grammar, p, 0));
     let mut k = layout::at_most(l.len() as u64, rank);
     while 0 < k {
         k -= 1;
-        let x = layout::word_in(grammar, p, 1 + k) as usize;
+        let x = layout::field_in(grammar, p, 1 + k) as usize;
         if f[x] == 64 {
             f[x] = l[k as usize];
         }
     }
 }
 
-// The same by graph edge b, which has its nodes behind its label.
+// The same by graph edge b, which has as many nodes as the rank of its label.
 fn place_edge(grammar: &[u64], graph: &[u64], r: u64, i: u64, b: u64, f: &mut [u64])
     requires { ⌜ Accepted (now grammar) (now graph) × KnownEdge (now grammar) r i × (b < graphEdges (now graph)) × (length (now f) ≡ 8) × BareFrom (ruleNodes (now grammar) r) (now f) ⌝ }
     ensures { λ x. ⌜ now (f .exit) ≡ padded (joined (ruleNodes (now (grammar .entry)) r) (now (f .entry)) (attach (ruleNodes (now (grammar .entry)) r) (edgeNodes (now (grammar .entry)) r i) (take (rankAt (now (grammar .entry)) (edgeLabel (now (grammar .entry)) r i)) (edgeAt (graphOf (now (grammar .entry)) (now (graph .entry)) .edges) b .attachment)))) ⌝ }
 {
-    let rank = joins::rank_of(grammar, layout::word_in(graph, 1 + b, 0));
-    let from = (10 + 9 * b) as usize;
-    let end = from + rank as usize;
-    place_nodes(grammar, r, i, &graph[from..end], f);
+    let rank = joins::rank_of(grammar, layout::field_in(graph, 1 + b, 0));
+    let nodes = nodes_of(graph, b);
+    place_nodes(grammar, r, i, &nodes[..rank as usize], f);
 }
 
 // The same by the nodes that the record at b lists; one that the chart does not hold whole is copied first.

@@ -1,4 +1,4 @@
--- What an accepted table's words say of the grammar and the graph that it stands for.
+-- What an accepted table's fields say of the grammar and the graph that it stands for.
 use mathlib.Core.Path.{_≡_, refl, ap, _∙_}
 use mathlib.Core.Bool.{true}
 use mathlib.Core.List.{List, []}
@@ -7,7 +7,7 @@ use native.Mathlib.Omega.{arith}
 use lib.ListN.{length, replicate}
 use Rattle.hrg.specs.Grammars.{Rule, ruleOf, planOf, planNode}
 use Rattle.hrg.specs.WellFormed.{PlanOk, RuleOk, GraphOk}
-use Rattle.questions.specs.Layout.{ruleCount, ruleNodes, ruleEdges, rulePlan, planKind, planFirst, planSecond, graphNodes, graphEdges}
+use Rattle.questions.specs.Layout.{grammarWords, graphWords, ruleCount, ruleNodes, ruleEdges, rulePlan, planKind, planFirst, planSecond, graphNodes, graphEdges}
 use Rattle.questions.specs.declared.Due.the-variants.{Grammar, Graph}
 use Rattle.questions.specs.Checking.{checkLines, checkGrammar, checkGraph}
 use Rattle.questions.specs.Abstract.{planFrom, ruleFrom, grammarOf, graphOf}
@@ -18,13 +18,13 @@ use Rattle.questions.proofs.WellFormedAccepted.{rules-length, rule-is, edges-le
 use Rattle.joins.specs.Joins.{Accepted}
 
 -- ---- a table that is accepted has all its words
-pub grammar-long : (g : List ℕ) → checkGrammar g ≡ true → 14985 ≤ length g
+pub grammar-long : (g : List ℕ) → checkGrammar g ≡ true → grammarWords ≤ length g
 unfolding checkGrammar
-grammar-long g checked = filled-by 14985 g (checkLines 1666 [] g (replicate 14985 0) Grammar) checked .2
+grammar-long g checked = filled-by grammarWords g (checkLines 1666 [] g (replicate grammarWords 0) Grammar) checked .2
 
-pub graph-long : (g h : List ℕ) → Accepted g h → 585 ≤ length h
+pub graph-long : (g h : List ℕ) → Accepted g h → graphWords ≤ length h
 unfolding checkGraph
-graph-long g h accepted = filled-by 585 h (checkLines 66 g h (replicate 585 0) Graph) (accepted .graph) .2
+graph-long g h accepted = filled-by graphWords h (checkLines 66 g h (replicate graphWords 0) Graph) (accepted .graph) .2
 
 -- ---- a rule of an accepted grammar table
 module _ (g : List ℕ) (r : ℕ) (checked : checkGrammar g ≡ true) (known : r < ruleCount g) where

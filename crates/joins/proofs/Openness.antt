@@ -106,9 +106,9 @@ module _ (g h t : List ℕ) (accepted : Accepted g h) (table : GraphTable g h t)
       let there : 0 < occurs v ns = rw (at-tabulate (rankAt g (graphLabel h e)) (λ k. graphNode h e k) j jl, same) at (occurs-at ns j (omega (arith, length-tabulate (rankAt g (graphLabel h e)) (λ k. graphNode h e k)))) in
       (known, ap (λ (l : List ℕ). ltb 0 (occurs v l)) (edge-nodes g h e known) ∙ lt-ltb 0 (occurs v ns) there)
 
-  word-in : (e : ℕ) → e < graphEdges h → onEdge g h v e ≡ true → (k : ℕ) × (k < 4) × (member (wordAt k) e ≡ true)
+  field-in : (e : ℕ) → e < graphEdges h → onEdge g h v e ≡ true → (k : ℕ) × (k < 4) × (member (wordAt k) e ≡ true)
   unfolding marksTo
-  word-in e known p =
+  field-in e known p =
       let rank = rankAt g (graphLabel h e) in
       let ns = tabulate rank (λ k. graphNode h e k) in
       let (k, kl, s) = occurs-find v ns (ltb-true 0 (occurs v ns) (ap (λ (l : List ℕ). ltb 0 (occurs v l)) (sym (edge-nodes g h e known)) ∙ p)) in
@@ -132,7 +132,7 @@ module _ (g h t : List ℕ) (accepted : Accepted g h) (table : GraphTable g h t)
 
   on-in : (e : ℕ) → e < graphEdges h → onEdge g h v e ≡ true → member on e ≡ true
   on-in e known p =
-      let (k, l, q) = word-in e known p in
+      let (k, l, q) = field-in e known p in
       by-four (λ k. member (wordAt k) e ≡ true → member on e ≡ true)
       (λ q. member-on e ∙ rw q)
       (λ q. member-on e ∙ rw (q, or-true))

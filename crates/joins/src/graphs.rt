@@ -17,7 +17,7 @@ fn edge_sets(g: &[u64], h: &[u64]) -> [u64; 64]
     let n = layout::graph_edges(h);
     let mut e: u64 = 0;
     while e < n {
-        let rank = layout::rank_at(g, layout::word(h, 1 + e, 0));
+        let rank = layout::rank_at(g, layout::field_at(h, 1 + e, 0));
         let on = crate::listed(h, 1 + e, 1, rank);
         t[e as usize] = on;
         e += 1;

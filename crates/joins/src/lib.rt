@@ -10,7 +10,7 @@ ghost use Rattle.hrg.specs.Counts.{tabulate};
 ghost use Rattle.hrg.specs.Grammars.{ruleOf};
 ghost use Rattle.hrg.specs.Items.{attach};
 ghost use Rattle.hrg.specs.ClosureRun.{covering, combine};
-ghost use Rattle.questions.specs.Layout.{word, rankAt, startSymbol, ruleSymbol, ruleNodes, ruleExternal, edgeLabel, graphExternal};
+ghost use Rattle.questions.specs.Layout.{fieldAt, rankAt, startSymbol, ruleSymbol, ruleNodes, ruleExternal, edgeLabel, graphExternal};
 ghost use Rattle.questions.specs.Checking.{checkGrammar};
 ghost use Rattle.questions.specs.Abstract.{grammarOf, graphOf};
 ghost use Rattle.joins.specs.Joins.{KnownNode, KnownEdge, Accepted, EdgesBelow, MasksBelow, NodesIn, sideWith, SidesOf, Boundary, OpenAt, OpenIn, Spans, Keeps, Holds, Plain, edgeNodes, nodesWord, openBy, BareFrom, Merges, Makes};
@@ -42,15 +42,15 @@ pub fn node_below(g: &[u64], r: u64, q: u64, ms: &[u64; 16]) -> u64
 }
 
 // ---- open nodes
-// The nodes in n words of the line at place p, from word `from` on.
+// The nodes in n fields of the line at place p, from field `from` on.
 fn listed(t: &[u64], p: u64, from: u64, n: u64) -> u64
     requires { ⌜ (from ≤ 5) × (n ≤ 4) ⌝ }
-    ensures { λ m. ⌜ NodesIn m (tabulate n (λ k. word (now (t .entry)) p (from + k))) ⌝ }
+    ensures { λ m. ⌜ NodesIn m (tabulate n (λ k. fieldAt (now (t .entry)) p (from + k))) ⌝ }
 {
     let mut mask: u64 = 0;
     let mut k: u64 = 0;
     while k < n {
-        mask = masks::with(mask, layout::word(t, p, from + k));
+        mask = masks::with(mask, layout::field_at(t, p, from + k));
         k += 1;
     }
     mask
@@ -83,7 +83,7 @@ fn nodes_by(g: &[u64], t: &[u64], base: u64, n: u64, m: u64) -> Sides
     };
     let mut i: u64 = 0;
     while i < n {
-        let rank = layout::rank_at(g, layout::word(t, base + i, 0));
+        let rank = layout::rank_at(g, layout::field_at(t, base + i, 0));
         let on = listed(t, base + i, 1, rank);
         s = with_edge(s, masks::has(m, i), on);
         i += 1;
@@ -158,7 +158,7 @@ pub fn rank_of(g: &[u64], s: u64) -> u64
     requires { ⌜ (checkGrammar (now g) ≡ true) × (s < 64) ⌝ }
     ensures { λ x. ⌜ (x ≡ rankAt (now (g .entry)) s) × (x ≤ 4) ⌝ }
 {
-    layout::at_most(4, layout::word_in(g, 1 + s, 2))
+    layout::at_most(4, layout::field_in(g, 1 + s, 2))
 }
 
 // ---- maps of rule nodes: eight places, 64 where a node has no image
@@ -183,11 +183,11 @@ pub fn nodes_word(g: &[u64], r: u64, i: u64) -> u64
     ensures { λ w. ⌜ w ≡ nodesWord (now (g .entry)) r i ⌝ }
 {
     let p = 66 + 25 * r + i;
-    let rank = rank_of(g, layout::word_in(g, p, 0));
+    let rank = rank_of(g, layout::field_in(g, p, 0));
     let mut w: u64 = 0;
     let mut k: u64 = 0;
     while k < rank {
-        w = 8 * w + layout::word_in(g, p, 1 + k);
+        w = 8 * w + layout::field_in(g, p, 1 + k);
         k += 1;
     }
     rank + 8 * w
@@ -324,7 +324,7 @@ pub fn combine(
     if !masks::disjoint(m1, m2) {
         return false;
     }
-    let n = layout::word_in(g, 65 + 25 * r, 2);
+    let n = layout::field_in(g, 65 + 25 * r, 2);
     let nodes = layout::graph_nodes(h);
     let m = masks::union(m1, m2);
     let merged = merge_maps(n, nodes, stays, graph, m, f, t);

@@ -1,3 +1,3 @@
 -- The root of the laws.
 pub mod Sizes
-pub mod Words
+pub mod Fields

@@ -12,7 +12,7 @@ use Rattle.questions.specs.Layout.{grammarWords}
 use Rattle.questions.specs.Reading.{Verdict, refused, accepted}
 use Rattle.questions.specs.Checking.{checkLines, filledBy, checkGrammar}
 use Rattle.questions.specs.declared.Due.the-variants.{Grammar}
-use Rattle.layout.proofs.Words.{and-true}
+use Rattle.layout.proofs.Fields.{and-true}
 
 filled-length : (size : ℕ) (t : List ℕ) (v : Verdict) → filledBy size t v ≡ true → size ≤ length t
 filled-length size t (refused k) e = absurd (let z : _≡_ {A = ℕ} 0 1 = cc in omega arith)

@@ -1,89 +1,94 @@
-// The words of a table by name, the places of its lines and their order, for every table and every number: a word past the end is 0.
+// The fields of a table by name, the places of its lines and their order, for every table and every number: a field past the end is 0.
 ghost use mathlib.Core.Path.{_≡_};
 ghost use mathlib.Core.Bool.{cond};
-ghost use Prim.Native.Nat.{_+_, _*_, _≤_, _<_, min};
+ghost use Prim.Native.Nat.{_+_, _*_, _/_, _%_, _^_, _≤_, _<_, min};
 ghost use lib.ListN.{getD, length};
 ghost use Rattle.questions.specs.declared.Due.the-variants.{Symbol, RuleEdge, PlanLine, GraphEdge, Nothing};
-ghost use Rattle.questions.specs.Layout.{placeOf, inTable, word, block, symbolCount, ruleCount, startSymbol, kindWord, rankAt, ruleSymbol, ruleNodes, ruleEdges, rulePlan, ruleExternal, edgeLabel, edgeNode, planKind, planFirst, planSecond, graphNodes, graphEdges, graphExternal, graphLabel, graphNode};
+ghost use Rattle.questions.specs.Layout.{placeOf, inTable, fieldAt, packed, symbolCount, ruleCount, startSymbol, kindField, rankAt, ruleSymbol, ruleNodes, ruleEdges, rulePlan, ruleExternal, edgeLabel, edgeNode, planKind, planFirst, planSecond, graphNodes, graphEdges, graphExternal, graphLabel, graphNode};
 ghost use Rattle.questions.specs.Reading.{next};
-ghost use Rattle.layout.specs.Storing.{pasted, storeAt};
+ghost use Rattle.layout.specs.Storing.{storeAt};
 use questions::Due;
 
-// Word j of the line at place p. No slice is so long that the sum could wrap inside it.
-pub fn word(t: &[u64], p: u64, j: u64) -> u64
-    ensures { λ r. ⌜ r ≡ word (now (t .entry)) p j ⌝ }
+// Field from + k of a word, which has none from 10 on.
+fn field_from(w: u64, from: u64, k: u64) -> u64
+    requires { ⌜ from ≤ 5 ⌝ }
+    ensures { λ r. ⌜ r ≡ w / 2 ^ (7 * (from + k)) % 128 ⌝ }
 {
-    if p >= 1024819115206086201 {
+    if 10 - from <= k {
         return 0;
     }
-    if j >= 9223372036854775808 {
-        return 0;
-    }
-    let at = 9 * p + j;
-    if t.len() as u64 <= at {
-        return 0;
-    }
-    t[at as usize]
+    (w >> (7 * (from + k))) % 128
 }
 
-// The same of a word that the table has.
-pub fn word_in(t: &[u64], p: u64, j: u64) -> u64
-    requires { ⌜ 9 * p + j < length (now t) ⌝ }
-    ensures { λ r. ⌜ r ≡ word (now (t .entry)) p j ⌝ }
+// Field j of the line at place p.
+pub fn field_at(t: &[u64], p: u64, j: u64) -> u64
+    ensures { λ r. ⌜ r ≡ fieldAt (now (t .entry)) p j ⌝ }
 {
-    t[(9 * p + j) as usize]
+    if t.len() as u64 <= p {
+        return 0;
+    }
+    field_from(t[p as usize], 0, j)
 }
 
-// Word from + k of the line at place base + i.
-fn word_from(t: &[u64], base: u64, i: u64, from: u64, k: u64) -> u64
-    requires { ⌜ (base ≤ 1152921504606846976) × (from ≤ 5) ⌝ }
-    ensures { λ x. ⌜ x ≡ word (now (t .entry)) (base + i) (from + k) ⌝ }
+// The same of a line that the table has.
+pub fn field_in(t: &[u64], p: u64, j: u64) -> u64
+    requires { ⌜ (p < length (now t)) × (j ≤ 8) ⌝ }
+    ensures { λ r. ⌜ r ≡ fieldAt (now (t .entry)) p j ⌝ }
+{
+    (t[p as usize] >> (7 * j)) % 128
+}
+
+// Field from + k of the line at place base + i.
+fn line_field(t: &[u64], base: u64, i: u64, from: u64, k: u64) -> u64
+    requires { ⌜ (base ≤ 2305843009213693952) × (from ≤ 5) ⌝ }
+    ensures { λ x. ⌜ x ≡ fieldAt (now (t .entry)) (base + i) (from + k) ⌝ }
 {
     let n = t.len() as u64;
     if n < i {
         return 0;
     }
-    if n < k {
+    let p = base + i;
+    if n <= p {
         return 0;
     }
-    word(t, base + i, from + k)
+    field_from(t[p as usize], from, k)
 }
 
-// Word from + k of the line at place base + 25 * r + i: base is the place of such a line in rule 0.
-fn rule_word(t: &[u64], base: u64, r: u64, i: u64, from: u64, k: u64) -> u64
+// Field from + k of the line at place base + 25 * r + i: base is the place of such a line in rule 0.
+fn rule_field(t: &[u64], base: u64, r: u64, i: u64, from: u64, k: u64) -> u64
     requires { ⌜ (base ≤ 74) × (from ≤ 5) ⌝ }
-    ensures { λ x. ⌜ x ≡ word (now (t .entry)) (base + 25 * r + i) (from + k) ⌝ }
+    ensures { λ x. ⌜ x ≡ fieldAt (now (t .entry)) (base + 25 * r + i) (from + k) ⌝ }
 {
-    if r >= 40992764608243449 {
+    if r >= 46116860184273880 {
         return 0;
     }
-    word_from(t, base + 25 * r, i, from, k)
+    line_field(t, base + 25 * r, i, from, k)
 }
 
 // ---- a grammar table
 pub fn symbol_count(g: &[u64]) -> u64
     ensures { λ x. ⌜ x ≡ symbolCount (now (g .entry)) ⌝ }
 {
-    word(g, 0, 0)
+    field_at(g, 0, 0)
 }
 
 pub fn rule_count(g: &[u64]) -> u64
     ensures { λ x. ⌜ x ≡ ruleCount (now (g .entry)) ⌝ }
 {
-    word(g, 0, 1)
+    field_at(g, 0, 1)
 }
 
 pub fn start_symbol(g: &[u64]) -> u64
     ensures { λ x. ⌜ x ≡ startSymbol (now (g .entry)) ⌝ }
 {
-    word(g, 0, 2)
+    field_at(g, 0, 2)
 }
 
 // 0 terminal, 1 nonterminal.
 pub fn kind_of(g: &[u64], s: u64) -> u64
-    ensures { λ x. ⌜ x ≡ kindWord (now (g .entry)) s ⌝ }
+    ensures { λ x. ⌜ x ≡ kindField (now (g .entry)) s ⌝ }
 {
-    word_from(g, 1, s, 1, 0)
+    line_field(g, 1, s, 1, 0)
 }
 
 // The lesser of two numbers.
@@ -99,98 +104,98 @@ pub fn at_most(cap: u64, n: u64) -> u64
 pub fn rank_at(g: &[u64], s: u64) -> u64
     ensures { λ x. ⌜ (x ≡ rankAt (now (g .entry)) s) × (x ≤ 4) ⌝ }
 {
-    at_most(4, word_from(g, 1, s, 2, 0))
+    at_most(4, line_field(g, 1, s, 2, 0))
 }
 
 pub fn rule_symbol(g: &[u64], r: u64) -> u64
     ensures { λ x. ⌜ x ≡ ruleSymbol (now (g .entry)) r ⌝ }
 {
-    rule_word(g, 65, r, 0, 1, 0)
+    rule_field(g, 65, r, 0, 1, 0)
 }
 
 pub fn rule_nodes(g: &[u64], r: u64) -> u64
     ensures { λ x. ⌜ x ≡ ruleNodes (now (g .entry)) r ⌝ }
 {
-    rule_word(g, 65, r, 0, 2, 0)
+    rule_field(g, 65, r, 0, 2, 0)
 }
 
 pub fn rule_edges(g: &[u64], r: u64) -> u64
     ensures { λ x. ⌜ x ≡ ruleEdges (now (g .entry)) r ⌝ }
 {
-    rule_word(g, 65, r, 0, 3, 0)
+    rule_field(g, 65, r, 0, 3, 0)
 }
 
 pub fn rule_plan(g: &[u64], r: u64) -> u64
     ensures { λ x. ⌜ x ≡ rulePlan (now (g .entry)) r ⌝ }
 {
-    rule_word(g, 65, r, 0, 4, 0)
+    rule_field(g, 65, r, 0, 4, 0)
 }
 
 pub fn rule_external(g: &[u64], r: u64, k: u64) -> u64
     ensures { λ x. ⌜ x ≡ ruleExternal (now (g .entry)) r k ⌝ }
 {
-    rule_word(g, 65, r, 0, 5, k)
+    rule_field(g, 65, r, 0, 5, k)
 }
 
 pub fn edge_label(g: &[u64], r: u64, i: u64) -> u64
     ensures { λ x. ⌜ x ≡ edgeLabel (now (g .entry)) r i ⌝ }
 {
-    rule_word(g, 66, r, i, 0, 0)
+    rule_field(g, 66, r, i, 0, 0)
 }
 
 pub fn edge_node(g: &[u64], r: u64, i: u64, k: u64) -> u64
     ensures { λ x. ⌜ x ≡ edgeNode (now (g .entry)) r i k ⌝ }
 {
-    rule_word(g, 66, r, i, 1, k)
+    rule_field(g, 66, r, i, 1, k)
 }
 
 pub fn plan_kind(g: &[u64], r: u64, q: u64) -> u64
     ensures { λ x. ⌜ x ≡ planKind (now (g .entry)) r q ⌝ }
 {
-    rule_word(g, 74, r, q, 0, 0)
+    rule_field(g, 74, r, q, 0, 0)
 }
 
 pub fn plan_first(g: &[u64], r: u64, q: u64) -> u64
     ensures { λ x. ⌜ x ≡ planFirst (now (g .entry)) r q ⌝ }
 {
-    rule_word(g, 74, r, q, 1, 0)
+    rule_field(g, 74, r, q, 1, 0)
 }
 
 pub fn plan_second(g: &[u64], r: u64, q: u64) -> u64
     ensures { λ x. ⌜ x ≡ planSecond (now (g .entry)) r q ⌝ }
 {
-    rule_word(g, 74, r, q, 2, 0)
+    rule_field(g, 74, r, q, 2, 0)
 }
 
 // ---- a graph table
 pub fn graph_nodes(h: &[u64]) -> u64
     ensures { λ x. ⌜ x ≡ graphNodes (now (h .entry)) ⌝ }
 {
-    word(h, 0, 0)
+    field_at(h, 0, 0)
 }
 
 pub fn graph_edges(h: &[u64]) -> u64
     ensures { λ x. ⌜ x ≡ graphEdges (now (h .entry)) ⌝ }
 {
-    word(h, 0, 1)
+    field_at(h, 0, 1)
 }
 
 pub fn graph_external(h: &[u64], k: u64) -> u64
     ensures { λ x. ⌜ x ≡ graphExternal (now (h .entry)) k ⌝ }
 {
-    word_from(h, 0, 0, 2, k)
+    line_field(h, 0, 0, 2, k)
 }
 
 pub fn graph_label(h: &[u64], e: u64) -> u64
     ensures { λ x. ⌜ x ≡ graphLabel (now (h .entry)) e ⌝ }
 {
-    word_from(h, 1, e, 0, 0)
+    line_field(h, 1, e, 0, 0)
 }
 
 pub fn graph_node(h: &[u64], e: u64, k: u64) -> u64
     ensures { λ x. ⌜ x ≡ graphNode (now (h .entry)) e k ⌝ }
 {
-    word_from(h, 1, e, 1, k)
+    line_field(h, 1, e, 1, k)
 }
 
 // ---- places
@@ -303,16 +308,17 @@ pub fn field(f: &[u64], k: u64) -> u64
     f[k as usize]
 }
 
-// The nine words of a line with these fields, from word `at` on.
-fn put_line(t: &mut [u64], at: u64, f: &[u64])
-    requires { ⌜ at + 9 ≤ length (now t) ⌝ }
-    ensures { λ r. ⌜ now (t .exit) ≡ pasted (now (t .entry)) at (block (now (f .entry))) 9 ⌝ }
+// The word of a line with these fields: its last field first.
+fn line_word(f: &[u64]) -> u64
+    ensures { λ r. ⌜ r ≡ packed 9 (now (f .entry)) ⌝ }
 {
-    let mut j: u64 = 0;
-    while j < 9 {
-        t[(at + j) as usize] = field(f, j);
-        j += 1;
+    let mut w: u64 = 0;
+    let mut k: u64 = 9;
+    while 0 < k {
+        k -= 1;
+        w = field(f, k) % 128 + 128 * w;
     }
+    w
 }
 
 // The line's fields at its place; a table without that place stays as it is.
@@ -322,9 +328,9 @@ pub fn store(t: &mut [u64], due: Due, f: &[u64])
     if !in_table(due) {
         return;
     }
-    let at = 9 * place_of(due);
-    if (t.len() as u64) < at + 9 {
+    let p = place_of(due);
+    if t.len() as u64 <= p {
         return;
     }
-    put_line(t, at, f);
+    t[p as usize] = line_word(f);
 }

@@ -126,7 +126,7 @@ module _ (g : List ℕ) (r p q here there : ℕ) (known : KnownNode g r p) (a : 
   unfolding lastTo
   search-end v s h = let e : 0 ≡ v = omega arith in (ap (λ n. lastTo n test) e ∙ s .rest, omega arith)
 
--- ---- what plan node q asks, by the words of its line
+-- ---- what plan node q asks, by the fields of its line
 module _ (g : List ℕ) (r p q : ℕ) (known : KnownNode g r q) (kind first second : ℕ) (a : kind ≡ planKind g r q) (b : first ≡ planFirst g r q) (c : second ≡ planSecond g r q) where
   abbrev node : PlanNode
   node = planNode (planOf (grammarOf g) r) q

@@ -1,8 +1,8 @@
 -- Question 8 for tables: the check passes exactly the tables that some text and some former contents could have filled.
-use mathlib.Core.Path.{_≡_, refl, sym, ap, ap₂, _∙_, subst}
+use mathlib.Core.Path.{_≡_, refl, sym, ap, ap₂, _∙_}
 use mathlib.Core.Bool.{Bool, true, false, cond}
 use mathlib.Core.List.{List, [], _++_}
-use Prim.Native.Nat.{ℕ, zero, suc, _+_, _-_, _*_, _≤_, _<_, min}
+use Prim.Native.Nat.{ℕ, zero, suc, _+_, _-_, _*_, _/_, _%_, _^_, _≤_, _<_, min}
 use native.Mathlib.Nat.{not-suc-le-zero}
 use native.Mathlib.Omega.{arith}
 use lib.ListN.{length, getD, take, drop, replicate, length-replicate, length-append, take-append-drop}
@@ -17,17 +17,17 @@ use Rattle.hrg.proofs.Sums.{length-tabulate}
 use Rattle.hrg.proofs.Degrees.{test-T, T-test}
 use Rattle.format.specs.Lines.{linesOf}
 use Rattle.format.specs.Writing.{Writable, lineText}
-use Rattle.questions.specs.Layout.{placeOf, word, stored, grammarWords, graphWords, symbolCount, ruleCount, ruleEdges, rulePlan, graphEdges, rankAt}
+use Rattle.questions.specs.Layout.{placeOf, fieldAt, stored, grammarWords, graphWords, symbolCount, ruleCount, ruleEdges, rulePlan, graphEdges, rankAt}
 use Rattle.questions.specs.Questions.{judge}
 use Rattle.questions.specs.Reading.{next, Verdict, refused, accepted, whenDone, goOn, readLines, grammarVerdict, graphVerdict, delivered, Outcome, readGrammar}
 use Rattle.questions.specs.Checking.{fieldsDue, storedFields, checkLines, filledBy, checkGrammar, checkGraph, FilledGrammar, FilledGraph}
 use Rattle.questions.specs.Walk.{Room, Walk, done, line}
-use Rattle.questions.proofs.StoredLaws.{getD-tabulate, length-stored, word-stored-same}
-use Rattle.questions.proofs.WellFormedWalk.{IsLine, room-place, room-next, next-forward, judged-line, walk-onward}
+use Rattle.questions.proofs.StoredLaws.{getD-tabulate, length-stored, field-stored-same}
+use Rattle.questions.proofs.WellFormedWalk.{IsLine, room-place, room-next, next-forward, judged-line, walk-onward, onward-agree}
 use Rattle.questions.proofs.WellFormedReading.{read-walk, check-walk}
 use Rattle.questions.proofs.Refusals.{grammar-refused-first, grammar-passed-first}
 use Rattle.questions.proofs.TableTextLines.{letterAt, letter-capital, written-read, delivered-long}
-use Rattle.questions.proofs.SmallFields.{Small, small-zeros, small-stored, countDue, judge-small, walk-small}
+use Rattle.questions.proofs.SmallFields.{countDue, judge-small}
 use Rattle.questions.specs.declared.Answer.the-variants.{Done, Refused}
 use Rattle.questions.specs.declared.Due.{Due}
 use Rattle.questions.specs.declared.Due.the-variants.{Grammar, Symbol, Rule, RuleEdge, PlanLine, Graph, GraphEdge, Nothing}
@@ -59,16 +59,16 @@ pub record ReadBack (g c : List ℕ) (due : Due) (v : Verdict) : Type 0 where
   pub read : readLines g c due (linesOf text) ≡ v
 
 -- the lines of a walk, written one after the other, are read as the walk goes
-walk-text : {g t c : List ℕ} {d : Due} {fss : List (List ℕ)} (n : ℕ) → symbolCount g ≤ 9999 → Walk g t c d fss → Room n d → Small c → ReadBack g c d (accepted t)
+walk-text : {g t c : List ℕ} {d : Due} {fss : List (List ℕ)} (n : ℕ) → Walk g t c d fss → Room n d → ReadBack g c d (accepted t)
 unfolding readLines linesOf
-walk-text n sg done m sc = record { text = []; read = refl }
-walk-text {g} {t} n sg (line {c} {due} {fs} h w) m sc =
-    let p = judge-small g c sg sc n due m fs h in
+walk-text n done m = record { text = []; read = refl }
+walk-text {g} {t} n (line {c} {due} {fs} h w) m =
+    let p = judge-small g c n due m fs h in
     let l = judged-line g c due fs h in
     let few = count-few g c due fs l in
-    let writable : Writable (letterAt due) fs = record { capital = letter-capital due l; some = omega (arith, p .1, few .0); few = omega (arith, p .1, few .1); small = p .0 } in
+    let writable : Writable (letterAt due) fs = record { capital = letter-capital due l; some = omega (arith, p .1, few .0); few = omega (arith, p .1, few .1); small = λ k. omega (arith, p .0 k) } in
     let c′ = stored c (placeOf due) fs in
-    let back = walk-text n sg w (room-next n c′ due m) (small-stored c (placeOf due) fs sc (p .0)) in
+    let back = walk-text n w (room-next n c′ due m) in
     record { text = lineText (letterAt due) fs ++ back .text; read = written-read g c due fs (back .text) h writable ∙ back .read }
 
 -- ---- from a walk to the check
@@ -100,16 +100,16 @@ left-falls n t (GraphEdge e) l h = cond-left (64 - e) (ltb (e + 1) (min 64 (grap
 left-falls n t Nothing l h = absurd l
 
 -- the fields that a table holds at a place are those that were stored there
-fields-stored : (g c t : List ℕ) (due : Due) (fs : List ℕ) → IsLine due → length fs ≡ countDue g c due fs → ((j : ℕ) → j < 9 → word t (placeOf due) j ≡ getD fs j 0) → storedFields g c t due ≡ fs
+fields-stored : (g c t : List ℕ) (due : Due) (fs : List ℕ) → IsLine due → length fs ≡ countDue g c due fs → ((j : ℕ) → j < 9 → fieldAt t (placeOf due) j ≡ getD fs j 0) → storedFields g c t due ≡ fs
 unfolding storedFields fieldsDue
 fields-stored g c t due fs l n w =
     let same : fieldsDue g c t due ≡ length fs = count due w ∙ sym n in
     let few = count-few g c due fs l in
-    let long = length-tabulate (fieldsDue g c t due) (λ j. word t (placeOf due) j) in
-    ext-getD 0 (tabulate (fieldsDue g c t due) (λ j. word t (placeOf due) j)) fs (long ∙ same)
-    (λ j k. getD-tabulate (fieldsDue g c t due) (λ j. word t (placeOf due) j) j 0 (omega (arith, long)) ∙ w j (omega (arith, long, same, n, few .1)))
+    let long = length-tabulate (fieldsDue g c t due) (λ j. fieldAt t (placeOf due) j) in
+    ext-getD 0 (tabulate (fieldsDue g c t due) (λ j. fieldAt t (placeOf due) j)) fs (long ∙ same)
+    (λ j k. getD-tabulate (fieldsDue g c t due) (λ j. fieldAt t (placeOf due) j) j 0 (omega (arith, long)) ∙ w j (omega (arith, long, same, n, few .1)))
   where
-    count : (due : Due) → ((j : ℕ) → j < 9 → word t (placeOf due) j ≡ getD fs j 0) → fieldsDue g c t due ≡ countDue g c due fs
+    count : (due : Due) → ((j : ℕ) → j < 9 → fieldAt t (placeOf due) j ≡ getD fs j 0) → fieldsDue g c t due ≡ countDue g c due fs
     count Grammar w = refl
     count (Symbol s) w = refl
     count (Rule r) w = ap (λ (x : ℕ). 5 + rankAt c x) (w 1 (omega arith))
@@ -119,27 +119,27 @@ fields-stored g c t due fs l n w =
     count (GraphEdge e) w = ap (λ (x : ℕ). 1 + rankAt g x) (w 0 (omega arith))
     count Nothing w = refl
 
--- a table that has the words of the walk's end passes the check
-walk-check : {g u c : List ℕ} {d : Due} {fss : List (List ℕ)} (k : ℕ) (t : List ℕ) → symbolCount g ≤ 9999 → Walk g u c d fss → Room (length c) d → Small c → left d < k
-    → ((q j : ℕ) → 9 * q + 9 ≤ length c → j < 9 → word t q j ≡ word u q j) → checkLines k g t c d ≡ accepted u
+-- a table that has the fields of the walk's end passes the check
+walk-check : {g u c : List ℕ} {d : Due} {fss : List (List ℕ)} (k : ℕ) (t : List ℕ) → Walk g u c d fss → Room (length c) d → left d < k
+    → ((q j : ℕ) → q < length c → fieldAt t q j ≡ fieldAt u q j) → checkLines k g t c d ≡ accepted u
 unfolding checkLines
-walk-check zero t sg w m sc fuel same = absurd (not-suc-le-zero fuel)
-walk-check (suc k) t sg done m sc fuel same = refl
-walk-check {g} {u} (suc k) t sg (line {c} {due} {fs} h w) m sc fuel same =
+walk-check zero t w m fuel same = absurd (not-suc-le-zero fuel)
+walk-check (suc k) t done m fuel same = refl
+walk-check {g} {u} (suc k) t (line {c} {due} {fs} h w) m fuel same =
     let l = judged-line g c due fs h in
     let p = placeOf due in
     let fits = room-place (length c) due m in
     let c′ = stored c p fs in
-    let size = length-stored c p fs fits in
+    let size = length-stored c p fs in
     let m′ = room-next (length c′) c′ due (rw size m) in
-    let s = judge-small g c sg sc (length c) due m fs h in
+    let s = judge-small g c (length c) due m fs h in
     let forward = next-forward (length c) c′ due l m in
     let fields : storedFields g c t due ≡ fs
-    = fields-stored g c t due fs l (s .1) (λ j b. same p j fits b ∙ sym (walk-onward w m′ .same-words p j forward b) ∙ word-stored-same c p fs fits j b) in
+    = fields-stored g c t due fs l (s .1) (λ j b. same p j fits ∙ sym (onward-agree (walk-onward w m′) p j forward b) ∙ field-stored-same c p fs fits (s .0) j b) in
     when-line due l (accepted c) _
     ∙ ap (λ (x : List ℕ). goOn (judge g c due x) (checkLines k g t (stored c p x) (next (stored c p x) due))) fields
     ∙ ap₂ goOn h
-    (walk-check k t sg w m′ (small-stored c p fs sc (s .0)) (omega (arith, left-falls (length c) c′ due l m)) (λ q j a b. same q j (rw size at a) b))
+    (walk-check k t w m′ (omega (arith, left-falls (length c) c′ due l m)) (λ q j a. same q j (rw size at a)))
 
 -- ---- the theorems
 
@@ -178,23 +178,23 @@ delivered-done size (accepted c) former t q = go (leb size (length former)) refl
     go true e q = (c, refl, leb→le size (length former) (test-T _ e), sym (ap (λ (o : Outcome). o .table) q))
     go false e q = let d : Refused 8 ≡ Done = ap (λ (o : Outcome). o .answer) q in let z : _≡_ {A = ℕ} 0 1 = cc in absurd (omega arith)
 
--- the words of a table are those of its beginning
-pub word-take : (size : ℕ) (t : List ℕ) (p j : ℕ) → 9 * p + j < size → word (take size t) p j ≡ word t p j
-unfolding word
-word-take size t p j l = getD-take size t (9 * p + j) 0 l
+-- the fields of a table are those of its beginning
+pub field-take : (size : ℕ) (t : List ℕ) (p j : ℕ) → p < size → fieldAt (take size t) p j ≡ fieldAt t p j
+unfolding fieldAt
+field-take size t p j l = ap (λ w. w / 2 ^ (7 * j) % 128) (getD-take size t p 0 l)
 
 -- for one file: its size in words, its first line, and fuel for all of its lines
-module _ (size fuel : ℕ) (first : Due) (room : Room size first) (enough : left first < fuel) (g : List ℕ) (few : symbolCount g ≤ 9999) where
+module _ (size fuel : ℕ) (first : Due) (room : Room size first) (enough : left first < fuel) (g : List ℕ) where
   zeros-room : Room (length (replicate {A = ℕ} size 0)) first
   zeros-room = rw (length-replicate {A = ℕ} size 0) room
 
   check-reads : (t : List ℕ) → filledBy size t (checkLines fuel g t (replicate size 0) first) ≡ true
-      → (text : List ℕ) × (readLines g (replicate size 0) first (linesOf text) ≡ accepted (take size t)) × (size ≤ length t) × Small (take size t)
+      → (text : List ℕ) × (readLines g (replicate size 0) first (linesOf text) ≡ accepted (take size t)) × (size ≤ length t)
   check-reads t q =
       let a = filled-by size t _ q in
       let w = check-walk fuel g t (replicate size 0) (a .0) first (a .1) .1 in
-      let b = walk-text size few w room (small-zeros size) in
-      (b .text, b .read ∙ ap accepted (a .3), a .2, subst (λ (l : List ℕ). Small l) (a .3) (walk-small size few w room (small-zeros size)))
+      let b = walk-text size w room in
+      (b .text, b .read ∙ ap accepted (a .3), a .2)
 
   reads-check : (t text c former : List ℕ) → t ≡ c ++ drop size former → readLines g (replicate size 0) first (linesOf text) ≡ accepted c
       → filledBy size t (checkLines fuel g t (replicate size 0) first) ≡ true
@@ -203,19 +203,15 @@ module _ (size fuel : ℕ) (first : Due) (room : Room size first) (enough : left
       let long : length c ≡ size = walk-onward w zeros-room .same-length ∙ length-replicate {A = ℕ} size 0 in
       let fits : size ≤ length t = omega (arith, ap length e, length-append c (drop size former)) in
       let own : c ≡ take size t = sym (ap (take size) e ∙ take-at c (drop size former) size long) in
-      let same : (q j : ℕ) → 9 * q + 9 ≤ length (replicate {A = ℕ} size 0) → j < 9 → word t q j ≡ word c q j
-      = λ q j a b. sym (ap (λ (x : List ℕ). word x q j) own ∙ word-take size t q j (omega (arith, length-replicate {A = ℕ} size 0))) in
-      ap (filledBy size t) (walk-check fuel t few w zeros-room (small-zeros size) enough same) ∙ by-filled size t c fits own
-
-empty-count : symbolCount [] ≤ 9999
-unfolding word
-empty-count = omega arith
+      let same : (q j : ℕ) → q < length (replicate {A = ℕ} size 0) → fieldAt t q j ≡ fieldAt c q j
+      = λ q j a. sym (ap (λ (x : List ℕ). fieldAt x q j) own ∙ field-take size t q j (omega (arith, length-replicate {A = ℕ} size 0))) in
+      ap (filledBy size t) (walk-check fuel t w zeros-room enough same) ∙ by-filled size t c fits own
 
 -- Question 8 of a grammar table.
 pub check-grammar-filled : (t : List ℕ) → checkGrammar t ≡ true → FilledGrammar t
 unfolding checkGrammar readGrammar grammarVerdict
 check-grammar-filled t q =
-    let a = check-reads grammarWords 1666 Grammar (omega arith) (omega arith) [] empty-count t q in
+    let a = check-reads grammarWords 1666 Grammar (omega arith) (omega arith) [] t q in
     record {
       text = a .0;
       former = t;
@@ -226,20 +222,13 @@ pub grammar-filled-check : (t : List ℕ) → FilledGrammar t → checkGrammar t
 unfolding checkGrammar readGrammar grammarVerdict
 grammar-filled-check t f =
     let a = delivered-done grammarWords (grammarVerdict (f .text)) (f .former) t (f .read) in
-    reads-check grammarWords 1666 Grammar (omega arith) (omega arith) [] empty-count t (f .text) (a .0) (f .former) (a .3) (a .1)
-
--- an accepted grammar table names few symbols
-checked-few : (g : List ℕ) → checkGrammar g ≡ true → symbolCount g ≤ 9999
-unfolding checkGrammar word
-checked-few g q =
-    let a = check-reads grammarWords 1666 Grammar (omega arith) (omega arith) [] empty-count g q in
-    omega (arith, a .3 0, getD-take grammarWords g 0 0 (omega arith))
+    reads-check grammarWords 1666 Grammar (omega arith) (omega arith) [] t (f .text) (a .0) (f .former) (a .3) (a .1)
 
 -- Question 8 of a graph table, with an accepted grammar table.
 pub check-graph-filled : (g t : List ℕ) → checkGrammar g ≡ true → checkGraph g t ≡ true → FilledGraph g t
 unfolding checkGraph graphVerdict
 check-graph-filled g t ok q =
-    let a = check-reads graphWords 66 Graph (omega arith) (omega arith) g (checked-few g ok) t q in
+    let a = check-reads graphWords 66 Graph (omega arith) (omega arith) g t q in
     record {
       text = a .0;
       former = t;
@@ -258,4 +247,4 @@ graph-filled-check g t f = go (checkGrammar g) refl
         absurd (omega arith)
     go true e =
         let a = delivered-done graphWords (graphVerdict g (f .text)) (f .former) t (sym (grammar-passed-first g (f .text) (f .former) e) ∙ f .read) in
-        (e, reads-check graphWords 66 Graph (omega arith) (omega arith) g (checked-few g e) t (f .text) (a .0) (f .former) (a .3) (a .1))
+        (e, reads-check graphWords 66 Graph (omega arith) (omega arith) g t (f .text) (a .0) (f .former) (a .3) (a .1))

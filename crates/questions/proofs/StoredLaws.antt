@@ -1,18 +1,19 @@
--- Laws of `stored` and `word`: what a table holds after a line was stored in it, and where lines stand.
+-- Laws of `stored` and `fieldAt`: what a table holds after a line was stored in it, and where lines stand.
 use mathlib.Core.Path.{_≡_, refl, sym, ap, _∙_}
 use mathlib.Core.Logic.{_≢_}
 use mathlib.Core.Bool.{Bool, true, false, cond, _&&_, false≢true}
-use mathlib.Core.List.{List, _++_, append-assoc}
-use Prim.Native.Nat.{ℕ, zero, suc, _+_, _-_, _*_, _/_, _%_, _≤_, _<_}
+use mathlib.Core.List.{List, [], _∷_, _++_}
+use Prim.Native.Nat.{ℕ, zero, suc, _+_, _-_, _*_, _/_, _%_, _^_, _≤_, _<_}
+use native.Mathlib.Nat.{zero-div, div-one}
 use native.Mathlib.Omega.{arith}
 use native.Mathlib.Decide.{decLt}
-use lib.ListN.{length, getD, take, drop, replicate, length-append, length-drop, List·getD-append, List·getD-eq-default, length-replicate, getD-replicate}
-use lib.Seq.{take-append-le, drop-append-le, getD-append-add, getD-take, getD-drop, ext-getD, length-take-le}
+use lib.ListN.{length, getD, take, drop, replicate, length-set, List·getD-append, List·getD-eq-default, length-replicate, getD-replicate}
+use lib.Pow.{shr-shr}
+use lib.Seq.{getD-set-same, getD-set-other, set-append-left}
 use lib.Dec.{eqb, ltb}
 use borrow.Author.Tests.{ltb-true, lt-ltb, le-ltb, ne-eqb}
 use Rattle.hrg.specs.Counts.{tabulate}
-use Rattle.hrg.proofs.Sums.{length-tabulate}
-use Rattle.questions.specs.Layout.{placeOf, inTable, word, block, stored, grammarWords, graphWords}
+use Rattle.questions.specs.Layout.{placeOf, inTable, fieldAt, packed, stored, grammarWords, graphWords}
 use Rattle.questions.specs.declared.Due.{Due}
 use Rattle.questions.specs.declared.Due.the-variants.{Grammar, Symbol, Rule, RuleEdge, PlanLine, Graph, GraphEdge, Nothing}
 
@@ -23,89 +24,130 @@ getD-tabulate zero f x d h = absurd (omega arith)
 getD-tabulate (suc n) f zero d h = refl
 getD-tabulate (suc n) f (suc x) d h = getD-tabulate n (λ i. f (suc i)) x d (omega arith)
 
--- ---- the nine words of a line
-pub block-length : (fs : List ℕ) → length (block fs) ≡ 9
-unfolding block
-block-length fs = length-tabulate 9 (λ j. getD fs j 0)
+pub take-tabulate : (n m : ℕ) (f : ℕ → ℕ) → n ≤ m → take n (tabulate m f) ≡ tabulate n f
+unfolding tabulate
+take-tabulate zero m f h = refl
+take-tabulate (suc n) zero f h = absurd (omega arith)
+take-tabulate (suc n) (suc m) f h = ap (λ (l : List ℕ). f 0 ∷ l) (take-tabulate n m (λ i. f (suc i)) (omega arith))
 
-pub block-word : (fs : List ℕ) (j : ℕ) → j < 9 → getD (block fs) j 0 ≡ getD fs j 0
-unfolding block
-block-word fs j h = getD-tabulate 9 (λ i. getD fs i 0) j 0 h
+pub tabulate-four : (f : ℕ → ℕ) (a b c d : ℕ) → a ≡ f 0 → b ≡ f 1 → c ≡ f 2 → d ≡ f 3 → a ∷ b ∷ c ∷ d ∷ [] ≡ tabulate 4 f
+unfolding tabulate
+tabulate-four f a b c d p q r s = rw (p, q, r, s)
+
+-- ---- a field of a word
+-- the fields after the first
+later-field : (w j : ℕ) → w / 2 ^ (7 * suc j) ≡ w / 128 / 2 ^ (7 * j)
+later-field w j = ap (λ k. w / 2 ^ k) (let e : 7 * suc j ≡ 7 + 7 * j = omega arith in e) ∙ sym (shr-shr w 7 (7 * j))
+
+second : (fs : List ℕ) (j : ℕ) → getD (drop 1 fs) j 0 ≡ getD fs (suc j) 0
+second [] j = refl
+second (f ∷ fs) j = refl
+
+packed-first : (a b : ℕ) → (a % 128 + 128 * b) % 128 ≡ a % 128
+packed-first a b = omega arith
+
+packed-later : (a b : ℕ) → (a % 128 + 128 * b) / 128 ≡ b
+packed-later a b = omega arith
+
+pub field-small : (t : List ℕ) (p j : ℕ) → fieldAt t p j < 128
+unfolding fieldAt
+field-small t p j = omega arith
+
+-- the fields of a packed word
+packed-field : (n : ℕ) (fs : List ℕ) (j : ℕ) → j < n → packed n fs / 2 ^ (7 * j) % 128 ≡ getD fs j 0 % 128
+unfolding packed
+packed-field zero fs j h = absurd (omega arith)
+packed-field (suc n) fs zero h =
+    ap (λ w. w % 128) (div-one (packed (suc n) fs)) ∙ packed-first (getD fs 0 0) (packed n (drop 1 fs))
+packed-field (suc n) fs (suc j) h =
+    ap (λ w. w % 128) (later-field (getD fs 0 0 % 128 + 128 * packed n (drop 1 fs)) j ∙ ap (λ w. w / 2 ^ (7 * j)) (packed-later (getD fs 0 0) (packed n (drop 1 fs))))
+    ∙ packed-field n (drop 1 fs) j (omega arith) ∙ ap (λ x. x % 128) (second fs j)
+
+-- it has nothing behind as many as there are
+packed-none : (n : ℕ) → packed n [] ≡ 0
+unfolding packed
+packed-none zero = refl
+packed-none (suc n) = omega (arith, packed-none n)
+
+pub packed-short : (n : ℕ) (fs : List ℕ) (m : ℕ) → length fs ≤ m → packed n fs / 2 ^ (7 * m) ≡ 0
+unfolding packed
+packed-short n [] m h = ap (λ w. w / 2 ^ (7 * m)) (packed-none n) ∙ zero-div (2 ^ (7 * m))
+packed-short zero (f ∷ fs) m h = zero-div (2 ^ (7 * m))
+packed-short (suc n) (f ∷ fs) zero h = absurd (omega arith)
+packed-short (suc n) (f ∷ fs) (suc m) h =
+    later-field (f % 128 + 128 * packed n fs) m ∙ ap (λ w. w / 2 ^ (7 * m)) (packed-later f (packed n fs)) ∙ packed-short n fs m (omega arith)
+
+-- what has nothing behind n fields has nothing behind more
+past-later : (w n m : ℕ) → w / 2 ^ (7 * n) ≡ 0 → n ≤ m → w / 2 ^ (7 * m) ≡ 0
+past-later w n m z h =
+    ap (λ k. w / 2 ^ k) (let e : 7 * m ≡ 7 * n + 7 * (m - n) = omega arith in e)
+    ∙ sym (shr-shr w (7 * n) (7 * (m - n))) ∙ ap (λ x. x / 2 ^ (7 * (m - n))) z ∙ zero-div (2 ^ (7 * (m - n)))
+
+-- a word that has these fields, and nothing behind its first n
+packed-back : (n w : ℕ) (fs : List ℕ) → w / 2 ^ (7 * n) ≡ 0 → ((j : ℕ) → j < n → w / 2 ^ (7 * j) % 128 ≡ getD fs j 0) → packed n fs ≡ w
+unfolding packed
+packed-back zero w fs z h = sym (sym (div-one w) ∙ z)
+packed-back (suc n) w fs z h =
+    let first : w % 128 ≡ getD fs 0 0 = ap (λ x. x % 128) (sym (div-one w)) ∙ h 0 (omega arith) in
+    let later : packed n (drop 1 fs) ≡ w / 128
+    = packed-back n (w / 128) (drop 1 fs) (sym (later-field w n) ∙ z)
+    (λ j l. ap (λ x. x % 128) (sym (later-field w j)) ∙ h (suc j) (omega arith) ∙ sym (second fs j)) in
+    omega arith
+
+-- the word of a line, from its fields
+pub packed-line : (w n : ℕ) (fs : List ℕ) → n ≤ 9 → length fs ≡ n → w / 2 ^ (7 * n) ≡ 0 → ((j : ℕ) → j < n → w / 2 ^ (7 * j) % 128 ≡ getD fs j 0) → packed 9 fs ≡ w
+packed-line w n fs l e z h = packed-back 9 w fs (past-later w n 9 z l) (λ j b. go j (decLt j n))
+  where
+    go : (j : ℕ) → Dec (j < n) → w / 2 ^ (7 * j) % 128 ≡ getD fs j 0
+    go j (yes d) = h j d
+    go j (no d) = ap (λ x. x % 128) (past-later w n j z (omega arith)) ∙ sym (List·getD-eq-default fs 0 {n = j} (omega arith))
 
 -- ---- a stored line
-module _ (t : List ℕ) (p : ℕ) (fs : List ℕ) (fits : 9 * p + 9 ≤ length t) where
-  front-length : length (take (9 * p) t) ≡ 9 * p
-  front-length = length-take-le (9 * p) t (omega arith)
-
+module _ (t : List ℕ) (p : ℕ) (fs : List ℕ) where
   pub length-stored : length (stored t p fs) ≡ length t
   unfolding stored
-  length-stored =
-      simp (length-append, length-drop) (omega (arith, front-length, block-length fs))
+  length-stored = length-set t p (packed 9 fs)
 
-  stored-front : (i : ℕ) → i < 9 * p → getD (stored t p fs) i 0 ≡ getD t i 0
+  pub stored-same : p < length t → getD (stored t p fs) p 0 ≡ packed 9 fs
   unfolding stored
-  stored-front i h =
-      List·getD-append (take (9 * p) t) (block fs ++ drop (9 * p + 9) t) 0 i (omega (arith, front-length)) ∙ getD-take (9 * p) t i 0 h
+  stored-same fits = getD-set-same t p (packed 9 fs) 0 fits
 
-  -- what stands behind the front
-  stored-behind : (i : ℕ) → getD (stored t p fs) (9 * p + i) 0 ≡ getD (block fs ++ drop (9 * p + 9) t) i 0
+  pub stored-other : (q : ℕ) → q ≢ p → getD (stored t p fs) q 0 ≡ getD t q 0
   unfolding stored
-  stored-behind i =
-      ap (λ (n : ℕ). getD (take (9 * p) t ++ (block fs ++ drop (9 * p + 9) t)) (n + i) 0) (sym front-length)
-      ∙ getD-append-add (take (9 * p) t) (block fs ++ drop (9 * p + 9) t) i 0
+  stored-other q n = getD-set-other t p q (packed 9 fs) 0 n
 
-  stored-after : (i : ℕ) → 9 * p + 9 ≤ i → getD (stored t p fs) i 0 ≡ getD t i 0
-  stored-after i h =
-      let k = i - (9 * p + 9) in
-      let e : i ≡ 9 * p + (length (block fs) + k) = omega (arith, block-length fs) in
-      let f : 9 * p + 9 + k ≡ i = omega arith in
-      ap (λ (n : ℕ). getD (stored t p fs) n 0) e
-      ∙ stored-behind (length (block fs) + k)
-      ∙ getD-append-add (block fs) (drop (9 * p + 9) t) k 0
-      ∙ getD-drop (9 * p + 9) t k 0
-      ∙ ap (λ (n : ℕ). getD t n 0) f
+  -- fields of seven bits are read as they were stored
+  pub field-stored-same : p < length t → ((j : ℕ) → getD fs j 0 < 128) → (j : ℕ) → j < 9 → fieldAt (stored t p fs) p j ≡ getD fs j 0
+  unfolding fieldAt
+  field-stored-same fits small j h =
+      ap (λ w. w / 2 ^ (7 * j) % 128) (stored-same fits) ∙ packed-field 9 fs j h ∙ omega (arith, small j)
 
-  pub word-stored-same : (j : ℕ) → j < 9 → word (stored t p fs) p j ≡ getD fs j 0
-  unfolding word
-  word-stored-same j h =
-      stored-behind j ∙ List·getD-append (block fs) (drop (9 * p + 9) t) 0 j (omega (arith, block-length fs)) ∙ block-word fs j h
+  pub field-stored-other : (q j : ℕ) → q ≢ p → fieldAt (stored t p fs) q j ≡ fieldAt t q j
+  unfolding fieldAt
+  field-stored-other q j n = ap (λ w. w / 2 ^ (7 * j) % 128) (stored-other q n)
 
-  pub word-stored-other : (q j : ℕ) → p ≢ q → j < 9 → word (stored t p fs) q j ≡ word t q j
-  unfolding word
-  word-stored-other q j n h = go (decLt q p)
-    where
-      go : Dec (q < p) → getD (stored t p fs) (9 * q + j) 0 ≡ getD t (9 * q + j) 0
-      go (yes l) = stored-front (9 * q + j) (omega arith)
-      go (no l) = stored-after (9 * q + j) (omega arith)
+-- two tables with one word at a place have one line there
+pub same-line : (c t : List ℕ) (q j : ℕ) → getD c q 0 ≡ getD t q 0 → fieldAt c q j ≡ fieldAt t q j
+unfolding fieldAt
+same-line c t q j e = ap (λ w. w / 2 ^ (7 * j) % 128) e
 
 -- ---- a table with more behind it: what stands there is not looked at
 module _ (c rest : List ℕ) where
-  pub word-front : (q j : ℕ) → 9 * q + 9 ≤ length c → j < 9 → word (c ++ rest) q j ≡ word c q j
-  unfolding word
-  word-front q j h l = List·getD-append c rest 0 (9 * q + j) (omega arith)
+  pub field-front : (q j : ℕ) → q < length c → fieldAt (c ++ rest) q j ≡ fieldAt c q j
+  unfolding fieldAt
+  field-front q j h = ap (λ w. w / 2 ^ (7 * j) % 128) (List·getD-append c rest 0 q h)
 
-  pub stored-longer : (p : ℕ) (fs : List ℕ) → 9 * p + 9 ≤ length c → stored (c ++ rest) p fs ≡ stored c p fs ++ rest
+  pub stored-longer : (p : ℕ) (fs : List ℕ) → p < length c → stored (c ++ rest) p fs ≡ stored c p fs ++ rest
   unfolding stored
-  stored-longer p fs h =
-      rw (take-append-le (9 * p) c rest (omega arith), drop-append-le (9 * p + 9) c rest h)
-      (sym (append-assoc (take (9 * p) c) (block fs ++ drop (9 * p + 9) c) rest ∙ ap (λ (l : List ℕ). take (9 * p) c ++ l) (append-assoc (block fs) (drop (9 * p + 9) c) rest)))
+  stored-longer p fs h = set-append-left c rest p (packed 9 fs) h
 
 -- a cleared table has zeros
-pub word-cleared : (n p j : ℕ) → word (replicate n 0) p j ≡ 0
-unfolding word
-word-cleared n p j = go (decLt (9 * p + j) n)
+pub cleared : (n q : ℕ) → _≡_ {A = ℕ} (getD (replicate n 0) q 0) 0
+cleared n q = go (decLt q n)
   where
-    go : Dec (9 * p + j < n) → _≡_ {A = ℕ} (getD (replicate n 0) (9 * p + j) 0) 0
-    go (yes l) = getD-replicate n (9 * p + j) 0 0 l
-    go (no l) = List·getD-eq-default (replicate n 0) 0 {n = 9 * p + j} (omega (arith, length-replicate {A = ℕ} n 0))
-
--- two tables of one length with the same words at all places are equal
-pub table-ext : (t u : List ℕ) → length t ≡ length u → ((p j : ℕ) → 9 * p + j < length t → j < 9 → word t p j ≡ word u p j) → t ≡ u
-unfolding word
-table-ext t u e h = ext-getD 0 t u e (λ i l. go i (i / 9) (i % 9) (omega arith) (omega arith) l)
-  where
-    go : (i p j : ℕ) → i ≡ 9 * p + j → j < 9 → i < length t → getD t i 0 ≡ getD u i 0
-    go i p j q k l = rw q (h p j (omega arith) k)
+    go : Dec (q < n) → _≡_ {A = ℕ} (getD (replicate n 0) q 0) 0
+    go (yes l) = getD-replicate n q 0 0 l
+    go (no l) = List·getD-eq-default (replicate n 0) 0 {n = q} (omega (arith, length-replicate {A = ℕ} n 0))
 
 -- ---- places
 -- the lines of a grammar file, and of a graph file
@@ -136,7 +178,7 @@ both-below a b m n = go (ltb a m) refl
     go true e h = (ltb-true a m e, ltb-true b n h)
     go false e h = absurd (false≢true h)
 
-pub place-inside : (d : Due) → inTable d ≡ true → ofGrammar d ≡ true → 9 * placeOf d + 9 ≤ grammarWords
+pub place-inside : (d : Due) → inTable d ≡ true → ofGrammar d ≡ true → placeOf d < grammarWords
 unfolding placeOf inTable ofGrammar
 place-inside Grammar h l = omega arith
 place-inside (Symbol s) h l = omega (arith, ltb-true s 64 h)
@@ -147,7 +189,7 @@ place-inside Graph h l = absurd (false≢true l)
 place-inside (GraphEdge e) h l = absurd (false≢true l)
 place-inside Nothing h l = absurd (false≢true l)
 
-pub graph-place-inside : (d : Due) → inTable d ≡ true → ofGraph d ≡ true → 9 * placeOf d + 9 ≤ graphWords
+pub graph-place-inside : (d : Due) → inTable d ≡ true → ofGraph d ≡ true → placeOf d < graphWords
 unfolding placeOf inTable ofGraph
 graph-place-inside Grammar h l = absurd (false≢true l)
 graph-place-inside (Symbol s) h l = absurd (false≢true l)

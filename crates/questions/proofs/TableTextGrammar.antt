@@ -14,7 +14,7 @@ use Rattle.hrg.specs.Grammars.{Kind, terminal, nonterminal, PlanNode, leaf, int
 use Rattle.hrg.specs.WellFormed.{children, introduced, GrammarOk}
 use Rattle.hrg.proofs.Sums.{hit-self}
 use Rattle.format.specs.Writing.{Writable}
-use Rattle.questions.specs.Layout.{placeOf, word, grammarWords, symbolCount, ruleCount, kindWord, rankAt, ruleSymbol, ruleEdges, rulePlan, ruleExternal, edgeLabel, edgeNode, planKind, planFirst, planSecond}
+use Rattle.questions.specs.Layout.{placeOf, fieldAt, grammarWords, symbolCount, ruleCount, kindField, rankAt, ruleSymbol, ruleEdges, rulePlan, ruleExternal, edgeLabel, edgeNode, planKind, planFirst, planSecond}
 use Rattle.questions.specs.Questions.{field}
 use Rattle.questions.specs.Reading.{next, accepted, grammarVerdict, readGrammar}
 use Rattle.questions.specs.Abstract.{build, kindFrom, planFrom, ruleFrom, grammarOf}
@@ -26,11 +26,11 @@ use Rattle.questions.specs.declared.Due.the-variants.{Grammar, Symbol, R
 use Rattle.questions.proofs.WellFormedWalk.{IsLine, reach, room-place, Before, cond-by}
 use Rattle.questions.proofs.WellFormedLists.{build-list, tabulate-list}
 use Rattle.questions.proofs.WellFormedPlans.{NodeOk, ok-node}
-use Rattle.questions.proofs.WellFormedTables.{number-le, HasLine, GrammarIn, symbol-count, rule-count, start-symbol, kind-word, rank-at, rule-symbol, rule-nodes, rule-edges, rule-plan, rule-external, edge-label, edge-nodes, plan-word}
+use Rattle.questions.proofs.WellFormedTables.{number-le, HasLine, GrammarIn, symbol-count, rule-count, start-symbol, kind-field, rank-at, rule-symbol, rule-nodes, rule-edges, rule-plan, rule-external, edge-label, edge-nodes, plan-field}
 use Rattle.questions.proofs.WellFormedGrammar.{ok-passes}
 use Rattle.questions.proofs.WellFormedAccepted.{accepted-grammar}
-use Rattle.questions.proofs.StoredLaws.{word-front}
-use Rattle.questions.proofs.TableTextLines.{delivered-long, letterAt, letter-capital, small-more, small-two, small-three, small-listed, Chain, end, link, filled, In, here, there, in-left, in-right, in-series, series-chain, chain-onward, chain-holds, chain-read}
+use Rattle.questions.proofs.StoredLaws.{field-front}
+use Rattle.questions.proofs.TableTextLines.{delivered-long, letterAt, letter-capital, small-field, small-more, small-two, small-three, small-listed, Chain, end, link, filled, In, here, there, in-left, in-right, in-series, series-chain, chain-onward, chain-holds, chain-read}
 use Rattle.questions.proofs.SmallFields.{Small}
 
 -- ---- the order of a grammar's lines
@@ -178,49 +178,56 @@ module _ (G : Grammars.Grammar) (ok : GrammarOk G) where
   plan-count (introduce c i) = omega arith
   plan-count (join a b) = omega arith
 
+  line-small : (d : Due) → HasLine G d → Small (grammarFields G d)
+  unfolding grammarFields
+  line-small Grammar h =
+      small-three (length (G .symbols)) (length (G .rules)) (G .start)
+      (omega (arith, ok .symbol-count .upper)) (omega (arith, ok .rule-count .upper)) (omega (arith, ok .start-known, ok .symbol-count .upper))
+  line-small (Symbol s) h =
+      small-three s (kindNumber (kindOf G s)) (rankOf G s)
+      (omega (arith, ok .symbol-count .upper)) (omega (arith, number-le (kindOf G s))) (omega (arith, ok .symbol s h .upper))
+  line-small (Rule r) h =
+      let R = ok .rule r h in
+      small-two r (lhsOf G r) (rightOf G r .nodes ∷ length (rightOf G r .edges) ∷ length (planOf G r) ∷ rightOf G r .externals)
+      (omega (arith, ok .rule-count .upper)) (omega (arith, R .lhs-known, ok .symbol-count .upper))
+      (small-two (rightOf G r .nodes) (length (rightOf G r .edges)) (length (planOf G r) ∷ rightOf G r .externals)
+      (omega (arith, R .right .node-count .upper)) (omega (arith, R .right .edge-count .upper))
+      (small-more (length (planOf G r)) (rightOf G r .externals) (omega (arith, R .plan .size .upper))
+      (small-listed (rightOf G r .nodes) (rankOf G (lhsOf G r)) (rightOf G r .externals) (omega (arith, R .right .node-count .upper)) (R .right .externals))))
+  line-small (RuleEdge r i) h =
+      let S = ok .rule r (h .0) .right in
+      let E = S .edge i (h .1) in
+      let e = edgeAt (rightOf G r .edges) i in
+      small-more (e .label) (e .attachment) (omega (arith, E .known, ok .symbol-count .upper))
+      (small-listed (rightOf G r .nodes) (rankOf G (e .label)) (e .attachment) (omega (arith, S .node-count .upper)) (E .listed))
+  line-small (PlanLine r q) h = plan-small r q (h .0) (h .1)
+  line-small Graph h = absurd h
+  line-small (GraphEdge e) h = absurd h
+  line-small Nothing h = absurd h
+
   line-writes : (d : Due) → HasLine G d → Writable (letterAt d) (grammarFields G d)
   unfolding grammarFields
-  line-writes Grammar h = record {
-    capital = letter-capital Grammar tt;
-    some = omega arith;
-    few = omega arith;
-    small = small-three (length (G .symbols)) (length (G .rules)) (G .start)
-        (omega (arith, ok .symbol-count .upper)) (omega (arith, ok .rule-count .upper)) (omega (arith, ok .start-known, ok .symbol-count .upper));
-  }
-  line-writes (Symbol s) h = record {
-    capital = letter-capital (Symbol s) tt;
-    some = omega arith;
-    few = omega arith;
-    small = small-three s (kindNumber (kindOf G s)) (rankOf G s)
-        (omega (arith, ok .symbol-count .upper)) (omega (arith, number-le (kindOf G s))) (omega (arith, ok .symbol s h .upper));
-  }
+  line-writes Grammar h = record { capital = letter-capital Grammar tt; some = omega arith; few = omega arith; small = small-field (grammarFields G Grammar) (line-small Grammar h) }
+  line-writes (Symbol s) h = record { capital = letter-capital (Symbol s) tt; some = omega arith; few = omega arith; small = small-field (grammarFields G (Symbol s)) (line-small (Symbol s) h) }
   line-writes (Rule r) h =
       let R = ok .rule r h in
       record {
         capital = letter-capital (Rule r) tt;
         some = omega arith;
         few = omega (arith, R .right .externals .ranked, ok .symbol (lhsOf G r) (R .lhs-known) .upper);
-        small = small-two r (lhsOf G r) (rightOf G r .nodes ∷ length (rightOf G r .edges) ∷ length (planOf G r) ∷ rightOf G r .externals)
-            (omega (arith, ok .rule-count .upper)) (omega (arith, R .lhs-known, ok .symbol-count .upper))
-            (small-two (rightOf G r .nodes) (length (rightOf G r .edges)) (length (planOf G r) ∷ rightOf G r .externals)
-            (omega (arith, R .right .node-count .upper)) (omega (arith, R .right .edge-count .upper))
-            (small-more (length (planOf G r)) (rightOf G r .externals) (omega (arith, R .plan .size .upper))
-            (small-listed (rightOf G r .nodes) (rankOf G (lhsOf G r)) (rightOf G r .externals) (omega (arith, R .right .node-count .upper)) (R .right .externals))));
+        small = small-field (grammarFields G (Rule r)) (line-small (Rule r) h);
       }
   line-writes (RuleEdge r i) h =
-      let S = ok .rule r (h .0) .right in
-      let E = S .edge i (h .1) in
-      let e = edgeAt (rightOf G r .edges) i in
+      let E = ok .rule r (h .0) .right .edge i (h .1) in
       record {
         capital = letter-capital (RuleEdge r i) tt;
         some = omega arith;
-        few = omega (arith, E .listed .ranked, ok .symbol (e .label) (E .known) .upper);
-        small = small-more (e .label) (e .attachment) (omega (arith, E .known, ok .symbol-count .upper))
-            (small-listed (rightOf G r .nodes) (rankOf G (e .label)) (e .attachment) (omega (arith, S .node-count .upper)) (E .listed));
+        few = omega (arith, E .listed .ranked, ok .symbol (edgeAt (rightOf G r .edges) i .label) (E .known) .upper);
+        small = small-field (grammarFields G (RuleEdge r i)) (line-small (RuleEdge r i) h);
       }
   line-writes (PlanLine r q) h =
       let two = plan-count (planNode (planOf G r) q) in
-      record { capital = letter-capital (PlanLine r q) tt; some = two .0; few = two .1; small = plan-small r q (h .0) (h .1) }
+      record { capital = letter-capital (PlanLine r q) tt; some = two .0; few = two .1; small = small-field (grammarFields G (PlanLine r q)) (line-small (PlanLine r q) h) }
   line-writes Graph h = absurd h
   line-writes (GraphEdge e) h = absurd h
   line-writes Nothing h = absurd h
@@ -273,13 +280,13 @@ module _ (G : Grammars.Grammar) (ok : GrammarOk G) where
     plan-back (introduce c i) = refl
     plan-back (join a b) = refl
 
-    symbols-back : build (symbolCount t) (λ s. record { kind = kindFrom (kindWord t s); rank = rankAt t s }) ≡ G .symbols
+    symbols-back : build (symbolCount t) (λ s. record { kind = kindFrom (kindField t s); rank = rankAt t s }) ≡ G .symbols
     symbols-back =
         build-list noSymbol (G .symbols) (symbolCount t) _ (symbol-count G t held) (λ s l. go s (omega (arith, symbol-count G t held)))
       where
-        go : (s : ℕ) → s < length (G .symbols) → record { kind = kindFrom (kindWord t s); rank = rankAt t s } ≡ getD (G .symbols) s noSymbol
+        go : (s : ℕ) → s < length (G .symbols) → record { kind = kindFrom (kindField t s); rank = rankAt t s } ≡ getD (G .symbols) s noSymbol
         go s h =
-            let kind : kindFrom (kindWord t s) ≡ kindOf G s = ap kindFrom (kind-word G t held s h) ∙ kind-back (kindOf G s) in
+            let kind : kindFrom (kindField t s) ≡ kindOf G s = ap kindFrom (kind-field G t held s h) ∙ kind-back (kindOf G s) in
             let rank = rank-at G t held s h in
             λ i. record { kind = kind i; rank = rank i }
 
@@ -309,7 +316,7 @@ module _ (G : Grammars.Grammar) (ok : GrammarOk G) where
         where
           go : (q : ℕ) → q < length (planOf G r) → planFrom (planKind t r q) (planFirst t r q) (planSecond t r q) ≡ planNode (planOf G r) q
           go q l =
-              rw (plan-word G t held r h q l 0 (omega arith), plan-word G t held r h q l 1 (omega arith), plan-word G t held r h q l 2 (omega arith))
+              rw (plan-field G t held r h q l 0 (omega arith), plan-field G t held r h q l 1 (omega arith), plan-field G t held r h q l 2 (omega arith))
               (plan-back (planNode (planOf G r) q))
 
       rule-back : ruleFrom t r ≡ ruleOf G r
@@ -352,9 +359,9 @@ module _ (G : Grammars.Grammar) (ok : GrammarOk G) where
       ∙ cleared-size
 
   -- it holds the lines of the grammar, whatever stands behind it
-  holds : (d : Due) → HasLine G d → (j : ℕ) → j < 9 → word table (placeOf d) j ≡ field (grammarFields G d) j
+  holds : (d : Due) → HasLine G d → (j : ℕ) → j < 9 → fieldAt table (placeOf d) j ≡ field (grammarFields G d) j
   unfolding table
-  holds d h = chain-holds (grammarFields G) (HasLine G) (afterGrammar G) grammarWords (line-is G) (line-room G ok) (line-forward G ok) (grammar-chain G ok) cleared cleared-size d (in-grammar G d h)
+  holds d h = chain-holds (grammarFields G) (HasLine G) (afterGrammar G) grammarWords (line-is G) (line-room G ok) (line-forward G ok) (line-small G ok) (grammar-chain G ok) cleared cleared-size d (in-grammar G d h)
 
   held : GrammarIn G table
   held = record { lines = holds; ranks = λ s h. ok .symbol s h .upper }
@@ -362,7 +369,7 @@ module _ (G : Grammars.Grammar) (ok : GrammarOk G) where
   held-longer : (rest : List ℕ) → GrammarIn G (table ++ rest)
   held-longer rest = record {
     lines = λ d h j l.
-        word-front table rest (placeOf d) j (omega (arith, room-place grammarWords d (line-room G ok d h), table-size)) l ∙ holds d h j l;
+        field-front table rest (placeOf d) j (omega (arith, room-place grammarWords d (line-room G ok d h), table-size)) ∙ holds d h j l;
     ranks = λ s h. ok .symbol s h .upper;
   }
 

@@ -23,10 +23,11 @@ use Rattle.questions.specs.declared.Due.the-variants.{Grammar, Symbol, R
 use Rattle.questions.proofs.WellFormedWalk.{IsLine, reach, room-place, Before, cond-by}
 use Rattle.questions.proofs.WellFormedLists.{build-list, tabulate-list}
 use Rattle.questions.proofs.WellFormedAccepted.{accepted-grammar}
-use Rattle.questions.proofs.StoredLaws.{word-front}
+use Rattle.questions.proofs.StoredLaws.{field-front}
 use Rattle.questions.proofs.WellFormedGraph.{HasGraphLine, GraphIn, start-rank, graph-nodes, graph-edges, graph-external, graph-label, graph-edge-nodes, graph-ok-passes, read-graph-ok}
 use Rattle.questions.proofs.Refusals.{grammar-passed-first}
-use Rattle.questions.proofs.TableTextLines.{delivered-long, letterAt, letter-capital, small-more, small-two, small-listed, Chain, end, link, filled, In, here, there, in-series, series-chain, chain-onward, chain-holds, chain-read}
+use Rattle.questions.proofs.SmallFields.{Small}
+use Rattle.questions.proofs.TableTextLines.{delivered-long, letterAt, letter-capital, small-field, small-more, small-two, small-listed, Chain, end, link, filled, In, here, there, in-series, series-chain, chain-onward, chain-holds, chain-read}
 
 -- ---- the order of a graph's lines
 afterGraph : Grammars.Graph → Due → Due
@@ -100,6 +101,25 @@ line-before H t (GraphEdge e) h = tt
 line-before H t Nothing h = absurd h
 
 module _ (g : List ℕ) (ok : GrammarOk (grammarOf g)) (H : Grammars.Graph) (good : GraphOk (grammarOf g) H) where
+  line-small : (d : Due) → HasGraphLine H d → Small (graphFields H d)
+  unfolding graphFields
+  line-small Grammar h = absurd h
+  line-small (Symbol s) h = absurd h
+  line-small (Rule r) h = absurd h
+  line-small (RuleEdge r i) h = absurd h
+  line-small (PlanLine r q) h = absurd h
+  line-small Graph h =
+      let S = good .side in
+      small-two (H .nodes) (length (H .edges)) (H .externals) (omega (arith, S .node-count .upper)) (omega (arith, S .edge-count .upper))
+      (small-listed (H .nodes) (rankOf (grammarOf g) (grammarOf g .start)) (H .externals) (omega (arith, S .node-count .upper)) (S .externals))
+  line-small (GraphEdge e) h =
+      let S = good .side in
+      let E = S .edge e h in
+      let x = edgeAt (H .edges) e in
+      small-more (x .label) (x .attachment) (omega (arith, E .known, ok .symbol-count .upper))
+      (small-listed (H .nodes) (rankOf (grammarOf g) (x .label)) (x .attachment) (omega (arith, S .node-count .upper)) (E .listed))
+  line-small Nothing h = absurd h
+
   line-writes : (d : Due) → HasGraphLine H d → Writable (letterAt d) (graphFields H d)
   unfolding graphFields
   line-writes Grammar h = absurd h
@@ -108,24 +128,19 @@ module _ (g : List ℕ) (ok : GrammarOk (grammarOf g)) (H : Grammars.Graph) (goo
   line-writes (RuleEdge r i) h = absurd h
   line-writes (PlanLine r q) h = absurd h
   line-writes Graph h =
-      let S = good .side in
       record {
         capital = letter-capital Graph tt;
         some = omega arith;
-        few = omega (arith, S .externals .ranked, ok .symbol (grammarOf g .start) (ok .start-known) .upper);
-        small = small-two (H .nodes) (length (H .edges)) (H .externals) (omega (arith, S .node-count .upper)) (omega (arith, S .edge-count .upper))
-            (small-listed (H .nodes) (rankOf (grammarOf g) (grammarOf g .start)) (H .externals) (omega (arith, S .node-count .upper)) (S .externals));
+        few = omega (arith, good .side .externals .ranked, ok .symbol (grammarOf g .start) (ok .start-known) .upper);
+        small = small-field (graphFields H Graph) (line-small Graph h);
       }
   line-writes (GraphEdge e) h =
-      let S = good .side in
-      let E = S .edge e h in
-      let x = edgeAt (H .edges) e in
+      let E = good .side .edge e h in
       record {
         capital = letter-capital (GraphEdge e) tt;
         some = omega arith;
-        few = omega (arith, E .listed .ranked, ok .symbol (x .label) (E .known) .upper);
-        small = small-more (x .label) (x .attachment) (omega (arith, E .known, ok .symbol-count .upper))
-            (small-listed (H .nodes) (rankOf (grammarOf g) (x .label)) (x .attachment) (omega (arith, S .node-count .upper)) (E .listed));
+        few = omega (arith, E .listed .ranked, ok .symbol (edgeAt (H .edges) e .label) (E .known) .upper);
+        small = small-field (graphFields H (GraphEdge e)) (line-small (GraphEdge e) h);
       }
   line-writes Nothing h = absurd h
 
@@ -197,11 +212,11 @@ module _ (g : List ℕ) (ok : GrammarOk (grammarOf g)) (H : Grammars.Graph) (goo
   -- it holds the lines of the graph, whatever stands behind it
   held : GraphIn H table
   unfolding table
-  held d h = chain-holds (graphFields H) (HasGraphLine H) (afterGraph H) graphWords (line-is H) (line-room H few) (line-forward H few) chain cleared cleared-size d (in-graph H d h)
+  held d h = chain-holds (graphFields H) (HasGraphLine H) (afterGraph H) graphWords (line-is H) (line-room H few) (line-forward H few) (line-small g ok H good) chain cleared cleared-size d (in-graph H d h)
 
   held-longer : (rest : List ℕ) → GraphIn H (table ++ rest)
   held-longer rest d h j l =
-      word-front table rest (placeOf d) j (omega (arith, room-place graphWords d (line-room H few d h), table-size)) l ∙ held d h j l
+      field-front table rest (placeOf d) j (omega (arith, room-place graphWords d (line-room H few d h), table-size)) ∙ held d h j l
 
   text-accepted : graphVerdict g (graphText H) ≡ accepted table
   unfolding graphVerdict graphText table cleared

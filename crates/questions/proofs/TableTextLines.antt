@@ -2,7 +2,7 @@
 use mathlib.Core.Path.{_≡_, refl, sym, ap, _∙_, subst}
 use mathlib.Core.Bool.{true, cond}
 use mathlib.Core.List.{List, [], _∷_, _++_}
-use Prim.Native.Nat.{ℕ, zero, suc, _+_, _*_, _≤_, _<_}
+use Prim.Native.Nat.{ℕ, zero, suc, _+_, _≤_, _<_}
 use native.Mathlib.Omega.{arith}
 use native.Mathlib.Decide.{decLt}
 use lib.ListN.{length, getD, drop, List·getD-eq-default}
@@ -16,7 +16,7 @@ use Rattle.format.specs.Shape.{kindLetter}
 use Rattle.format.specs.Fields.{fieldsOf}
 use Rattle.format.specs.Writing.{lineBody, lineText, Writable}
 use Rattle.format.specs.RoundTrip.{written-letter, written-fields, written-shape, written-line}
-use Rattle.questions.specs.Layout.{placeOf, letterDue, word, stored}
+use Rattle.questions.specs.Layout.{placeOf, letterDue, fieldAt, stored}
 use Rattle.questions.specs.Questions.{field, judge}
 use Rattle.questions.specs.Reading.{next, judgeLine, Verdict, accepted, readLines, delivered}
 use Rattle.questions.specs.TableText.{series, linesText}
@@ -25,8 +25,8 @@ use Rattle.questions.specs.declared.Answer.the-variants.{Done}
 use Rattle.questions.specs.declared.Due.{Due}
 use Rattle.questions.specs.declared.Due.the-variants.{Grammar, Symbol, Rule, RuleEdge, PlanLine, Graph, GraphEdge, Nothing}
 use Rattle.questions.proofs.SmallFields.{Small}
-use Rattle.questions.proofs.StoredLaws.{length-stored, word-stored-same, word-stored-other}
-use Rattle.questions.proofs.WellFormedWalk.{IsLine, reach, room-place, reach-line, Agree, Before, next-agree, judge-agree, Onward}
+use Rattle.questions.proofs.StoredLaws.{length-stored, stored-other, field-stored-same, field-stored-other}
+use Rattle.questions.proofs.WellFormedWalk.{IsLine, reach, room-place, reach-line, Agree, Before, next-agree, judge-agree, Onward, onward-agree}
 
 -- ---- one written line
 abbrev pub letterAt : Due → ℕ
@@ -70,18 +70,22 @@ pub delivered-long : (size : ℕ) (v : Verdict) (t former : List ℕ) → v ≡ 
 unfolding delivered
 delivered-long size v t former e h = rw (e, le-leb size (length former) h)
 
--- ---- small numbers
+-- ---- fields of seven bits
+-- they have a field of four columns
+pub small-field : (fs : List ℕ) → Small fs → (k : ℕ) → getD fs k 0 ≤ 9999
+small-field fs s k = omega (arith, s k)
+
 pub small-none : Small []
 small-none k = omega arith
 
-pub small-more : (a : ℕ) (fs : List ℕ) → a ≤ 9999 → Small fs → Small (a ∷ fs)
+pub small-more : (a : ℕ) (fs : List ℕ) → a < 128 → Small fs → Small (a ∷ fs)
 small-more a fs h s zero = h
 small-more a fs h s (suc k) = s k
 
-pub small-three : (a b c : ℕ) → a ≤ 9999 → b ≤ 9999 → c ≤ 9999 → Small (a ∷ b ∷ c ∷ [])
+pub small-three : (a b c : ℕ) → a < 128 → b < 128 → c < 128 → Small (a ∷ b ∷ c ∷ [])
 small-three a b c h l m = small-more a (b ∷ c ∷ []) h (small-more b (c ∷ []) l (small-more c [] m small-none))
 
-pub small-two : (a b : ℕ) (l : List ℕ) → a ≤ 9999 → b ≤ 9999 → Small l → Small (a ∷ b ∷ l)
+pub small-two : (a b : ℕ) (l : List ℕ) → a < 128 → b < 128 → Small l → Small (a ∷ b ∷ l)
 small-two a b l h m s = small-more a (b ∷ l) h (small-more b l m s)
 
 member-occurs : (l : List ℕ) (k : ℕ) → k < length l → 0 < occurs (getD l k 0) l
@@ -90,10 +94,10 @@ member-occurs [] k h = absurd (omega arith)
 member-occurs (a ∷ l) zero h = omega (arith, hit-self a)
 member-occurs (a ∷ l) (suc k) h = omega (arith, member-occurs l k (omega arith))
 
-pub small-listed : (nodes rank : ℕ) (l : List ℕ) → nodes ≤ 9999 → Listed nodes rank l → Small l
+pub small-listed : (nodes rank : ℕ) (l : List ℕ) → nodes < 128 → Listed nodes rank l → Small l
 small-listed nodes rank l h o k = go (decLt k (length l))
   where
-    go : Dec (k < length l) → getD l k 0 ≤ 9999
+    go : Dec (k < length l) → getD l k 0 < 128
     go (yes b) = omega (arith, o .inside (getD l k 0) (member-occurs l k b))
     go (no b) = omega (arith, List·getD-eq-default l 0 {n = k} (omega arith))
 
@@ -148,33 +152,30 @@ module _ (fields : Due → List ℕ) (has : Due → Type 0) (after : Due → Due
   -- later lines change no earlier place
   pub chain-onward : {d : Due} {ds : List Due} → Chain has after d ds → (c : List ℕ) → length c ≡ size → Onward c (filled fields c ds) d
   unfolding filled
-  chain-onward end c e = record { same-length = refl; same-words = λ q j h l. refl }
+  chain-onward end c e = record { same-length = refl; same-words = λ q h. refl }
   chain-onward (link {d} {ds} h rest) c e =
       let p = placeOf d in
-      let fits : 9 * p + 9 ≤ length c = rw e (room-place size d (room d h)) in
-      let kept = length-stored c p (fields d) fits in
+      let kept = length-stored c p (fields d) in
       let later = chain-onward rest (stored c p (fields d)) (kept ∙ e) in
       let behind = forward d h in
       record {
         same-length = later .same-length ∙ kept;
-        same-words = λ q j l b.
+        same-words = λ q l.
             let l′ : q < p = rw (reach-line d (isLine d h)) at l in
-            sym (word-stored-other c p (fields d) fits q j (λ z. omega arith) b) ∙ later .same-words q j (omega arith) b;
+            sym (stored-other c p (fields d) q (λ z. omega arith)) ∙ later .same-words q (omega arith);
       }
 
   -- each line stands at its place
-  pub chain-holds : {d : Due} {ds : List Due} → Chain has after d ds → (c : List ℕ) → length c ≡ size → (x : Due) → In x ds
-      → (j : ℕ) → j < 9 → word (filled fields c ds) (placeOf x) j ≡ field (fields x) j
+  pub chain-holds : ((d : Due) → has d → Small (fields d)) → {d : Due} {ds : List Due} → Chain has after d ds → (c : List ℕ) → length c ≡ size → (x : Due) → In x ds
+      → (j : ℕ) → j < 9 → fieldAt (filled fields c ds) (placeOf x) j ≡ field (fields x) j
   unfolding filled
-  chain-holds (link {d} {ds} h rest) c e x here j l =
+  chain-holds small (link {d} {ds} h rest) c e x here j l =
       let p = placeOf d in
-      let fits : 9 * p + 9 ≤ length c = rw e (room-place size d (room d h)) in
-      let later = chain-onward rest (stored c p (fields d)) (length-stored c p (fields d) fits ∙ e) in
-      sym (later .same-words p j (forward d h) l) ∙ word-stored-same c p (fields d) fits j l
-  chain-holds (link {d} {ds} h rest) c e x (there m) j l =
-      let p = placeOf d in
-      let fits : 9 * p + 9 ≤ length c = rw e (room-place size d (room d h)) in
-      chain-holds rest (stored c p (fields d)) (length-stored c p (fields d) fits ∙ e) x m j l
+      let fits : p < length c = rw e (room-place size d (room d h)) in
+      let later = chain-onward rest (stored c p (fields d)) (length-stored c p (fields d) ∙ e) in
+      sym (onward-agree later p j (forward d h) l) ∙ field-stored-same c p (fields d) fits (small d h) j l
+  chain-holds small (link {d} {ds} h rest) c e x (there m) j l =
+      chain-holds small rest (stored c (placeOf d) (fields d)) (length-stored c (placeOf d) (fields d) ∙ e) x m j l
 
   -- and the text of the lines is read so
   module _ (g t : List ℕ) (pass : (d : Due) → has d → judge g t d (fields d) ≡ 0) (before : (d : Due) → has d → Before t d)
@@ -186,16 +187,15 @@ module _ (fields : Due → List ℕ) (has : Due → Type 0) (after : Due → Due
     chain-read (link {d} {ds} h rest) c e f =
         let p = placeOf d in
         let fs = fields d in
-        let fits : 9 * p + 9 ≤ length c = rw e (room-place size d (room d h)) in
         let c′ = stored c p fs in
-        let e′ : length c′ ≡ size = length-stored c p fs fits ∙ e in
+        let e′ : length c′ ≡ size = length-stored c p fs ∙ e in
         let later : Onward c′ t (after d) = subst (λ (u : List ℕ). Onward c′ u (after d)) f (chain-onward rest c′ e′) in
         let behind = forward d h in
         let earlier : Agree t c p =
-        λ q j l b. sym (later .same-words q j (omega arith) b) ∙ word-stored-other c p fs fits q j (λ z. omega arith) b
+        λ q j l b. sym (onward-agree later q j (omega arith) b) ∙ field-stored-other c p fs q j (λ z. omega arith)
         in
         let judged : judge g c d fs ≡ 0 = sym (judge-agree g t c d fs (before d h) earlier) ∙ pass d h in
-        let next-is : next c′ d ≡ after d = next-agree c′ t d (λ q j l b. later .same-words q j (omega arith) b) ∙ order d h in
+        let next-is : next c′ d ≡ after d = next-agree c′ t d (λ q j l b. onward-agree later q j (omega arith) b) ∙ order d h in
         written-read g c d fs (linesText fields ds) judged (writes d h)
         ∙ ap (λ (x : Due). readLines g c′ x (linesOf (linesText fields ds))) next-is
         ∙ chain-read rest c′ e′ f

@@ -10,7 +10,7 @@ use Rattle.hrg.specs.Counts.{tabulate}
 use Rattle.hrg.specs.Grammars
 use Rattle.hrg.specs.Grammars.{leaf, noSymbol, noEdge, noRule, kindOf, rankOf, ruleOf, planNode, edgeAt}
 use Rattle.hrg.specs.WellFormed.{GrammarOk}
-use Rattle.questions.specs.Layout.{placeOf, symbolCount, ruleCount, startSymbol, kindWord, rankAt, ruleSymbol, ruleEdges, rulePlan, ruleExternal, edgeLabel, edgeNode, planKind, planFirst, planSecond}
+use Rattle.questions.specs.Layout.{placeOf, symbolCount, ruleCount, startSymbol, kindField, rankAt, ruleSymbol, ruleEdges, rulePlan, ruleExternal, edgeLabel, edgeNode, planKind, planFirst, planSecond}
 use Rattle.questions.specs.Questions.{field, judge}
 use Rattle.questions.specs.Reading.{accepted, grammarVerdict}
 use Rattle.questions.specs.Abstract.{kindFrom, planFrom, ruleFrom, grammarOf}
@@ -52,7 +52,7 @@ five-and : (fs : List ℕ) (a b c d e : ℕ) (l : List ℕ) → 5 ≤ length fs 
     → a ∷ b ∷ c ∷ d ∷ e ∷ l ≡ fs
 five-and fs a b c d e l h p q m n k s = rw (p, q, m, n, k, s) (sym (fields-five fs h))
 
--- the listed nodes of a line, from its words
+-- the listed nodes of a line, from its fields
 pub fields-listed : (fs : List ℕ) (k n : ℕ) (f : ℕ → ℕ) → length fs ≡ k + n → ((i : ℕ) → i < n → f i ≡ field fs (k + i)) → tabulate n f ≡ drop k fs
 fields-listed fs k n f e h =
     tabulate-list (drop k fs) n f (omega (arith, length-drop k fs)) (λ i l. h i l ∙ sym (getD-drop k fs i 0))
@@ -84,13 +84,13 @@ module _ (t : List ℕ) where
   start-is = refl
 
   module _ (s : ℕ) (h : s < symbolCount t) where
-    pub kind-is : kindOf (grammarOf t) s ≡ kindFrom (kindWord t s)
+    pub kind-is : kindOf (grammarOf t) s ≡ kindFrom (kindField t s)
     unfolding grammarOf
-    kind-is = ap (λ (x : Grammars.Symbol). x .kind) (getD-build (symbolCount t) (λ s. record { kind = kindFrom (kindWord t s); rank = rankAt t s }) s noSymbol h)
+    kind-is = ap (λ (x : Grammars.Symbol). x .kind) (getD-build (symbolCount t) (λ s. record { kind = kindFrom (kindField t s); rank = rankAt t s }) s noSymbol h)
 
     pub rank-is : rankOf (grammarOf t) s ≡ rankAt t s
     unfolding grammarOf
-    rank-is = ap (λ (x : Grammars.Symbol). x .rank) (getD-build (symbolCount t) (λ s. record { kind = kindFrom (kindWord t s); rank = rankAt t s }) s noSymbol h)
+    rank-is = ap (λ (x : Grammars.Symbol). x .rank) (getD-build (symbolCount t) (λ s. record { kind = kindFrom (kindField t s); rank = rankAt t s }) s noSymbol h)
 
   pub rule-is : (r : ℕ) → r < ruleCount t → ruleOf (grammarOf t) r ≡ ruleFrom t r
   unfolding grammarOf
@@ -128,7 +128,7 @@ module _ (t : List ℕ) where
       let p = passes-symbol t s fs .sound (st .passed) in
       three-of fs _ _ _ (p .count)
       (sym (p .number))
-      (ap kindNumber (kind-is t s h) ∙ kind-from (kindWord t s) (omega (arith, st .there 1 (omega arith), p .kind)) ∙ st .there 1 (omega arith))
+      (ap kindNumber (kind-is t s h) ∙ kind-from (kindField t s) (omega (arith, st .there 1 (omega arith), p .kind)) ∙ st .there 1 (omega arith))
       (omega (arith, rank-is t s h, st .there 2 (omega arith), p .upper))
 
   rule-fields : (r : ℕ) (fs : List ℕ) → r < ruleCount t → Stands [] t (Rule r) fs → grammarFields (grammarOf t) (Rule r) ≡ fs

@@ -16,7 +16,7 @@ use Rattle.questions.specs.declared.Due.{Due}
 use Rattle.questions.specs.declared.Due.the-variants.{Grammar, Symbol, Rule, RuleEdge, PlanLine, Graph, GraphEdge, Nothing}
 use Rattle.questions.proofs.WellFormedQuestions.{InOrder, Covers, PassedGrammar, passes-grammar, PassedSymbol, passes-symbol, PassedRule, passes-rule, PassedEdge, passes-edge, Whole, PassedPlan, passes-plan}
 use Rattle.questions.proofs.WellFormedPlans.{Complete, NodeOk, plan-ok, ok-node}
-use Rattle.questions.proofs.WellFormedTables.{in-order-listed, listed-in-order, Covering, covering-side, side-covering, number-nonterminal, nonterminal-number, number-le, children-of, introduced-by, plan-kind, plan-three, plan-leaf, HasLine, GrammarIn, Ranked, symbol-count, rule-count, start-symbol, kind-word, rank-at, rule-nodes, rule-edges, rule-plan, nodes-on-edges, introduced-before, children-so-far, introduced-so-far}
+use Rattle.questions.proofs.WellFormedTables.{in-order-listed, listed-in-order, Covering, covering-side, side-covering, number-nonterminal, nonterminal-number, number-le, children-of, introduced-by, plan-kind, plan-three, plan-leaf, HasLine, GrammarIn, Ranked, symbol-count, rule-count, start-symbol, kind-field, rank-at, rule-nodes, rule-edges, rule-plan, nodes-on-edges, introduced-before, children-so-far, introduced-so-far}
 
 -- every line passes
 abbrev pub AllPass : Grammars.Grammar → List ℕ → Type 0
@@ -63,7 +63,7 @@ module _ (G : Grammars.Grammar) (t : List ℕ) (held : GrammarIn G t) (pass : Al
 
     lhs-kind : kindOf G (lhsOf G r) ≡ nonterminal
     unfolding grammarFields
-    lhs-kind = number-nonterminal (kindOf G (lhsOf G r)) (sym (kind-word G t held (lhsOf G r) lhs-known) ∙ rule-passed .kind)
+    lhs-kind = number-nonterminal (kindOf G (lhsOf G r)) (sym (kind-field G t held (lhsOf G r) lhs-known) ∙ rule-passed .kind)
 
     node-count : Between 1 (rightOf G r .nodes) 8
     unfolding grammarFields
@@ -205,7 +205,7 @@ module _ (G : Grammars.Grammar) (t : List ℕ) (held : GrammarIn G t) (ok : Gram
         record {
           number = refl;
           symbol = omega (arith, R .lhs-known, symbol-count G t held);
-          kind = kind-word G t held (lhsOf G r) (R .lhs-known) ∙ nonterminal-number (kindOf G (lhsOf G r)) (R .lhs-kind);
+          kind = kind-field G t held (lhsOf G r) (R .lhs-known) ∙ nonterminal-number (kindOf G (lhsOf G r)) (R .lhs-kind);
           nodes = R .right .node-count;
           edges = R .right .edge-count;
           plan = R .plan .size;

@@ -12,7 +12,7 @@ use Rattle.hrg.specs.Counts.{tabulate}
 use Rattle.hrg.specs.Grammars
 use Rattle.hrg.specs.Grammars.{terminal, nonterminal, noEdge, kindOf, rankOf, edgeAt}
 use Rattle.hrg.specs.WellFormed.{Between, Listed, EdgeOk, GrammarOk, GraphOk}
-use Rattle.questions.specs.Layout.{placeOf, word, symbolCount, startSymbol, kindWord, rankAt, graphNodes, graphEdges, graphExternal, graphLabel, graphNode}
+use Rattle.questions.specs.Layout.{placeOf, fieldAt, symbolCount, startSymbol, kindField, rankAt, graphNodes, graphEdges, graphExternal, graphLabel, graphNode}
 use Rattle.questions.specs.Questions.{field, nodesOnGraph, judge}
 use Rattle.questions.specs.Reading.{accepted, grammarVerdict, graphVerdict}
 use Rattle.questions.specs.Abstract.{kindFrom, grammarOf, graphOf}
@@ -45,7 +45,7 @@ HasGraphLine H (GraphEdge e) = e < length (H .edges)
 HasGraphLine H Nothing = ⊥
 
 abbrev pub GraphIn : Grammars.Graph → List ℕ → Type 0
-GraphIn H t = (d : Due) → HasGraphLine H d → (j : ℕ) → j < 9 → word t (placeOf d) j ≡ field (graphFields H d) j
+GraphIn H t = (d : Due) → HasGraphLine H d → (j : ℕ) → j < 9 → fieldAt t (placeOf d) j ≡ field (graphFields H d) j
 
 abbrev pub GraphPass : List ℕ → Grammars.Graph → List ℕ → Type 0
 GraphPass g H t = (d : Due) → HasGraphLine H d → judge g t d (graphFields H d) ≡ 0
@@ -192,7 +192,7 @@ module _ (g : List ℕ) (ok : GrammarOk (grammarOf g)) (H : Grammars.Graph) (t :
         let rank = rank-is g (x .label) known in
         record {
           symbol = known;
-          kind = kind-terminal (kindWord g (x .label)) (sym (kind-is g (x .label) known) ∙ good .terminals e l);
+          kind = kind-terminal (kindField g (x .label)) (sym (kind-is g (x .label) known) ∙ good .terminals e l);
           count = omega (arith, E .listed .ranked);
           attached = subst (λ (n : ℕ). InOrder n (x .attachment)) (sym graph-nodes)
               (listed-in-order (H .nodes) (rankOf (grammarOf g) (x .label)) (x .attachment) (S .node-count .upper) (E .listed));

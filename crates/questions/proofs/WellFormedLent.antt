@@ -17,7 +17,7 @@ use Rattle.questions.specs.Abstract.{grammarOf, graphOf}
 use Rattle.questions.specs.Walk.{Room, Walk, done, line}
 use Rattle.questions.specs.declared.Due.{Due}
 use Rattle.questions.specs.declared.Due.the-variants.{Grammar, Graph}
-use Rattle.questions.proofs.StoredLaws.{length-stored, word-front, stored-longer}
+use Rattle.questions.proofs.StoredLaws.{length-stored, field-front, stored-longer}
 use Rattle.questions.proofs.WellFormedWalk.{and-snd, room-place, room-next, judged-line, Before, judge-agree, next-agree, before-next, walk-lines}
 use Rattle.questions.proofs.WellFormedReading.{check-walk, GrammarStands, grammar-stands, GraphStands, graph-stands}
 use Rattle.questions.proofs.WellFormedAccepted.{standing-ok}
@@ -31,10 +31,10 @@ walk-longer {g} {t} rest (line {c} {due} {fs} {fss} h w) m b =
     let p = placeOf due in
     let fits = room-place (length c) due m in
     let c′ = stored c p fs in
-    let size = length-stored c p fs fits in
+    let size = length-stored c p fs in
     let m′ = room-next (length c′) c′ due (rw size m) in
-    let judged = sym (judge-agree g c (c ++ rest) due fs b (λ q j l i. sym (word-front c rest q j (omega arith) i))) ∙ h in
-    let order : next c′ due ≡ next (c′ ++ rest) due = next-agree c′ (c′ ++ rest) due (λ q j l i. sym (word-front c′ rest q j (omega arith) i)) in
+    let judged = sym (judge-agree g c (c ++ rest) due fs b (λ q j l i. sym (field-front c rest q j (omega arith)))) ∙ h in
+    let order : next c′ due ≡ next (c′ ++ rest) due = next-agree c′ (c′ ++ rest) due (λ q j l i. sym (field-front c′ rest q j (omega arith))) in
     let further = walk-longer rest w m′ (before-next g c due fs m b h) in
     line judged
     (subst (λ (u : List ℕ). Walk g (t ++ rest) u (next u due) fss) (sym (stored-longer c rest p fs fits))

@@ -10,7 +10,7 @@ use Rattle.hrg.specs.Counts.{occurs}
 use Rattle.hrg.specs.WellFormed.{Between}
 use Rattle.hrg.specs.WellFormedTest.{Decides}
 use Rattle.hrg.proofs.WellFormedTest.{decides-map, _and_, _or_, decides-le, decides-eq, decides-between, decides-every, decides-each}
-use Rattle.questions.specs.Layout.{symbolCount, startSymbol, kindWord, rankAt, ruleNodes, ruleEdges, rulePlan, graphNodes, graphEdges}
+use Rattle.questions.specs.Layout.{symbolCount, startSymbol, kindField, rankAt, ruleNodes, ruleEdges, rulePlan, graphNodes, graphEdges}
 use Rattle.questions.specs.Questions.{ask, field, listed, covered, judgeGrammar, judgeSymbol, judgeRule, nodesOnEdges, judgeRuleEdge, childrenOf, introducedBy, childrenBefore, introducedBefore, planSoFar, planWhole, judgePlan, judgeGraph, nodesOnGraph, judgeGraphEdge}
 
 -- a verdict of 0, no refusal, says P
@@ -100,7 +100,7 @@ passes-symbol t s fs =
 pub record PassedRule (t : List ℕ) (r : ℕ) (fs : List ℕ) : Type 0 where
   pub number : field fs 0 ≡ r
   pub symbol : field fs 1 < symbolCount t
-  pub kind : kindWord t (field fs 1) ≡ 1
+  pub kind : kindField t (field fs 1) ≡ 1
   pub nodes : Between 1 (field fs 2) 8
   pub edges : Between 1 (field fs 3) 8
   pub plan : Between 2 (field fs 4) 16
@@ -112,7 +112,7 @@ unfolding judgeRule
 passes-rule t r fs =
     passes-map
     (asks 2 (
-    decides-le 5 (length fs) and decides-eq (field fs 0) r and decides-le (suc (field fs 1)) (symbolCount t) and decides-eq (kindWord t (field fs 1)) 1
+    decides-le 5 (length fs) and decides-eq (field fs 0) r and decides-le (suc (field fs 1)) (symbolCount t) and decides-eq (kindField t (field fs 1)) 1
     and decides-between 1 (field fs 2) 8 and decides-between 1 (field fs 3) 8 and decides-between 2 (field fs 4) 16
     )
     (asks 3 (decides-eq (length fs) (5 + rankAt t (field fs 1)))
@@ -216,7 +216,7 @@ passes-graph g fs =
 
 pub record PassedGraphEdge (g h : List ℕ) (e : ℕ) (fs : List ℕ) : Type 0 where
   pub symbol : field fs 0 < symbolCount g
-  pub kind : kindWord g (field fs 0) ≡ 0
+  pub kind : kindField g (field fs 0) ≡ 0
   pub count : length fs ≡ 1 + rankAt g (field fs 0)
   pub attached : InOrder (graphNodes h) (drop 1 fs)
   pub covers : (e + 1 < graphEdges h) ⊎ Covers (graphNodes h) (nodesOnGraph g h e ++ drop 1 fs)
@@ -225,7 +225,7 @@ pub passes-graph-edge : (g h : List ℕ) (e : ℕ) (fs : List ℕ) → Passes (j
 unfolding judgeGraphEdge
 passes-graph-edge g h e fs =
     passes-map
-    (asks 2 (decides-le 1 (length fs) and decides-le (suc (field fs 0)) (symbolCount g) and decides-eq (kindWord g (field fs 0)) 0)
+    (asks 2 (decides-le 1 (length fs) and decides-le (suc (field fs 0)) (symbolCount g) and decides-eq (kindField g (field fs 0)) 0)
     (asks 3 (decides-eq (length fs) (1 + rankAt g (field fs 0)))
     (asks 4 (decides-listed (graphNodes h) (drop 1 fs))
     (asks 5 (decides-le (suc (e + 1)) (graphEdges h) or decides-covered (graphNodes h) (nodesOnGraph g h e ++ drop 1 fs))

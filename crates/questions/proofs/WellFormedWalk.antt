@@ -5,19 +5,20 @@ use mathlib.Core.List.{List, _++_}
 use Prim.Native.Nat.{ℕ, zero, suc, _+_, _*_, _≤_, _<_, min}
 use native.Mathlib.Omega.{arith}
 use native.Mathlib.Decide.{decLt}
-use lib.ListN.{length}
+use lib.ListN.{length, getD}
 use lib.Dec.{eqb, ltb, leb}
 use borrow.Author.Tests.{lt-ltb, ltb-true}
 use Rattle.hrg.specs.Counts.{tabulate}
 use Rattle.hrg.proofs.Sums.{tabulate-ext}
-use Rattle.questions.specs.Layout.{placeOf, inTable, word, stored, symbolCount, ruleCount, rankAt, ruleEdges, rulePlan, edgeLabel, edgeNode, graphEdges, graphLabel, graphNode}
+use Rattle.questions.specs.Layout.{placeOf, inTable, fieldAt, stored, symbolCount, ruleCount, rankAt, ruleEdges, rulePlan, edgeLabel, edgeNode, graphEdges, graphLabel, graphNode}
 use Rattle.questions.specs.Questions.{ask, field, judgeSymbol, judgeRule, nodesOnEdges, judgeRuleEdge, childrenBefore, introducedBefore, judgePlan, nodesOnGraph, judgeGraphEdge, judge}
 use Rattle.questions.specs.Reading.{next}
 use Rattle.questions.specs.Walk.{Room, Walk, done, line, Lines, none, more}
 use Rattle.questions.specs.declared.Due.{Due}
 use Rattle.questions.specs.declared.Due.the-variants.{Grammar, Symbol, Rule, RuleEdge, PlanLine, Graph, GraphEdge, Nothing}
 use Rattle.questions.proofs.WellFormedQuestions.{passes-grammar, passes-edge}
-use Rattle.questions.proofs.StoredLaws.{length-stored, word-stored-same, word-stored-other}
+use Rattle.questions.proofs.StoredLaws.{length-stored, stored-other, field-stored-same, field-stored-other, same-line}
+use Rattle.questions.proofs.SmallFields.{Small, judge-small}
 
 -- ---- tests
 pub and-fst : (a b : Bool) → (a && b) ≡ true → a ≡ true
@@ -77,7 +78,7 @@ room-in n Graph h = refl
 room-in n (GraphEdge e) h = lt-ltb e 64 (h .0)
 room-in n Nothing h = refl
 
-pub room-place : (n : ℕ) (d : Due) → Room n d → 9 * placeOf d + 9 ≤ n
+pub room-place : (n : ℕ) (d : Due) → Room n d → placeOf d < n
 unfolding placeOf
 room-place n Grammar h = omega arith
 room-place n (Symbol s) h = omega arith
@@ -152,7 +153,7 @@ judged-line g t Nothing fs h = omega arith
 
 -- ---- tables that agree on the places below p
 abbrev pub Agree : List ℕ → List ℕ → ℕ → Type 0
-Agree c t p = (q j : ℕ) → q < p → j < 9 → word c q j ≡ word t q j
+Agree c t p = (q j : ℕ) → q < p → j < 9 → fieldAt c q j ≡ fieldAt t q j
 
 -- what holds of the lines before the one due, as far as its own line needs it: labels lead to `S` lines
 abbrev pub Before : List ℕ → Due → Type 0
@@ -282,38 +283,38 @@ judge-agree g c t Nothing fs b a = refl
 
 -- ---- the invariant of a walk
 module _ (c : List ℕ) (fs : List ℕ) where
-  count-kept : (p : ℕ) → 9 * p + 9 ≤ length c → 1 ≤ p → symbolCount c ≤ 64 → symbolCount (stored c p fs) ≤ 64
-  count-kept p h l b = omega (arith, word-stored-other c p fs h 0 0 (λ e. omega arith) (omega arith))
+  count-kept : (p : ℕ) → 1 ≤ p → symbolCount c ≤ 64 → symbolCount (stored c p fs) ≤ 64
+  count-kept p l b = omega (arith, field-stored-other c p fs 0 0 (λ e. omega arith))
 
-  labels-kept : (r i : ℕ) → 9 * (66 + 25 * r + i) + 9 ≤ length c → ((k : ℕ) → k < i → edgeLabel c r k < 64) → field fs 0 < 64
+  labels-kept : (r i : ℕ) → 66 + 25 * r + i < length c → Small fs → ((k : ℕ) → k < i → edgeLabel c r k < 64) → field fs 0 < 64
       → (k : ℕ) → k < i + 1 → edgeLabel (stored c (66 + 25 * r + i) fs) r k < 64
-  labels-kept r i h b f k l = go (decLt k i)
+  labels-kept r i h small b f k l = go (decLt k i)
     where
       go : Dec (k < i) → edgeLabel (stored c (66 + 25 * r + i) fs) r k < 64
-      go (yes m) = omega (arith, b k m, word-stored-other c (66 + 25 * r + i) fs h (66 + 25 * r + k) 0 (λ e. omega arith) (omega arith))
+      go (yes m) = omega (arith, b k m, field-stored-other c (66 + 25 * r + i) fs (66 + 25 * r + k) 0 (λ e. omega arith))
       go (no m) =
           let same : k ≡ i = omega arith in
-          rw same (omega (arith, word-stored-same c (66 + 25 * r + i) fs h 0 (omega arith)))
+          rw same (omega (arith, field-stored-same c (66 + 25 * r + i) fs h small 0 (omega arith)))
 
 pub before-next : (g c : List ℕ) (d : Due) (fs : List ℕ) → Room (length c) d → Before c d → judge g c d fs ≡ 0
     → Before (stored c (placeOf d) fs) (next (stored c (placeOf d) fs) d)
 unfolding judge placeOf next
-before-next g c Grammar fs m b h = omega (arith, passes-grammar fs .sound h .symbols, word-stored-same c 0 fs (omega arith) 0 (omega arith))
+before-next g c Grammar fs m b h = omega (arith, passes-grammar fs .sound h .symbols, field-stored-same c 0 fs (omega arith) (judge-small g c (length c) Grammar m fs h .0) 0 (omega arith))
 before-next g c (Symbol s) fs m b h =
     let t = stored c (1 + s) fs in
-    let kept = count-kept c fs (1 + s) (omega arith) (omega arith) b in
+    let kept = count-kept c fs (1 + s) (omega arith) b in
     cond-by (Before t) (ltb (s + 1) (min 64 (symbolCount t))) (Symbol (s + 1)) (Rule 0) (λ e. kept) (λ e. kept)
-before-next g c (Rule r) fs m b h = (count-kept c fs (65 + 25 * r) (omega arith) (omega arith) b, λ k l. absurd (omega arith))
+before-next g c (Rule r) fs m b h = (count-kept c fs (65 + 25 * r) (omega arith) b, λ k l. absurd (omega arith))
 before-next g c (RuleEdge r i) fs m b h =
     let t = stored c (66 + 25 * r + i) fs in
-    let kept = count-kept c fs (66 + 25 * r + i) (omega arith) (omega arith) (b .0) in
+    let kept = count-kept c fs (66 + 25 * r + i) (omega arith) (b .0) in
     let small : field fs 0 < 64 = omega (arith, passes-edge c r i fs .sound h .symbol) in
     cond-by (Before t) (ltb (i + 1) (min 8 (ruleEdges t r))) (RuleEdge r (i + 1)) (PlanLine r 0)
-    (λ e. (kept, labels-kept c fs r i (omega arith) (b .1) small))
+    (λ e. (kept, labels-kept c fs r i (omega arith) (judge-small g c (length c) (RuleEdge r i) m fs h .0) (b .1) small))
     (λ e. kept)
 before-next g c (PlanLine r q) fs m b h =
     let t = stored c (74 + 25 * r + q) fs in
-    let kept = count-kept c fs (74 + 25 * r + q) (omega arith) (omega arith) b in
+    let kept = count-kept c fs (74 + 25 * r + q) (omega arith) b in
     cond-by (Before t) (ltb (q + 1) (min 16 (rulePlan t r))) (PlanLine r (q + 1)) (cond (ltb (r + 1) (min 64 (ruleCount t))) (Rule (r + 1)) Nothing)
     (λ e. kept)
     (λ e. cond-by (Before t) (ltb (r + 1) (min 64 (ruleCount t))) (Rule (r + 1)) Nothing (λ f. kept) (λ f. tt))
@@ -326,23 +327,26 @@ before-next g c Nothing fs m b h = tt
 -- ---- a walk changes no earlier place, and keeps the length
 pub record Onward (c t : List ℕ) (d : Due) : Type 0 where
   pub same-length : length t ≡ length c
-  pub same-words : Agree c t (reach d)
+  pub same-words : (q : ℕ) → q < reach d → getD c q 0 ≡ getD t q 0
+
+pub onward-agree : {c t : List ℕ} {d : Due} → Onward c t d → Agree c t (reach d)
+onward-agree {c} {t} o q j h l = same-line c t q j (o .same-words q h)
 
 pub walk-onward : {g t c : List ℕ} {d : Due} {fss : List (List ℕ)} → Walk g t c d fss → Room (length c) d → Onward c t d
-walk-onward done m = record { same-length = refl; same-words = λ q j h l. refl }
+walk-onward done m = record { same-length = refl; same-words = λ q h. refl }
 walk-onward {g} {t} (line {c} {due} {fs} h w) m =
     let k = judged-line g c due fs h in
     let p = placeOf due in
     let fits = room-place (length c) due m in
     let c′ = stored c p fs in
-    let size = length-stored c p fs fits in
+    let size = length-stored c p fs in
     let rest = walk-onward w (room-next (length c′) c′ due (rw size m)) in
     let forward = next-forward (length c) c′ due k m in
     record {
       same-length = rest .same-length ∙ size;
-      same-words = λ q j l b.
+      same-words = λ q l.
           let l′ : q < p = rw (reach-line due k) at l in
-          sym (word-stored-other c p fs fits q j (λ e. omega arith) b) ∙ rest .same-words q j (omega arith) b;
+          sym (stored-other c p fs q (λ e. omega arith)) ∙ rest .same-words q (omega arith);
     }
 
 -- every line of a walk stands in the finished table
@@ -353,15 +357,15 @@ walk-lines {g} {t} (line {c} {due} {fs} h w) m b =
     let p = placeOf due in
     let fits = room-place (length c) due m in
     let c′ = stored c p fs in
-    let m′ = room-next (length c′) c′ due (rw (length-stored c p fs fits) m) in
+    let m′ = room-next (length c′) c′ due (rw (length-stored c p fs) m) in
     let forward = next-forward (length c) c′ due k m in
     let rest = walk-onward w m′ in
     let kept : Agree c t p =
-    λ q j l b. sym (word-stored-other c p fs fits q j (λ e. omega arith) b) ∙ rest .same-words q j (omega arith) b
+    λ q j l b. sym (field-stored-other c p fs q j (λ e. omega arith)) ∙ onward-agree rest q j (omega arith) b
     in
     more fs
     (record {
       passed = sym (judge-agree g c t due fs b kept) ∙ h;
-      there = λ j l. sym (rest .same-words p j forward l) ∙ word-stored-same c p fs fits j l;
+      there = λ j l. sym (onward-agree rest p j forward l) ∙ field-stored-same c p fs fits (judge-small g c (length c) due m fs h .0) j l;
     })
-    (subst (Lines g t) (next-agree c′ t due (λ q j l i. rest .same-words q j (omega arith) i)) (walk-lines w m′ (before-next g c due fs m b h)))
+    (subst (Lines g t) (next-agree c′ t due (λ q j l i. onward-agree rest q j (omega arith) i)) (walk-lines w m′ (before-next g c due fs m b h)))

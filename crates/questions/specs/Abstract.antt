@@ -5,7 +5,7 @@ use Prim.Native.Nat.{ℕ, zero, suc}
 use lib.Dec.{eqb}
 use Rattle.hrg.specs.Counts.{tabulate}
 use Rattle.hrg.specs.Grammars.{Kind, terminal, nonterminal, Symbol, Edge, Graph, PlanNode, leaf, introduce, join, Rule, Grammar}
-use Rattle.questions.specs.Layout.{symbolCount, ruleCount, startSymbol, kindWord, rankAt, ruleSymbol, ruleNodes, ruleEdges, rulePlan, ruleExternal, edgeLabel, edgeNode, planKind, planFirst, planSecond, graphNodes, graphEdges, graphExternal, graphLabel, graphNode}
+use Rattle.questions.specs.Layout.{symbolCount, ruleCount, startSymbol, kindField, rankAt, ruleSymbol, ruleNodes, ruleEdges, rulePlan, ruleExternal, edgeLabel, edgeNode, planKind, planFirst, planSecond, graphNodes, graphEdges, graphExternal, graphLabel, graphNode}
 
 -- the list f 0, f 1, .. of n values
 unfoldable pub build : {A : Type 0} → ℕ → (ℕ → A) → List A
@@ -35,7 +35,7 @@ ruleFrom g r = record {
 unfoldable pub grammarOf : List ℕ → Grammar
 unfolding build ruleFrom
 grammarOf g = record {
-  symbols = build (symbolCount g) (λ s. record { kind = kindFrom (kindWord g s); rank = rankAt g s });
+  symbols = build (symbolCount g) (λ s. record { kind = kindFrom (kindField g s); rank = rankAt g s });
   start = startSymbol g;
   rules = build (ruleCount g) (λ r. ruleFrom g r);
 }

@@ -1,10 +1,10 @@
--- The layout of tables: the fields of each line stand at the line's own place, in nine words; words that no field uses are 0.
+-- The layout of tables: each line has a place, and there one word of nine fields with seven bits each; fields that a line does not use are 0, and so
+-- are places without a line. Seven bits are enough: no field of an accepted line is above 64.
 use mathlib.Core.Bool.{Bool, true, _&&_}
-use mathlib.Core.List.{List, [], _∷_, _++_}
-use Prim.Native.Nat.{ℕ, zero, suc, _+_, _*_, min}
-use lib.ListN.{length, getD, take, drop, replicate}
+use mathlib.Core.List.{List}
+use Prim.Native.Nat.{ℕ, zero, suc, _+_, _*_, _/_, _%_, _^_, min}
+use lib.ListN.{getD, set, drop}
 use lib.Dec.{ltb}
-use Rattle.hrg.specs.Counts.{tabulate}
 use Rattle.format.specs.declared.Letter.{Letter}
 use Rattle.format.specs.declared.Letter.the-variants.{G, S, R, E, P, H, D, A, Other}
 use Rattle.questions.specs.declared.Due.{Due}
@@ -43,87 +43,87 @@ inTable Graph = true
 inTable (GraphEdge e) = ltb e 64
 inTable Nothing = true
 
--- words of the largest grammar and graph: 1,665 and 65 places
+-- words of the largest grammar and graph: one for each place
 abbrev pub grammarWords : ℕ
-grammarWords = 14985
+grammarWords = 1665
 
 abbrev pub graphWords : ℕ
-graphWords = 585
+graphWords = 65
 
--- word j of the line at place p
-unfoldable pub word : List ℕ → ℕ → ℕ → ℕ
-word t p j = getD t (9 * p + j) 0
+-- field j of the line at place p: bits 7 * j to 7 * j + 6 of its word
+unfoldable pub fieldAt : List ℕ → ℕ → ℕ → ℕ
+fieldAt t p j = getD t p 0 / 2 ^ (7 * j) % 128
 
--- the nine words of a line with these fields
-unfoldable pub block : List ℕ → List ℕ
-unfolding tabulate
-block fs = tabulate 9 (λ j. getD fs j 0)
+-- the word of the first n of these fields, each cut to seven bits
+unfoldable pub packed : ℕ → List ℕ → ℕ
+packed zero fs = 0
+packed (suc n) fs = getD fs 0 0 % 128 + 128 * packed n (drop 1 fs)
 
 -- the table with these fields at place p
 unfoldable pub stored : List ℕ → ℕ → List ℕ → List ℕ
-unfolding block
-stored t p fs = take (9 * p) t ++ (block fs ++ drop (9 * p + 9) t)
+unfolding packed
+stored t p fs = set t p (packed 9 fs)
 
--- ---- the words of a grammar table by name
+-- ---- the fields of a grammar table by name
 abbrev pub symbolCount : List ℕ → ℕ
-symbolCount g = word g 0 0
+symbolCount g = fieldAt g 0 0
 
 abbrev pub ruleCount : List ℕ → ℕ
-ruleCount g = word g 0 1
+ruleCount g = fieldAt g 0 1
 
 abbrev pub startSymbol : List ℕ → ℕ
-startSymbol g = word g 0 2
+startSymbol g = fieldAt g 0 2
 
 -- 0 terminal, 1 nonterminal
-abbrev pub kindWord : List ℕ → ℕ → ℕ
-kindWord g s = word g (1 + s) 1
+abbrev pub kindField : List ℕ → ℕ → ℕ
+kindField g s = fieldAt g (1 + s) 1
 
 -- ranks are at most 4, whatever stands in a table that no reader filled
 abbrev pub rankAt : List ℕ → ℕ → ℕ
-rankAt g s = min 4 (word g (1 + s) 2)
+rankAt g s = min 4 (fieldAt g (1 + s) 2)
 
 abbrev pub ruleSymbol : List ℕ → ℕ → ℕ
-ruleSymbol g r = word g (65 + 25 * r) 1
+ruleSymbol g r = fieldAt g (65 + 25 * r) 1
 
 abbrev pub ruleNodes : List ℕ → ℕ → ℕ
-ruleNodes g r = word g (65 + 25 * r) 2
+ruleNodes g r = fieldAt g (65 + 25 * r) 2
 
 abbrev pub ruleEdges : List ℕ → ℕ → ℕ
-ruleEdges g r = word g (65 + 25 * r) 3
+ruleEdges g r = fieldAt g (65 + 25 * r) 3
 
 abbrev pub rulePlan : List ℕ → ℕ → ℕ
-rulePlan g r = word g (65 + 25 * r) 4
+rulePlan g r = fieldAt g (65 + 25 * r) 4
 
 abbrev pub ruleExternal : List ℕ → ℕ → ℕ → ℕ
-ruleExternal g r k = word g (65 + 25 * r) (5 + k)
+ruleExternal g r k = fieldAt g (65 + 25 * r) (5 + k)
 
 abbrev pub edgeLabel : List ℕ → ℕ → ℕ → ℕ
-edgeLabel g r i = word g (66 + 25 * r + i) 0
+edgeLabel g r i = fieldAt g (66 + 25 * r + i) 0
 
 abbrev pub edgeNode : List ℕ → ℕ → ℕ → ℕ → ℕ
-edgeNode g r i k = word g (66 + 25 * r + i) (1 + k)
+edgeNode g r i k = fieldAt g (66 + 25 * r + i) (1 + k)
 
 abbrev pub planKind : List ℕ → ℕ → ℕ → ℕ
-planKind g r q = word g (74 + 25 * r + q) 0
+planKind g r q = fieldAt g (74 + 25 * r + q) 0
 
 abbrev pub planFirst : List ℕ → ℕ → ℕ → ℕ
-planFirst g r q = word g (74 + 25 * r + q) 1
+planFirst g r q = fieldAt g (74 + 25 * r + q) 1
 
 abbrev pub planSecond : List ℕ → ℕ → ℕ → ℕ
-planSecond g r q = word g (74 + 25 * r + q) 2
+planSecond g r q = fieldAt g (74 + 25 * r + q) 2
 
 -- ---- and of a graph table
 abbrev pub graphNodes : List ℕ → ℕ
-graphNodes h = word h 0 0
+graphNodes h = fieldAt h 0 0
 
 abbrev pub graphEdges : List ℕ → ℕ
-graphEdges h = word h 0 1
+graphEdges h = fieldAt h 0 1
 
 abbrev pub graphExternal : List ℕ → ℕ → ℕ
-graphExternal h k = word h 0 (2 + k)
+graphExternal h k = fieldAt h 0 (2 + k)
 
 abbrev pub graphLabel : List ℕ → ℕ → ℕ
-graphLabel h e = word h (1 + e) 0
+graphLabel h e = fieldAt h (1 + e) 0
 
 abbrev pub graphNode : List ℕ → ℕ → ℕ → ℕ
-graphNode h e k = word h (1 + e) (1 + k)
+graphNode h e k = fieldAt h (1 + e) (1 + k)

@@ -6,7 +6,7 @@ use lib.ListN.{length, getD, drop}
 use lib.Dec.{eqb, ltb, leb}
 use Rattle.hrg.specs.Counts.{hit, occurs, tabulate}
 use Rattle.hrg.specs.WellFormedTest.{every, each, betweenTest}
-use Rattle.questions.specs.Layout.{word, symbolCount, startSymbol, kindWord, rankAt, ruleNodes, ruleEdges, rulePlan, edgeLabel, edgeNode, planKind, planFirst, planSecond, graphNodes, graphEdges, graphLabel, graphNode}
+use Rattle.questions.specs.Layout.{symbolCount, startSymbol, kindField, rankAt, ruleNodes, ruleEdges, rulePlan, edgeLabel, edgeNode, planKind, planFirst, planSecond, graphNodes, graphEdges, graphLabel, graphNode}
 use Rattle.questions.specs.declared.Due.{Due}
 use Rattle.questions.specs.declared.Due.the-variants.{Grammar, Symbol, Rule, RuleEdge, PlanLine, Graph, GraphEdge, Nothing}
 
@@ -49,7 +49,7 @@ unfoldable pub judgeRule : List ℕ → ℕ → List ℕ → ℕ
 unfolding listed
 judgeRule g r fs =
     ask 3 (
-    leb 5 (length fs) && eqb (field fs 0) r && ltb (field fs 1) (symbolCount g) && eqb (kindWord g (field fs 1)) 1
+    leb 5 (length fs) && eqb (field fs 0) r && ltb (field fs 1) (symbolCount g) && eqb (kindField g (field fs 1)) 1
     && betweenTest 1 (field fs 2) 8 && betweenTest 1 (field fs 3) 8 && betweenTest 2 (field fs 4) 16
     )
     (ask 4 (eqb (length fs) (5 + rankAt g (field fs 1)))
@@ -134,7 +134,7 @@ nodesOnGraph g h (suc n) = nodesOnGraph g h n ++ tabulate (rankAt g (graphLabel 
 unfoldable pub judgeGraphEdge : List ℕ → List ℕ → ℕ → List ℕ → ℕ
 unfolding listed covered nodesOnGraph
 judgeGraphEdge g h e fs =
-    ask 3 (leb 1 (length fs) && ltb (field fs 0) (symbolCount g) && eqb (kindWord g (field fs 0)) 0)
+    ask 3 (leb 1 (length fs) && ltb (field fs 0) (symbolCount g) && eqb (kindField g (field fs 0)) 0)
     (ask 4 (eqb (length fs) (1 + rankAt g (field fs 0)))
     (ask 5 (listed (graphNodes h) (drop 1 fs))
     (ask 6 (ltb (e + 1) (graphEdges h) || covered (graphNodes h) (nodesOnGraph g h e ++ drop 1 fs)) 0)))

@@ -2,11 +2,10 @@
 use mathlib.Core.Path.{_≡_, refl, sym, ap, _∙_}
 use mathlib.Core.Bool.{Bool, true, false, cond}
 use mathlib.Core.List.{List}
-use Prim.Native.Nat.{ℕ, zero, suc, _+_, _*_, _≤_, _<_}
+use Prim.Native.Nat.{ℕ, zero, suc, _≤_, _<_}
 use native.Mathlib.Omega.{arith}
 use lib.ListN.{length, drop}
 use lib.Dec.{eqb}
-use borrow.Author.Tests.{le-leb}
 use Rattle.format.specs.Lines.{countingLines, countingOf, countingStart, isEnded, afterLine}
 use Rattle.format.specs.LineLaws.{counting-lines-at, counting-in, lines-end, after-le, after-forward}
 use Rattle.format.specs.Shape.{shapeOf, letterOf, kindLetter}
@@ -18,13 +17,13 @@ use Rattle.questions.specs.Walk.{Room}
 use Rattle.layout.specs.Storing.{storeAt}
 use Rattle.questions.specs.declared.Due.{Due}
 use Rattle.questions.specs.declared.Due.the-variants.{Grammar, Symbol, Rule, RuleEdge, PlanLine, Graph, GraphEdge, Nothing}
-use Rattle.questions.proofs.WellFormedWalk.{room-in, room-place, room-next}
+use Rattle.questions.proofs.WellFormedWalk.{room-in, room-next}
 use Rattle.readers.specs.Readers.{lineWith, Stores, missing, verdictOf}
 
 -- ---- places
 stored-there : (t fs : List ℕ) (due : Due) → Room (length t) due → storeAt t due fs ≡ stored t (placeOf due) fs
 unfolding storeAt
-stored-there t fs due r = rw (room-in (length t) due r, le-leb (9 * placeOf due + 9) (length t) (room-place (length t) due r))
+stored-there t fs due r = rw (room-in (length t) due r)
 
 pub room-after : (t t′ : List ℕ) (due d : Due) → Room (length t) due → length t′ ≡ length t → d ≡ next t′ due → Room (length t′) d
 room-after t t′ due d r l e = rw (e, l) (room-next (length t) t′ due r)

@@ -169,16 +169,3 @@ four-tabulated l f e = ap length e
 pub four-length : (l L : List ℕ) → l ≡ fourOf L → length l ≡ 4
 unfolding fourOf
 four-length l L e = four-tabulated l (λ k. at L k) e
-
-pub take-four : (n : ℕ) (f : ℕ → ℕ) → n ≤ 4 → take n (tabulate 4 f) ≡ tabulate n f
-unfolding tabulate
-take-four zero f h = refl
-take-four (suc zero) f h = refl
-take-four (suc (suc zero)) f h = refl
-take-four (suc (suc (suc zero))) f h = refl
-take-four (suc (suc (suc (suc zero)))) f h = refl
-take-four (suc (suc (suc (suc (suc n))))) f h = absurd (omega arith)
-
-pub four-are : (f : ℕ → ℕ) (a b c d : ℕ) → a ≡ f 0 → b ≡ f 1 → c ≡ f 2 → d ≡ f 3 → a ∷ b ∷ c ∷ d ∷ [] ≡ tabulate 4 f
-unfolding tabulate
-four-are f a b c d p q r s = rw (p, q, r, s)

@@ -1,4 +1,4 @@
--- What a row says of the edges of its rule, read from the words of accepted tables.
+-- What a row says of the edges of its rule, read from the fields of accepted tables.
 use mathlib.Core.Path.{_≡_, refl, sym, ap, ap₂, _∙_}
 use mathlib.Core.Bool.{Bool, true, false}
 use mathlib.Core.List.{List}
@@ -11,7 +11,7 @@ use borrow.Author.Tests.{lt-ltb, le-ltb, ltb-true, ltb-false, ne-eqb}
 use Rattle.hrg.specs.Grammars.{Kind, terminal, nonterminal, Edge, Graph, Grammar, Rule, kindOf, rankOf, rightOf, edgeAt}
 use Rattle.hrg.specs.Trees.{at, images}
 use Rattle.hrg.specs.WellFormed.{EdgeOk}
-use Rattle.questions.specs.Layout.{ruleCount, ruleNodes, ruleEdges, edgeLabel, kindWord}
+use Rattle.questions.specs.Layout.{ruleCount, ruleNodes, ruleEdges, edgeLabel, kindField}
 use Rattle.questions.specs.Abstract.{kindFrom, grammarOf}
 use Rattle.questions.proofs.WellFormedLent.{checked-grammar-ok}
 use Rattle.questions.proofs.WellFormedAccepted.{symbols-length, rules-length, rule-is, edge-is, kind-is}
@@ -90,7 +90,7 @@ module _ (G : Grammar) (row : List ℕ) (i : ℕ) where
           record { known = ltb-true _ _ q; kind = w .0; symbol = w .1; number = w .2 }
       go false q = absurd (let p = sym (part-out (ltb-false _ _ q)) ∙ e in let z : _≡_ {A = ℕ} 0 1 = cc in omega arith)
 
--- ---- the part by the words of the tables
+-- ---- the part by the fields of the tables
 module _ (g row : List ℕ) (checked : checkGrammar g ≡ true) (z : RuledRow (grammarOf g) row) where
   abbrev rule : ℕ
   rule = ruleIn row
@@ -122,10 +122,10 @@ module _ (g row : List ℕ) (checked : checkGrammar g ≡ true) (z : RuledRow (g
         let at : 2 + (right .nodes + i) ≡ 2 + ruleNodes g rule + i = omega (arith, right-nodes g rule checked rule-listed) in
         getD-drop (right .nodes) (drop 2 row) i 0 ∙ getD-drop 2 row (right .nodes + i) 0 ∙ ap (λ (j : ℕ). getD row j 0) at
 
-    kind-read : kindOf (grammarOf g) (edgeAt (right .edges) i .label) ≡ kindFrom (kindWord g (edgeLabel g rule i))
+    kind-read : kindOf (grammarOf g) (edgeAt (right .edges) i .label) ≡ kindFrom (kindField g (edgeLabel g rule i))
     kind-read =
         kind-is g (edgeAt (right .edges) i .label) (omega (arith, edge-ok .known, symbols-length g))
-        ∙ ap (λ (s : ℕ). kindFrom (kindWord g s)) label-is
+        ∙ ap (λ (s : ℕ). kindFrom (kindField g s)) label-is
 
     -- the nodes of the edge fill as many of four places as the rank says
     pub listed-take : (s : ℕ) (listed : List ℕ) → s ≡ edgeAt (right .edges) i .label
@@ -157,7 +157,7 @@ module _ (g row : List ℕ) (checked : checkGrammar g ≡ true) (z : RuledRow (g
         omega (arith, z .sized, edge-count, right-nodes g rule checked rule-listed),
       )
 
-      module _ (s : ℕ) (named : s ≡ edgeLabel g rule i) (k : ℕ) (word : k ≡ kindWord g s) where
+      module _ (s : ℕ) (named : s ≡ edgeLabel g rule i) (k : ℕ) (word : k ≡ kindField g s) where
         abbrev here : ℕ
         here = getD row (2 + n + i) 0
 
@@ -167,7 +167,7 @@ module _ (g row : List ℕ) (checked : checkGrammar g ≡ true) (z : RuledRow (g
         part-by : (kind : Kind) → kindFrom k ≡ kind → partBy kind s here ≡ partOf (grammarOf g) row i
         part-by kind p =
             let same : kindOf (grammarOf g) (edgeAt (right .edges) i .label) ≡ kind =
-            kind-read i inside ∙ ap (λ (y : ℕ). kindFrom (kindWord g y)) (sym named) ∙ ap kindFrom (sym word) ∙ p in
+            kind-read i inside ∙ ap (λ (y : ℕ). kindFrom (kindField g y)) (sym named) ∙ ap kindFrom (sym word) ∙ p in
             ap₂ (partBy kind) (named ∙ sym (label-is i inside)) field-read
             ∙ ap (λ (y : Kind). partBy y (edgeAt (right .edges) i .label) (getD (fieldsIn right row) i 0)) (sym same)
             ∙ sym (part-in (grammarOf g) row i inside)

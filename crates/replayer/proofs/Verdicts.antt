@@ -32,7 +32,8 @@ use Rattle.replayer.specs.declared.Verdict.the-variants.{Unfit, Refused,
 use Rattle.replayer.specs.Fitting.{countIn, withAll}
 use Rattle.replayer.specs.Following.{textRows, RowsAt, Progress, progressIn, Marks, Stands, Applied}
 use Rattle.replayer.specs.Verdicts.{numberOf, fitTables, replayOf, Exact}
-use Rattle.replayer.proofs.MaskTests.{marks-none, marks-append, marks-all, take-four}
+use Rattle.questions.proofs.StoredLaws.{take-tabulate}
+use Rattle.replayer.proofs.MaskTests.{marks-none, marks-append, marks-all}
 use Rattle.replayer.proofs.PlacedRows.{text-count, text-some, text-few, place-start}
 
 -- ---- from the start
@@ -60,7 +61,7 @@ module _ (g h : List ℕ) (ok : Accepted g h) (s : ℕ) (e : s ≡ startSymbol g
 
   module _ (listed : List ℕ) (l : listed ≡ tabulate 4 (λ k. graphExternal h k)) (few : x ≤ 4) where
     externals-take : take x listed ≡ graphOf g h .externals
-    externals-take = ap (take x) l ∙ take-four x (λ k. graphExternal h k) few ∙ externals-are
+    externals-take = ap (take x) l ∙ take-tabulate x 4 (λ k. graphExternal h k) few ∙ externals-are
 
     pub externals-small : (k : ℕ) → k < x → getD listed k 0 < 64
     externals-small k i =

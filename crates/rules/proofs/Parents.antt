@@ -36,7 +36,7 @@ two-parents (n ∷ pl) c p zero l h k = absurd (omega arith)
 two-parents (n ∷ pl) c zero (suc q) l h k = omega (arith, some-child pl c q k, occurs-append c (children n) (allChildren pl))
 two-parents (n ∷ pl) c (suc p) (suc q) l h k = omega (arith, two-parents pl c p q (omega arith) h k, occurs-append c (children n) (allChildren pl))
 
--- ---- whether p is a child of q, by the words of q's line
+-- ---- whether p is a child of q, by the fields of q's line
 module _ (g : List ℕ) (r q p : ℕ) (known : KnownNode g r q) where
   abbrev test : Bool
   test = ltb 0 (occurs p (children (planNode (planOf (grammarOf g) r) q)))

@@ -52,11 +52,11 @@ pub fn edge_nodes(g: &[u64], h: &[u64], e: u64) -> [u64; 8]
     requires { ⌜ Accepted (now g) (now h) × (e < graphEdges (now h)) ⌝ }
     ensures { λ x. ⌜ x ≡ padded (edgeAt (graphOf (now (g .entry)) (now (h .entry)) .edges) e .attachment) ⌝ }
 {
-    let rank = joins::rank_of(g, layout::word_in(h, 1 + e, 0));
+    let rank = joins::rank_of(g, layout::field_in(h, 1 + e, 0));
     let mut l = [64u64; 8];
     let mut k: u64 = 0;
     while k < rank {
-        l[k as usize] = layout::word_in(h, 1 + e, 1 + k);
+        l[k as usize] = layout::field_in(h, 1 + e, 1 + k);
         k += 1;
     }
     l
@@ -101,7 +101,7 @@ fn second_map(g: &[u64], of: u64, q: u64, w: u64, y: &[u64], t: &mut [u64]) -> b
     if asked != y[2] {
         return false;
     }
-    copy_map(layout::word_in(g, 65 + 25 * of, 2), &y[6..14], t);
+    copy_map(layout::field_in(g, 65 + 25 * of, 2), &y[6..14], t);
     true
 }
 

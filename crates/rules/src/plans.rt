@@ -136,38 +136,38 @@ pub fn open_at(g: &[u64], t: &[u32; 2048], r: u64, p: u64) -> u64
     parent_in(g, t, r, first_at(g, r, p)).stays
 }
 
-// ---- words of a plan node and an edge that are there, read with no test of the table's end
+// ---- fields of a plan node and an edge that are there, read with no test of the table's end
 pub(crate) fn kind_at(g: &[u64], r: u64, q: u64) -> u64
     requires { ⌜ KnownNode (now g) r q ⌝ }
     ensures { λ x. ⌜ x ≡ planKind (now (g .entry)) r q ⌝ }
 {
-    layout::word_in(g, 74 + 25 * r + q, 0)
+    layout::field_in(g, 74 + 25 * r + q, 0)
 }
 
 pub(crate) fn first_at(g: &[u64], r: u64, q: u64) -> u64
     requires { ⌜ KnownNode (now g) r q ⌝ }
     ensures { λ x. ⌜ x ≡ planFirst (now (g .entry)) r q ⌝ }
 {
-    layout::word_in(g, 74 + 25 * r + q, 1)
+    layout::field_in(g, 74 + 25 * r + q, 1)
 }
 
 pub(crate) fn second_at(g: &[u64], r: u64, q: u64) -> u64
     requires { ⌜ KnownNode (now g) r q ⌝ }
     ensures { λ x. ⌜ x ≡ planSecond (now (g .entry)) r q ⌝ }
 {
-    layout::word_in(g, 74 + 25 * r + q, 2)
+    layout::field_in(g, 74 + 25 * r + q, 2)
 }
 
 pub(crate) fn label_at(g: &[u64], r: u64, i: u64) -> u64
     requires { ⌜ KnownEdge (now g) r i ⌝ }
     ensures { λ x. ⌜ x ≡ edgeLabel (now (g .entry)) r i ⌝ }
 {
-    layout::word_in(g, 66 + 25 * r + i, 0)
+    layout::field_in(g, 66 + 25 * r + i, 0)
 }
 
 pub(crate) fn node_at(g: &[u64], r: u64, i: u64, k: u64) -> u64
     requires { ⌜ KnownEdge (now g) r i × (k < 4) ⌝ }
     ensures { λ x. ⌜ x ≡ edgeNode (now (g .entry)) r i k ⌝ }
 {
-    layout::word_in(g, 66 + 25 * r + i, 1 + k)
+    layout::field_in(g, 66 + 25 * r + i, 1 + k)
 }

@@ -15,7 +15,7 @@ use Rattle.masks.specs.Masks.{_∪_, full}
 use Rattle.hrg.proofs.Sums.{length-tabulate}
 use Rattle.questions.specs.declared.Due.{Due}
 use Rattle.questions.specs.declared.Due.the-variants.{RuleEdge, PlanLine, GraphEdge, Nothing}
-use Rattle.questions.specs.Layout.{placeOf, word, symbolCount, kindWord, rankAt, ruleNodes, ruleEdges, graphNodes, graphEdges, edgeLabel, graphLabel}
+use Rattle.questions.specs.Layout.{placeOf, fieldAt, symbolCount, kindField, rankAt, ruleNodes, ruleEdges, graphNodes, graphEdges, edgeLabel, graphLabel}
 use Rattle.questions.specs.Questions.{ask, listed, covered, nodesOnEdges, nodesOnGraph, judge}
 use Rattle.questions.specs.Reading.{next}
 use Rattle.questions.specs.Checking.{fieldsDue, storedFields}
@@ -23,14 +23,15 @@ use Rattle.questions.proofs.StoredLaws.{getD-tabulate}
 use Rattle.questions.proofs.WellFormedAccepted.{fields-listed}
 use Rattle.questions.proofs.WellFormedWalk.{IsLine}
 use Rattle.tables.specs.Marks.{marks, nodesAt, Distinct}
-use Rattle.tables.specs.Concluding.{Zero, Zeros, Standing, Stands, Attached, Nearly, NearlyStands, Rest, Leads, Reaches, Count}
+use Rattle.tables.specs.Concluding.{behind, Standing, Stands, Attached, Nearly, NearlyStands, Rest, Leads, Reaches, Count}
 use Rattle.tables.proofs.Asking.{EdgeAsked}
 use Rattle.tables.proofs.LineAnswers.{rule-edge-asked, graph-edge-asked}
+use Rattle.tables.proofs.LineFields.{ends-yes, ends-no}
 use Rattle.tables.proofs.Listing.{listed-top}
 use Rattle.tables.proofs.Covering.{marks-append, marks-union, marks-covered}
 use Rattle.tables.proofs.Leading.{lines-start, lines-end, lines-no, lines-next, next-edge, next-graph-edge}
 
--- ---- the nodes of a line, and the words behind them
+-- ---- the nodes of a line, and what is behind them
 module _ (nodes : ℕ) (t : List ℕ) (p n : ℕ) (ok : Bool) (seen : ℕ) (D : Distinct nodes (nodesAt t p n) ok seen) where
   pub attached-no : not ok ≡ true → Attached nodes t p n ok seen
   attached-no h = record {
@@ -40,19 +41,19 @@ module _ (nodes : ℕ) (t : List ℕ) (p n : ℕ) (ok : Bool) (seen : ℕ) (D : 
     no = λ y l z. false≢true (sym y ∙ D .kept ∙ l);
   }
 
-  module _ (z : Bool) (zs : Zeros t (9 * p + (1 + n)) (9 * p + 9) z) where
+  module _ (z : Bool) (zs : z ≡ eqb (behind t p (1 + n)) 0) where
     pub behind-no : not z ≡ true → (m : ℕ) → Attached nodes t p n false m
     behind-no h m = record {
       kept = λ y. absurd (false≢true y);
       rest = λ y. absurd (false≢true y);
       set = λ y. absurd (false≢true y);
-      no = λ y l r. zs .no (not-true z h) r;
+      no = λ y l r. ends-no t p (1 + n) z zs (not-true z h) r;
     }
 
     pub attached-yes : not ok ≡ false → not z ≡ false → Attached nodes t p n ok seen
     attached-yes k h = record {
       kept = λ y. sym (D .kept) ∙ y;
-      rest = λ y. zs .yes (not-false z h);
+      rest = λ y. ends-yes t p (1 + n) z zs (not-false z h);
       set = D .set;
       no = λ y. absurd (false≢true (sym y ∙ not-false ok k));
     }
@@ -124,10 +125,10 @@ module _ (g t : List ℕ) (due : Due) (fixed : Bool) (rank nodes j edges : ℕ) 
       record {
         yes = λ y. record {
           passed = by-kept fixed inside (ltb j edges || all) verdict (L .answer) (not-false fixed n) (sym same ∙ A2 .kept y);
-          rest = subst (λ i. Zero t (9 * placeOf due + i) (9 * placeOf due + 9)) (sym (L .count)) (A2 .rest y);
+          rest = subst (λ i. behind t (placeOf due) i ≡ 0) (sym (L .count)) (A2 .rest y);
         };
         set = λ y. A2 .set y ∙ ap (marks 0) (sym (L .own));
-        no = λ y s. A2 .no y (same ∙ kept-by fixed inside (ltb j edges || all) verdict (L .answer) (s .passed) .1) (subst (λ i. Zero t (9 * placeOf due + i) (9 * placeOf due + 9)) (L .count) (s .rest));
+        no = λ y s. A2 .no y (same ∙ kept-by fixed inside (ltb j edges || all) verdict (L .answer) (s .passed) .1) (subst (λ i. behind t (placeOf due) i ≡ 0) (L .count) (s .rest));
       }
 
   nearly-stands : (ltb j edges || all) ≡ true → Nearly g t due → Standing g t due
@@ -156,14 +157,14 @@ module _ (g t : List ℕ) (due : Due) (a b : Bool) (rank nodes j edges : ℕ) (b
 
   long : length fs ≡ 1 + rank
   unfolding storedFields
-  long = length-tabulate (fieldsDue g t t due) (λ k. word t (placeOf due) k) ∙ count
+  long = length-tabulate (fieldsDue g t t due) (λ k. fieldAt t (placeOf due) k) ∙ count
 
-  own-field : (k : ℕ) → k < 1 + rank → word t (placeOf due) k ≡ getD fs k 0
+  own-field : (k : ℕ) → k < 1 + rank → fieldAt t (placeOf due) k ≡ getD fs k 0
   unfolding storedFields
-  own-field k h = sym (getD-tabulate (fieldsDue g t t due) (λ i. word t (placeOf due) i) k 0 (omega (arith, count)))
+  own-field k h = sym (getD-tabulate (fieldsDue g t t due) (λ i. fieldAt t (placeOf due) i) k 0 (omega (arith, count)))
 
   own-nodes : nodesAt t (placeOf due) rank ≡ drop 1 fs
-  own-nodes = fields-listed fs 1 rank (λ k. word t (placeOf due) (1 + k)) long (λ i l. own-field (1 + i) (omega arith))
+  own-nodes = fields-listed fs 1 rank (λ k. fieldAt t (placeOf due) (1 + k)) long (λ i l. own-field (1 + i) (omega arith))
 
   abbrev asks : Bool → Bool → List ℕ → ℕ
   asks one four l = ask 3 (one && a && b) (ask 4 four (ask 5 (listed nodes l) (ask 6 (ltb j edges || covered nodes (before ++ l)) 0)))
@@ -180,7 +181,7 @@ module _ (g t : List ℕ) (due : Due) (a b : Bool) (rank nodes j edges : ℕ) (b
         ∙ ap (asks true true) (sym own-nodes);
   }
 
-pub graph-line : (g t : List ℕ) (e label symbols kind : ℕ) → label ≡ graphLabel t e → symbols ≡ symbolCount g → kind ≡ kindWord g label
+pub graph-line : (g t : List ℕ) (e label symbols kind : ℕ) → label ≡ graphLabel t e → symbols ≡ symbolCount g → kind ≡ kindField g label
     → EdgeLine g t (GraphEdge e) (ltb label symbols && eqb kind 0) (rankAt g label) (graphNodes t) (e + 1) (graphEdges t) (nodesOnGraph g t e)
 unfolding judge placeOf fieldsDue
 graph-line g t e label symbols kind known count kinds =
@@ -205,23 +206,23 @@ pub record EdgeLines (g t : List ℕ) (kind : ℕ → Due) (after : Due) (first 
   pub lines : (i : ℕ) → EdgeLine g t (kind i) (fixed i) (rank i) nodes (i + 1) n (on i)
   pub known : (i : ℕ) → IsLine (kind i)
   pub order : (i : ℕ) → next t (kind i) ≡ cond (ltb (i + 1) n) (kind (i + 1)) after
-  pub place : (i : ℕ) → first + 9 * i ≡ 9 * placeOf (kind i)
+  pub place : (i : ℕ) → first + i ≡ placeOf (kind i)
 
-pub graph-lines : (g t : List ℕ) (n : ℕ) → Count n (graphEdges t) 64 → EdgeLines g t GraphEdge Nothing 9 n (graphNodes t) (nodesOnGraph g t)
+pub graph-lines : (g t : List ℕ) (n : ℕ) → Count n (graphEdges t) 64 → EdgeLines g t GraphEdge Nothing 1 n (graphNodes t) (nodesOnGraph g t)
 unfolding nodesOnGraph placeOf
 graph-lines g t n c = record {
-  fixed = λ e. ltb (graphLabel t e) (symbolCount g) && eqb (kindWord g (graphLabel t e)) 0;
+  fixed = λ e. ltb (graphLabel t e) (symbolCount g) && eqb (kindField g (graphLabel t e)) 0;
   rank = λ e. rankAt g (graphLabel t e);
   none = refl;
   more = λ e. ap (nodesOnGraph g t) (add-one e);
-  lines = λ e. subst (λ k. EdgeLine g t (GraphEdge e) (ltb (graphLabel t e) (symbolCount g) && eqb (kindWord g (graphLabel t e)) 0) (rankAt g (graphLabel t e)) (graphNodes t) (e + 1) k (nodesOnGraph g t e))
+  lines = λ e. subst (λ k. EdgeLine g t (GraphEdge e) (ltb (graphLabel t e) (symbolCount g) && eqb (kindField g (graphLabel t e)) 0) (rankAt g (graphLabel t e)) (graphNodes t) (e + 1) k (nodesOnGraph g t e))
       (sym (c .same)) (graph-line g t e _ _ _ refl refl refl);
   known = λ e. tt;
   order = λ e. next-graph-edge t n e c;
   place = λ e. omega arith;
 }
 
-pub rule-lines : (t : List ℕ) (r n : ℕ) → Count n (ruleEdges t r) 8 → EdgeLines [] t (RuleEdge r) (PlanLine r 0) (9 * (66 + 25 * r)) n (ruleNodes t r) (nodesOnEdges t r)
+pub rule-lines : (t : List ℕ) (r n : ℕ) → Count n (ruleEdges t r) 8 → EdgeLines [] t (RuleEdge r) (PlanLine r 0) (66 + 25 * r) n (ruleNodes t r) (nodesOnEdges t r)
 unfolding nodesOnEdges placeOf
 rule-lines t r n c = record {
   fixed = λ i. ltb (edgeLabel t r i) (symbolCount t) && leb 1 (rankAt t (edgeLabel t r i));
@@ -261,16 +262,16 @@ module _ (size : ℕ) (g t : List ℕ) (kind : ℕ → Due) (after : Due) (first
         go k l (no d) = subst (λ j. Nearly g t (kind j)) (let e : i ≡ k = omega arith in e) (s .yes (not-false ok h))
 
     -- up to a line before which no one is the last
-    to-line : (k : ℕ) → k < n → k ≤ i → Leads size g t (kind 0) first (cond (ltb k n) (kind k) after) (first + 9 * k)
-    to-line zero h l = lines-start size g t kind after n first (first + 9 * 0) (omega arith) h
+    to-line : (k : ℕ) → k < n → k ≤ i → Leads size g t (kind 0) first (cond (ltb k n) (kind k) after) (first + k)
+    to-line zero h l = lines-start size g t kind after n first (first + 0) (omega arith) h
     to-line (suc k) h l =
-        subst (λ j. Leads size g t (kind 0) first (cond (ltb j n) (kind j) after) (first + 9 * suc k)) (add-one k)
-        (lines-next size g t (kind 0) first kind after n k (first + 9 * k) (to-line k (omega arith) (omega arith)) (omega arith) (E .known k) true
-        (does (kind k) (nearly-before g t (kind k) _ _ _ _ _ _ (E .lines k) (omega arith) (P .lines k (omega arith)))) refl (E .place k) (E .order k) (first + 9 * suc k) (omega arith))
+        subst (λ j. Leads size g t (kind 0) first (cond (ltb j n) (kind j) after) (first + suc k)) (add-one k)
+        (lines-next size g t (kind 0) first kind after n k (first + k) (to-line k (omega arith) (omega arith)) (omega arith) (E .known k) true
+        (does (kind k) (nearly-before g t (kind k) _ _ _ _ _ _ (E .lines k) (omega arith) (P .lines k (omega arith)))) refl (E .place k) (E .order k) (first + suc k) (omega arith))
 
     pub passed-no : i < n → (ok : Bool) (seen : ℕ) → NearlyStands g t (kind i) ok seen → not ok ≡ true → Rest size g t (kind 0) first → ⊥
     passed-no h ok seen s e =
-        lines-no size g t (kind 0) first kind after n i (first + 9 * i) (to-line i h (omega arith)) h (E .known i) false
+        lines-no size g t (kind 0) first kind after n i (first + i) (to-line i h (omega arith)) h (E .known i) false
         (does-not (kind i) (λ q. s .no (not-true ok e) (stands-nearly g t (kind i) _ _ _ _ _ _ (E .lines i) q))) refl
 
     -- after the last one
@@ -285,15 +286,15 @@ module _ (size : ℕ) (g t : List ℕ) (kind : ℕ → Due) (after : Due) (first
 
       pub passed-uncovered : not b ≡ true → Rest size g t (kind 0) first → ⊥
       passed-uncovered e =
-          lines-no size g t (kind 0) first kind after n l (first + 9 * l) (to-line l (omega arith) (omega arith)) (omega arith) (E .known l) false
+          lines-no size g t (kind 0) first kind after n l (first + l) (to-line l (omega arith) (omega arith)) (omega arith) (E .known l) false
           (does-not (kind l) (λ q. absurd (false≢true (sym (not-true b e) ∙ covers ∙ last-covers g t (kind l) _ _ _ _ _ _ (E .lines l) (omega arith) q)))) refl
 
-      pub passed-all : not b ≡ false → (to : ℕ) → first + 9 * n ≡ to → Leads size g t (kind 0) first after to
+      pub passed-all : not b ≡ false → (to : ℕ) → first + n ≡ to → Leads size g t (kind 0) first after to
       passed-all e to q =
-          lines-end size g t (kind 0) first kind after n (l + 1) (first + 9 * l + 9)
-          (lines-next size g t (kind 0) first kind after n l (first + 9 * l) (to-line l (omega arith) (omega arith)) (omega arith) (E .known l) true
+          lines-end size g t (kind 0) first kind after n (l + 1) (first + l + 1)
+          (lines-next size g t (kind 0) first kind after n l (first + l) (to-line l (omega arith) (omega arith)) (omega arith) (E .known l) true
           (does (kind l) (nearly-last g t (kind l) _ _ _ _ _ _ (E .lines l) (sym covers ∙ not-false b e) (P .lines l (omega arith)))) refl (E .place l) (E .order l) _ refl)
           (omega arith) to (omega arith)
 
-      pub passed-reaches : (to : ℕ) → first + 9 * n ≡ to → Reaches size g t (kind 0) first after to b
+      pub passed-reaches : (to : ℕ) → first + n ≡ to → Reaches size g t (kind 0) first after to b
       passed-reaches to q = record { yes = λ y. passed-all (ap not y) to q; no = λ y. passed-uncovered (ap not y) }

@@ -7,8 +7,6 @@ use mathlib.Core.Bool.{Bool, true, false, false≢true}
 use mathlib.Core.List.{List}
 use lib.Bits.{bitOr, or-add-and, and-le-l, and-le-r}
 use lib.ListN.{getD}
-use lib.Dec.{eqb}
-use borrow.Author.Tests.{eqb-true, eqb-false}
 use Rattle.tables.specs.Concluding.{Zero, Zeros, Gathered, eightFrom}
 
 -- ---- one by one
@@ -63,64 +61,6 @@ gathered-eight t a i any r G l e =
     let six = gathered-on t a (i + 5) (i + 6) _ five (omega arith) (omega arith) in
     let seven = gathered-on t a (i + 6) (i + 7) _ six (omega arith) (omega arith) in
     subst (Gathered t a (i + 8)) (sym e) (gathered-on t a (i + 7) (i + 8) _ seven (omega arith) (omega arith))
-
--- the six words behind three fields
-module _ (t : List ℕ) (at : ℕ) where
-  abbrev six : ℕ
-  six = bitOr (bitOr (bitOr (bitOr (bitOr (getD t (at + 3) 0) (getD t (at + 4) 0)) (getD t (at + 5) 0)) (getD t (at + 6) 0)) (getD t (at + 7) 0)) (getD t (at + 8) 0)
-
-  gathered-one : Gathered t (at + 3) (at + 4) (getD t (at + 3) 0)
-  gathered-one = record {
-    yes = λ h k b e. let same : k ≡ at + 3 = omega arith in rw same h;
-    no = λ z. z (at + 3) (omega arith) (omega arith);
-  }
-
-  gathered-six : Gathered t (at + 3) (at + 9) six
-  gathered-six =
-      let two = gathered-on t (at + 3) (at + 4) (at + 5) _ gathered-one (omega arith) (omega arith) in
-      let three = gathered-on t (at + 3) (at + 5) (at + 6) _ two (omega arith) (omega arith) in
-      let four = gathered-on t (at + 3) (at + 6) (at + 7) _ three (omega arith) (omega arith) in
-      let five = gathered-on t (at + 3) (at + 7) (at + 8) _ four (omega arith) (omega arith) in
-      gathered-on t (at + 3) (at + 8) (at + 9) _ five (omega arith) (omega arith)
-
-  pub zeros-six : Zeros t (at + 3) (at + 9) (eqb six 0)
-  zeros-six = record {
-    yes = λ y. gathered-six .yes (eqb-true six 0 y);
-    no = λ y z. eqb-false six 0 y (gathered-six .no z);
-  }
-
--- the words behind the nodes of an edge's line: four, and those before them one by one
-module _ (t : List ℕ) (at : ℕ) where
-  abbrev four : ℕ
-  four = bitOr (bitOr (bitOr (getD t (at + 5) 0) (getD t (at + 6) 0)) (getD t (at + 7) 0)) (getD t (at + 8) 0)
-
-  pub behind-four : Gathered t (at + 5) (at + 9) four
-  behind-four =
-      let one : Gathered t (at + 5) (at + 6) (getD t (at + 5) 0) = record {
-        yes = λ h k b e. let same : k ≡ at + 5 = omega arith in rw same h;
-        no = λ z. z (at + 5) (omega arith) (omega arith);
-      } in
-      let two = gathered-on t (at + 5) (at + 6) (at + 7) _ one (omega arith) (omega arith) in
-      let three = gathered-on t (at + 5) (at + 7) (at + 8) _ two (omega arith) (omega arith) in
-      gathered-on t (at + 5) (at + 8) (at + 9) _ three (omega arith) (omega arith)
-
-  pub behind-more : (i j any : ℕ) → i + 1 ≡ j → j ≤ 9 → Gathered t (at + j) (at + 9) any → Gathered t (at + i) (at + 9) (bitOr any (getD t (at + i) 0))
-  behind-more i j any e l G = record {
-    yes = λ h k b d. go k b d (or-none any (getD t (at + i) 0) h) (decLt (at + i) k);
-    no = λ z.
-        let x : any ≡ 0 = G .no (λ k b d. z k (omega arith) d) in
-        let y : getD t (at + i) 0 ≡ 0 = z (at + i) (omega arith) (omega arith) in
-        rw (x, y);
-  }
-    where
-      go : (k : ℕ) → at + i ≤ k → k < at + 9 → (any ≡ 0) × (getD t (at + i) 0 ≡ 0) → Dec (at + i < k) → getD t k 0 ≡ 0
-      go k b d h (yes q) = G .yes (h .0) k (omega arith) d
-      go k b d h (no q) = let same : k ≡ at + i = omega arith in rw same (h .1)
-
-  pub zeros-behind : (n j any : ℕ) → Gathered t (at + j) (at + 9) any → 1 + n ≡ j → Zeros t (at + (1 + n)) (at + 9) (eqb any 0)
-  zeros-behind n j any G e =
-      subst (λ k. Zeros t (at + k) (at + 9) (eqb any 0)) (sym e)
-      (record { yes = λ y. G .yes (eqb-true any 0 y); no = λ y z. eqb-false any 0 y (G .no z) })
 
 pub gathered-turn : (t : List ℕ) (a i j any p q : ℕ) → Gathered t a i any → a ≤ i → p ≡ eightFrom t i any → q ≡ eightFrom t (i + 8) p → i + 16 ≡ j → Gathered t a j q
 gathered-turn t a i j any p q G l e f s =

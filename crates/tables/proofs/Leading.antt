@@ -10,7 +10,7 @@ use borrow.Author.Tests.{lt-ltb, le-ltb, not-true, not-false}
 use Rattle.hrg.specs.WellFormed.{Between}
 use Rattle.questions.specs.declared.Due.{Due}
 use Rattle.questions.specs.declared.Due.the-variants.{Grammar, Symbol, Rule, RuleEdge, PlanLine, Graph, GraphEdge, Nothing}
-use Rattle.questions.specs.Layout.{placeOf, word, symbolCount, ruleCount, ruleEdges, rulePlan, graphEdges}
+use Rattle.questions.specs.Layout.{placeOf, fieldAt, symbolCount, ruleCount, ruleEdges, rulePlan, graphEdges}
 use Rattle.questions.specs.Questions.{judge}
 use Rattle.questions.specs.Reading.{next}
 use Rattle.questions.specs.Checking.{fieldsDue, storedFields}
@@ -23,7 +23,7 @@ use Rattle.tables.specs.Concluding.{Zero, Zeros, Standing, Stands, Rest,
 module _ (size : ℕ) (g t : List ℕ) where
   -- what is left where a line is due
   rest-line : (due : Due) (from : ℕ) → IsLine due → Rest size g t due from
-      → Zero t from (9 * placeOf due) × Standing g t due × Rest size g t (next t due) (9 * placeOf due + 9)
+      → Zero t from (placeOf due) × Standing g t due × Rest size g t (next t due) (placeOf due + 1)
   rest-line due from l (last z) = absurd l
   rest-line due from l (line z s r) = (z, s, r)
 
@@ -35,23 +35,23 @@ module _ (size : ℕ) (g t : List ℕ) where
 
   -- over the words before a line
   module _ (due : Due) (from : ℕ) (l : IsLine due) where
-    leads-gap : Zero t from (9 * placeOf due) → Leads size g t due from due (9 * placeOf due)
+    leads-gap : Zero t from (placeOf due) → Leads size g t due from due (placeOf due)
     leads-gap z = record {
-      onward = λ r. let s = rest-line due from l r in line (zero-none t (9 * placeOf due)) (s .1) (s .2);
-      back = λ r. let s = rest-line due (9 * placeOf due) l r in line z (s .1) (s .2);
+      onward = λ r. let s = rest-line due from l r in line (zero-none t (placeOf due)) (s .1) (s .2);
+      back = λ r. let s = rest-line due (placeOf due) l r in line z (s .1) (s .2);
     }
 
-    gap-no : (Zero t from (9 * placeOf due) → ⊥) → Rest size g t due from → ⊥
+    gap-no : (Zero t from (placeOf due) → ⊥) → Rest size g t due from → ⊥
     gap-no n r = n (rest-line due from l r .0)
 
     line-no : (Standing g t due → ⊥) → Rest size g t due from → ⊥
     line-no n r = n (rest-line due from l r .1)
 
     -- over a line
-    leads-line : from ≡ 9 * placeOf due → Standing g t due → Leads size g t due from (next t due) (from + 9)
+    leads-line : from ≡ placeOf due → Standing g t due → Leads size g t due from (next t due) (from + 1)
     leads-line e s = record {
-      onward = λ r. subst (λ i. Rest size g t (next t due) (i + 9)) (sym e) (rest-line due from l r .2);
-      back = λ r. line (subst (λ i. Zero t i (9 * placeOf due)) (sym e) (zero-none t (9 * placeOf due))) s (subst (λ i. Rest size g t (next t due) (i + 9)) e r);
+      onward = λ r. subst (λ i. Rest size g t (next t due) (i + 1)) (sym e) (rest-line due from l r .2);
+      back = λ r. line (subst (λ i. Zero t i (placeOf due)) (sym e) (zero-none t (placeOf due))) s (subst (λ i. Rest size g t (next t due) (i + 1)) e r);
     }
 
   -- ---- what a function answers
@@ -104,12 +104,12 @@ module _ (size : ℕ) (g t : List ℕ) where
         pub lines-no : not r ≡ true → Rest size g t first f → ⊥
         lines-no e x = line-no (kind i) at l (s .no (not-true r e)) (lines-at .onward x)
 
-        pub lines-next : not r ≡ false → at ≡ 9 * placeOf (kind i) → next t (kind i) ≡ cond (ltb (i + 1) n) (kind (i + 1)) after → (to : ℕ) → at + 9 ≡ to
+        pub lines-next : not r ≡ false → at ≡ placeOf (kind i) → next t (kind i) ≡ cond (ltb (i + 1) n) (kind (i + 1)) after → (to : ℕ) → at + 1 ≡ to
             → Leads size g t first f (cond (ltb (i + 1) n) (kind (i + 1)) after) to
         lines-next e place then to end =
             leads-on first (kind i) _ f at to lines-at
             (subst (λ (k : ℕ). Leads size g t (kind i) at (cond (ltb (i + 1) n) (kind (i + 1)) after) k) end
-            (subst (λ (d : Due). Leads size g t (kind i) at d (at + 9)) then (leads-line (kind i) at l place (s .yes (not-false r e)))))
+            (subst (λ (d : Due). Leads size g t (kind i) at d (at + 1)) then (leads-line (kind i) at l place (s .yes (not-false r e)))))
 
 -- ---- what is due next, by a count that stands in the table
 count-min : (n w most : ℕ) → Count n w most → min most w ≡ n
@@ -136,9 +136,9 @@ module _ (t : List ℕ) (n : ℕ) where
   next-graph-edge e c = rw (count-min n (graphEdges t) 64 c)
 
 -- ---- the counts of a line that stands
-own-word : (g t : List ℕ) (due : Due) (j : ℕ) → j < fieldsDue g t t due → getD (storedFields g t t due) j 0 ≡ word t (placeOf due) j
+own-field : (g t : List ℕ) (due : Due) (j : ℕ) → j < fieldsDue g t t due → getD (storedFields g t t due) j 0 ≡ fieldAt t (placeOf due) j
 unfolding storedFields
-own-word g t due j h = getD-tabulate (fieldsDue g t t due) (λ k. word t (placeOf due) k) j 0 h
+own-field g t due j h = getD-tabulate (fieldsDue g t t due) (λ k. fieldAt t (placeOf due) k) j 0 h
 
 count-of : (n w x low most : ℕ) → n ≡ w → x ≡ w → Between (suc low) x most → Count n w most
 count-of n w x low most e same b = record { same = e; some = omega (arith, b .lower); few = omega (arith, b .upper) }
@@ -147,64 +147,64 @@ module _ (t : List ℕ) (n : ℕ) where
   module _ (s : Standing [] t Grammar) where
     pub symbols-few : n ≡ symbolCount t → Count n (symbolCount t) 64
     unfolding judge placeOf fieldsDue
-    symbols-few e = count-of n _ _ 0 64 e (own-word [] t Grammar 0 (omega arith)) (passes-grammar (storedFields [] t t Grammar) .sound (s .passed) .symbols)
+    symbols-few e = count-of n _ _ 0 64 e (own-field [] t Grammar 0 (omega arith)) (passes-grammar (storedFields [] t t Grammar) .sound (s .passed) .symbols)
 
     pub rules-few : n ≡ ruleCount t → Count n (ruleCount t) 64
     unfolding judge placeOf fieldsDue
-    rules-few e = count-of n _ _ 0 64 e (own-word [] t Grammar 1 (omega arith)) (passes-grammar (storedFields [] t t Grammar) .sound (s .passed) .rules)
+    rules-few e = count-of n _ _ 0 64 e (own-field [] t Grammar 1 (omega arith)) (passes-grammar (storedFields [] t t Grammar) .sound (s .passed) .rules)
 
   module _ (r : ℕ) (s : Standing [] t (Rule r)) where
     pub edges-few : n ≡ ruleEdges t r → Count n (ruleEdges t r) 8
     unfolding judge placeOf fieldsDue
-    edges-few e = count-of n _ _ 0 8 e (own-word [] t (Rule r) 3 (omega arith)) (passes-rule t r (storedFields [] t t (Rule r)) .sound (s .passed) .edges)
+    edges-few e = count-of n _ _ 0 8 e (own-field [] t (Rule r) 3 (omega arith)) (passes-rule t r (storedFields [] t t (Rule r)) .sound (s .passed) .edges)
 
     pub plan-few : n ≡ rulePlan t r → Count n (rulePlan t r) 16
     unfolding judge placeOf fieldsDue
-    plan-few e = count-of n _ _ 1 16 e (own-word [] t (Rule r) 4 (omega arith)) (passes-rule t r (storedFields [] t t (Rule r)) .sound (s .passed) .plan)
+    plan-few e = count-of n _ _ 1 16 e (own-field [] t (Rule r) 4 (omega arith)) (passes-rule t r (storedFields [] t t (Rule r)) .sound (s .passed) .plan)
 
   pub graph-edges-few : (g : List ℕ) → Standing g t Graph → n ≡ graphEdges t → Count n (graphEdges t) 64
   unfolding judge placeOf fieldsDue
-  graph-edges-few g s e = count-of n _ _ 0 64 e (own-word g t Graph 1 (omega arith)) (passes-graph g (storedFields g t t Graph) .sound (s .passed) .edges)
+  graph-edges-few g s e = count-of n _ _ 0 64 e (own-field g t Graph 1 (omega arith)) (passes-graph g (storedFields g t t Graph) .sound (s .passed) .edges)
 
 -- ---- the lines of a rule
 module _ (size : ℕ) (t : List ℕ) (r : ℕ) (b : Bool) (s : Stands [] t (Rule r) b) (then : Due) (end : ℕ) where
-  pub rule-no : not b ≡ true → Reaches size [] t (Rule r) (9 * (65 + 25 * r)) then end false
+  pub rule-no : not b ≡ true → Reaches size [] t (Rule r) (65 + 25 * r) then end false
   rule-no e = reaches-no size [] t (Rule r) then _ end (line-no size [] t (Rule r) _ tt (s .no (not-true b e)))
 
-  module _ (ok : not b ≡ false) (n : ℕ) (e : Bool) (E : Reaches size [] t (RuleEdge r 0) (9 * (66 + 25 * r)) (PlanLine r 0) (9 * (66 + 25 * r + n)) e) where
-    to-edges : Leads size [] t (Rule r) (9 * (65 + 25 * r)) (RuleEdge r 0) (9 * (66 + 25 * r))
+  module _ (ok : not b ≡ false) (n : ℕ) (e : Bool) (E : Reaches size [] t (RuleEdge r 0) (66 + 25 * r) (PlanLine r 0) (66 + 25 * r + n) e) where
+    to-edges : Leads size [] t (Rule r) (65 + 25 * r) (RuleEdge r 0) (66 + 25 * r)
     unfolding next placeOf
     to-edges =
-        subst (Leads size [] t (Rule r) (9 * (65 + 25 * r)) (RuleEdge r 0)) (let x : 9 * (65 + 25 * r) + 9 ≡ 9 * (66 + 25 * r) = omega arith in x)
-        (leads-line size [] t (Rule r) (9 * (65 + 25 * r)) tt refl (s .yes (not-false b ok)))
+        subst (Leads size [] t (Rule r) (65 + 25 * r) (RuleEdge r 0)) (let x : 65 + 25 * r + 1 ≡ 66 + 25 * r = omega arith in x)
+        (leads-line size [] t (Rule r) (65 + 25 * r) tt refl (s .yes (not-false b ok)))
 
-    pub rule-edges-no : not e ≡ true → Reaches size [] t (Rule r) (9 * (65 + 25 * r)) then end false
+    pub rule-edges-no : not e ≡ true → Reaches size [] t (Rule r) (65 + 25 * r) then end false
     rule-edges-no h = reaches-no size [] t (Rule r) then _ end (through-no size [] t (Rule r) (RuleEdge r 0) _ _ to-edges e _ _ E h)
 
-    module _ (passed : not e ≡ false) (z : Bool) (zs : Zeros t (9 * (66 + 25 * r + n)) (9 * (74 + 25 * r)) z) where
-      to-gap : Leads size [] t (Rule r) (9 * (65 + 25 * r)) (PlanLine r 0) (9 * (66 + 25 * r + n))
+    module _ (passed : not e ≡ false) (z : Bool) (zs : Zeros t (66 + 25 * r + n) (74 + 25 * r) z) where
+      to-gap : Leads size [] t (Rule r) (65 + 25 * r) (PlanLine r 0) (66 + 25 * r + n)
       to-gap = through size [] t (Rule r) (RuleEdge r 0) _ _ to-edges e _ _ E passed
 
-      here : 9 * (74 + 25 * r) ≡ 9 * placeOf (PlanLine r 0)
+      here : 74 + 25 * r ≡ placeOf (PlanLine r 0)
       unfolding placeOf
       here = omega arith
 
-      pub rule-gap-no : not z ≡ true → Reaches size [] t (Rule r) (9 * (65 + 25 * r)) then end false
+      pub rule-gap-no : not z ≡ true → Reaches size [] t (Rule r) (65 + 25 * r) then end false
       rule-gap-no h =
           reaches-no size [] t (Rule r) then _ end
-          (λ x. gap-no size [] t (PlanLine r 0) _ tt (λ q. zs .no (not-true z h) (subst (Zero t (9 * (66 + 25 * r + n))) (sym here) q)) (to-gap .onward x))
+          (λ x. gap-no size [] t (PlanLine r 0) _ tt (λ q. zs .no (not-true z h) (subst (Zero t (66 + 25 * r + n)) (sym here) q)) (to-gap .onward x))
 
-      pub rule-plan : not z ≡ false → (to : ℕ) → to ≡ end → (p : Bool) → Reaches size [] t (PlanLine r 0) (9 * (74 + 25 * r)) then to p
-          → Reaches size [] t (Rule r) (9 * (65 + 25 * r)) then end p
+      pub rule-plan : not z ≡ false → (to : ℕ) → to ≡ end → (p : Bool) → Reaches size [] t (PlanLine r 0) (74 + 25 * r) then to p
+          → Reaches size [] t (Rule r) (65 + 25 * r) then end p
       rule-plan h to x p plan =
-          let over = leads-gap size [] t (PlanLine r 0) (9 * (66 + 25 * r + n)) tt (subst (Zero t (9 * (66 + 25 * r + n))) here (zs .yes (not-false z h))) in
-          reaches-on size [] t (Rule r) (PlanLine r 0) _ (9 * (74 + 25 * r))
-          (leads-on size [] t (Rule r) (PlanLine r 0) (PlanLine r 0) _ _ _ to-gap (subst (Leads size [] t (PlanLine r 0) (9 * (66 + 25 * r + n)) (PlanLine r 0)) (sym here) over))
-          p then end (subst (λ (k : ℕ). Reaches size [] t (PlanLine r 0) (9 * (74 + 25 * r)) then k p) x plan)
+          let over = leads-gap size [] t (PlanLine r 0) (66 + 25 * r + n) tt (subst (Zero t (66 + 25 * r + n)) here (zs .yes (not-false z h))) in
+          reaches-on size [] t (Rule r) (PlanLine r 0) _ (74 + 25 * r)
+          (leads-on size [] t (Rule r) (PlanLine r 0) (PlanLine r 0) _ _ _ to-gap (subst (Leads size [] t (PlanLine r 0) (66 + 25 * r + n) (PlanLine r 0)) (sym here) over))
+          p then end (subst (λ (k : ℕ). Reaches size [] t (PlanLine r 0) (74 + 25 * r) then k p) x plan)
 
 -- ---- rule after rule
 module _ (size : ℕ) (t : List ℕ) (first : Due) (f n r from : ℕ) (p : Leads size [] t first f (cond (ltb r n) (Rule r) Nothing) from) (h : r < n)
-    (z : Bool) (zs : Zeros t from (9 * (65 + 25 * r)) z) where
+    (z : Bool) (zs : Zeros t from (65 + 25 * r) z) where
   before : Leads size [] t first f (Rule r) from
   before = lines-at size [] t first f Rule Nothing n r from p h
 
@@ -212,8 +212,8 @@ module _ (size : ℕ) (t : List ℕ) (first : Due) (f n r from : ℕ) (p : Leads
   unfolding placeOf
   rules-gap-no e = concludes-no size [] t first f (λ x. gap-no size [] t (Rule r) from tt (zs .no (not-true z e)) (before .onward x))
 
-  module _ (ok : not z ≡ false) (b : Bool) (end : ℕ) (R : Reaches size [] t (Rule r) (9 * (65 + 25 * r)) (ruleAfter t r) end b) where
-    here-rule : Leads size [] t first f (Rule r) (9 * (65 + 25 * r))
+  module _ (ok : not z ≡ false) (b : Bool) (end : ℕ) (R : Reaches size [] t (Rule r) (65 + 25 * r) (ruleAfter t r) end b) where
+    here-rule : Leads size [] t first f (Rule r) (65 + 25 * r)
     unfolding placeOf
     here-rule = leads-on size [] t first (Rule r) (Rule r) f from _ before (leads-gap size [] t (Rule r) from tt (zs .yes (not-false z ok)))
 
@@ -230,13 +230,13 @@ module _ (size : ℕ) (g t : List ℕ) (b : Bool) where
   pub grammar-no : Stands g t Grammar b → not b ≡ true → Concludes size g t Grammar 0 false
   grammar-no s e = concludes-no size g t Grammar 0 (line-no size g t Grammar 0 tt (s .no (not-true b e)))
 
-  pub grammar-line : Stands g t Grammar b → not b ≡ false → Leads size g t Grammar 0 (Symbol 0) 9
+  pub grammar-line : Stands g t Grammar b → not b ≡ false → Leads size g t Grammar 0 (Symbol 0) 1
   unfolding next placeOf
   grammar-line s e = leads-line size g t Grammar 0 tt refl (s .yes (not-false b e))
 
   pub graph-no : Stands g t Graph b → not b ≡ true → Concludes size g t Graph 0 false
   graph-no s e = concludes-no size g t Graph 0 (line-no size g t Graph 0 tt (s .no (not-true b e)))
 
-  pub graph-line : Stands g t Graph b → not b ≡ false → Leads size g t Graph 0 (GraphEdge 0) 9
+  pub graph-line : Stands g t Graph b → not b ≡ false → Leads size g t Graph 0 (GraphEdge 0) 1
   unfolding next placeOf
   graph-line s e = leads-line size g t Graph 0 tt refl (s .yes (not-false b e))

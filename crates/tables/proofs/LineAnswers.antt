@@ -6,7 +6,7 @@ use mathlib.Core.Bool.{Bool, true, not, _&&_, _||_}
 use lib.ListN.{length, getD, drop}
 use lib.Dec.{eqb, ltb, leb}
 use borrow.Author.Tests.{le-leb, lt-leb}
-use Rattle.questions.specs.Layout.{symbolCount, startSymbol, kindWord, rankAt, ruleNodes, ruleEdges, rulePlan, graphNodes, graphEdges}
+use Rattle.questions.specs.Layout.{symbolCount, startSymbol, kindField, rankAt, ruleNodes, ruleEdges, rulePlan, graphNodes, graphEdges}
 use Rattle.questions.specs.Questions.{ask, listed, covered, planSoFar, planWhole, nodesOnEdges, nodesOnGraph, judgeGrammar, judgeSymbol, judgeRule, judgeRuleEdge, judgePlan, judgeGraph, judgeGraphEdge}
 use Rattle.tables.proofs.Asking.{Asked, EdgeAsked}
 
@@ -35,7 +35,7 @@ ruleFixed n r number symbol symbols kind nodes edges plan =
 
 pub rule-asked : (g fs : List ℕ) (r number symbol nodes edges plan symbols kind : ℕ)
     → number ≡ getD fs 0 0 → symbol ≡ getD fs 1 0 → nodes ≡ getD fs 2 0 → edges ≡ getD fs 3 0 → plan ≡ getD fs 4 0
-    → symbols ≡ symbolCount g → kind ≡ kindWord g symbol
+    → symbols ≡ symbolCount g → kind ≡ kindField g symbol
     → Asked (ruleFixed (length fs) r number symbol symbols kind nodes edges plan) (length fs) 5 (rankAt g symbol) (listed nodes (drop 5 fs)) 0 (judgeRule g r fs)
 unfolding judgeRule
 rule-asked g fs r number symbol nodes edges plan symbols kind e0 e1 e2 e3 e4 known kinds =
@@ -56,7 +56,7 @@ unfolding judgeGraph
 graph-asked g fs nodes edges e0 e1 = record { so = simp (← e0, ← e1) }
 
 pub graph-edge-asked : (g h fs : List ℕ) (e label symbols kind : ℕ)
-    → label ≡ getD fs 0 0 → symbols ≡ symbolCount g → kind ≡ kindWord g label
+    → label ≡ getD fs 0 0 → symbols ≡ symbolCount g → kind ≡ kindField g label
     → EdgeAsked (leb 1 (length fs) && ltb label symbols && eqb kind 0) (length fs) 1 (rankAt g label) (listed (graphNodes h) (drop 1 fs)) (e + 1) (graphEdges h)
     (covered (graphNodes h) (nodesOnGraph g h e ++ drop 1 fs)) (judgeGraphEdge g h e fs)
 unfolding judgeGraphEdge

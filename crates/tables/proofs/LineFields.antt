@@ -1,44 +1,59 @@
 -- The line that is due, judged where it stands in a table.
-use Prim.Native.Nat.{ℕ, _+_, _-_, _*_, _≤_}
+use Prim.Native.Nat.{ℕ, _+_, _-_, _≤_, _<_}
 use native.Mathlib.Omega.{arith}
-use mathlib.Core.Path.{_≡_, sym, ap, _∙_, subst}
-use mathlib.Core.Bool.{Bool, false, false≢true}
+use native.Mathlib.Decide.{decLt}
+use mathlib.Core.Path.{_≡_, sym, ap, ap₂, _∙_}
+use mathlib.Core.Bool.{Bool, true, false, false≢true}
 use mathlib.Core.List.{List}
-use lib.ListN.{length, getD, take, drop, length-take, length-drop}
-use lib.Seq.{getD-take, getD-drop, ext-getD}
+use lib.ListN.{length, getD, take, drop, set}
+use lib.Seq.{getD-take, getD-set-same, getD-set-other, ext-getD, length-take-le}
+use lib.Dec.{eqb}
+use borrow.Author.Tests.{eqb-true, eqb-false}
 use Rattle.hrg.specs.Counts.{tabulate}
 use Rattle.hrg.proofs.Sums.{length-tabulate}
 use Rattle.questions.specs.declared.Due.{Due}
-use Rattle.questions.specs.Layout.{placeOf, word}
+use Rattle.questions.specs.Layout.{placeOf, fieldAt}
 use Rattle.questions.specs.Questions.{judge}
 use Rattle.questions.specs.Checking.{fieldsDue, storedFields}
-use Rattle.questions.specs.Walk.{Room}
 use Rattle.questions.proofs.StoredLaws.{getD-tabulate}
-use Rattle.questions.proofs.WellFormedWalk.{room-place}
-use Rattle.tables.specs.Concluding.{Zeros, Stands}
+use Rattle.tables.specs.Concluding.{behind, Stands}
 
--- n words from a line's place on
-part-words : (t : List ℕ) (p n m : ℕ) → 9 * p + n ≤ length t → m ≡ n → take m (drop (9 * p) t) ≡ tabulate n (λ j. word t p j)
-unfolding word
-part-words t p n m h e =
-    ext-getD 0 (take m (drop (9 * p) t)) (tabulate n (λ j. getD t (9 * p + j) 0)) (size ∙ sym (length-tabulate n (λ j. getD t (9 * p + j) 0)))
-    λ k d.
-    getD-take m (drop (9 * p) t) k 0 (omega (arith, size)) ∙ getD-drop (9 * p) t k 0 ∙ sym (getD-tabulate n (λ j. getD t (9 * p + j) 0) k 0 (omega (arith, size)))
-  where
-    size : length (take m (drop (9 * p) t)) ≡ n
-    size = omega (arith, length-take m (drop (9 * p) t), length-drop (9 * p) t)
+-- ---- whether a line's word ends with its fields
+module _ (t : List ℕ) (p n : ℕ) (z : Bool) (e : z ≡ eqb (behind t p n) 0) where
+  pub ends-yes : z ≡ true → behind t p n ≡ 0
+  ends-yes y = eqb-true (behind t p n) 0 (sym e ∙ y)
 
--- the end of a line from word 0 on
-pub first-line : (n m : ℕ) → n ≡ m → n ≡ 0 + m
-first-line n m e = omega arith
+  pub ends-no : z ≡ false → behind t p n ≡ 0 → ⊥
+  ends-no y = eqb-false (behind t p n) 0 (sym e ∙ y)
 
-module _ (g t : List ℕ) (due : Due) (room : Room (length t) due) (at end : ℕ) (place : at ≡ 9 * placeOf due) (count : end ≡ at + fieldsDue g t t due) (few : end ≤ at + 9)
-    (k : ℕ) (e : k ≡ judge g t due (take (end - at) (drop at t))) where
-  fields : take (end - at) (drop at t) ≡ storedFields g t t due
+-- ---- its fields, put into f one by one
+abbrev pub Holds : List ℕ → ℕ → List ℕ → ℕ → Type 0
+Holds t p f k = (j : ℕ) → j < k → getD f j 0 ≡ fieldAt t p j
+
+module _ (t : List ℕ) (p : ℕ) (f : List ℕ) (k : ℕ) (H : Holds t p f k) where
+  pub holds-next : k < length f → (x : ℕ) → x ≡ fieldAt t p k → Holds t p (set f k x) (k + 1)
+  holds-next l x e j b = go (decLt j k)
+    where
+      go : Dec (j < k) → getD (set f k x) j 0 ≡ fieldAt t p j
+      go (yes d) = getD-set-other f k j x 0 (λ z. omega arith) ∙ H j d
+      go (no d) =
+          let same : j ≡ k = omega arith in
+          ap (λ i. getD (set f k x) i 0) same ∙ getD-set-same f k x 0 l ∙ e ∙ ap (fieldAt t p) (sym same)
+
+  pub holds-done : (n : ℕ) → n ≤ k → n ≤ length f → take n f ≡ tabulate n (λ j. fieldAt t p j)
+  holds-done n b l =
+      let long = length-tabulate n (λ j. fieldAt t p j) in
+      ext-getD 0 (take n f) (tabulate n (λ j. fieldAt t p j)) (length-take-le n f l ∙ sym long)
+      λ j d.
+      getD-take n f j 0 (omega (arith, length-take-le n f l)) ∙ H j (omega (arith, length-take-le n f l))
+      ∙ sym (getD-tabulate n (λ j. fieldAt t p j) j 0 (omega (arith, length-take-le n f l)))
+
+-- ---- and judged
+module _ (g t : List ℕ) (due : Due) (p n : ℕ) (place : p ≡ placeOf due) (count : n ≡ fieldsDue g t t due) (fs : List ℕ) (own : fs ≡ tabulate n (λ j. fieldAt t p j))
+    (k : ℕ) (e : k ≡ judge g t due fs) where
+  fields : fs ≡ storedFields g t t due
   unfolding storedFields
-  fields =
-      ap (λ i. take (end - at) (drop i t)) place
-      ∙ part-words t (placeOf due) (fieldsDue g t t due) (end - at) (omega (arith, room-place (length t) due room)) (omega arith)
+  fields = own ∙ ap₂ (λ m q. tabulate m (λ j. fieldAt t q j)) count place
 
   judged : k ≡ judge g t due (storedFields g t t due)
   judged = e ∙ ap (judge g t due) fields
@@ -46,7 +61,23 @@ module _ (g t : List ℕ) (due : Due) (room : Room (length t) due) (at end : ℕ
   pub stands-no : (k ≡ 0 → ⊥) → Stands g t due false
   stands-no h = record { yes = λ y. absurd (false≢true y); no = λ y s. h (judged ∙ s .passed) }
 
-  pub stands-rest : k ≡ 0 → (b : Bool) → Zeros t end (at + 9) b → Stands g t due b
-  stands-rest h b zs =
-      let here = subst (λ i. Zeros t (i + fieldsDue g t t due) (i + 9) b) place (subst (λ m. Zeros t m (at + 9) b) count zs) in
-      record { yes = λ y. record { passed = sym judged ∙ h; rest = here .yes y }; no = λ y s. here .no y (s .rest) }
+  pub stands-rest : k ≡ 0 → (b : Bool) → b ≡ eqb (behind t p n) 0 → Stands g t due b
+  stands-rest h b z = record {
+    yes = λ y. record { passed = sym judged ∙ h; rest = sym there ∙ ends-yes t p n b z y };
+    no = λ y s. ends-no t p n b z y (there ∙ s .rest);
+  }
+    where
+      there : behind t p n ≡ behind t (placeOf due) (fieldsDue g t t due)
+      there = ap₂ (behind t) place count
+
+-- the same where their number is not known beforehand
+module _ (g t : List ℕ) (due : Due) (p n : ℕ) (place : p ≡ placeOf due) (count : n ≡ fieldsDue g t t due) (f : List ℕ) (own : take n f ≡ tabulate n (λ j. fieldAt t p j))
+    (k : ℕ) (e : k ≡ judge g t due (take (n - 0) (drop 0 f))) where
+  part : take (n - 0) (drop 0 f) ≡ tabulate n (λ j. fieldAt t p j)
+  part = ap (λ m. take m f) (let s : n - 0 ≡ n = omega arith in s) ∙ own
+
+  pub part-no : (k ≡ 0 → ⊥) → Stands g t due false
+  part-no = stands-no g t due p n place count (take (n - 0) (drop 0 f)) part k e
+
+  pub part-rest : k ≡ 0 → (b : Bool) → b ≡ eqb (behind t p n) 0 → Stands g t due b
+  part-rest = stands-rest g t due p n place count (take (n - 0) (drop 0 f)) part k e

@@ -21,12 +21,12 @@ use Rattle.tables.specs.Marks.{marked, marks}
 use Rattle.tables.specs.Plans.{PlanRoom, Marked}
 use Rattle.tables.proofs.Covering.{marked-by, marks-append, marks-covered, covered-by}
 
--- ---- the words of plan lines
+-- ---- the places of plan lines
 pub room-lines : (n : ℕ) (due : Due) (r q : ℕ) → Room n due → due ≡ PlanLine r q → Room n (PlanLine r q)
 room-lines n due r q h e = subst (Room n) e h
 
-pub plan-inside : (g : List ℕ) (r n q k : ℕ) → PlanRoom g r n → q < n → k < 9 → 9 * (74 + 25 * r + q) + k < length g
-plan-inside g r n q k p h l = omega (arith, p .long, p .rule, p .lines)
+pub plan-inside : (g : List ℕ) (r n q k : ℕ) → PlanRoom g r n → q < n → k < 9 → (74 + 25 * r + q < length g) × (k ≤ 8)
+plan-inside g r n q k p h l = (omega (arith, p .long, p .rule, p .lines), omega arith)
 
 pub hit-yes : (a b : ℕ) → a ≡ b → 1 ≡ hit a b
 hit-yes a b e = rw e (sym (hit-self b))

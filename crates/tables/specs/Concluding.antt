@@ -3,7 +3,7 @@ use mathlib.Core.Path.{_≡_}
 use mathlib.Core.Logic.{_⊎_}
 use mathlib.Core.Bool.{Bool, true, false, cond}
 use mathlib.Core.List.{List}
-use Prim.Native.Nat.{ℕ, _+_, _*_, _≤_, _<_, min}
+use Prim.Native.Nat.{ℕ, _+_, _*_, _/_, _^_, _≤_, _<_, min}
 use lib.Bits.{bitOr}
 use lib.ListN.{getD, drop}
 use lib.Dec.{ltb}
@@ -36,27 +36,31 @@ eightFrom t i any =
     (bitOr (bitOr (bitOr (bitOr any (getD t i 0)) (getD t (i + 1) 0)) (getD t (i + 2) 0)) (getD t (i + 3) 0))
     (getD t (i + 4) 0)) (getD t (i + 5) 0)) (getD t (i + 6) 0)) (getD t (i + 7) 0)
 
--- the line that is due stands in t: it passes, and the words behind its fields are 0
+-- what the word of the line at place p has behind its first n fields
+unfoldable pub behind : List ℕ → ℕ → ℕ → ℕ
+behind t p n = getD t p 0 / 2 ^ (7 * n)
+
+-- the line that is due stands in t: it passes, and there is nothing behind its fields
 pub record Standing (g t : List ℕ) (due : Due) : Type 0 where
   pub passed : judge g t due (storedFields g t t due) ≡ 0
-  pub rest : Zero t (9 * placeOf due + fieldsDue g t t due) (9 * placeOf due + 9)
+  pub rest : behind t (placeOf due) (fieldsDue g t t due) ≡ 0
 
 -- r says whether it does
 pub record Stands (g t : List ℕ) (due : Due) (r : Bool) : Type 0 where
   pub yes : r ≡ true → Standing g t due
   pub no : r ≡ false → Standing g t due → ⊥
 
--- ok says whether the n nodes of the line at place p are in range and distinct, and the words behind them are 0; then `seen` is their set
+-- ok says whether the n nodes of the line at place p are in range and distinct, with nothing behind them; then `seen` is their set
 pub record Attached (nodes : ℕ) (t : List ℕ) (p n : ℕ) (ok : Bool) (seen : ℕ) : Type 0 where
   pub kept : ok ≡ true → listed nodes (nodesAt t p n) ≡ true
-  pub rest : ok ≡ true → Zero t (9 * p + (1 + n)) (9 * p + 9)
+  pub rest : ok ≡ true → behind t p (1 + n) ≡ 0
   pub set : ok ≡ true → seen ≡ marks 0 (nodesAt t p n)
-  pub no : ok ≡ false → listed nodes (nodesAt t p n) ≡ true → Zero t (9 * p + (1 + n)) (9 * p + 9) → ⊥
+  pub no : ok ≡ false → listed nodes (nodesAt t p n) ≡ true → behind t p (1 + n) ≡ 0 → ⊥
 
 -- the line that is due, an edge's, stands in t but for question 6, which the last one answers for all edges
 pub record Nearly (g t : List ℕ) (due : Due) : Type 0 where
   pub passed : (judge g t due (storedFields g t t due) ≡ 0) ⊎ (judge g t due (storedFields g t t due) ≡ 6)
-  pub rest : Zero t (9 * placeOf due + fieldsDue g t t due) (9 * placeOf due + 9)
+  pub rest : behind t (placeOf due) (fieldsDue g t t due) ≡ 0
 
 -- ok says whether it does; then `seen` is the set of its nodes
 pub record NearlyStands (g t : List ℕ) (due : Due) (ok : Bool) (seen : ℕ) : Type 0 where
@@ -67,7 +71,7 @@ pub record NearlyStands (g t : List ℕ) (due : Due) (ok : Bool) (seen : ℕ) : 
 -- From `due` on the lines stand in t one after the other, and the words between them, from `from` on as far as `size`, are 0.
 pub data Rest (size : ℕ) (g t : List ℕ) : Due → ℕ → Type 0 where
   last : {from : ℕ} → Zero t from size → Rest size g t Nothing from
-  line : {due : Due} {from : ℕ} → Zero t from (9 * placeOf due) → Standing g t due → Rest size g t (next t due) (9 * placeOf due + 9) → Rest size g t due from
+  line : {due : Due} {from : ℕ} → Zero t from (placeOf due) → Standing g t due → Rest size g t (next t due) (placeOf due + 1) → Rest size g t due from
 
 -- r says whether it is so
 pub record Concludes (size : ℕ) (g t : List ℕ) (due : Due) (from : ℕ) (r : Bool) : Type 0 where

@@ -2,13 +2,15 @@
 ghost use mathlib.Core.Path.{_≡_};
 ghost use mathlib.Core.Bool.{true};
 ghost use mathlib.Core.List.{[]};
-ghost use Prim.Native.Nat.{_+_, _*_, _≤_, min};
-ghost use lib.ListN.{length};
+ghost use Prim.Native.Nat.{_+_, _*_, _≤_, _<_, min};
+ghost use lib.ListN.{length, take};
+ghost use lib.Dec.{eqb};
+ghost use Rattle.hrg.specs.Counts.{tabulate};
 ghost use Rattle.questions.specs.declared.Due.the-variants.{Grammar, Symbol, Rule, RuleEdge, PlanLine, Graph, GraphEdge};
-ghost use Rattle.questions.specs.Layout.{grammarWords, graphWords, symbolCount, ruleCount, ruleNodes, ruleEdges, rulePlan, graphNodes, graphEdges};
+ghost use Rattle.questions.specs.Layout.{grammarWords, graphWords, fieldAt, symbolCount, ruleCount, ruleNodes, ruleEdges, rulePlan, graphNodes, graphEdges};
 ghost use Rattle.questions.specs.Walk.{Room};
 ghost use Rattle.questions.specs.Checking.{checkGrammar, checkGraph};
-ghost use Rattle.tables.specs.Concluding.{Zeros, Gathered, eightFrom, Stands, Attached, NearlyStands, Count, ruleAfter, Reaches, Concludes};
+ghost use Rattle.tables.specs.Concluding.{Zeros, Gathered, eightFrom, behind, Stands, Attached, NearlyStands, Count, ruleAfter, Reaches, Concludes};
 use crate::judging;
 use crate::marks;
 use crate::marks::NodeSet;
@@ -72,34 +74,50 @@ fn zeros(t: &[u64], a: u64, b: u64) -> bool
     few_zeros(t, a + 32 * n, b)
 }
 
-// The same for the six words behind the fields of a line with three, which stands from word `at` on.
-fn six_zeros(t: &[u64], at: usize) -> bool
-    requires { ⌜ at + 9 ≤ length (now t) ⌝ }
-    ensures { λ x. ⌜ Zeros (now (t .entry)) (at + 3) (at + 9) x ⌝ }
+// ---- a line's word
+// Whether it has nothing behind its first n fields.
+fn ends(t: &[u64], p: u64, n: u64) -> bool
+    requires { ⌜ (p < length (now t)) × (n ≤ 9) ⌝ }
+    ensures { λ x. ⌜ x ≡ eqb (behind (now (t .entry)) p n) 0 ⌝ }
 {
-    t[at + 3] | t[at + 4] | t[at + 5] | t[at + 6] | t[at + 7] | t[at + 8] == 0
+    t[p as usize] >> (7 * n) == 0
 }
 
-// ---- a line, one function for each kind: whether it passes where it stands in t, and the words behind its fields are 0
+// Its first n fields, put into f.
+fn fields_into(t: &[u64], p: u64, n: u64, f: &mut [u64])
+    requires { ⌜ (p < length (now t)) × (n ≤ 9) × (length (now f) ≡ 9) ⌝ }
+    ensures { λ x. ⌜ take n (now (f .exit)) ≡ tabulate n (λ j. fieldAt (now (t .entry)) p j) ⌝ }
+{
+    let mut k: u64 = 0;
+    while k < n {
+        f[k as usize] = layout::field_in(t, p, k);
+        k += 1;
+    }
+}
+
+// ---- a line, one function for each kind: whether it passes where it stands in t, with nothing behind its fields
 fn grammar_stands(t: &[u64]) -> bool
     requires { ⌜ Room (length (now t)) Grammar ⌝ }
     ensures { λ x. ⌜ Stands [] (now (t .entry)) Grammar x ⌝ }
 {
-    if judging::judge_grammar(&t[0..3]) != 0 {
+    let mut f = [0u64; 9];
+    fields_into(t, 0, 3, &mut f);
+    if judging::judge_grammar(&f[0..3]) != 0 {
         return false;
     }
-    six_zeros(t, 0)
+    ends(t, 0, 3)
 }
 
 fn symbol_stands(t: &[u64], s: u64) -> bool
     requires { ⌜ Room (length (now t)) (Symbol s) ⌝ }
     ensures { λ x. ⌜ Stands [] (now (t .entry)) (Symbol s) x ⌝ }
 {
-    let at = (9 * (1 + s)) as usize;
-    if judging::judge_symbol(t, s, &t[at..at + 3]) != 0 {
+    let mut f = [0u64; 9];
+    fields_into(t, 1 + s, 3, &mut f);
+    if judging::judge_symbol(t, s, &f[0..3]) != 0 {
         return false;
     }
-    six_zeros(t, at)
+    ends(t, 1 + s, 3)
 }
 
 fn rule_stands(t: &[u64], r: u64) -> bool
@@ -107,59 +125,38 @@ fn rule_stands(t: &[u64], r: u64) -> bool
     ensures { λ x. ⌜ Stands [] (now (t .entry)) (Rule r) x ⌝ }
 {
     let p = 65 + 25 * r;
-    let at = 9 * p;
-    let end = at + (5 + layout::rank_at(t, layout::word_in(t, p, 1)));
-    if judging::judge_rule(t, r, &t[at as usize..end as usize]) != 0 {
+    let n = 5 + layout::rank_at(t, layout::field_in(t, p, 1));
+    let mut f = [0u64; 9];
+    fields_into(t, p, n, &mut f);
+    if judging::judge_rule(t, r, &f[0..n as usize]) != 0 {
         return false;
     }
-    few_zeros(t, end, at + 9)
+    ends(t, p, n)
 }
 
 fn graph_stands(g: &[u64], t: &[u64]) -> bool
     requires { ⌜ Room (length (now t)) Graph ⌝ }
     ensures { λ x. ⌜ Stands (now (g .entry)) (now (t .entry)) Graph x ⌝ }
 {
-    let end = 2 + layout::rank_at(g, layout::start_symbol(g));
-    if judging::judge_graph(g, &t[0..end as usize]) != 0 {
+    let n = 2 + layout::rank_at(g, layout::start_symbol(g));
+    let mut f = [0u64; 9];
+    fields_into(t, 0, n, &mut f);
+    if judging::judge_graph(g, &f[0..n as usize]) != 0 {
         return false;
     }
-    few_zeros(t, end, 9)
+    ends(t, 0, n)
 }
 
-// Whether the words behind the n nodes of an edge's line are 0: the line stands from word `at` on, and its last words, which no edge uses, are taken first.
-fn behind_nodes(t: &[u64], at: usize, n: u64) -> bool
-    requires { ⌜ (at + 9 ≤ length (now t)) × (n ≤ 4) ⌝ }
-    ensures { λ x. ⌜ Zeros (now (t .entry)) (at + (1 + n)) (at + 9) x ⌝ }
-{
-    let four = t[at + 5] | t[at + 6] | t[at + 7] | t[at + 8];
-    if n == 4 {
-        return four == 0;
-    }
-    let five = four | t[at + 4];
-    if n == 3 {
-        return five == 0;
-    }
-    let six = five | t[at + 3];
-    if n == 2 {
-        return six == 0;
-    }
-    let seven = six | t[at + 2];
-    if n == 1 {
-        return seven == 0;
-    }
-    seven | t[at + 1] == 0
-}
-
-// The n nodes of the edge's line at place p: whether they are in range and distinct, and the words behind them 0; then their set.
+// The n nodes of the edge's line at place p: whether they are in range and distinct, with nothing behind them; then their set.
 fn attached(t: &[u64], p: u64, n: u64, nodes: u64) -> NodeSet
-    requires { ⌜ (9 * p + 9 ≤ length (now t)) × (n ≤ 4) × (nodes ≤ 64) ⌝ }
+    requires { ⌜ (p < length (now t)) × (n ≤ 4) × (nodes ≤ 64) ⌝ }
     ensures { λ x. ⌜ Attached nodes (now (t .entry)) p n (x .ok) (x .seen) ⌝ }
 {
     let found = marks::distinct(t, p, n, nodes);
     if !found.ok {
         return found;
     }
-    if !behind_nodes(t, (9 * p) as usize, n) {
+    if !ends(t, p, 1 + n) {
         return NodeSet { ok: false, seen: 0 };
     }
     found
@@ -171,7 +168,7 @@ fn graph_edge_stands(g: &[u64], t: &[u64], e: u64, symbols: u64, nodes: u64) -> 
     ensures { λ x. ⌜ NearlyStands (now (g .entry)) (now (t .entry)) (GraphEdge e) (x .ok) (x .seen) ⌝ }
 {
     let p = 1 + e;
-    let label = layout::word_in(t, p, 0);
+    let label = layout::field_in(t, p, 0);
     let kind = layout::kind_of(g, label);
     let fixed = (label < symbols) & (kind == 0);
     if !fixed {
@@ -186,7 +183,7 @@ fn rule_edge_stands(t: &[u64], r: u64, i: u64, symbols: u64, nodes: u64) -> Node
     ensures { λ x. ⌜ NearlyStands [] (now (t .entry)) (RuleEdge r i) (x .ok) (x .seen) ⌝ }
 {
     let p = 66 + 25 * r + i;
-    let label = layout::word_in(t, p, 0);
+    let label = layout::field_in(t, p, 0);
     let rank = layout::rank_at(t, label);
     let fixed = (label < symbols) & (1 <= rank);
     if !fixed {
@@ -199,7 +196,7 @@ fn rule_edge_stands(t: &[u64], r: u64, i: u64, symbols: u64, nodes: u64) -> Node
 // The lines of the n symbols.
 fn check_symbols(t: &[u64], n: u64) -> bool
     requires { ⌜ Room (length (now t)) Grammar × Count n (symbolCount (now t)) 64 ⌝ }
-    ensures { λ x. ⌜ Reaches grammarWords [] (now (t .entry)) (Symbol 0) 9 (Rule 0) (9 * (1 + n)) x ⌝ }
+    ensures { λ x. ⌜ Reaches grammarWords [] (now (t .entry)) (Symbol 0) 1 (Rule 0) (1 + n) x ⌝ }
 {
     let mut s: u64 = 0;
     while s < n {
@@ -214,10 +211,10 @@ fn check_symbols(t: &[u64], n: u64) -> bool
 // The lines of the n edges of rule r; `mask` has the nodes on those passed.
 fn check_edges(t: &[u64], r: u64, n: u64) -> bool
     requires { ⌜ Room (length (now t)) (Rule r) × Count n (ruleEdges (now t) r) 8 ⌝ }
-    ensures { λ x. ⌜ Reaches grammarWords [] (now (t .entry)) (RuleEdge r 0) (9 * (66 + 25 * r)) (PlanLine r 0) (9 * (66 + 25 * r + n)) x ⌝ }
+    ensures { λ x. ⌜ Reaches grammarWords [] (now (t .entry)) (RuleEdge r 0) (66 + 25 * r) (PlanLine r 0) (66 + 25 * r + n) x ⌝ }
 {
-    let symbols = layout::word_in(t, 0, 0);
-    let nodes = layout::word_in(t, 65 + 25 * r, 2);
+    let symbols = layout::field_in(t, 0, 0);
+    let nodes = layout::field_in(t, 65 + 25 * r, 2);
     let top = layout::at_most(64, nodes);
     let mut mask: u64 = 0;
     let mut i: u64 = 0;
@@ -235,7 +232,7 @@ fn check_edges(t: &[u64], r: u64, n: u64) -> bool
 // The n plan lines of rule r, which has this many edges: what they name so far is carried as two sets, which must be whole at the end.
 fn check_plan(t: &[u64], r: u64, n: u64, edges: u64) -> bool
     requires { ⌜ Room (length (now t)) (Rule r) × Count n (rulePlan (now t) r) 16 × Count edges (ruleEdges (now t) r) 8 ⌝ }
-    ensures { λ x. ⌜ Reaches grammarWords [] (now (t .entry)) (PlanLine r 0) (9 * (74 + 25 * r)) (ruleAfter (now (t .entry)) r) (9 * (74 + 25 * r + n)) x ⌝ }
+    ensures { λ x. ⌜ Reaches grammarWords [] (now (t .entry)) (PlanLine r 0) (74 + 25 * r) (ruleAfter (now (t .entry)) r) (74 + 25 * r + n) x ⌝ }
 {
     let mut children: u64 = 0;
     let mut introduced: u64 = 0;
@@ -245,7 +242,7 @@ fn check_plan(t: &[u64], r: u64, n: u64, edges: u64) -> bool
         if !line.kept {
             return false;
         }
-        if !six_zeros(t, (9 * (74 + 25 * r + q)) as usize) {
+        if !ends(t, 74 + 25 * r + q, 3) {
             return false;
         }
         children = line.children;
@@ -258,65 +255,65 @@ fn check_plan(t: &[u64], r: u64, n: u64, edges: u64) -> bool
 // The lines of rule r, and the words between its edges and its plan.
 fn check_rule(t: &[u64], r: u64) -> bool
     requires { ⌜ Room (length (now t)) (Rule r) ⌝ }
-    ensures { λ x. ⌜ (x ≡ true → rulePlan (now (t .entry)) r ≤ 16) × Reaches grammarWords [] (now (t .entry)) (Rule r) (9 * (65 + 25 * r)) (ruleAfter (now (t .entry)) r) (9 * (74 + 25 * r + rulePlan (now (t .entry)) r)) x ⌝ }
+    ensures { λ x. ⌜ (x ≡ true → rulePlan (now (t .entry)) r ≤ 16) × Reaches grammarWords [] (now (t .entry)) (Rule r) (65 + 25 * r) (ruleAfter (now (t .entry)) r) (74 + 25 * r + rulePlan (now (t .entry)) r) x ⌝ }
 {
     if !rule_stands(t, r) {
         return false;
     }
-    let edges = layout::word_in(t, 65 + 25 * r, 3);
+    let edges = layout::field_in(t, 65 + 25 * r, 3);
     if !check_edges(t, r, edges) {
         return false;
     }
-    if !zeros(t, 9 * (66 + 25 * r + edges), 9 * (74 + 25 * r)) {
+    if !zeros(t, 66 + 25 * r + edges, 74 + 25 * r) {
         return false;
     }
-    check_plan(t, r, layout::word_in(t, 65 + 25 * r, 4), edges)
+    check_plan(t, r, layout::field_in(t, 65 + 25 * r, 4), edges)
 }
 
 // The n rules, the words before each from `first` on, and those behind the last.
 fn check_rules(t: &[u64], first: u64, n: u64) -> bool
-    requires { ⌜ Room (length (now t)) Grammar × Count n (ruleCount (now t)) 64 × (first ≤ 585) ⌝ }
+    requires { ⌜ Room (length (now t)) Grammar × Count n (ruleCount (now t)) 64 × (first ≤ 65) ⌝ }
     ensures { λ x. ⌜ Concludes grammarWords [] (now (t .entry)) (Rule 0) first x ⌝ }
 {
     let mut from = first;
     let mut r: u64 = 0;
     while r < n {
-        if !zeros(t, from, 9 * (65 + 25 * r)) {
+        if !zeros(t, from, 65 + 25 * r) {
             return false;
         }
         if !check_rule(t, r) {
             return false;
         }
-        from = 9 * (74 + 25 * r + layout::word_in(t, 65 + 25 * r, 4));
+        from = 74 + 25 * r + layout::field_in(t, 65 + 25 * r, 4);
         r += 1;
     }
-    zeros(t, from, 14985)
+    zeros(t, from, 1665)
 }
 
 // Could a grammar text have filled this table?
 pub fn check_grammar(t: &[u64]) -> bool
     ensures { λ x. ⌜ x ≡ checkGrammar (now (t .entry)) ⌝ }
 {
-    if t.len() < 14985 {
+    if t.len() < 1665 {
         return false;
     }
     if !grammar_stands(t) {
         return false;
     }
-    let symbols = layout::word_in(t, 0, 0);
+    let symbols = layout::field_in(t, 0, 0);
     if !check_symbols(t, symbols) {
         return false;
     }
-    check_rules(t, 9 * (1 + symbols), layout::word_in(t, 0, 1))
+    check_rules(t, 1 + symbols, layout::field_in(t, 0, 1))
 }
 
 // The lines of the n edges of a graph, and the words behind them; `mask` has the nodes on those passed.
 fn check_graph_edges(g: &[u64], t: &[u64], n: u64) -> bool
     requires { ⌜ Room (length (now t)) Graph × Count n (graphEdges (now t)) 64 ⌝ }
-    ensures { λ x. ⌜ Concludes graphWords (now (g .entry)) (now (t .entry)) (GraphEdge 0) 9 x ⌝ }
+    ensures { λ x. ⌜ Concludes graphWords (now (g .entry)) (now (t .entry)) (GraphEdge 0) 1 x ⌝ }
 {
     let symbols = layout::symbol_count(g);
-    let nodes = layout::word_in(t, 0, 0);
+    let nodes = layout::field_in(t, 0, 0);
     let top = layout::at_most(64, nodes);
     let mut mask: u64 = 0;
     let mut e: u64 = 0;
@@ -331,18 +328,18 @@ fn check_graph_edges(g: &[u64], t: &[u64], n: u64) -> bool
     if !marks::has_all(mask, nodes) {
         return false;
     }
-    zeros(t, 9 * (1 + n), 585)
+    zeros(t, 1 + n, 65)
 }
 
 // Could a graph text read with the grammar table g have filled this table?
 pub fn check_graph(g: &[u64], t: &[u64]) -> bool
     ensures { λ x. ⌜ x ≡ checkGraph (now (g .entry)) (now (t .entry)) ⌝ }
 {
-    if t.len() < 585 {
+    if t.len() < 65 {
         return false;
     }
     if !graph_stands(g, t) {
         return false;
     }
-    check_graph_edges(g, t, layout::word_in(t, 0, 1))
+    check_graph_edges(g, t, layout::field_in(t, 0, 1))
 }

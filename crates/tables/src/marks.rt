@@ -2,12 +2,12 @@
 ghost use mathlib.Core.Path.{_≡_};
 ghost use mathlib.Core.List.{_++_};
 ghost use mathlib.Core.Bool.{_&&_};
-ghost use Prim.Native.Nat.{_+_, _*_, _≤_, min};
+ghost use Prim.Native.Nat.{_+_, _≤_, _<_, min};
 ghost use lib.Dec.{leb, eqb};
 ghost use Rattle.masks.specs.Masks.{_∪_, full};
 ghost use lib.ListN.{drop, length};
 ghost use Rattle.hrg.specs.Counts.{tabulate};
-ghost use Rattle.questions.specs.Layout.{word, ruleNodes, graphNodes};
+ghost use Rattle.questions.specs.Layout.{fieldAt, ruleNodes, graphNodes};
 ghost use Rattle.questions.specs.Questions.{listed, covered, nodesOnEdges, nodesOnGraph};
 ghost use Rattle.tables.specs.Marks.{marks, nodesAt, Distinct};
 
@@ -39,15 +39,15 @@ pub(crate) struct NodeSet {
     pub(crate) seen: u64,
 }
 
-// The same of the words 1 to n of the line at place p, as nodes below `nodes`: each is tested once, and put into the set.
+// The same of the fields 1 to n of the line at place p, as nodes below `nodes`: each is tested once, and put into the set.
 pub(crate) fn distinct(t: &[u64], p: u64, n: u64, nodes: u64) -> NodeSet
-    requires { ⌜ (9 * p + (1 + n) ≤ length (now t)) × (nodes ≤ 64) ⌝ }
+    requires { ⌜ (p < length (now t)) × (n ≤ 4) × (nodes ≤ 64) ⌝ }
     ensures { λ x. ⌜ Distinct nodes (nodesAt (now (t .entry)) p n) (x .ok) (x .seen) ⌝ }
 {
     let mut seen: u64 = 0;
     let mut k: u64 = 0;
     while k < n {
-        let x = layout::word_in(t, p, 1 + k);
+        let x = layout::field_in(t, p, 1 + k);
         if nodes <= x {
             return NodeSet { ok: false, seen };
         }
@@ -74,15 +74,15 @@ fn mark_fields(m: u64, f: &[u64], from: u64) -> u64
     mask
 }
 
-// m with the words 1 to n of the line at place p.
+// m with the fields 1 to n of the line at place p.
 fn mark_line(m: u64, t: &[u64], p: u64, n: u64) -> u64
     requires { ⌜ n ≤ 4 ⌝ }
-    ensures { λ r. ⌜ r ≡ marks m (tabulate n (λ k. word (now (t .entry)) p (1 + k))) ⌝ }
+    ensures { λ r. ⌜ r ≡ marks m (tabulate n (λ k. fieldAt (now (t .entry)) p (1 + k))) ⌝ }
 {
     let mut mask = m;
     let mut k: u64 = 0;
     while k < n {
-        mask = masks::with(mask, layout::word(t, p, 1 + k));
+        mask = masks::with(mask, layout::field_at(t, p, 1 + k));
         k += 1;
     }
     mask

@@ -57,9 +57,9 @@ fn child_before(g: &[u64], r: u64, n: u64, c: u64) -> u64
     let mut q: u64 = 0;
     while q < n {
         let p = 74 + 25 * r + q;
-        let kind = layout::word_in(g, p, 0);
-        let first = layout::word_in(g, p, 1);
-        let second = layout::word_in(g, p, 2);
+        let kind = layout::field_in(g, p, 0);
+        let first = layout::field_in(g, p, 1);
+        let second = layout::field_in(g, p, 2);
         sum += child_in(kind, first, second, c);
         q += 1;
     }
@@ -75,9 +75,9 @@ fn introduced_before(g: &[u64], r: u64, n: u64, i: u64) -> u64
     let mut q: u64 = 0;
     while q < n {
         let p = 74 + 25 * r + q;
-        let kind = layout::word_in(g, p, 0);
-        let first = layout::word_in(g, p, 1);
-        let second = layout::word_in(g, p, 2);
+        let kind = layout::field_in(g, p, 0);
+        let first = layout::field_in(g, p, 1);
+        let second = layout::field_in(g, p, 2);
         sum += introduced_in(kind, first, second, i);
         q += 1;
     }
@@ -144,9 +144,9 @@ fn marks_before(g: &[u64], r: u64, n: u64) -> PlanMarks
     let mut q: u64 = 0;
     while q < n {
         let p = 74 + 25 * r + q;
-        let kind = layout::word_in(g, p, 0);
-        let first = layout::word_in(g, p, 1);
-        let second = layout::word_in(g, p, 2);
+        let kind = layout::field_in(g, p, 0);
+        let first = layout::field_in(g, p, 1);
+        let second = layout::field_in(g, p, 2);
         children = mark_children(children, kind, first, second);
         introduced = mark_introduced(introduced, kind, first, second);
         q += 1;
@@ -257,9 +257,9 @@ pub(crate) fn with_line(
     ensures { λ x. ⌜ Keeps (now (t .entry)) r q (x .kept) (x .children) (x .introduced) ⌝ }
 {
     let p = 74 + 25 * r + q;
-    let kind = layout::word_in(t, p, 0);
-    let first = layout::word_in(t, p, 1);
-    let second = layout::word_in(t, p, 2);
+    let kind = layout::field_in(t, p, 0);
+    let first = layout::field_in(t, p, 1);
+    let second = layout::field_in(t, p, 2);
     match kind {
         0 => LineMarks {
             kept: (first == 0) & (second == 0),

@@ -19,7 +19,7 @@ use Rattle.hrg.specs.WellFormedTest.{every}
 use Rattle.hrg.proofs.Sums.{occurs-append}
 use Rattle.hrg.proofs.Plans.{below-introduce, below-known}
 use Rattle.hrg.proofs.WellFormedTest.{every-false}
-use Rattle.questions.specs.Layout.{symbolCount, ruleCount, kindWord, ruleEdges, rulePlan, edgeLabel, planKind, planFirst, planSecond, graphNodes, graphEdges}
+use Rattle.questions.specs.Layout.{symbolCount, ruleCount, kindField, ruleEdges, rulePlan, edgeLabel, planKind, planFirst, planSecond, graphNodes, graphEdges}
 use Rattle.questions.specs.Abstract.{planFrom, grammarOf, graphOf}
 use Rattle.questions.specs.Checking.{checkGrammar}
 use Rattle.questions.proofs.WellFormedLent.{checked-grammar-ok}
@@ -252,8 +252,8 @@ terminal-if : (b : Bool) → isTerminal (cond b terminal nonterminal) ≡ b
 terminal-if true = refl
 terminal-if false = refl
 
-kind-test : (g : List ℕ) (s : ℕ) → s < symbolCount g → isTerminal (kindOf (grammarOf g) s) ≡ eqb (kindWord g s) 0
-kind-test g s h = ap isTerminal (kind-is g s h) ∙ terminal-if (eqb (kindWord g s) 0)
+kind-test : (g : List ℕ) (s : ℕ) → s < symbolCount g → isTerminal (kindOf (grammarOf g) s) ≡ eqb (kindField g s) 0
+kind-test g s h = ap isTerminal (kind-is g s h) ∙ terminal-if (eqb (kindField g s) 0)
 
 module _ (g : List ℕ) (r i : ℕ) (known : KnownEdge g r i) where
   abbrev edge : Edge
@@ -271,23 +271,23 @@ module _ (g : List ℕ) (r i : ℕ) (known : KnownEdge g r i) where
   pub label-here : (label : ℕ) → label ≡ edgeLabel g r i → label < symbolCount g
   label-here label e = omega (arith, label-known)
 
-  label-kind : (label kind : ℕ) → label ≡ edgeLabel g r i → kind ≡ kindWord g label → isTerminal (kindOf (grammarOf g) (edge .label)) ≡ eqb kind 0
+  label-kind : (label kind : ℕ) → label ≡ edgeLabel g r i → kind ≡ kindField g label → isTerminal (kindOf (grammarOf g) (edge .label)) ≡ eqb kind 0
   label-kind label kind a b =
-      ap (λ s. isTerminal (kindOf (grammarOf g) s)) label-is ∙ kind-test g (edgeLabel g r i) label-known ∙ ap (λ w. eqb w 0) (sym (b ∙ ap (kindWord g) a))
+      ap (λ s. isTerminal (kindOf (grammarOf g) s)) label-is ∙ kind-test g (edgeLabel g r i) label-known ∙ ap (λ w. eqb w 0) (sym (b ∙ ap (kindField g) a))
 
--- ---- words that an accepted grammar table has
+-- ---- lines that an accepted grammar table has
 module _ (g : List ℕ) (checked : checkGrammar g ≡ true) where
-  pub symbol-inside : (s k : ℕ) → s < symbolCount g → k < 9 → 9 * (1 + s) + k < length g
-  symbol-inside s k h l = omega (arith, grammar-length g checked, checked-grammar-ok g checked .symbol-count .upper, symbols-length g)
+  pub symbol-inside : (s : ℕ) → s < symbolCount g → 1 + s < length g
+  symbol-inside s h = omega (arith, grammar-length g checked, checked-grammar-ok g checked .symbol-count .upper, symbols-length g)
 
-  module _ (r : ℕ) (known : r < ruleCount g) (k : ℕ) (l : k < 9) where
-    pub rule-inside : 9 * (65 + 25 * r) + k < length g
+  module _ (r : ℕ) (known : r < ruleCount g) where
+    pub rule-inside : 65 + 25 * r < length g
     rule-inside = omega (arith, grammar-length g checked, rule-few g r checked known)
 
-    pub edge-inside : (i : ℕ) → i < ruleEdges g r → 9 * (66 + 25 * r + i) + k < length g
+    pub edge-inside : (i : ℕ) → i < ruleEdges g r → 66 + 25 * r + i < length g
     edge-inside i h = omega (arith, grammar-length g checked, rule-few g r checked known, edges-few g r checked known)
 
-    pub plan-inside : (q : ℕ) → q < rulePlan g r → 9 * (74 + 25 * r + q) + k < length g
+    pub plan-inside : (q : ℕ) → q < rulePlan g r → 74 + 25 * r + q < length g
     plan-inside q h = omega (arith, grammar-length g checked, rule-few g r checked known, plan-few g r checked known)
 
 -- ---- plan nodes
@@ -322,7 +322,7 @@ module _ (g : List ℕ) (r q : ℕ) (known : KnownNode g r q) (kind : ℕ) (a : 
 
 -- ---- partners
 module _ (g h : List ℕ) (n : ℕ) (x : Record) where
-  module _ (i : ℕ) (known : KnownEdge g (x .of) i) (label kind : ℕ) (a : label ≡ edgeLabel g (x .of) i) (b : kind ≡ kindWord g label) where
+  module _ (i : ℕ) (known : KnownEdge g (x .of) i) (label kind : ℕ) (a : label ≡ edgeLabel g (x .of) i) (b : kind ≡ kindField g label) where
     second-by : knownSecond (grammarOf g) (graphOf g h) n x i ≡ cond (eqb kind 0) (ltb (x .second) (graphEdges h)) (ltb (x .second) n)
     unfolding knownSecond
     second-by = ap₂ (λ (t : Bool) (m : ℕ). cond t (ltb (x .second) m) (ltb (x .second) n)) (label-kind g (x .of) i known label kind a b) (graph-size g h)
@@ -403,7 +403,7 @@ module _ (g h : List ℕ) (ok : Accepted g h) (n : ℕ) (x : Record) where
     unfolding knownPassive
     passive-no-symbol l = simp (le-ltb (x .of) (length (grammarOf g .symbols)) (omega (arith, symbols-length g)))
 
-    module _ (symbol : x .of < symbols) (kind : ℕ) (b : kind ≡ kindWord g (x .of)) where
+    module _ (symbol : x .of < symbols) (kind : ℕ) (b : kind ≡ kindField g (x .of)) where
       has-symbol : ltb (x .of) (length (grammarOf g .symbols)) ≡ true
       has-symbol = lt-ltb (x .of) (length (grammarOf g .symbols)) (omega (arith, symbols-length g))
 

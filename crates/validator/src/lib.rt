@@ -131,8 +131,8 @@ fn known_second(g: &[u64], h: &[u64], s: Sizes, n: u64, x: Record, i: u64) -> bo
     requires { ⌜ Sized (now g) (now h) s × KnownEdge (now g) (x .of) i ⌝ }
     ensures { λ r. ⌜ r ≡ knownSecond (grammarOf (now (g .entry))) (graphOf (now (g .entry)) (now (h .entry))) n x i ⌝ }
 {
-    let label = layout::word_in(g, 66 + 25 * x.of + i, 0);
-    let kind = layout::word_in(g, 1 + label, 1);
+    let label = layout::field_in(g, 66 + 25 * x.of + i, 0);
+    let kind = layout::field_in(g, 1 + label, 1);
     if kind == 0 {
         return x.second < s.edges;
     }
@@ -145,10 +145,10 @@ fn known_partners(g: &[u64], h: &[u64], s: Sizes, n: u64, x: Record) -> bool
     ensures { λ r. ⌜ r ≡ knownPartners (grammarOf (now (g .entry))) (graphOf (now (g .entry)) (now (h .entry))) n x (planNode (planOf (grammarOf (now (g .entry))) (x .of)) (x .plan)) ⌝ }
 {
     let p = 74 + 25 * x.of + x.plan;
-    let kind = layout::word_in(g, p, 0);
+    let kind = layout::field_in(g, p, 0);
     match kind {
         0 => true,
-        1 => (x.first < n) & known_second(g, h, s, n, x, layout::word_in(g, p, 2)),
+        1 => (x.first < n) & known_second(g, h, s, n, x, layout::field_in(g, p, 2)),
         _ => (x.first < n) & (x.second < n),
     }
 }
@@ -161,7 +161,7 @@ fn known_active(g: &[u64], h: &[u64], s: Sizes, n: u64, x: Record) -> bool
     if s.rules <= x.of {
         return false;
     }
-    if layout::word_in(g, 65 + 25 * x.of, 4) <= x.plan {
+    if layout::field_in(g, 65 + 25 * x.of, 4) <= x.plan {
         return false;
     }
     known_partners(g, h, s, n, x)
@@ -174,7 +174,7 @@ fn known_passive(g: &[u64], h: &[u64], s: Sizes, n: u64, x: Record) -> bool
     if s.symbols <= x.of {
         return false;
     }
-    if layout::word_in(g, 1 + x.of, 1) == 0 {
+    if layout::field_in(g, 1 + x.of, 1) == 0 {
         return false;
     }
     x.first < n

@@ -10,7 +10,7 @@ const K2_BYTES: usize = 58;
 
 #[test]
 fn words_to_lend() {
-    assert_eq!((calls::grammar_words(), calls::graph_words()), (14985, 585));
+    assert_eq!((calls::grammar_words(), calls::graph_words()), (1665, 65));
     let words = [0, 1, 2, 4096, 4097, usize::MAX].map(calls::chart_words);
     assert_eq!(words, [None, Some(18), Some(34), Some(65538), None, None]);
     assert_eq!(DERIVATION_BYTES, 303_110);
@@ -19,16 +19,16 @@ fn words_to_lend() {
 #[test]
 fn short_tables_are_refused() {
     let (grammar, graph) = texts("k2");
-    for words in [0, 1, 100, 14984] {
-        let mut lent = Lent::new(words, 585, 18, 0);
+    for words in [0, 1, 100, 1664] {
+        let mut lent = Lent::new(words, 65, 18, 0);
         assert_eq!(
             unchanged(&mut lent, |lent| lent.read_grammar(&grammar)),
             Err(Fault::Table)
         );
         assert_eq!(unchanged(&mut lent, |lent| lent.read_graph(&graph)), Err(Fault::Table));
     }
-    for words in [0, 1, 100, 584] {
-        let mut lent = Lent::new(14985, words, 18, 0);
+    for words in [0, 1, 10, 64] {
+        let mut lent = Lent::new(1665, words, 18, 0);
         assert_eq!(lent.read_grammar(&grammar), Ok(()));
         assert_eq!(unchanged(&mut lent, |lent| lent.read_graph(&graph)), Err(Fault::Table));
     }
@@ -40,7 +40,7 @@ fn order_of_the_questions() {
     let (grammar, graph) = texts("k2");
     let bad_grammar = with_line(&grammar, "P   1   1   1", "P   1   0   1\n");
     let bad_graph = with_line(&graph, "E   0   1   2", "E   0   1   3\n");
-    let mut lent = Lent::new(14984, 584, 18, 0);
+    let mut lent = Lent::new(1664, 64, 18, 0);
     assert_eq!(
         unchanged(&mut lent, |lent| lent.read_grammar(&bad_grammar)),
         Err(Fault::Plan)
@@ -49,7 +49,7 @@ fn order_of_the_questions() {
         unchanged(&mut lent, |lent| lent.read_graph(&bad_graph)),
         Err(Fault::Table)
     );
-    let mut lent = Lent::new(14985, 584, 18, 0);
+    let mut lent = Lent::new(1665, 64, 18, 0);
     assert_eq!(lent.read_grammar(&grammar), Ok(()));
     assert_eq!(
         unchanged(&mut lent, |lent| lent.read_graph(&bad_graph)),
@@ -61,22 +61,22 @@ fn order_of_the_questions() {
 #[test]
 fn words_behind_the_tables_stay() {
     let (grammar, graph) = (stored("g-big.txt"), stored("h-big.txt"));
-    let mut lent = Lent::new(14985 + 7, 585 + 7, 18, 0);
+    let mut lent = Lent::new(1665 + 7, 65 + 7, 18, 0);
     let mut before = lent.clone();
     assert_eq!(lent.read_grammar(&grammar), Ok(()));
-    assert!(lent.grammar()[..14985] != before.grammar()[..14985]);
-    before.grammar()[..14985].copy_from_slice(&lent.grammar()[..14985]);
+    assert!(lent.grammar()[..1665] != before.grammar()[..1665]);
+    before.grammar()[..1665].copy_from_slice(&lent.grammar()[..1665]);
     assert!(lent == before, "only the grammar table changed");
     assert_eq!(lent.read_graph(&graph), Ok(()));
-    assert!(lent.graph()[..585] != before.graph()[..585]);
-    before.graph()[..585].copy_from_slice(&lent.graph()[..585]);
+    assert!(lent.graph()[..65] != before.graph()[..65]);
+    before.graph()[..65].copy_from_slice(&lent.graph()[..65]);
     assert!(lent == before, "only the graph table changed");
-    let mut exact = Lent::new(14985, 585, 18, 0);
+    let mut exact = Lent::new(1665, 65, 18, 0);
     assert_eq!(
         (exact.read_grammar(&grammar), exact.read_graph(&graph)),
         (Ok(()), Ok(()))
     );
-    assert!(exact.grammar() == &lent.grammar()[..14985] && exact.graph() == &lent.graph()[..585]);
+    assert!(exact.grammar() == &lent.grammar()[..1665] && exact.graph() == &lent.graph()[..65]);
 }
 
 /// Every call on tables that no texts have filled is 8. The derivation and the chart would pass else.
@@ -91,14 +91,14 @@ fn refused_tables(lent: &mut Lent) {
 #[test]
 fn touched_tables_are_refused() {
     let graph = example("k2", "graph.txt");
-    for at in [0, 1, 2, 14984] {
+    for at in [0, 1, 2, 1664] {
         let mut lent = Lent::run_for("k2", 10, K2_BYTES, 10);
         lent.grammar()[at] += 9999;
         assert_eq!(unchanged(&mut lent, |lent| lent.read_graph(&graph)), Err(Fault::Table));
         assert_eq!(unchanged(&mut lent, |lent| lent.read_graph(b"x")), Err(Fault::Table));
         refused_tables(&mut lent);
     }
-    for at in [0, 1, 584] {
+    for at in [0, 1, 64] {
         let mut lent = Lent::run_for("k2", 10, K2_BYTES, 10);
         lent.graph()[at] += 9999;
         refused_tables(&mut lent);
@@ -119,7 +119,7 @@ fn unread_tables_are_refused() {
 fn charts_of_no_size_are_refused() {
     let derivation = example("k2", "derivation.txt");
     for words in [0, 1, 2, 17, 2 + 16 * 4097, 2 + 16 * 4097 + 1] {
-        let mut lent = Lent::new(14985, 585, words, K2_BYTES);
+        let mut lent = Lent::new(1665, 65, words, K2_BYTES);
         let (grammar, graph) = texts("k2");
         assert_eq!((lent.read_grammar(&grammar), lent.read_graph(&graph)), (Ok(()), Ok(())));
         assert_eq!(
@@ -151,7 +151,7 @@ fn words_behind_the_last_item_stay() {
         (2 + 16 * 10 + 15, 10),
         (2 + 16 * 4097 - 1, 4096),
     ] {
-        let mut lent = Lent::new(14985, 585, words, K2_BYTES);
+        let mut lent = Lent::new(1665, 65, words, K2_BYTES);
         let (grammar, graph) = texts("k2");
         assert_eq!((lent.read_grammar(&grammar), lent.read_graph(&graph)), (Ok(()), Ok(())));
         let mut before = lent.clone();

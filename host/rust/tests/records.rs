@@ -136,19 +136,19 @@ fn room_for_the_records() {
 
 #[test]
 fn refused_tables_and_charts_leave_the_row() {
-    for at in [0, 1, 2, 14984] {
+    for at in [0, 1, 2, 1664] {
         let mut lent = finished_k2(3);
         lent.grammar()[at] += 9999;
         assert_eq!(unchanged(&mut lent, |lent| lent.fill()), Answer::Unfit, "word {at}");
     }
-    for at in [0, 1, 584] {
+    for at in [0, 1, 64] {
         let mut lent = finished_k2(3);
         lent.graph()[at] += 9999;
         assert_eq!(unchanged(&mut lent, |lent| lent.fill()), Answer::Unfit, "word {at}");
     }
     let (grammar, graph) = texts("k2");
     for words in [0, 1, 2, 17, 2 + 16 * 4097] {
-        let mut lent = Lent::new(14985, 585, words, 0).with_rows(3);
+        let mut lent = Lent::new(1665, 65, words, 0).with_rows(3);
         assert_eq!(unchanged(&mut lent, |lent| lent.fill()), Answer::Unfit);
         assert_eq!((lent.read_grammar(&grammar), lent.read_graph(&graph)), (Ok(()), Ok(())));
         assert_eq!(unchanged(&mut lent, |lent| lent.fill()), Answer::Unfit, "{words} words");

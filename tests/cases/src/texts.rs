@@ -16,11 +16,20 @@ fn number(answer: Result<(), Fault>) -> u64 {
     answer.err().map_or(0, |fault| fault as u64)
 }
 
-/// Changes one word.
-fn touched(table: &[u64], at: usize) -> Vec<u64> {
+/// The fields of a table, nine to a line's word, with seven bits each.
+fn fields(table: &[u64]) -> Vec<u64> {
+    let field = |word: &u64, j: u32| (word >> (7 * j)) & 127;
+    table
+        .iter()
+        .flat_map(|word| (0..9).map(move |j| field(word, j)))
+        .collect()
+}
+
+/// Changes one field of the line at a place; the tenth is the bit that no field has.
+fn touched(table: &[u64], (place, field): (usize, u32)) -> Vec<u64> {
     let mut table = table.to_vec();
-    if at < table.len() {
-        table[at] = table[at] % 9999 + 1;
+    if place < table.len() {
+        table[place] ^= 1 << (7 * field);
     }
     table
 }
@@ -56,7 +65,7 @@ impl Texts<'_> {
             println!("{name} {refusal}");
             return;
         }
-        println!("{name} 0 {}", checksum(&table));
+        println!("{name} 0 {}", checksum(&fields(&table)));
         if is_grammar {
             *grammar = table;
         }
@@ -87,17 +96,17 @@ impl Texts<'_> {
         println!("touched {case} {refusal}");
     }
 
-    /// The number of symbols, the rank of symbol 0, the last word, a child in rule 0's plan; then a short table.
+    /// The number of symbols, the rank of symbol 0, the last field, a child in rule 0's plan, an unused bit; then a short table.
     fn touched_grammars(&mut self, grammar: &[u64], graph_text: &[u8]) {
-        for (case, at) in [0, 11, 14984, 676].into_iter().enumerate() {
+        for (case, at) in [(0, 0), (1, 2), (1664, 8), (75, 1), (0, 9)].into_iter().enumerate() {
             self.touched_grammar(case, &touched(grammar, at), graph_text);
         }
-        self.touched_grammar(4, &grammar[..grammar.len() - 1], graph_text);
+        self.touched_grammar(5, &grammar[..grammar.len() - 1], graph_text);
     }
 
-    /// A node and the label of edge 0, an unused word, and none: whether a start passes question 8.
+    /// A node and the label of edge 0, an unused field, an unused bit, and none: whether a start passes question 8.
     fn touched_graphs(&self, grammar: &[u64], graph: &[u64]) {
-        for (case, at) in [10, 9, 12, 585].into_iter().enumerate() {
+        for (case, at) in [(1, 1), (1, 0), (1, 3), (1, 9), (65, 0)].into_iter().enumerate() {
             let mut chart = vec![7; 162];
             let passes = calls::start(grammar, &touched(graph, at), &mut chart) != Outcome::Unfit;
             println!("check-graph {case} {}", u64::from(passes));

@@ -16,11 +16,11 @@ abbrev μ-loop : tie.MeasureT-loop
 loop-holds : tie.Need-loop-holds Inv-loop μ-loop
 loop-holds c = (omega arith, sides-none _ _ _ _)
 
-add-word : tie.Need-add-word Inv-loop μ-loop
-add-word c = search needs
+add-field-at : tie.Need-add-field-at Inv-loop μ-loop
+add-field-at c = search needs
 
-word-requires : tie.Need-word-requires Inv-loop μ-loop
-word-requires c κs = search needs
+field-at-requires : tie.Need-field-at-requires Inv-loop μ-loop
+field-at-requires c κs = search needs
 
 rank-at-requires : tie.Need-rank-at-requires Inv-loop μ-loop
 rank-at-requires c κs = search needs
@@ -44,7 +44,7 @@ loop-less : tie.Need-loop-less Inv-loop μ-loop
 loop-less c = search needs
 
 loop-again : tie.Need-loop-again Inv-loop μ-loop
-loop-again c = (omega arith, sides-next _ _ _ _ _ _ _ _ _ _ _ (c .before .before .before .before .word .ensures) (c .before .before .before .rank-at .ensures .0) (c .before .before .listed .ensures) (c .before .has .ensures .value) (c .with-edge .ensures) (c .before .before .before .before .before .before .loop .inv .1))
+loop-again c = (omega arith, sides-next _ _ _ _ _ _ _ _ _ _ _ (c .before .before .before .before .field-at .ensures) (c .before .before .before .rank-at .ensures .0) (c .before .before .listed .ensures) (c .before .has .ensures .value) (c .with-edge .ensures) (c .before .before .before .before .before .before .loop .inv .1))
 
 returns : tie.Need-returns Inv-loop μ-loop
 returns c = sides-done _ _ _ _ _ _ _ (c .before .loop .inv .0) (c .loop-test .left) (c .before .loop .inv .1)
@@ -56,8 +56,8 @@ nodes-by-spec =
     Inv-loop
     μ-loop
     loop-holds
-    add-word
-    word-requires
+    add-field-at
+    field-at-requires
     rank-at-requires
     add-listed
     listed-requires

@@ -24,26 +24,26 @@ add-p c = omega (arith, c .before .pre .edge, rule-few _ _ (c .before .pre .gram
 add-p-2 : tie.Need-add-p-2 Inv-loop μ-loop
 add-p-2 c = omega (arith, c .before .pre .edge, rule-few _ _ (c .before .pre .grammar) (c .before .pre .rule), edges-few _ _ (c .before .pre .grammar) (c .before .pre .rule))
 
-word-in-requires : tie.Need-word-in-requires Inv-loop μ-loop
-word-in-requires c κs = omega (arith, c .before .pre .edge, rule-few _ _ (c .before .pre .grammar) (c .before .pre .rule), edges-few _ _ (c .before .pre .grammar) (c .before .pre .rule), grammar-long _ (c .before .pre .grammar))
+field-in-requires : tie.Need-field-in-requires Inv-loop μ-loop
+field-in-requires c κs = (omega (arith, c .before .pre .edge, rule-few _ _ (c .before .pre .grammar) (c .before .pre .rule), edges-few _ _ (c .before .pre .grammar) (c .before .pre .rule), grammar-long _ (c .before .pre .grammar)), omega arith)
 
 rank-of-requires : tie.Need-rank-of-requires Inv-loop μ-loop
-rank-of-requires c κs = (c .before .before .pre .grammar, omega (arith, c .word-in .ensures, edge-label-few _ _ _ (c .before .before .pre)))
+rank-of-requires c κs = (c .before .before .pre .grammar, omega (arith, c .field-in .ensures, edge-label-few _ _ _ (c .before .before .pre)))
 
 loop-holds : tie.Need-loop-holds Inv-loop μ-loop
-loop-holds c = (omega arith, c .rank-of .ensures .0 ∙ ap (rankAt _) (c .before .word-in .ensures), digits-none _ _ _ (c .before .before .before .pre))
+loop-holds c = (omega arith, c .rank-of .ensures .0 ∙ ap (rankAt _) (c .before .field-in .ensures), digits-none _ _ _ (c .before .before .before .pre))
 
 mul-w : tie.Need-mul-w Inv-loop μ-loop
 mul-w c = omega (arith, c .before .loop .inv .2, digits-few _ _ _ (c .before .before .before .before .before .pre) (c .before .loop .k) (omega (arith, c .before .loop .inv .0, c .before .loop .inv .1)))
 
-add-word-in : tie.Need-add-word-in Inv-loop μ-loop
-add-word-in c = omega (arith, c .before .before .rank-of .ensures .1)
+add-field-in : tie.Need-add-field-in Inv-loop μ-loop
+add-field-in c = omega (arith, c .before .before .rank-of .ensures .1)
 
-word-in-requires-2 : tie.Need-word-in-requires-2 Inv-loop μ-loop
-word-in-requires-2 c κs = omega (arith, c .before .before .rank-of .ensures .1, c .before .before .before .before .before .pre .edge, rule-few _ _ (c .before .before .before .before .before .pre .grammar) (c .before .before .before .before .before .pre .rule), edges-few _ _ (c .before .before .before .before .before .pre .grammar) (c .before .before .before .before .before .pre .rule), grammar-long _ (c .before .before .before .before .before .pre .grammar))
+field-in-requires-2 : tie.Need-field-in-requires-2 Inv-loop μ-loop
+field-in-requires-2 c κs = (omega (arith, c .before .before .before .before .before .pre .edge, rule-few _ _ (c .before .before .before .before .before .pre .grammar) (c .before .before .before .before .before .pre .rule), edges-few _ _ (c .before .before .before .before .before .pre .grammar) (c .before .before .before .before .before .pre .rule), grammar-long _ (c .before .before .before .before .before .pre .grammar)), omega (arith, c .before .before .rank-of .ensures .1))
 
 add-w : tie.Need-add-w Inv-loop μ-loop
-add-w c = omega (arith, c .before .before .loop .inv .2, digits-few _ _ _ (c .before .before .before .before .before .before .pre) (c .before .before .loop .k) (omega (arith, c .before .before .loop .inv .0, c .before .before .loop .inv .1)), edge-node-few _ _ _ (c .before .before .before .before .before .before .pre) _ _ (omega (arith, c .before .before .loop .inv .1, c .before .loop-test .taken)) (c .word-in2 .ensures))
+add-w c = omega (arith, c .before .before .loop .inv .2, digits-few _ _ _ (c .before .before .before .before .before .before .pre) (c .before .before .loop .k) (omega (arith, c .before .before .loop .inv .0, c .before .before .loop .inv .1)), edge-node-few _ _ _ (c .before .before .before .before .before .before .pre) _ _ (omega (arith, c .before .before .loop .inv .1, c .before .loop-test .taken)) (c .field-in2 .ensures))
 
 add-k : tie.Need-add-k Inv-loop μ-loop
 add-k c = omega (arith, c .before .before .before .rank-of .ensures .1)
@@ -52,7 +52,7 @@ loop-less : tie.Need-loop-less Inv-loop μ-loop
 loop-less c = omega arith
 
 loop-again : tie.Need-loop-again Inv-loop μ-loop
-loop-again c = (omega arith, c .before .before .loop .inv .1, digits-next _ _ _ (c .before .before .before .before .before .before .pre) _ _ _ (c .before .before .loop .inv .2) (c .word-in2 .ensures))
+loop-again c = (omega arith, c .before .before .loop .inv .1, digits-next _ _ _ (c .before .before .before .before .before .before .pre) _ _ _ (c .before .before .loop .inv .2) (c .field-in2 .ensures))
 
 mul-result : tie.Need-mul-result Inv-loop μ-loop
 mul-result c = omega (arith, c .before .loop .inv .2, digits-few _ _ _ (c .before .before .before .before .before .pre) (c .before .loop .k) (omega (arith, c .before .loop .inv .0, c .before .loop .inv .1)))
@@ -72,12 +72,12 @@ nodes-word-spec =
     mul-p
     add-p
     add-p-2
-    word-in-requires
+    field-in-requires
     rank-of-requires
     loop-holds
     mul-w
-    add-word-in
-    word-in-requires-2
+    add-field-in
+    field-in-requires-2
     add-w
     add-k
     loop-less

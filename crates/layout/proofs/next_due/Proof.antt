@@ -5,7 +5,7 @@ use borrow.Author.Tests.{not-true, not-false}
 use borrow.Author.Needs.{needs}
 use Rattle.questions.specs.Reading.{next}
 use Rattle.questions.specs.declared.Due.the-variants.{Nothing}
-use Rattle.layout.proofs.Words.{known, chosen, passed}
+use Rattle.layout.proofs.Fields.{known, chosen, passed}
 use Rattle.layout.proofs.next_due.Statement.{statement}
 use Rattle.layout.proofs.next_due.Tie as tie
 

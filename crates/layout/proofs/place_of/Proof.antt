@@ -3,7 +3,7 @@ use native.Mathlib.Omega.{arith}
 use borrow.Author.Tests.{not-true, not-false}
 use borrow.Author.Needs.{needs}
 use Rattle.questions.specs.Layout.{placeOf}
-use Rattle.layout.proofs.Words.{known, chosen, passed}
+use Rattle.layout.proofs.Fields.{known, chosen, passed}
 use Rattle.layout.proofs.place_of.Statement.{statement}
 use Rattle.layout.proofs.place_of.Tie as tie
 

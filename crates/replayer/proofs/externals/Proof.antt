@@ -1,6 +1,6 @@
--- Four words.
+-- Four fields.
 use borrow.Author.Needs.{needs}
-use Rattle.replayer.proofs.MaskTests.{four-are}
+use Rattle.questions.proofs.StoredLaws.{tabulate-four}
 use Rattle.replayer.proofs.externals.Statement.{statement}
 use Rattle.replayer.proofs.externals.Tie as tie
 
@@ -17,7 +17,7 @@ graph-external-requires-4 : tie.Need-graph-external-requires-4
 graph-external-requires-4 c κs = search needs
 
 returns : tie.Need-returns
-returns c = four-are _ _ _ _ _ (c .before .before .before .graph-external .ensures) (c .before .before .graph-external2 .ensures) (c .before .graph-external3 .ensures) (c .graph-external4 .ensures)
+returns c = tabulate-four _ _ _ _ _ (c .before .before .before .graph-external .ensures) (c .before .before .graph-external2 .ensures) (c .before .graph-external3 .ensures) (c .graph-external4 .ensures)
 
 pub externals-spec : {M : Type 1} → statement M
 externals-spec =

@@ -1,4 +1,4 @@
--- The words that say what edge and field are.
+-- The fields that say what edge and part are.
 use native.Mathlib.Omega.{arith}
 use borrow.Author.Needs.{needs}
 use Rattle.replayer.proofs.RowParts.{rule-there, part-end, part-there, part-edge, part-row}

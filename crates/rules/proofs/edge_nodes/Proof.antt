@@ -17,26 +17,26 @@ Inv-loop g h e rank l₀ k₀ l k = (rank ≡ rankAt g (graphLabel h e)) × (k �
 abbrev μ-loop : tie.MeasureT-loop
 μ-loop g h e rank l₀ k₀ l k = rank - k
 
-add-word-in : tie.Need-add-word-in Inv-loop μ-loop
-add-word-in c = omega (arith, edge-few _ _ (c .before .before .pre .0) _ (c .before .before .pre .1))
+add-field-in : tie.Need-add-field-in Inv-loop μ-loop
+add-field-in c = omega (arith, edge-few _ _ (c .before .before .pre .0) _ (c .before .before .pre .1))
 
-word-in-requires : tie.Need-word-in-requires Inv-loop μ-loop
-word-in-requires c κs = omega (arith, edge-few _ _ (c .before .before .pre .0) _ (c .before .before .pre .1), graph-long _ _ (c .before .before .pre .0))
+field-in-requires : tie.Need-field-in-requires Inv-loop μ-loop
+field-in-requires c κs = (omega (arith, edge-few _ _ (c .before .before .pre .0) _ (c .before .before .pre .1), graph-long _ _ (c .before .before .pre .0)), omega arith)
 
 rank-of-requires : tie.Need-rank-of-requires Inv-loop μ-loop
-rank-of-requires c κs = (c .before .before .before .pre .0 .grammar, label-few _ _ (c .before .before .before .pre .0) _ (c .before .before .before .pre .1) _ (c .word-in .ensures))
+rank-of-requires c κs = (c .before .before .before .pre .0 .grammar, label-few _ _ (c .before .before .before .pre .0) _ (c .before .before .before .pre .1) _ (c .field-in .ensures))
 
 loop-holds : tie.Need-loop-holds Inv-loop μ-loop
-loop-holds c = (c .rank-of .ensures .0 ∙ ap (rankAt (c .before .before .before .before .args .g .now)) (c .before .word-in .ensures), omega arith, placed-none _)
+loop-holds c = (c .rank-of .ensures .0 ∙ ap (rankAt (c .before .before .before .before .args .g .now)) (c .before .field-in .ensures), omega arith, placed-none _)
 
-add-word-in-2 : tie.Need-add-word-in-2 Inv-loop μ-loop
-add-word-in-2 c = omega (arith, edge-few _ _ (c .before .before .before .before .before .before .pre .0) _ (c .before .before .before .before .before .before .pre .1))
+add-field-in-2 : tie.Need-add-field-in-2 Inv-loop μ-loop
+add-field-in-2 c = omega (arith, edge-few _ _ (c .before .before .before .before .before .before .pre .0) _ (c .before .before .before .before .before .before .pre .1))
 
-add-word-in-3 : tie.Need-add-word-in-3 Inv-loop μ-loop
-add-word-in-3 c = omega (arith, c .before .before .rank-of .ensures .1)
+add-field-in-3 : tie.Need-add-field-in-3 Inv-loop μ-loop
+add-field-in-3 c = omega (arith, c .before .before .rank-of .ensures .1)
 
-word-in-requires-2 : tie.Need-word-in-requires-2 Inv-loop μ-loop
-word-in-requires-2 c κs = omega (arith, edge-few _ _ (c .before .before .before .before .before .before .pre .0) _ (c .before .before .before .before .before .before .pre .1), graph-long _ _ (c .before .before .before .before .before .before .pre .0), c .before .before .rank-of .ensures .1, c .loop-test .taken)
+field-in-requires-2 : tie.Need-field-in-requires-2 Inv-loop μ-loop
+field-in-requires-2 c κs = (omega (arith, edge-few _ _ (c .before .before .before .before .before .before .pre .0) _ (c .before .before .before .before .before .before .pre .1), graph-long _ _ (c .before .before .before .before .before .before .pre .0)), omega (arith, c .before .before .rank-of .ensures .1, c .loop-test .taken))
 
 mul-l : tie.Need-mul-l Inv-loop μ-loop
 mul-l c = omega (arith, c .before .before .before .rank-of .ensures .1)
@@ -51,7 +51,7 @@ loop-less : tie.Need-loop-less Inv-loop μ-loop
 loop-less c = omega arith
 
 loop-again : tie.Need-loop-again Inv-loop μ-loop
-loop-again c = (c .before .before .loop .inv .0, omega (arith, c .before .before .loop .inv .0, c .before .loop-test .taken), placed-next _ _ _ _ (omega (arith, c .before .before .before .rank-of .ensures .1)) (c .word-in2 .ensures) (c .before .before .loop .inv .2))
+loop-again c = (c .before .before .loop .inv .0, omega (arith, c .before .before .loop .inv .0, c .before .loop-test .taken), placed-next _ _ _ _ (omega (arith, c .before .before .before .rank-of .ensures .1)) (c .field-in2 .ensures) (c .before .before .loop .inv .2))
 
 returns : tie.Need-returns Inv-loop μ-loop
 returns c = edge-all _ _ _ (c .before .before .before .before .before .before .pre .1) _ _ (c .before .loop .inv .1) (omega (arith, c .before .loop .inv .0, c .loop-test .left)) (c .before .loop .inv .2)
@@ -62,13 +62,13 @@ edge-nodes-spec =
     (tie.spec
     Inv-loop
     μ-loop
-    add-word-in
-    word-in-requires
+    add-field-in
+    field-in-requires
     rank-of-requires
     loop-holds
-    add-word-in-2
-    add-word-in-3
-    word-in-requires-2
+    add-field-in-2
+    add-field-in-3
+    field-in-requires-2
     mul-l
     array-write-l
     add-k

@@ -67,14 +67,14 @@ returns-6 : tie.Need-returns-6
 unfolding ofWords
 returns-6 c = joined-second _ _ _ (c .before .before .before .before .before .before .before .before .before .before .pre .0) _ _ _ (c .before .before .before .before .before .before .before .before .before .before .pre .2) (c .before .before .before .before .before .before .before .before .before .before .pre .1) (c .before .before .before .before .before .before .if1 .left) (c .before .before .before .before .if4 .left) (c .if6 .taken)
 
-mul-word-in : tie.Need-mul-word-in
-mul-word-in c = omega (arith, rule-few _ _ (c .before .before .before .before .before .before .before .before .before .before .pre .0 .grammar) (c .before .before .before .before .before .before .before .before .before .before .pre .0 .rule))
+mul-field-in : tie.Need-mul-field-in
+mul-field-in c = omega (arith, rule-few _ _ (c .before .before .before .before .before .before .before .before .before .before .pre .0 .grammar) (c .before .before .before .before .before .before .before .before .before .before .pre .0 .rule))
 
-add-word-in : tie.Need-add-word-in
-add-word-in c = omega (arith, rule-few _ _ (c .before .before .before .before .before .before .before .before .before .before .pre .0 .grammar) (c .before .before .before .before .before .before .before .before .before .before .pre .0 .rule))
+add-field-in : tie.Need-add-field-in
+add-field-in c = omega (arith, rule-few _ _ (c .before .before .before .before .before .before .before .before .before .before .pre .0 .grammar) (c .before .before .before .before .before .before .before .before .before .before .pre .0 .rule))
 
-word-in-requires : tie.Need-word-in-requires
-word-in-requires c κs = omega (arith, rule-few _ _ (c .before .before .before .before .before .before .before .before .before .before .pre .0 .grammar) (c .before .before .before .before .before .before .before .before .before .before .pre .0 .rule), grammar-long _ (c .before .before .before .before .before .before .before .before .before .before .pre .0 .grammar))
+field-in-requires : tie.Need-field-in-requires
+field-in-requires c κs = (omega (arith, rule-few _ _ (c .before .before .before .before .before .before .before .before .before .before .pre .0 .grammar) (c .before .before .before .before .before .before .before .before .before .before .pre .0 .rule), grammar-long _ (c .before .before .before .before .before .before .before .before .before .before .pre .0 .grammar)), omega arith)
 
 sub-copy-map : tie.Need-sub-copy-map
 sub-copy-map c = search needs
@@ -86,14 +86,14 @@ part-copy-map-end : tie.Need-part-copy-map-end
 part-copy-map-end c = omega (arith, c .before .before .before .before .before .before .before .before .before .before .before .pre .3)
 
 copy-map-requires : tie.Need-copy-map-requires
-copy-map-requires c κs = (omega (arith, c .before .before .word-in .ensures, nodes-few _ _ (c .before .before .before .before .before .before .before .before .before .before .before .before .before .pre .0 .grammar) (c .before .before .before .before .before .before .before .before .before .before .before .before .before .pre .0 .rule)), map-size (c .before .before .before .before .before .before .before .before .before .before .before .before .before .args .y .now) (c .before .before .before .before .before .before .before .before .before .before .before .before .before .pre .3), c .before .before .before .before .before .before .before .before .before .before .before .before .before .pre .4)
+copy-map-requires c κs = (omega (arith, c .before .before .field-in .ensures, nodes-few _ _ (c .before .before .before .before .before .before .before .before .before .before .before .before .before .pre .0 .grammar) (c .before .before .before .before .before .before .before .before .before .before .before .before .before .pre .0 .rule)), map-size (c .before .before .before .before .before .before .before .before .before .before .before .before .before .args .y .now) (c .before .before .before .before .before .before .before .before .before .before .before .before .before .pre .3), c .before .before .before .before .before .before .before .before .before .before .before .before .before .pre .4)
 
 same-length-2 : tie.Need-same-length-2
 same-length-2 c = search needs
 
 returns-7 : tie.Need-returns-7
 unfolding ofWords
-returns-7 c = joined-made _ _ _ (c .before .before .before .before .before .before .before .before .before .before .before .before .before .before .before .before .pre .0) _ _ _ (c .before .before .before .before .before .before .before .before .before .before .before .before .before .before .before .before .pre .2) (c .before .before .before .before .before .before .before .before .before .before .before .before .before .before .before .before .pre .1) (c .before .before .before .before .before .before .before .before .before .before .before .before .if1 .left) (c .before .before .before .before .before .before .before .before .before .before .if4 .left) (c .before .before .before .before .before .before .before .before .if5 .left) (c .before .before .before .before .before .before .if6 .left) _ (map-words (c .before .before .before .before .before .before .before .before .before .before .before .before .before .before .before .before .args .y .now) (c .before .before .before .before .before .before .before .before .before .before .before .before .before .before .before .before .pre .3)) (map-size (c .before .before .before .before .before .before .before .before .before .before .before .before .before .before .before .before .args .y .now) (c .before .before .before .before .before .before .before .before .before .before .before .before .before .before .before .before .pre .3)) _ (c .before .before .before .before .before .word-in .ensures) (c .before .before .copy-map .ensures)
+returns-7 c = joined-made _ _ _ (c .before .before .before .before .before .before .before .before .before .before .before .before .before .before .before .before .pre .0) _ _ _ (c .before .before .before .before .before .before .before .before .before .before .before .before .before .before .before .before .pre .2) (c .before .before .before .before .before .before .before .before .before .before .before .before .before .before .before .before .pre .1) (c .before .before .before .before .before .before .before .before .before .before .before .before .if1 .left) (c .before .before .before .before .before .before .before .before .before .before .if4 .left) (c .before .before .before .before .before .before .before .before .if5 .left) (c .before .before .before .before .before .before .if6 .left) _ (map-words (c .before .before .before .before .before .before .before .before .before .before .before .before .before .before .before .before .args .y .now) (c .before .before .before .before .before .before .before .before .before .before .before .before .before .before .before .before .pre .3)) (map-size (c .before .before .before .before .before .before .before .before .before .before .before .before .before .before .before .before .args .y .now) (c .before .before .before .before .before .before .before .before .before .before .before .before .before .before .before .before .pre .3)) _ (c .before .before .before .before .before .field-in .ensures) (c .before .before .copy-map .ensures)
 
 pub second-map-spec : {M : Type 1} → statement M
 second-map-spec =
@@ -116,9 +116,9 @@ second-map-spec =
     returns-5
     shared-slice-read-if6
     returns-6
-    mul-word-in
-    add-word-in
-    word-in-requires
+    mul-field-in
+    add-field-in
+    field-in-requires
     sub-copy-map
     part-copy-map-start
     part-copy-map-end

@@ -5,25 +5,25 @@ use Rattle.extractor.proofs.RuleLookup.{nodes-none, nodes-some}
 use Rattle.extractor.proofs.lookup.node_count.Statement.{statement}
 use Rattle.extractor.proofs.lookup.node_count.Tie as tie
 
-word-in-requires : tie.Need-word-in-requires
-word-in-requires c κs = omega (arith, grammar-long _ (c .before .pre))
+field-in-requires : tie.Need-field-in-requires
+field-in-requires c κs = (omega (arith, grammar-long _ (c .before .pre)), omega arith)
 
 returns : tie.Need-returns
-returns c = nodes-none _ _ _ (c .before .word-in .ensures) (c .if1 .taken)
+returns c = nodes-none _ _ _ (c .before .field-in .ensures) (c .if1 .taken)
 
-mul-word-in : tie.Need-mul-word-in
-mul-word-in c = omega (arith, rule-few _ (c .before .before .before .args .r) (c .before .before .before .pre) (omega (arith, c .before .word-in .ensures, c .if1 .left)))
+mul-field-in : tie.Need-mul-field-in
+mul-field-in c = omega (arith, rule-few _ (c .before .before .before .args .r) (c .before .before .before .pre) (omega (arith, c .before .field-in .ensures, c .if1 .left)))
 
-add-word-in : tie.Need-add-word-in
-add-word-in c = omega (arith, rule-few _ (c .before .before .before .args .r) (c .before .before .before .pre) (omega (arith, c .before .word-in .ensures, c .if1 .left)))
+add-field-in : tie.Need-add-field-in
+add-field-in c = omega (arith, rule-few _ (c .before .before .before .args .r) (c .before .before .before .pre) (omega (arith, c .before .field-in .ensures, c .if1 .left)))
 
-word-in-requires-2 : tie.Need-word-in-requires-2
-word-in-requires-2 c κs = omega (arith, grammar-long _ (c .before .before .before .pre), rule-few _ (c .before .before .before .args .r) (c .before .before .before .pre) (omega (arith, c .before .word-in .ensures, c .if1 .left)))
+field-in-requires-2 : tie.Need-field-in-requires-2
+field-in-requires-2 c κs = (omega (arith, grammar-long _ (c .before .before .before .pre), rule-few _ (c .before .before .before .args .r) (c .before .before .before .pre) (omega (arith, c .before .field-in .ensures, c .if1 .left))), omega arith)
 
 returns-2 : tie.Need-returns-2
-returns-2 c = nodes-some _ _ _ (c .before .before .word-in .ensures) _ (c .before .before .before .before .pre) (c .before .if1 .left) (c .word-in2 .ensures)
+returns-2 c = nodes-some _ _ _ (c .before .before .field-in .ensures) _ (c .before .before .before .before .pre) (c .before .if1 .left) (c .field-in2 .ensures)
 
 pub node-count-spec : {M : Type 1} → statement M
 node-count-spec =
     tie.close
-    (tie.spec word-in-requires returns mul-word-in add-word-in word-in-requires-2 returns-2)
+    (tie.spec field-in-requires returns mul-field-in add-field-in field-in-requires-2 returns-2)

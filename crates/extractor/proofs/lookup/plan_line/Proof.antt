@@ -14,17 +14,17 @@ add-at c = omega (arith, node-place _ _ _ (c .before .pre))
 add-at-2 : tie.Need-add-at-2
 add-at-2 c = omega (arith, node-place _ _ _ (c .before .pre))
 
-word-in-requires : tie.Need-word-in-requires
-word-in-requires c κs = omega (arith, node-place _ _ _ (c .before .pre), grammar-long _ (c .before .pre .grammar))
+field-in-requires : tie.Need-field-in-requires
+field-in-requires c κs = (omega (arith, node-place _ _ _ (c .before .pre), grammar-long _ (c .before .pre .grammar)), omega arith)
 
-word-in-requires-2 : tie.Need-word-in-requires-2
-word-in-requires-2 c κs = omega (arith, node-place _ _ _ (c .before .before .pre), grammar-long _ (c .before .before .pre .grammar))
+field-in-requires-2 : tie.Need-field-in-requires-2
+field-in-requires-2 c κs = (omega (arith, node-place _ _ _ (c .before .before .pre), grammar-long _ (c .before .before .pre .grammar)), omega arith)
 
-word-in-requires-3 : tie.Need-word-in-requires-3
-word-in-requires-3 c κs = omega (arith, node-place _ _ _ (c .before .before .before .pre), grammar-long _ (c .before .before .before .pre .grammar))
+field-in-requires-3 : tie.Need-field-in-requires-3
+field-in-requires-3 c κs = (omega (arith, node-place _ _ _ (c .before .before .before .pre), grammar-long _ (c .before .before .before .pre .grammar)), omega arith)
 
 returns : tie.Need-returns
-returns c = line-at _ _ _ _ _ _ (c .before .before .before .before .pre) (c .before .before .word-in .ensures) (c .before .word-in2 .ensures) (c .word-in3 .ensures)
+returns c = line-at _ _ _ _ _ _ (c .before .before .before .before .pre) (c .before .before .field-in .ensures) (c .before .field-in2 .ensures) (c .field-in3 .ensures)
 
 pub plan-line-spec : {M : Type 1} → statement M
 plan-line-spec =
@@ -33,7 +33,7 @@ plan-line-spec =
     mul-at
     add-at
     add-at-2
-    word-in-requires
-    word-in-requires-2
-    word-in-requires-3
+    field-in-requires
+    field-in-requires-2
+    field-in-requires-3
     returns)

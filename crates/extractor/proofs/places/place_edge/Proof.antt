@@ -1,9 +1,10 @@
--- The nodes of a graph edge are a part of the graph's words.
+-- The nodes of a graph edge are the first of its four places.
 use native.Mathlib.Omega.{arith}
-use mathlib.Core.Path.{refl, ap, _∙_}
+use mathlib.Core.Path.{sym, ap, _∙_}
 use mathlib.Core.List.{List}
-use Prim.Native.Nat.{ℕ, _+_, _-_, _*_}
+use Prim.Native.Nat.{ℕ}
 use lib.ListN.{take}
+use lib.Seq.{length-take-le}
 use Rattle.hrg.specs.Trees.{padded}
 use Rattle.hrg.specs.Items.{joined, attach}
 use Rattle.questions.specs.Layout.{rankAt, ruleNodes, edgeLabel}
@@ -15,35 +16,23 @@ use borrow.Author.Needs.{needs}
 use Rattle.extractor.proofs.places.place_edge.Statement.{statement}
 use Rattle.extractor.proofs.places.place_edge.Tie as tie
 
-add-word-in : tie.Need-add-word-in
-add-word-in c = omega (arith, edge-few _ _ (c .before .before .before .pre .0) _ (c .before .before .before .pre .2))
+add-field-in : tie.Need-add-field-in
+add-field-in c = omega (arith, edge-few _ _ (c .before .before .before .pre .0) _ (c .before .before .before .pre .2))
 
-word-in-requires : tie.Need-word-in-requires
-word-in-requires c κs = omega (arith, edge-few _ _ (c .before .before .before .pre .0) _ (c .before .before .before .pre .2), graph-long _ _ (c .before .before .before .pre .0))
+field-in-requires : tie.Need-field-in-requires
+field-in-requires c κs = (omega (arith, edge-few _ _ (c .before .before .before .pre .0) _ (c .before .before .before .pre .2), graph-long _ _ (c .before .before .before .pre .0)), omega arith)
 
 rank-of-requires : tie.Need-rank-of-requires
-rank-of-requires c κs = (c .before .before .before .before .pre .0 .grammar, label-few _ _ (c .before .before .before .before .pre .0) _ (c .before .before .before .before .pre .2) _ (c .word-in .ensures))
+rank-of-requires c κs = (c .before .before .before .before .pre .0 .grammar, label-few _ _ (c .before .before .before .before .pre .0) _ (c .before .before .before .before .pre .2) _ (c .field-in .ensures))
 
-mul-from : tie.Need-mul-from
-mul-from c = omega (arith, edge-few _ _ (c .before .before .before .before .before .pre .0) _ (c .before .before .before .before .before .pre .2))
+nodes-of-requires : tie.Need-nodes-of-requires
+nodes-of-requires c κs = omega (arith, edge-few _ _ (c .before .before .before .before .before .pre .0) _ (c .before .before .before .before .before .pre .2), graph-long _ _ (c .before .before .before .before .before .pre .0))
 
-add-from : tie.Need-add-from
-add-from c = omega (arith, edge-few _ _ (c .before .before .before .before .before .pre .0) _ (c .before .before .before .before .before .pre .2))
+array-share-prefix-nodes : tie.Need-array-share-prefix-nodes
+array-share-prefix-nodes c = search needs
 
-add-end : tie.Need-add-end
-add-end c = omega (arith, edge-few _ _ (c .before .before .before .before .before .pre .0) _ (c .before .before .before .before .before .pre .2), c .rank-of .ensures .1)
-
-mul-place-nodes : tie.Need-mul-place-nodes
-mul-place-nodes c = omega (arith, edge-few _ _ (c .before .before .before .before .before .pre .0) _ (c .before .before .before .before .before .pre .2))
-
-sub-place-nodes : tie.Need-sub-place-nodes
-sub-place-nodes c = search needs
-
-part-place-nodes-start : tie.Need-part-place-nodes-start
-part-place-nodes-start c = search needs
-
-part-place-nodes-end : tie.Need-part-place-nodes-end
-part-place-nodes-end c = omega (arith, edge-few _ _ (c .before .before .before .before .before .pre .0) _ (c .before .before .before .before .before .pre .2), c .rank-of .ensures .1, graph-long _ _ (c .before .before .before .before .before .pre .0))
+slice-aggregate-place-nodes : tie.Need-slice-aggregate-place-nodes
+slice-aggregate-place-nodes c = sym (length-take-le _ (c .before .nodes-of .result) (omega (arith, c .before .before .rank-of .ensures .1, c .before .nodes-of .ok)))
 
 place-nodes-requires : tie.Need-place-nodes-requires
 place-nodes-requires c κs = search needs
@@ -52,22 +41,25 @@ same-length : tie.Need-same-length
 same-length c = search needs
 
 returns : tie.Need-returns
-returns c = c .before .before .place-nodes .ensures ∙ ap (λ (l : List ℕ). padded (joined (ruleNodes (c .before .before .before .before .before .before .before .before .before .before .args .grammar .now) (c .before .before .before .before .before .before .before .before .before .before .args .r)) (c .before .before .before .before .before .before .before .before .before .before .args .f .now) (attach (ruleNodes (c .before .before .before .before .before .before .before .before .before .before .args .grammar .now) (c .before .before .before .before .before .before .before .before .before .before .args .r)) (edgeNodes (c .before .before .before .before .before .before .before .before .before .before .args .grammar .now) (c .before .before .before .before .before .before .before .before .before .before .args .r) (c .before .before .before .before .before .before .before .before .before .before .args .i)) (take (rankAt (c .before .before .before .before .before .before .before .before .before .before .args .grammar .now) (edgeLabel (c .before .before .before .before .before .before .before .before .before .before .args .grammar .now) (c .before .before .before .before .before .before .before .before .before .before .args .r) (c .before .before .before .before .before .before .before .before .before .before .args .i))) l)))) (part-edge (c .before .before .before .before .before .before .before .before .before .before .args .grammar .now) (c .before .before .before .before .before .before .before .before .before .before .args .graph .now) (c .before .before .before .before .before .before .before .before .before .before .args .b) (10 + 9 * c .before .before .before .before .before .before .before .before .before .before .args .b) (10 + 9 * c .before .before .before .before .before .before .before .before .before .before .args .b + c .before .before .before .before .before .rank-of .result - (10 + 9 * c .before .before .before .before .before .before .before .before .before .before .args .b)) (c .before .before .before .before .before .before .before .before .before .before .pre .2) refl (omega arith ∙ c .before .before .before .before .before .rank-of .ensures .0 ∙ ap (rankAt (c .before .before .before .before .before .before .before .before .before .before .args .grammar .now)) (c .before .before .before .before .before .before .word-in .ensures)) (omega (arith, c .before .before .before .before .before .rank-of .ensures .1, graph-long _ _ (c .before .before .before .before .before .before .before .before .before .before .pre .0), edge-few _ _ (c .before .before .before .before .before .before .before .before .before .before .pre .0) _ (c .before .before .before .before .before .before .before .before .before .before .pre .2))))
+returns c =
+    let g = c .before .before .before .before .before .before .before .before .before .before .before .args .grammar .now in
+    let r = c .before .before .before .before .before .before .before .before .before .before .before .args .r in
+    let i = c .before .before .before .before .before .before .before .before .before .before .before .args .i in
+    c .before .before .place-nodes .ensures
+    ∙ ap
+    (λ (l : List ℕ). padded (joined (ruleNodes g r) (c .before .before .before .before .before .before .before .before .before .before .before .args .f .now) (attach (ruleNodes g r) (edgeNodes g r i) (take (rankAt g (edgeLabel g r i)) l))))
+    (part-edge g (c .before .before .before .before .before .before .before .before .before .before .before .args .graph .now) _ _ _ (c .before .before .before .before .before .before .before .before .before .before .before .pre .2) (c .before .before .before .before .before .before .rank-of .ensures .0 ∙ ap (rankAt g) (c .before .before .before .before .before .before .before .field-in .ensures)) (c .before .before .before .before .before .nodes-of .ensures))
 
 pub place-edge-spec : {M : Type 1} → statement M
 place-edge-spec =
     tie.close
     (tie.spec
-    add-word-in
-    word-in-requires
+    add-field-in
+    field-in-requires
     rank-of-requires
-    mul-from
-    add-from
-    add-end
-    mul-place-nodes
-    sub-place-nodes
-    part-place-nodes-start
-    part-place-nodes-end
+    nodes-of-requires
+    array-share-prefix-nodes
+    slice-aggregate-place-nodes
     place-nodes-requires
     same-length
     returns)

@@ -23,32 +23,32 @@ add-p c = omega (arith, edge-place _ _ _ (c .before .before .before .pre .0))
 add-p-2 : tie.Need-add-p-2 Inv-loop μ-loop
 add-p-2 c = omega (arith, edge-place _ _ _ (c .before .before .before .pre .0))
 
-word-in-requires : tie.Need-word-in-requires Inv-loop μ-loop
-word-in-requires c κs = omega (arith, edge-place _ _ _ (c .before .before .before .pre .0), grammar-long _ (c .before .before .before .pre .0 .grammar))
+field-in-requires : tie.Need-field-in-requires Inv-loop μ-loop
+field-in-requires c κs = (omega (arith, edge-place _ _ _ (c .before .before .before .pre .0), grammar-long _ (c .before .before .before .pre .0 .grammar)), omega arith)
 
 rank-of-requires : tie.Need-rank-of-requires Inv-loop μ-loop
-rank-of-requires c κs = (c .before .before .before .before .pre .0 .grammar, omega (arith, c .word-in .ensures, edge-label-few _ _ _ (c .before .before .before .before .pre .0)))
+rank-of-requires c κs = (c .before .before .before .before .pre .0 .grammar, omega (arith, c .field-in .ensures, edge-label-few _ _ _ (c .before .before .before .before .pre .0)))
 
 at-most-requires : tie.Need-at-most-requires Inv-loop μ-loop
 at-most-requires c κs = search needs
 
 loop-holds : tie.Need-loop-holds Inv-loop μ-loop
-loop-holds c = placing-start _ _ _ (c .before .before .before .before .before .before .pre .0) _ _ (c .before .before .before .before .before .before .pre .1) _ _ _ (c .before .before .word-in .ensures) (c .before .rank-of .ensures .0) (c .at-most .ensures)
+loop-holds c = placing-start _ _ _ (c .before .before .before .before .before .before .pre .0) _ _ (c .before .before .before .before .before .before .pre .1) _ _ _ (c .before .before .field-in .ensures) (c .before .rank-of .ensures .0) (c .at-most .ensures)
 
 sub-k : tie.Need-sub-k Inv-loop μ-loop
 sub-k c = omega (arith, c .loop-test .taken)
 
-add-word-in : tie.Need-add-word-in Inv-loop μ-loop
-add-word-in c = omega (arith, c .before .loop .inv .low)
+add-field-in : tie.Need-add-field-in Inv-loop μ-loop
+add-field-in c = omega (arith, c .before .loop .inv .low)
 
-word-in-requires-2 : tie.Need-word-in-requires-2 Inv-loop μ-loop
-word-in-requires-2 c κs = omega (arith, c .before .loop .inv .low, c .loop-test .taken, edge-place _ _ _ (c .before .before .before .before .before .before .before .before .pre .0), grammar-long _ (c .before .before .before .before .before .before .before .before .pre .0 .grammar))
+field-in-requires-2 : tie.Need-field-in-requires-2 Inv-loop μ-loop
+field-in-requires-2 c κs = (omega (arith, edge-place _ _ _ (c .before .before .before .before .before .before .before .before .pre .0), grammar-long _ (c .before .before .before .before .before .before .before .before .pre .0 .grammar)), omega (arith, c .before .loop .inv .low, c .loop-test .taken))
 
 mul-if1 : tie.Need-mul-if1 Inv-loop μ-loop
-mul-if1 c = omega (arith, node-few _ _ _ (c .before .before .before .before .before .before .before .before .before .pre .0) _ _ (c .before .before .before .before .before .before .before .before .before .pre .1) _ _ _ (c .before .loop-test .taken) (c .before .before .loop .inv) (c .word-in2 .ensures))
+mul-if1 c = omega (arith, node-few _ _ _ (c .before .before .before .before .before .before .before .before .before .pre .0) _ _ (c .before .before .before .before .before .before .before .before .before .pre .1) _ _ _ (c .before .loop-test .taken) (c .before .before .loop .inv) (c .field-in2 .ensures))
 
 slice-read-if1 : tie.Need-slice-read-if1 Inv-loop μ-loop
-slice-read-if1 c = omega (arith, c .before .before .before .loop .inv .merged .size, node-few _ _ _ (c .before .before .before .before .before .before .before .before .before .before .pre .0) _ _ (c .before .before .before .before .before .before .before .before .before .before .pre .1) _ _ _ (c .before .before .loop-test .taken) (c .before .before .before .loop .inv) (c .before .word-in2 .ensures))
+slice-read-if1 c = omega (arith, c .before .before .before .loop .inv .merged .size, node-few _ _ _ (c .before .before .before .before .before .before .before .before .before .before .pre .0) _ _ (c .before .before .before .before .before .before .before .before .before .before .pre .1) _ _ _ (c .before .before .loop-test .taken) (c .before .before .before .loop .inv) (c .before .field-in2 .ensures))
 
 mul-f : tie.Need-mul-f Inv-loop μ-loop
 mul-f c = omega (arith, c .before .before .before .before .loop .inv .low)
@@ -57,22 +57,22 @@ shared-slice-read-f : tie.Need-shared-slice-read-f Inv-loop μ-loop
 shared-slice-read-f c = omega (arith, c .before .before .before .before .before .loop .inv .inside, c .before .before .before .before .loop-test .taken)
 
 mul-f-2 : tie.Need-mul-f-2 Inv-loop μ-loop
-mul-f-2 c = omega (arith, node-few _ _ _ (c .before .before .before .before .before .before .before .before .before .before .before .before .pre .0) _ _ (c .before .before .before .before .before .before .before .before .before .before .before .before .pre .1) _ _ _ (c .before .before .before .before .loop-test .taken) (c .before .before .before .before .before .loop .inv) (c .before .before .before .word-in2 .ensures))
+mul-f-2 c = omega (arith, node-few _ _ _ (c .before .before .before .before .before .before .before .before .before .before .before .before .pre .0) _ _ (c .before .before .before .before .before .before .before .before .before .before .before .before .pre .1) _ _ _ (c .before .before .before .before .loop-test .taken) (c .before .before .before .before .before .loop .inv) (c .before .before .before .field-in2 .ensures))
 
 slice-write-f : tie.Need-slice-write-f Inv-loop μ-loop
-slice-write-f c = omega (arith, c .before .before .before .before .before .loop .inv .merged .size, node-few _ _ _ (c .before .before .before .before .before .before .before .before .before .before .before .before .pre .0) _ _ (c .before .before .before .before .before .before .before .before .before .before .before .before .pre .1) _ _ _ (c .before .before .before .before .loop-test .taken) (c .before .before .before .before .before .loop .inv) (c .before .before .before .word-in2 .ensures))
+slice-write-f c = omega (arith, c .before .before .before .before .before .loop .inv .merged .size, node-few _ _ _ (c .before .before .before .before .before .before .before .before .before .before .before .before .pre .0) _ _ (c .before .before .before .before .before .before .before .before .before .before .before .before .pre .1) _ _ _ (c .before .before .before .before .loop-test .taken) (c .before .before .before .before .before .loop .inv) (c .before .before .before .field-in2 .ensures))
 
 loop-less : tie.Need-loop-less Inv-loop μ-loop
 loop-less c = omega (arith, c .before .before .before .before .loop-test .taken)
 
 loop-again : tie.Need-loop-again Inv-loop μ-loop
-loop-again c = placing-put _ _ _ (c .before .before .before .before .before .before .before .before .before .before .before .before .pre .0) _ _ (c .before .before .before .before .before .before .before .before .before .before .before .before .pre .1) _ _ _ (c .before .before .before .before .loop-test .taken) (c .before .before .before .before .before .loop .inv) (c .before .before .before .word-in2 .ensures) (c .before .if1 .taken)
+loop-again c = placing-put _ _ _ (c .before .before .before .before .before .before .before .before .before .before .before .before .pre .0) _ _ (c .before .before .before .before .before .before .before .before .before .before .before .before .pre .1) _ _ _ (c .before .before .before .before .loop-test .taken) (c .before .before .before .before .before .loop .inv) (c .before .before .before .field-in2 .ensures) (c .before .if1 .taken)
 
 loop-less-2 : tie.Need-loop-less-2 Inv-loop μ-loop
 loop-less-2 c = omega (arith, c .before .before .before .loop-test .taken)
 
 loop-again-2 : tie.Need-loop-again-2 Inv-loop μ-loop
-loop-again-2 c = placing-kept _ _ _ (c .before .before .before .before .before .before .before .before .before .before .before .pre .0) _ _ (c .before .before .before .before .before .before .before .before .before .before .before .pre .1) _ _ _ (c .before .before .before .loop-test .taken) (c .before .before .before .before .loop .inv) (c .before .before .word-in2 .ensures) (c .if1 .left)
+loop-again-2 c = placing-kept _ _ _ (c .before .before .before .before .before .before .before .before .before .before .before .pre .0) _ _ (c .before .before .before .before .before .before .before .before .before .before .before .pre .1) _ _ _ (c .before .before .before .loop-test .taken) (c .before .before .before .before .loop .inv) (c .before .before .field-in2 .ensures) (c .if1 .left)
 
 same-length : tie.Need-same-length Inv-loop μ-loop
 same-length c = omega (arith, c .before .loop .inv .merged .size, c .before .before .before .before .before .before .before .before .pre .1)
@@ -89,13 +89,13 @@ place-nodes-spec =
     mul-p
     add-p
     add-p-2
-    word-in-requires
+    field-in-requires
     rank-of-requires
     at-most-requires
     loop-holds
     sub-k
-    add-word-in
-    word-in-requires-2
+    add-field-in
+    field-in-requires-2
     mul-if1
     slice-read-if1
     mul-f

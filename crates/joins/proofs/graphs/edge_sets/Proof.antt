@@ -18,11 +18,11 @@ graph-edges-requires c κs = search needs
 loop-holds : tie.Need-loop-holds Inv-loop μ-loop
 loop-holds c = (omega arith, omega (arith, c .graph-edges .ensures, c .before .before .before .pre), sets-none _ _)
 
-add-word : tie.Need-add-word Inv-loop μ-loop
-add-word c = search needs
+add-field-at : tie.Need-add-field-at Inv-loop μ-loop
+add-field-at c = search needs
 
-word-requires : tie.Need-word-requires Inv-loop μ-loop
-word-requires c κs = search needs
+field-at-requires : tie.Need-field-at-requires Inv-loop μ-loop
+field-at-requires c κs = search needs
 
 rank-at-requires : tie.Need-rank-at-requires Inv-loop μ-loop
 rank-at-requires c κs = search needs
@@ -46,7 +46,7 @@ loop-less : tie.Need-loop-less Inv-loop μ-loop
 loop-less c = omega arith
 
 loop-again : tie.Need-loop-again Inv-loop μ-loop
-loop-again c = (omega arith, c .before .before .before .before .loop .inv .1, sets-next _ _ _ _ _ _ _ (omega (arith, c .before .before .before .before .before .graph-edges .ensures)) (omega (arith, c .before .before .before .before .loop .inv .1)) (c .before .before .word .ensures) (c .before .rank-at .ensures .0) (c .listed .ensures) (c .before .before .before .before .loop .inv .2))
+loop-again c = (omega arith, c .before .before .before .before .loop .inv .1, sets-next _ _ _ _ _ _ _ (omega (arith, c .before .before .before .before .before .graph-edges .ensures)) (omega (arith, c .before .before .before .before .loop .inv .1)) (c .before .before .field-at .ensures) (c .before .rank-at .ensures .0) (c .listed .ensures) (c .before .before .before .before .loop .inv .2))
 
 returns : tie.Need-returns Inv-loop μ-loop
 returns c = sets-all _ _ _ _ _ (c .before .before .graph-edges .ensures) (c .loop-test .left) (c .before .loop .inv .2)
@@ -59,8 +59,8 @@ edge-sets-spec =
     μ-loop
     graph-edges-requires
     loop-holds
-    add-word
-    word-requires
+    add-field-at
+    field-at-requires
     rank-at-requires
     add-listed
     listed-requires

@@ -4,27 +4,27 @@ use Rattle.joins.proofs.Known.{grammar-long, rule-few, plan-few}
 use Rattle.rules.proofs.plans.kind_at.Statement.{statement}
 use Rattle.rules.proofs.plans.kind_at.Tie as tie
 
-mul-word-in : tie.Need-mul-word-in
-mul-word-in c = omega (arith, c .before .pre .node, rule-few _ _ (c .before .pre .grammar) (c .before .pre .rule), plan-few _ _ (c .before .pre .grammar) (c .before .pre .rule))
+mul-field-in : tie.Need-mul-field-in
+mul-field-in c = omega (arith, c .before .pre .node, rule-few _ _ (c .before .pre .grammar) (c .before .pre .rule), plan-few _ _ (c .before .pre .grammar) (c .before .pre .rule))
 
-add-word-in : tie.Need-add-word-in
-add-word-in c = omega (arith, c .before .pre .node, rule-few _ _ (c .before .pre .grammar) (c .before .pre .rule), plan-few _ _ (c .before .pre .grammar) (c .before .pre .rule))
+add-field-in : tie.Need-add-field-in
+add-field-in c = omega (arith, c .before .pre .node, rule-few _ _ (c .before .pre .grammar) (c .before .pre .rule), plan-few _ _ (c .before .pre .grammar) (c .before .pre .rule))
 
-add-word-in-2 : tie.Need-add-word-in-2
-add-word-in-2 c = omega (arith, c .before .pre .node, rule-few _ _ (c .before .pre .grammar) (c .before .pre .rule), plan-few _ _ (c .before .pre .grammar) (c .before .pre .rule))
+add-field-in-2 : tie.Need-add-field-in-2
+add-field-in-2 c = omega (arith, c .before .pre .node, rule-few _ _ (c .before .pre .grammar) (c .before .pre .rule), plan-few _ _ (c .before .pre .grammar) (c .before .pre .rule))
 
-word-in-requires : tie.Need-word-in-requires
-word-in-requires c κs = omega (arith, c .before .pre .node, rule-few _ _ (c .before .pre .grammar) (c .before .pre .rule), plan-few _ _ (c .before .pre .grammar) (c .before .pre .rule), grammar-long _ (c .before .pre .grammar))
+field-in-requires : tie.Need-field-in-requires
+field-in-requires c κs = (omega (arith, c .before .pre .node, rule-few _ _ (c .before .pre .grammar) (c .before .pre .rule), plan-few _ _ (c .before .pre .grammar) (c .before .pre .rule), grammar-long _ (c .before .pre .grammar)), omega arith)
 
 returns : tie.Need-returns
-returns c = c .word-in .ensures
+returns c = c .field-in .ensures
 
 pub kind-at-spec : {M : Type 1} → statement M
 kind-at-spec =
     tie.close
     (tie.spec
-    mul-word-in
-    add-word-in
-    add-word-in-2
-    word-in-requires
+    mul-field-in
+    add-field-in
+    add-field-in-2
+    field-in-requires
     returns)

@@ -1,4 +1,4 @@
--- The nodes, and the words behind them (proofs/EdgeLines).
+-- The nodes, and what is behind them (proofs/EdgeLines).
 use borrow.Author.Needs.{needs}
 use Rattle.tables.proofs.EdgeLines.{attached-no, behind-no, attached-yes}
 use Rattle.tables.proofs.checking.attached.Statement.{statement}
@@ -10,17 +10,17 @@ distinct-requires c κs = search needs
 returns : tie.Need-returns
 returns c = attached-no _ _ _ _ _ _ (c .before .before .distinct .ensures) (c .if1 .taken)
 
-mul-behind-nodes : tie.Need-mul-behind-nodes
-mul-behind-nodes c = search needs
+add-ends : tie.Need-add-ends
+add-ends c = search needs
 
-behind-nodes-requires : tie.Need-behind-nodes-requires
-behind-nodes-requires c κs = search needs
+ends-requires : tie.Need-ends-requires
+ends-requires c κs = search needs
 
 returns-2 : tie.Need-returns-2
-returns-2 c = behind-no _ _ _ _ _ _ (c .before .before .before .before .distinct .ensures) _ (c .before .behind-nodes .ensures) (c .if2 .taken) _
+returns-2 c = behind-no _ _ _ _ _ _ (c .before .before .before .before .distinct .ensures) _ (c .before .ends .ensures) (c .if2 .taken) _
 
 returns-3 : tie.Need-returns-3
-returns-3 c = attached-yes _ _ _ _ _ _ (c .before .before .before .before .distinct .ensures) _ (c .before .behind-nodes .ensures) (c .before .before .if1 .left) (c .if2 .left)
+returns-3 c = attached-yes _ _ _ _ _ _ (c .before .before .before .before .distinct .ensures) _ (c .before .ends .ensures) (c .before .before .if1 .left) (c .if2 .left)
 
 pub attached-spec : {M : Type 1} → statement M
 attached-spec =
@@ -28,7 +28,7 @@ attached-spec =
     (tie.spec
     distinct-requires
     returns
-    mul-behind-nodes
-    behind-nodes-requires
+    add-ends
+    ends-requires
     returns-2
     returns-3)

@@ -3,6 +3,7 @@ use native.Mathlib.Omega.{arith}
 use mathlib.Core.List.{[]}
 use borrow.Author.Tests.{not-false}
 use borrow.Author.Needs.{needs}
+use Rattle.questions.specs.Layout.{grammarWords}
 use Rattle.tables.proofs.OnePass.{grammar-short, grammar-is}
 use Rattle.tables.proofs.Leading.{concludes-no, through, through-no, concludes-on, symbols-few, rules-few, grammar-no, grammar-line}
 use Rattle.tables.proofs.checking.check_grammar.Statement.{statement}
@@ -15,31 +16,28 @@ grammar-stands-requires : tie.Need-grammar-stands-requires
 grammar-stands-requires c κs = search needs
 
 returns-2 : tie.Need-returns-2
-returns-2 c = grammar-is _ (c .before .before .if1 .left) _ (grammar-no 14985 [] _ _ (c .before .grammar-stands .ensures) (c .if2 .taken))
+returns-2 c = grammar-is _ (c .before .before .if1 .left) _ (grammar-no grammarWords [] _ _ (c .before .grammar-stands .ensures) (c .if2 .taken))
 
-word-in-requires : tie.Need-word-in-requires
-word-in-requires c κs = search needs
+field-in-requires : tie.Need-field-in-requires
+field-in-requires c κs = search needs
 
 check-symbols-requires : tie.Need-check-symbols-requires
-check-symbols-requires c κs = (c .before .before .before .if1 .left, symbols-few _ _ (c .before .before .grammar-stands .ensures .yes (not-false _ (c .before .if2 .left))) (c .word-in .ensures))
+check-symbols-requires c κs = (c .before .before .before .if1 .left, symbols-few _ _ (c .before .before .grammar-stands .ensures .yes (not-false _ (c .before .if2 .left))) (c .field-in .ensures))
 
 returns-3 : tie.Need-returns-3
-returns-3 c = grammar-is _ (c .before .before .before .before .before .if1 .left) _ (concludes-no 14985 [] _ _ _ (through-no 14985 [] _ _ _ _ _ (grammar-line 14985 [] _ _ (c .before .before .before .before .grammar-stands .ensures) (c .before .before .before .if2 .left)) _ _ _ (c .before .check-symbols .ensures) (c .if3 .taken)))
+returns-3 c = grammar-is _ (c .before .before .before .before .before .if1 .left) _ (concludes-no grammarWords [] _ _ _ (through-no grammarWords [] _ _ _ _ _ (grammar-line grammarWords [] _ _ (c .before .before .before .before .grammar-stands .ensures) (c .before .before .before .if2 .left)) _ _ _ (c .before .check-symbols .ensures) (c .if3 .taken)))
 
 add-check-rules : tie.Need-add-check-rules
-add-check-rules c = omega (arith, (symbols-few _ _ (c .before .before .before .before .grammar-stands .ensures .yes (not-false _ (c .before .before .before .if2 .left))) (c .before .before .word-in .ensures) .few))
+add-check-rules c = omega (arith, (symbols-few _ _ (c .before .before .before .before .grammar-stands .ensures .yes (not-false _ (c .before .before .before .if2 .left))) (c .before .before .field-in .ensures) .few))
 
-mul-check-rules : tie.Need-mul-check-rules
-mul-check-rules c = omega (arith, (symbols-few _ _ (c .before .before .before .before .grammar-stands .ensures .yes (not-false _ (c .before .before .before .if2 .left))) (c .before .before .word-in .ensures) .few))
-
-word-in-requires-2 : tie.Need-word-in-requires-2
-word-in-requires-2 c κs = search needs
+field-in-requires-2 : tie.Need-field-in-requires-2
+field-in-requires-2 c κs = search needs
 
 check-rules-requires : tie.Need-check-rules-requires
-check-rules-requires c κs = (c .before .before .before .before .before .before .if1 .left, rules-few _ _ (c .before .before .before .before .before .grammar-stands .ensures .yes (not-false _ (c .before .before .before .before .if2 .left))) (c .word-in2 .ensures), omega (arith, (symbols-few _ _ (c .before .before .before .before .before .grammar-stands .ensures .yes (not-false _ (c .before .before .before .before .if2 .left))) (c .before .before .before .word-in .ensures) .few)))
+check-rules-requires c κs = (c .before .before .before .before .before .before .if1 .left, rules-few _ _ (c .before .before .before .before .before .grammar-stands .ensures .yes (not-false _ (c .before .before .before .before .if2 .left))) (c .field-in2 .ensures), omega (arith, (symbols-few _ _ (c .before .before .before .before .before .grammar-stands .ensures .yes (not-false _ (c .before .before .before .before .if2 .left))) (c .before .before .before .field-in .ensures) .few)))
 
 returns-4 : tie.Need-returns-4
-returns-4 c = grammar-is _ (c .before .before .before .before .before .before .before .if1 .left) _ (concludes-on 14985 [] _ _ _ _ _ (through 14985 [] _ _ _ _ _ (grammar-line 14985 [] _ _ (c .before .before .before .before .before .before .grammar-stands .ensures) (c .before .before .before .before .before .if2 .left)) _ _ _ (c .before .before .before .check-symbols .ensures) (c .before .before .if3 .left)) _ (c .check-rules .ensures))
+returns-4 c = grammar-is _ (c .before .before .before .before .before .before .before .if1 .left) _ (concludes-on grammarWords [] _ _ _ _ _ (through grammarWords [] _ _ _ _ _ (grammar-line grammarWords [] _ _ (c .before .before .before .before .before .before .grammar-stands .ensures) (c .before .before .before .before .before .if2 .left)) _ _ _ (c .before .before .before .check-symbols .ensures) (c .before .before .if3 .left)) _ (c .check-rules .ensures))
 
 pub check-grammar-spec : {M : Type 1} → statement M
 check-grammar-spec =
@@ -48,11 +46,10 @@ check-grammar-spec =
     returns
     grammar-stands-requires
     returns-2
-    word-in-requires
+    field-in-requires
     check-symbols-requires
     returns-3
     add-check-rules
-    mul-check-rules
-    word-in-requires-2
+    field-in-requires-2
     check-rules-requires
     returns-4)

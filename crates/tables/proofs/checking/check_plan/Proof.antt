@@ -24,23 +24,20 @@ with-line-requires c κs = (record { long = omega (arith, c .before .before .bef
 returns : tie.Need-returns Inv-loop μ-loop
 returns c = passed-no _ _ _ _ (c .before .before .before .before .loop .inv .2) (c .before .before .before .loop-test .taken) (line-not-kept _ _ _ _ (c .before .before .with-line .ensures .so) (c .if1 .taken))
 
-mul-six-zeros : tie.Need-mul-six-zeros Inv-loop μ-loop
-mul-six-zeros c = search needs
+mul-ends : tie.Need-mul-ends Inv-loop μ-loop
+mul-ends c = search needs
 
-add-six-zeros : tie.Need-add-six-zeros Inv-loop μ-loop
-add-six-zeros c = search needs
+add-ends : tie.Need-add-ends Inv-loop μ-loop
+add-ends c = search needs
 
-add-six-zeros-2 : tie.Need-add-six-zeros-2 Inv-loop μ-loop
-add-six-zeros-2 c = search needs
+add-ends-2 : tie.Need-add-ends-2 Inv-loop μ-loop
+add-ends-2 c = search needs
 
-mul-six-zeros-2 : tie.Need-mul-six-zeros-2 Inv-loop μ-loop
-mul-six-zeros-2 c = search needs
-
-six-zeros-requires : tie.Need-six-zeros-requires Inv-loop μ-loop
-six-zeros-requires c κs = search needs
+ends-requires : tie.Need-ends-requires Inv-loop μ-loop
+ends-requires c κs = search needs
 
 returns-2 : tie.Need-returns-2 Inv-loop μ-loop
-returns-2 c = passed-no _ _ _ _ (c .before .before .before .before .before .before .loop .inv .2) (c .before .before .before .before .before .loop-test .taken) (line-not-zero _ _ _ _ (c .before .before .before .before .with-line .ensures .so) _ (c .before .six-zeros .ensures) (c .if2 .taken))
+returns-2 c = passed-no _ _ _ _ (c .before .before .before .before .before .before .loop .inv .2) (c .before .before .before .before .before .loop-test .taken) (line-not-zero _ _ _ _ (c .before .before .before .before .with-line .ensures .so) _ (c .before .ends .ensures) (c .if2 .taken))
 
 add-q : tie.Need-add-q Inv-loop μ-loop
 add-q c = search needs
@@ -49,7 +46,7 @@ loop-less : tie.Need-loop-less Inv-loop μ-loop
 loop-less c = omega arith
 
 loop-again : tie.Need-loop-again Inv-loop μ-loop
-loop-again c = (omega arith, c .before .before .before .before .with-line .ensures .sets (not-false _ (c .before .before .if1 .left)), passed-next _ _ _ _ (c .before .before .before .before .before .before .loop .inv .2) (c .before .before .before .before .before .loop-test .taken) (c .before .before .before .before .before .before .before .before .pre .1) (line-stands _ _ _ _ (c .before .before .before .before .with-line .ensures .so) _ (c .before .six-zeros .ensures) (c .before .before .if1 .left) (c .if2 .left)))
+loop-again c = (omega arith, c .before .before .before .before .with-line .ensures .sets (not-false _ (c .before .before .if1 .left)), passed-next _ _ _ _ (c .before .before .before .before .before .before .loop .inv .2) (c .before .before .before .before .before .loop-test .taken) (c .before .before .before .before .before .before .before .before .pre .1) (line-stands _ _ _ _ (c .before .before .before .before .with-line .ensures .so) _ (c .before .ends .ensures) (c .before .before .if1 .left) (c .if2 .left)))
 
 sub-has-all : tie.Need-sub-has-all Inv-loop μ-loop
 sub-has-all c = search needs
@@ -72,11 +69,10 @@ check-plan-spec =
     loop-holds
     with-line-requires
     returns
-    mul-six-zeros
-    add-six-zeros
-    add-six-zeros-2
-    mul-six-zeros-2
-    six-zeros-requires
+    mul-ends
+    add-ends
+    add-ends-2
+    ends-requires
     returns-2
     add-q
     loop-less

@@ -9,14 +9,14 @@ use Rattle.tables.proofs.checking.graph_edge_stands.Tie as tie
 add-p : tie.Need-add-p
 add-p c = search needs
 
-word-in-requires : tie.Need-word-in-requires
-word-in-requires c κs = search needs
+field-in-requires : tie.Need-field-in-requires
+field-in-requires c κs = search needs
 
 kind-of-requires : tie.Need-kind-of-requires
 kind-of-requires c κs = search needs
 
 returns : tie.Need-returns
-returns c = nearly-no _ _ _ _ _ _ _ _ _ (graph-line _ _ _ _ _ _ (c .before .before .word-in .ensures) (c .before .before .before .before .before .pre .1) (c .before .kind-of .ensures)) (c .if1 .taken) _
+returns c = nearly-no _ _ _ _ _ _ _ _ _ (graph-line _ _ _ _ _ _ (c .before .before .field-in .ensures) (c .before .before .before .before .before .pre .1) (c .before .kind-of .ensures)) (c .if1 .taken) _
 
 rank-at-requires : tie.Need-rank-at-requires
 rank-at-requires c κs = search needs
@@ -26,14 +26,14 @@ attached-requires c κs = search needs
 
 returns-2 : tie.Need-returns-2
 unfolding placeOf
-returns-2 c = nearly-by _ _ _ _ _ _ _ _ _ (graph-line _ _ _ _ _ _ (c .before .before .before .before .word-in .ensures) (c .before .before .before .before .before .before .before .pre .1) (c .before .before .before .kind-of .ensures)) (c .before .before .if1 .left) _ _ _ refl (c .before .rank-at .ensures .0) (c .before .before .before .before .before .before .before .pre .2) _ _ (c .attached .ensures)
+returns-2 c = nearly-by _ _ _ _ _ _ _ _ _ (graph-line _ _ _ _ _ _ (c .before .before .before .before .field-in .ensures) (c .before .before .before .before .before .before .before .pre .1) (c .before .before .before .kind-of .ensures)) (c .before .before .if1 .left) _ _ _ refl (c .before .rank-at .ensures .0) (c .before .before .before .before .before .before .before .pre .2) _ _ (c .attached .ensures)
 
 pub graph-edge-stands-spec : {M : Type 1} → statement M
 graph-edge-stands-spec =
     tie.close
     (tie.spec
     add-p
-    word-in-requires
+    field-in-requires
     kind-of-requires
     returns
     rank-at-requires

@@ -1,4 +1,4 @@
--- The line judged at its place, and the words behind its fields (proofs/LineFields).
+-- The line's fields judged, and what is behind them (proofs/LineFields).
 use native.Mathlib.Omega.{arith}
 use mathlib.Core.Path.{refl}
 use mathlib.Core.List.{[]}
@@ -11,17 +11,14 @@ use Rattle.tables.proofs.LineFields.{stands-no, stands-rest}
 use Rattle.tables.proofs.checking.symbol_stands.Statement.{statement}
 use Rattle.tables.proofs.checking.symbol_stands.Tie as tie
 
-add-at : tie.Need-add-at
-add-at c = search needs
+add-fields-into : tie.Need-add-fields-into
+add-fields-into c = search needs
 
-mul-at : tie.Need-mul-at
-mul-at c = search needs
+slice-aggregate-fields-into : tie.Need-slice-aggregate-fields-into
+slice-aggregate-fields-into c = search needs
 
-add-judge-symbol : tie.Need-add-judge-symbol
-add-judge-symbol c = search needs
-
-mul-judge-symbol : tie.Need-mul-judge-symbol
-mul-judge-symbol c = search needs
+fields-into-requires : tie.Need-fields-into-requires
+fields-into-requires c κs = search needs
 
 sub-judge-symbol : tie.Need-sub-judge-symbol
 sub-judge-symbol c = search needs
@@ -37,27 +34,30 @@ judge-symbol-requires c κs = search needs
 
 returns : tie.Need-returns
 unfolding judge placeOf fieldsDue
-returns c = stands-no [] _ (Symbol (c .before .before .before .before .args .s)) (c .before .before .before .before .pre) _ _ refl refl (omega arith) _ (c .before .judge-symbol .ensures) (c .if1 .taken)
+returns c = stands-no [] _ (Symbol (c .before .before .before .before .before .before .before .before .args .s)) _ _ refl refl _ (c .before .before .before .before .before .fields-into .ensures) _ (c .before .judge-symbol .ensures) (c .if1 .taken)
 
-six-zeros-requires : tie.Need-six-zeros-requires
-six-zeros-requires c κs = search needs
+add-ends : tie.Need-add-ends
+add-ends c = search needs
+
+ends-requires : tie.Need-ends-requires
+ends-requires c κs = search needs
 
 returns-2 : tie.Need-returns-2
 unfolding judge placeOf fieldsDue
-returns-2 c = stands-rest [] _ (Symbol (c .before .before .before .before .before .args .s)) (c .before .before .before .before .before .pre) _ _ refl refl (omega arith) _ (c .before .before .judge-symbol .ensures) (c .before .if1 .left) _ (c .six-zeros .ensures)
+returns-2 c = stands-rest [] _ (Symbol (c .before .before .before .before .before .before .before .before .before .args .s)) _ _ refl refl _ (c .before .before .before .before .before .before .fields-into .ensures) _ (c .before .before .judge-symbol .ensures) (c .before .if1 .left) _ (c .ends .ensures)
 
 pub symbol-stands-spec : {M : Type 1} → statement M
 symbol-stands-spec =
     tie.close
     (tie.spec
-    add-at
-    mul-at
-    add-judge-symbol
-    mul-judge-symbol
+    add-fields-into
+    slice-aggregate-fields-into
+    fields-into-requires
     sub-judge-symbol
     part-judge-symbol-start
     part-judge-symbol-end
     judge-symbol-requires
     returns
-    six-zeros-requires
+    add-ends
+    ends-requires
     returns-2)

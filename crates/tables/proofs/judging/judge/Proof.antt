@@ -4,7 +4,7 @@ use mathlib.Core.Path.{_∙_}
 use borrow.Author.Tests.{not-true, not-false}
 use borrow.Author.Needs.{needs}
 use Rattle.questions.specs.Questions.{judge}
-use Rattle.layout.proofs.Words.{known, chosen, passed}
+use Rattle.layout.proofs.Fields.{known, chosen, passed}
 use Rattle.tables.proofs.Planning.{room-lines}
 use Rattle.tables.proofs.judging.judge.Statement.{statement}
 use Rattle.tables.proofs.judging.judge.Tie as tie

@@ -15,20 +15,20 @@ abbrev μ-loop : tie.MeasureT-loop
 loop-holds : tie.Need-loop-holds Inv-loop μ-loop
 loop-holds c = sought-none _ _
 
-add-word-in : tie.Need-add-word-in Inv-loop μ-loop
-add-word-in c = search needs
+add-field-in : tie.Need-add-field-in Inv-loop μ-loop
+add-field-in c = search needs
 
-word-in-requires : tie.Need-word-in-requires Inv-loop μ-loop
-word-in-requires c κs = search needs
+field-in-requires : tie.Need-field-in-requires Inv-loop μ-loop
+field-in-requires c κs = search needs
 
 returns : tie.Need-returns Inv-loop μ-loop
-returns c = sought-out _ _ _ _ _ _ (c .before .before .before .loop .inv) (c .before .before .before .before .before .pre .1) _ (c .before .before .loop-test .taken) (c .before .word-in .ensures) (c .if1 .taken) _
+returns c = sought-out _ _ _ _ _ _ (c .before .before .before .loop .inv) (c .before .before .before .before .before .pre .2) _ (c .before .before .loop-test .taken) (c .before .field-in .ensures) (c .if1 .taken) _
 
 shr-if2 : tie.Need-shr-if2 Inv-loop μ-loop
 shr-if2 c = search needs
 
 returns-2 : tie.Need-returns-2 Inv-loop μ-loop
-returns-2 c = sought-twice _ _ _ _ _ _ (c .before .before .before .before .loop .inv) (c .before .before .before .before .before .before .pre .1) _ (c .before .before .before .loop-test .taken) (c .before .before .word-in .ensures) (c .if2 .taken) _
+returns-2 c = sought-twice _ _ _ _ _ _ (c .before .before .before .before .loop .inv) (c .before .before .before .before .before .before .pre .2) _ (c .before .before .before .loop-test .taken) (c .before .before .field-in .ensures) (c .if2 .taken) _
 
 shl-seen : tie.Need-shl-seen Inv-loop μ-loop
 shl-seen c = search needs
@@ -40,7 +40,7 @@ loop-less : tie.Need-loop-less Inv-loop μ-loop
 loop-less c = search needs
 
 loop-again : tie.Need-loop-again Inv-loop μ-loop
-loop-again c = sought-more _ _ _ _ _ _ (c .before .before .before .before .loop .inv) (c .before .before .before .before .before .before .pre .1) _ (c .before .before .before .loop-test .taken) (c .before .before .word-in .ensures) (c .before .if1 .left) (c .if2 .left)
+loop-again c = sought-more _ _ _ _ _ _ (c .before .before .before .before .loop .inv) (c .before .before .before .before .before .before .pre .2) _ (c .before .before .before .loop-test .taken) (c .before .before .field-in .ensures) (c .before .if1 .left) (c .if2 .left)
 
 returns-3 : tie.Need-returns-3 Inv-loop μ-loop
 returns-3 c = sought-all _ _ _ _ _ _ (c .before .loop .inv) (c .loop-test .left)
@@ -52,8 +52,8 @@ distinct-spec =
     Inv-loop
     μ-loop
     loop-holds
-    add-word-in
-    word-in-requires
+    add-field-in
+    field-in-requires
     returns
     shr-if2
     returns-2

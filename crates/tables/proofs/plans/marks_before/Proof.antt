@@ -6,7 +6,7 @@ use Rattle.tables.specs.Plans.{Marked}
 use Rattle.tables.proofs.Planning.{plan-inside, marked-start, marked-next, marked-done}
 use Rattle.tables.proofs.plans.marks_before.Statement.{statement}
 use Rattle.tables.proofs.plans.marks_before.Tie as tie
-use Rattle.layout.proofs.word_in.Reads as word-in-reads
+use Rattle.layout.proofs.field_in.Reads as field-in-reads
 use Rattle.tables.proofs.plans.mark_children.Reads as mark-children-reads
 use Rattle.tables.proofs.plans.mark_introduced.Reads as mark-introduced-reads
 
@@ -28,14 +28,14 @@ add-p c = omega (arith, c .before .before .before .pre .rule)
 add-p-2 : tie.Need-add-p-2 Inv-loop μ-loop
 add-p-2 c = omega (arith, c .before .before .before .pre .rule, c .before .before .before .pre .lines)
 
-word-in-requires : tie.Need-word-in-requires Inv-loop μ-loop
-word-in-requires c κs = plan-inside _ _ _ _ 0 (c .before .before .before .pre) (c .loop-test .taken) (omega arith)
+field-in-requires : tie.Need-field-in-requires Inv-loop μ-loop
+field-in-requires c κs = plan-inside _ _ _ _ 0 (c .before .before .before .pre) (c .loop-test .taken) (omega arith)
 
-word-in-requires-2 : tie.Need-word-in-requires-2 Inv-loop μ-loop
-word-in-requires-2 c κs = plan-inside _ _ _ _ 1 (c .before .before .before .before .pre) (c .before .loop-test .taken) (omega arith)
+field-in-requires-2 : tie.Need-field-in-requires-2 Inv-loop μ-loop
+field-in-requires-2 c κs = plan-inside _ _ _ _ 1 (c .before .before .before .before .pre) (c .before .loop-test .taken) (omega arith)
 
-word-in-requires-3 : tie.Need-word-in-requires-3 Inv-loop μ-loop
-word-in-requires-3 c κs = plan-inside _ _ _ _ 2 (c .before .before .before .before .before .pre) (c .before .before .loop-test .taken) (omega arith)
+field-in-requires-3 : tie.Need-field-in-requires-3 Inv-loop μ-loop
+field-in-requires-3 c κs = plan-inside _ _ _ _ 2 (c .before .before .before .before .before .pre) (c .before .before .loop-test .taken) (omega arith)
 
 mark-children-requires : tie.Need-mark-children-requires Inv-loop μ-loop
 mark-children-requires c κs = search needs
@@ -50,7 +50,7 @@ loop-less : tie.Need-loop-less Inv-loop μ-loop
 loop-less c = omega arith
 
 loop-again : tie.Need-loop-again Inv-loop μ-loop
-loop-again c = (omega arith, marked-next _ _ _ _ _ _ _ _ _ _ (c .before .before .before .before .word-in .ensures) (c .before .before .before .word-in2 .ensures) (c .before .before .word-in3 .ensures) (c .before .before .before .before .before .before .loop .inv .1) (c .before .mark-children .ensures) (c .mark-introduced .ensures))
+loop-again c = (omega arith, marked-next _ _ _ _ _ _ _ _ _ _ (c .before .before .before .before .field-in .ensures) (c .before .before .before .field-in2 .ensures) (c .before .before .field-in3 .ensures) (c .before .before .before .before .before .before .loop .inv .1) (c .before .mark-children .ensures) (c .mark-introduced .ensures))
 
 returns : tie.Need-returns Inv-loop μ-loop
 returns c = marked-done _ _ _ _ _ _ (c .before .loop .inv .0) (c .loop-test .left) (c .before .loop .inv .1)
@@ -65,9 +65,9 @@ marks-before-spec =
     mul-p
     add-p
     add-p-2
-    word-in-requires
-    word-in-requires-2
-    word-in-requires-3
+    field-in-requires
+    field-in-requires-2
+    field-in-requires-3
     mark-children-requires
     mark-introduced-requires
     add-q

@@ -36,9 +36,36 @@ fn touch(rng: &mut Rng, words: &mut [u64]) -> u64 {
     words[at]
 }
 
+/// Changes one word of a table: mostly one of the nine fields, of seven bits each, of a line.
+fn touch_line(rng: &mut Rng, words: &mut [u64]) -> u64 {
+    let used: Vec<usize> = (0..words.len()).filter(|&at| words[at] != 0).collect();
+    if used.is_empty() || rng.one_in(3) {
+        return touch(rng, words);
+    }
+    let at = *rng.pick(&used);
+    let shift = 7 * rng.below(9);
+    let old = words[at] >> shift & 127;
+    let mut new = old;
+    while new == old {
+        new = match rng.below(4) {
+            0 => (old + 1) % 128,
+            1 => (old + 127) % 128,
+            2 => rng.below(8) as u64,
+            _ => rng.below(128) as u64,
+        };
+    }
+    words[at] ^= (old ^ new) << shift;
+    words[at]
+}
+
+/// The fields in a line's word.
+fn fields_in(word: u64) -> impl Iterator<Item = usize> {
+    (0..9).map(move |j| (word >> (7 * j) & 127) as usize)
+}
+
 /// A text that could have filled a touched table: one that reads, over the touched table, as just
-/// that table. Sought among those with the new word in one field and else as before, lists and
-/// lines cut or filled up with zeros by `fit` where the field says how long they are.
+/// that table. Sought among those with the fields of the new word in one line and else as before,
+/// lists and lines cut or filled up with zeros by `fit` where the fields say how long they are.
 fn text_behind(
     lines: &[Line],
     word: u64,
@@ -51,16 +78,15 @@ fn text_behind(
         let mut table = touched.to_vec();
         (fills(&text, &mut table) && table == touched).then_some(text)
     };
-    let value = usize::try_from(word).ok().filter(|&v| v <= 9_999);
-    let places = (0..lines.len()).flat_map(|at| (0..lines[at].fields.len()).map(move |f| (at, f)));
-    let with_value = places.filter_map(|(at, field)| {
+    let with_word = (0..lines.len()).filter_map(|at| {
         let mut other = lines.to_vec();
-        other[at].fields[field] = value?;
+        let count = if b"GSP".contains(&other[at].letter) { 3 } else { 9 };
+        other[at].fields = fields_in(word).take(count).collect();
         fit(&mut other);
         fills(&other)
     });
     // A word that no reading writes changes nothing.
-    fills(lines).or_else(|| with_value.into_iter().next())
+    fills(lines).or_else(|| with_word.into_iter().next())
 }
 
 /// Makes each list of nodes as long as its symbol's rank; `ranks` is by symbol.
@@ -108,7 +134,7 @@ impl Checker<'_> {
 
     fn check_touched_grammar(&mut self, rng: &mut Rng, tables: &Tables) {
         let mut touched = tables.clone();
-        let word = touch(rng, &mut touched.grammar_table[..calls::grammar_words()]);
+        let word = touch_line(rng, &mut touched.grammar_table[..calls::grammar_words()]);
         let graph_text = tables.graph.text();
         let mut table = words(rng, calls::graph_words());
         let answer = calls::read_graph(&touched.grammar_table, &graph_text, &mut table.now);
@@ -145,7 +171,7 @@ impl Checker<'_> {
 
     fn check_touched_graph(&mut self, rng: &mut Rng, tables: &Tables) {
         let mut touched = tables.clone();
-        let word = touch(rng, &mut touched.graph_table[..calls::graph_words()]);
+        let word = touch_line(rng, &mut touched.graph_table[..calls::graph_words()]);
         if touched.replay(b"") == Verdict::Unfit {
             self.totals.count(TOUCHED, "graph tables refused");
             return self.check_refused_tables(rng, &touched);
