@@ -19,10 +19,7 @@ fn number(answer: Result<(), Fault>) -> u64 {
 /// The fields of a table, nine to a line's word, with seven bits each.
 fn fields(table: &[u64]) -> Vec<u64> {
     let field = |word: &u64, j: u32| (word >> (7 * j)) & 127;
-    table
-        .iter()
-        .flat_map(|word| (0..9).map(move |j| field(word, j)))
-        .collect()
+    table.iter().flat_map(|word| (0..9).map(move |j| field(word, j))).collect()
 }
 
 /// Changes one field of the line at a place; the tenth is the bit that no field has.

@@ -80,7 +80,11 @@ fn text_behind(
     };
     let with_word = (0..lines.len()).filter_map(|at| {
         let mut other = lines.to_vec();
-        let count = if b"GSP".contains(&other[at].letter) { 3 } else { 9 };
+        let count = if b"GSP".contains(&other[at].letter) {
+            3
+        } else {
+            9
+        };
         other[at].fields = fields_in(word).take(count).collect();
         fit(&mut other);
         fills(&other)
