@@ -23,8 +23,8 @@ use Rattle.ranking.specs.Ranking.{orderOf, orderAt, Ranked, Blank, Replaces, ta
 use Rattle.ranking.proofs.Orders.{order-past, waiting-order, appended-order, improved-order}
 use Rattle.lists.specs.Lists.{Listed, Unlisted, Ready, Within, enteredAll}
 use Rattle.lists.proofs.ListLaws.{listed-none, listed-ready, listed-entered-all}
-use Rattle.pivots.specs.Keys.{keysOf, regularOf}
-use Rattle.pivots.proofs.KeyLaws.{keys-few, improved-keys, handled-keys, improved-regular, handled-regular}
+use Rattle.keys.specs.Keys.{keysOf, regularOf}
+use Rattle.keys.proofs.KeyLaws.{keys-few, improved-keys, handled-keys, improved-regular, handled-regular}
 use Rattle.index.specs.Index.{indexWords, linksOf, ranksOf, markOf, keysFor, Indexed, Empty, Keyed, Kept, markedFor, DoubtKept}
 use Rattle.ranking.proofs.Parts.{part-zeros, length-part, part-set, put, length-put, put-same, put-before, put-behind, word-behind}
 use Rattle.index.proofs.CoverLaws.{doubt-same, doubt-on, doubt-put, doubt-marked}

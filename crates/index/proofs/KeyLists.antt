@@ -14,7 +14,7 @@ use Rattle.agenda.proofs.Records.{bare}
 use Rattle.agenda.proofs.Growth.{Grew, all-grown}
 use Rattle.records.specs.Words.{Fits, capacity, chartOf, grownBy}
 use Rattle.records.proofs.Grown.{Whole, grown-chart}
-use Rattle.pivots.specs.Keys.{passiveTag, mixed, imageOf, fiveKeys, keysBy, wordFor, usesOf, keysOf}
+use Rattle.keys.specs.Keys.{passiveTag, mixed, imageOf, fiveKeys, keysBy, wordFor, usesOf, keysOf}
 use Rattle.index.specs.Index.{keysFor}
 
 module _ (keys : List ℕ) where

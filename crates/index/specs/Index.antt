@@ -10,7 +10,7 @@ use Rattle.chains.specs.Chains.{Chained}
 use Rattle.ranking.specs.Ranking.{Ranked}
 use Rattle.lists.specs.Lists.{Listed}
 use Rattle.rules.specs.Coverage.{Covering}
-use Rattle.pivots.specs.Keys.{keysOf, regularOf}
+use Rattle.keys.specs.Keys.{keysOf, regularOf}
 
 -- how many words there are
 abbrev pub indexWords : ℕ

@@ -15,7 +15,7 @@ ghost use Rattle.agenda.specs.Steps.{leastWaiting, improved, placed};
 ghost use Rattle.records.specs.Words.{Fits, ofWords, capacity, itemCount, chartOf, improvedAt, appendedTo, addedTo};
 ghost use Rattle.chains.specs.Chains.{hashOf};
 ghost use Rattle.ranking.specs.Ranking.{Ranked, takenFrom};
-ghost use Rattle.pivots.specs.Keys.{keysOf};
+ghost use Rattle.keys.specs.Keys.{keysOf};
 ghost use Rattle.joins.specs.Joins.{Accepted};
 ghost use Rattle.joins.specs.Graphs.{GraphTable};
 ghost use Rattle.rules.specs.Plans.{PlanTable};

@@ -10,9 +10,9 @@ use borrow.Author.Tests.{eq-eqb, ne-eqb}
 use Rattle.masks.specs.Masks.{bit}
 use Rattle.hrg.specs.Trees.{at}
 use Rattle.records.specs.Words.{ofWords}
-use Rattle.pivots.specs.Pivots.{positionOf, nodeOf}
-use Rattle.pivots.specs.Keys.{baseOf, mixed, bucketOf, wordOf, imageOf, keyWord, placeOf, placeNode, placeWord, ruleWord, symbolWord, usesIn, placeKey, fiveKeys, keysBy, wordFor, usesOf, keysOf, queryOf, allPlaced, regularBy, regularOf}
-use Rattle.pivots.proofs.KeyLaws.{word-edge, word-join, word-none, place-there, place-none, node-first, image-there, image-none}
+use Rattle.keys.specs.Pivots.{positionOf, nodeOf}
+use Rattle.keys.specs.Keys.{baseOf, mixed, bucketOf, wordOf, imageOf, keyWord, placeOf, placeNode, placeWord, ruleWord, symbolWord, usesIn, placeKey, fiveKeys, keysBy, wordFor, usesOf, keysOf, queryOf, allPlaced, regularBy, regularOf}
+use Rattle.keys.proofs.KeyLaws.{word-edge, word-join, word-none, place-there, place-none, node-first, image-there, image-none}
 
 -- ---- words of a record
 node-word : (x : List ℕ) (v : ℕ) → v < 8 → getD x (6 + v) 0 ≡ at (ofWords x .nodes) v

@@ -33,9 +33,9 @@ use Rattle.rules.specs.Rules.{Above}
 use Rattle.rules.specs.Wants.{wantOf}
 use Rattle.rules.proofs.WantLaws.{unknown-rule, unknown-node, rules-few}
 use Rattle.rules.proofs.Meeting.{rule, label-few, want-label, few, want-first, want-second}
-use Rattle.pivots.specs.Pivots.{positionOf, nodeOf, EdgePivot, lastTo, sharedNode, PivotBelow, PivotOf}
-use Rattle.pivots.specs.Keys.{keyWord, placeWord, ruleWord, symbolWord, usesIn, KeyTable, Entered, Placed}
-use Rattle.pivots.proofs.KeyLaws.{word-none, place-nowhere}
+use Rattle.keys.specs.Pivots.{positionOf, nodeOf, EdgePivot, lastTo, sharedNode, PivotBelow, PivotOf}
+use Rattle.keys.specs.Keys.{keyWord, placeWord, ruleWord, symbolWord, usesIn, KeyTable, Entered, Placed}
+use Rattle.keys.proofs.KeyLaws.{word-none, place-nowhere}
 
 -- ---- an edge
 pub no-edge-pivot : (A : List ℕ) → EdgePivot A 72 × (72 ≤ 72)

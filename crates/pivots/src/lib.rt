@@ -10,8 +10,8 @@ ghost use Rattle.questions.specs.Abstract.{grammarOf};
 ghost use Rattle.records.specs.Words.{ofWords};
 ghost use Rattle.joins.specs.Joins.{KnownNode, KnownEdge, edgeNodes};
 ghost use Rattle.rules.specs.Plans.{PlanTable};
-ghost use Rattle.pivots.specs.Pivots.{sharedNode, EdgePivot, PivotBelow, PivotOf};
-ghost use Rattle.pivots.specs.Keys.{baseOf, mixed, imageOf, keyWord, placeOf, placeWord, ruleWord, symbolWord, KeyTable, Entered, Placed, placeKey, wordFor, usesOf, keysOf, queryOf, allPlaced, regularOf};
+ghost use Rattle.keys.specs.Pivots.{sharedNode, EdgePivot, PivotBelow, PivotOf};
+ghost use Rattle.keys.specs.Keys.{baseOf, mixed, imageOf, keyWord, placeOf, placeWord, ruleWord, symbolWord, KeyTable, Entered, Placed, placeKey, wordFor, usesOf, keysOf, queryOf, allPlaced, regularOf};
 
 // ---- pivots
 // Below a plan node that introduces edge i: the first position of the edge whose node is open at p, with that node.

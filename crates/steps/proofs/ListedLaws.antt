@@ -21,9 +21,9 @@ use Rattle.records.proofs.Grown.{Whole, whole-gather, whole-guard, grown-none, 
 use Rattle.lists.specs.Lists.{Within}
 use Rattle.lists.specs.Cursors.{startsOf, leastOf, passedOf, leftAll, Ahead, SkimsAll}
 use Rattle.lists.proofs.CursorLaws.{ahead-start, ahead-within, least-none, ahead-passed, ahead-grown, left-falls, skims-by, ahead-skims, left-skims}
-use Rattle.pivots.specs.Keys.{KeyTable, keysOf, queryOf, regularOf}
-use Rattle.pivots.proofs.KeyLaws.{query-few}
-use Rattle.pivots.proofs.PivotLaws.{keyless}
+use Rattle.keys.specs.Keys.{KeyTable, keysOf, queryOf, regularOf}
+use Rattle.keys.proofs.KeyLaws.{query-few}
+use Rattle.keys.proofs.PivotLaws.{keyless}
 use Rattle.index.specs.Index.{markOf, keysFor}
 use Rattle.index.specs.Quiet.{quietIn}
 use Rattle.index.proofs.KeyLists.{keys-length, keys-at, keys-grown}

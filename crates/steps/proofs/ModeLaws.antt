@@ -16,7 +16,7 @@ use Rattle.records.specs.Words.{itemCount, recordAt, chartOf, grownBy}
 use Rattle.records.proofs.Grown.{Whole, whole-guard}
 use Rattle.lists.specs.Lists.{Within}
 use Rattle.lists.specs.Cursors.{startsOf, passedOf, leftAll, SkimsAll}
-use Rattle.pivots.specs.Keys.{queryOf, regularOf}
+use Rattle.keys.specs.Keys.{queryOf, regularOf}
 use Rattle.index.specs.Index.{markOf}
 use Rattle.index.specs.Quiet.{quietIn}
 use Rattle.steps.specs.Partners.{withRecord}

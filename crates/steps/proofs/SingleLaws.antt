@@ -18,7 +18,7 @@ use Rattle.rules.specs.Plans.{Leads}
 use Rattle.records.specs.Words.{itemCount, recordAt, grownBy}
 use Rattle.lists.specs.Cursors.{alone, startsOf, leastOf, passedOf, leftAll}
 use Rattle.lists.proofs.CursorLaws.{least-few, left-falls, ahead-skims, skims-none, alone-passed, alone-least, alone-past, alone-skims}
-use Rattle.pivots.specs.Keys.{regularOf}
+use Rattle.keys.specs.Keys.{regularOf}
 use Rattle.index.specs.Quiet.{quietIn}
 use Rattle.steps.specs.Partners.{withRecord}
 use Rattle.steps.specs.Ready.{Tables, Ready, Handled}

@@ -10,7 +10,7 @@ use Rattle.agenda.specs.Consequences.{recordIn}
 use Rattle.joins.specs.Joins.{Accepted}
 use Rattle.joins.specs.Graphs.{GraphTable}
 use Rattle.rules.specs.Plans.{PlanTable}
-use Rattle.pivots.specs.Keys.{KeyTable, regularOf}
+use Rattle.keys.specs.Keys.{KeyTable, regularOf}
 use Rattle.records.specs.Words.{Fits, capacity, itemCount, recordAt, chartOf}
 use Rattle.index.specs.Index.{Indexed, Covered}
 

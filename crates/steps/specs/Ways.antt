@@ -4,7 +4,7 @@ use mathlib.Core.List.{List}
 use mathlib.Core.Path.{_≡_}
 use Prim.Native.Nat.{ℕ, _+_, _≤_}
 use Rattle.lists.specs.Cursors.{alone, startsOf, leastOf, passedOf, SkimsAll}
-use Rattle.pivots.specs.Keys.{queryOf}
+use Rattle.keys.specs.Keys.{queryOf}
 use Rattle.records.specs.Words.{recordAt}
 use Rattle.index.specs.Index.{markOf}
 

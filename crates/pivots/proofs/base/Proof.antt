@@ -3,7 +3,7 @@ use native.Mathlib.Omega.{arith}
 use Prim.Native.Nat.{_-_}
 use mathlib.Core.Path.{refl}
 use borrow.Author.Needs.{needs}
-use Rattle.pivots.specs.Keys.{baseOf}
+use Rattle.keys.specs.Keys.{baseOf}
 use Rattle.pivots.proofs.base.Statement.{statement}
 use Rattle.pivots.proofs.base.Tie as tie
 

@@ -4,7 +4,7 @@ use Prim.Native.Nat.{_+_, _-_, _≤_}
 use mathlib.Core.Path.{refl}
 use lib.ListN.{length-set}
 use borrow.Author.Needs.{needs}
-use Rattle.pivots.specs.Keys.{Placed}
+use Rattle.keys.specs.Keys.{Placed}
 use Rattle.pivots.proofs.TableLaws.{placed-none, placed-more, placed-all}
 use Rattle.pivots.proofs.fill_places.Statement.{statement}
 use Rattle.pivots.proofs.fill_places.Tie as tie

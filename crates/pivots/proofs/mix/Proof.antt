@@ -2,7 +2,7 @@
 use Prim.Native.Nat.{_-_}
 use mathlib.Core.Path.{refl}
 use borrow.Author.Needs.{needs}
-use Rattle.pivots.specs.Keys.{mixed}
+use Rattle.keys.specs.Keys.{mixed}
 use Rattle.pivots.proofs.mix.Statement.{statement}
 use Rattle.pivots.proofs.mix.Tie as tie
 

@@ -1,6 +1,6 @@
 -- A law for each arm.
 use mathlib.Core.Path.{sym, ap}
-use Rattle.pivots.specs.Keys.{placeOf}
+use Rattle.keys.specs.Keys.{placeOf}
 use Rattle.pivots.proofs.Answers.{place-past}
 use Rattle.pivots.proofs.place_of.Statement.{statement}
 use Rattle.pivots.proofs.place_of.Tie as tie

@@ -4,7 +4,7 @@ use Prim.Native.Nat.{_+_, _*_, _-_}
 use mathlib.Core.Path.{refl, sym, ap, _∙_}
 use borrow.Author.Tests.{eqb-true}
 use Rattle.hrg.proofs.Degrees.{and-true}
-use Rattle.pivots.specs.Keys.{queryOf}
+use Rattle.keys.specs.Keys.{queryOf}
 use Rattle.records.proofs.WordLaws.{part-length, part-record-at, item-fits}
 use Rattle.steps.proofs.ReadyLaws.{handled-small}
 use Rattle.steps.proofs.consequences.add_each.Statement.{statement}

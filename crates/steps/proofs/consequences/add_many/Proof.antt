@@ -6,7 +6,7 @@ use lib.ListN.{length}
 use borrow.Author.Tests.{eqb-true}
 use Rattle.agenda.specs.declared.Record.{Record}
 use Rattle.questions.specs.Abstract.{graphOf}
-use Rattle.pivots.specs.Keys.{queryOf}
+use Rattle.keys.specs.Keys.{queryOf}
 use Rattle.records.proofs.WordLaws.{part-length, part-record-at, item-fits}
 use Rattle.steps.proofs.RecordWords.{edges-word}
 use Rattle.steps.proofs.ReadyLaws.{handled-small}

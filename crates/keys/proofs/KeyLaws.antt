@@ -15,8 +15,8 @@ use Rattle.agenda.specs.declared.Record.{Record}
 use Rattle.agenda.specs.Steps.{improved, handledNow}
 use Rattle.questions.specs.Abstract.{grammarOf}
 use Rattle.rules.specs.Wants.{wantOf}
-use Rattle.pivots.specs.Pivots.{positionOf, nodeOf, EdgePivot, JoinPivot}
-use Rattle.pivots.specs.Keys.{baseOf, mixed, bucketOf, wordOf, imageOf, keyWord, placeOf, placeNode, placeWord, ruleWord, symbolWord, usesIn, KeyTable, placeKey, fiveKeys, keysBy, wordFor, usesOf, keysOf, queryOf, allPlaced, regularBy, regularOf}
+use Rattle.keys.specs.Pivots.{positionOf, nodeOf, EdgePivot, JoinPivot}
+use Rattle.keys.specs.Keys.{baseOf, mixed, bucketOf, wordOf, imageOf, keyWord, placeOf, placeNode, placeWord, ruleWord, symbolWord, usesIn, KeyTable, placeKey, fiveKeys, keysBy, wordFor, usesOf, keysOf, queryOf, allPlaced, regularBy, regularOf}
 
 -- ---- buckets
 pub bucket-positive : (tag s k a : ℕ) → 0 < bucketOf tag s k a

@@ -27,10 +27,10 @@ use Rattle.joins.proofs.EdgeMaps.{edge-ok}
 use Rattle.rules.specs.Wants.{wantOf}
 use Rattle.rules.proofs.RuleItems.{item-active, item-passive, pair-passive}
 use Rattle.rules.proofs.Meeting.{rule, label-few, want-label, few, want-first, want-second}
-use Rattle.pivots.specs.Pivots.{positionOf, nodeOf, EdgePivot, JoinPivot}
-use Rattle.pivots.specs.Keys.{bucketOf, imageOf, usesIn, KeyTable, keysOf, queryOf, regularOf}
-use Rattle.pivots.proofs.Differing.{differ-none, attach-at, edges-none, joins-none}
-use Rattle.pivots.proofs.KeyLaws.{bucket-positive, listedKeys, edge-differ, join-node, join-differ, edge-keys, join-keys, edge-query, join-query, passive-keys, passive-query, regular-active, regular-passive}
+use Rattle.keys.specs.Pivots.{positionOf, nodeOf, EdgePivot, JoinPivot}
+use Rattle.keys.specs.Keys.{bucketOf, imageOf, usesIn, KeyTable, keysOf, queryOf, regularOf}
+use Rattle.keys.proofs.Differing.{differ-none, attach-at, edges-none, joins-none}
+use Rattle.keys.proofs.KeyLaws.{bucket-positive, listedKeys, edge-differ, join-node, join-differ, edge-keys, join-keys, edge-query, join-query, passive-keys, passive-query, regular-active, regular-passive}
 
 -- no rule makes anything of x and y, in either order
 pub record Unjoined (G : Grammar) (H : Graph) (x y : Record) : Type 0 where

@@ -10,7 +10,7 @@ use Rattle.hrg.specs.Trees.{at}
 use Rattle.agenda.specs.declared.Record.{Record}
 use Rattle.questions.specs.Abstract.{grammarOf}
 use Rattle.rules.specs.Wants.{wantOf}
-use Rattle.pivots.specs.Pivots.{positionOf, nodeOf, PivotChoice}
+use Rattle.keys.specs.Pivots.{positionOf, nodeOf, PivotChoice}
 
 -- a passive record, an active one that wants an edge filled, and one that wants to be joined with another
 abbrev pub passiveTag : ℕ
