@@ -14,7 +14,7 @@ use Rattle.hrg.specs.Counts.{hit, occurs, tabulate}
 use Rattle.hrg.specs.Grammars.{Edge, Graph, Rule, touches, ruleOf, edgeAt}
 use Rattle.hrg.specs.Items.{below, isBoundary, isOpenAt}
 use Rattle.hrg.proofs.Sums.{sum-last, occurs-tabulate}
-use Rattle.questions.specs.Layout.{fieldAt, rankAt, ruleSymbol, ruleEdges, ruleExternal}
+use Rattle.questions.specs.Layout.{lineField, rankAt, ruleSymbol, ruleEdges, ruleExternal}
 use Rattle.questions.specs.Abstract.{ruleFrom, grammarOf}
 use Rattle.questions.proofs.WellFormedAccepted.{rule-is, edge-is}
 use Rattle.joins.specs.declared.Sides.{Sides}
@@ -67,8 +67,8 @@ pub sides-none : (g t : List ℕ) (base m : ℕ) → SidesOf g t base 0 m (recor
 unfolding someBoth
 sides-none g t base m = record { inside = λ x h. member-none x; outside = λ x h. member-none x }
 
-pub sides-next : (g t : List ℕ) (base i m first rank on : ℕ) (here : Bool) (s u : Sides) → first ≡ fieldAt t (base + i) 0 → rank ≡ rankAt g first
-    → NodesIn on (tabulate rank (λ k. fieldAt t (base + i) (1 + k))) → here ≡ member m i → u ≡ sideWith s here on → SidesOf g t base i m s → SidesOf g t base (i + 1) m u
+pub sides-next : (g t : List ℕ) (base i m first rank on : ℕ) (here : Bool) (s u : Sides) → first ≡ lineField t (base + i) 0 → rank ≡ rankAt g first
+    → NodesIn on (tabulate rank (λ k. lineField t (base + i) (1 + k))) → here ≡ member m i → u ≡ sideWith s here on → SidesOf g t base i m s → SidesOf g t base (i + 1) m u
 unfolding someBoth lineNodes
 sides-next g t base i m first rank on here s u a b nodes test e before = rw (add-one, e) (go here refl)
   where

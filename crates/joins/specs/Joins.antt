@@ -13,7 +13,7 @@ use Rattle.hrg.specs.Trees.{unplaced, at, padded}
 use Rattle.hrg.specs.Items.{Item, active, below, isOpen, isOpenAt, orElse, joined, keepIf}
 use Rattle.hrg.specs.WellFormedTest.{every}
 use Rattle.hrg.specs.ClosureRun.{agree, oneToOne}
-use Rattle.questions.specs.Layout.{fieldAt, rankAt, ruleCount, ruleEdges, rulePlan, edgeLabel, edgeNode}
+use Rattle.questions.specs.Layout.{lineField, rankAt, ruleCount, ruleEdges, rulePlan, edgeLabel, edgeNode}
 use Rattle.questions.specs.Checking.{checkGrammar, checkGraph}
 use Rattle.questions.specs.Abstract.{grammarOf, graphOf}
 use Rattle.joins.specs.declared.Sides.{Sides}
@@ -54,7 +54,7 @@ pub record NodesIn (m : ℕ) (l : List ℕ) : Type 0 where
 -- the nodes of the edge at place p of table t
 unfoldable pub lineNodes : List ℕ → List ℕ → ℕ → List ℕ
 unfolding tabulate
-lineNodes g t p = tabulate (rankAt g (fieldAt t p 0)) (λ k. fieldAt t p (1 + k))
+lineNodes g t p = tabulate (rankAt g (lineField t p 0)) (λ k. lineField t p (1 + k))
 
 -- some number below n passes both tests
 unfoldable pub someBoth : (ℕ → Bool) → (ℕ → Bool) → ℕ → Bool

@@ -10,7 +10,7 @@ ghost use Rattle.hrg.specs.Counts.{tabulate};
 ghost use Rattle.hrg.specs.Grammars.{ruleOf};
 ghost use Rattle.hrg.specs.Items.{attach};
 ghost use Rattle.hrg.specs.ClosureRun.{covering, combine};
-ghost use Rattle.questions.specs.Layout.{fieldAt, rankAt, startSymbol, ruleSymbol, ruleNodes, ruleExternal, edgeLabel, graphExternal};
+ghost use Rattle.questions.specs.Layout.{lineField, rankAt, startSymbol, ruleSymbol, ruleNodes, ruleExternal, edgeLabel, graphExternal};
 ghost use Rattle.questions.specs.Checking.{checkGrammar};
 ghost use Rattle.questions.specs.Abstract.{grammarOf, graphOf};
 ghost use Rattle.joins.specs.Joins.{KnownNode, KnownEdge, Accepted, EdgesBelow, MasksBelow, NodesIn, sideWith, SidesOf, Boundary, OpenAt, OpenIn, Spans, Keeps, Holds, Plain, edgeNodes, nodesWord, openBy, BareFrom, Merges, Makes};
@@ -45,7 +45,7 @@ pub fn node_below(g: &[u64], r: u64, q: u64, ms: &[u64; 16]) -> u64
 // The nodes in n fields of the line at place p, from field `from` on.
 fn listed(t: &[u64], p: u64, from: u64, n: u64) -> u64
     requires { ⌜ (from ≤ 5) × (n ≤ 4) ⌝ }
-    ensures { λ m. ⌜ NodesIn m (tabulate n (λ k. fieldAt (now (t .entry)) p (from + k))) ⌝ }
+    ensures { λ m. ⌜ NodesIn m (tabulate n (λ k. lineField (now (t .entry)) p (from + k))) ⌝ }
 {
     let mut mask: u64 = 0;
     let mut k: u64 = 0;

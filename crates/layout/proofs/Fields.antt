@@ -1,37 +1,39 @@
 -- Laws of fields and places.
-use Prim.Native.Nat.{ℕ, zero, suc, _+_, _-_, _*_, _/_, _%_, _^_, _≤_, _<_}
+use Prim.Native.Nat.{ℕ, suc, _+_, _-_, _*_, _%_, _^_, _≤_, _<_}
 use native.Mathlib.Omega.{arith}
 use native.Mathlib.Nat.{zero-div, div-eq-of-lt, lt-of-lt-of-le}
 use mathlib.Core.Path.{_≡_, refl, sym, ap, ap₂, _∙_}
 use mathlib.Core.Bool.{Bool, true, false, _&&_, cond}
 use mathlib.Core.List.{List}
 use lib.ListN.{length, getD, drop, set, List·getD-eq-default}
-use lib.Pow.{pow-add, pow-mono}
+use lib.Pow.{pow-mono}
 use lib.Seq.{set-out, getD-drop, drop-drop}
 use lib.Dec.{ltb}
 use borrow.Author.Tests.{ltb-true}
 use Rattle.questions.specs.declared.Due.{Due}
 use Rattle.questions.specs.declared.Due.the-variants.{Grammar, Symbol, Rule, RuleEdge, PlanLine, Graph, GraphEdge, Nothing}
-use Rattle.questions.specs.Layout.{placeOf, inTable, fieldAt, packed, stored}
+use Rattle.questions.specs.Layout.{placeOf, inTable, wordField, lineField, packed, stored}
+use Rattle.questions.proofs.StoredLaws.{packed-small}
 use Rattle.layout.specs.Storing.{storeAt}
 
 -- ---- fields
 -- a word of 64 bits has no field from 10 on
-pub field-past : (w j : ℕ) → w < 2 ^ 64 → 10 ≤ j → 0 ≡ w / 2 ^ (7 * j) % 128
+pub field-past : (w j : ℕ) → w < 2 ^ 64 → 10 ≤ j → 0 ≡ wordField w j
+unfolding wordField
 field-past w j h l = sym (ap (λ x. x % 128) (div-eq-of-lt (lt-of-lt-of-le h (pow-mono (let m : 64 ≤ 7 * j = omega arith in m)))))
 
 -- nor has a place past the end of the table
-pub place-past : (t : List ℕ) (p j : ℕ) → length t ≤ p → 0 ≡ fieldAt t p j
-unfolding fieldAt
-place-past t p j h = sym (ap (λ w. w / 2 ^ (7 * j) % 128) (List·getD-eq-default t 0 {n = p} h) ∙ ap (λ w. w % 128) (zero-div (2 ^ (7 * j))))
+pub place-past : (t : List ℕ) (p j : ℕ) → length t ≤ p → 0 ≡ lineField t p j
+unfolding lineField wordField
+place-past t p j h = sym (ap (λ w. wordField w j) (List·getD-eq-default t 0 {n = p} h) ∙ ap (λ w. w % 128) (zero-div (2 ^ (7 * j))))
 
-pub field-there : (t : List ℕ) (p j x : ℕ) → x ≡ getD t p 0 / 2 ^ (7 * (0 + j)) % 128 → x ≡ fieldAt t p j
-unfolding fieldAt
-field-there t p j x e = e ∙ ap (λ k. getD t p 0 / 2 ^ (7 * k) % 128) (let z : 0 + j ≡ j = omega arith in z)
+pub field-there : (t : List ℕ) (p j x : ℕ) → x ≡ wordField (getD t p 0) (0 + j) → x ≡ lineField t p j
+unfolding lineField
+field-there t p j x e = e ∙ ap (wordField (getD t p 0)) (let z : 0 + j ≡ j = omega arith in z)
 
 -- a rule's own line is at its first place
-pub rule-line : (t : List ℕ) (r j : ℕ) → fieldAt t (65 + 25 * r + 0) j ≡ fieldAt t (65 + 25 * r) j
-rule-line t r j = ap (λ p. fieldAt t p j) (let e : 65 + 25 * r + 0 ≡ 65 + 25 * r = omega arith in e)
+pub rule-line : (t : List ℕ) (r j : ℕ) → lineField t (65 + 25 * r + 0) j ≡ lineField t (65 + 25 * r) j
+rule-line t r j = ap (λ p. lineField t p j) (let e : 65 + 25 * r + 0 ≡ 65 + 25 * r = omega arith in e)
 
 -- ---- tests
 pub and-true : (a b : Bool) → (a && b) ≡ true → (a ≡ true) × (b ≡ true)
@@ -76,13 +78,6 @@ pub passed : {A : Type 0} (due : Due) (b : Bool) (f : Due → A) (x : A) → b �
 passed due b f x e h = rw (← e, h)
 
 -- ---- a line stored
-packed-small : (n : ℕ) (fs : List ℕ) → packed n fs < 2 ^ (7 * n)
-unfolding packed
-packed-small zero fs = omega arith
-packed-small (suc n) fs =
-    let size : 2 ^ (7 * suc n) ≡ 128 * 2 ^ (7 * n) = ap (λ k. 2 ^ k) (let e : 7 * suc n ≡ 7 + 7 * n = omega arith in e) ∙ pow-add 2 7 (7 * n) in
-    omega (arith, size, packed-small n (drop 1 fs))
-
 -- the word of the fields from k on, made from the last one to the first
 module _ (fs : List ℕ) (w k : ℕ) (e : w ≡ packed (9 - k) (drop k fs)) where
   pub packed-room : 0 < k → w < 2 ^ 56

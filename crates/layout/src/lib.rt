@@ -1,10 +1,10 @@
 // The fields of a table by name, the places of its lines and their order, for every table and every number: a field past the end is 0.
 ghost use mathlib.Core.Path.{_≡_};
 ghost use mathlib.Core.Bool.{cond};
-ghost use Prim.Native.Nat.{_+_, _*_, _/_, _%_, _^_, _≤_, _<_, min};
+ghost use Prim.Native.Nat.{_+_, _*_, _≤_, _<_, min};
 ghost use lib.ListN.{getD, length};
 ghost use Rattle.questions.specs.declared.Due.the-variants.{Symbol, RuleEdge, PlanLine, GraphEdge, Nothing};
-ghost use Rattle.questions.specs.Layout.{placeOf, inTable, fieldAt, packed, symbolCount, ruleCount, startSymbol, kindField, rankAt, ruleSymbol, ruleNodes, ruleEdges, rulePlan, ruleExternal, edgeLabel, edgeNode, planKind, planFirst, planSecond, graphNodes, graphEdges, graphExternal, graphLabel, graphNode};
+ghost use Rattle.questions.specs.Layout.{placeOf, inTable, wordField, lineField, packed, symbolCount, ruleCount, startSymbol, kindField, rankAt, ruleSymbol, ruleNodes, ruleEdges, rulePlan, ruleExternal, edgeLabel, edgeNode, planKind, planFirst, planSecond, graphNodes, graphEdges, graphExternal, graphLabel, graphNode};
 ghost use Rattle.questions.specs.Reading.{next};
 ghost use Rattle.layout.specs.Storing.{storeAt};
 use questions::Due;
@@ -12,7 +12,7 @@ use questions::Due;
 // Field from + k of a word, which has none from 10 on.
 fn field_from(w: u64, from: u64, k: u64) -> u64
     requires { ⌜ from ≤ 5 ⌝ }
-    ensures { λ r. ⌜ r ≡ w / 2 ^ (7 * (from + k)) % 128 ⌝ }
+    ensures { λ r. ⌜ r ≡ wordField w (from + k) ⌝ }
 {
     if 10 - from <= k {
         return 0;
@@ -22,7 +22,7 @@ fn field_from(w: u64, from: u64, k: u64) -> u64
 
 // Field j of the line at place p.
 pub fn field_at(t: &[u64], p: u64, j: u64) -> u64
-    ensures { λ r. ⌜ r ≡ fieldAt (now (t .entry)) p j ⌝ }
+    ensures { λ r. ⌜ r ≡ lineField (now (t .entry)) p j ⌝ }
 {
     if t.len() as u64 <= p {
         return 0;
@@ -33,7 +33,7 @@ pub fn field_at(t: &[u64], p: u64, j: u64) -> u64
 // The same of a line that the table has.
 pub fn field_in(t: &[u64], p: u64, j: u64) -> u64
     requires { ⌜ (p < length (now t)) × (j ≤ 8) ⌝ }
-    ensures { λ r. ⌜ r ≡ fieldAt (now (t .entry)) p j ⌝ }
+    ensures { λ r. ⌜ r ≡ lineField (now (t .entry)) p j ⌝ }
 {
     (t[p as usize] >> (7 * j)) % 128
 }
@@ -41,7 +41,7 @@ pub fn field_in(t: &[u64], p: u64, j: u64) -> u64
 // Field from + k of the line at place base + i.
 fn line_field(t: &[u64], base: u64, i: u64, from: u64, k: u64) -> u64
     requires { ⌜ (base ≤ 2305843009213693952) × (from ≤ 5) ⌝ }
-    ensures { λ x. ⌜ x ≡ fieldAt (now (t .entry)) (base + i) (from + k) ⌝ }
+    ensures { λ x. ⌜ x ≡ lineField (now (t .entry)) (base + i) (from + k) ⌝ }
 {
     let n = t.len() as u64;
     if n < i {
@@ -57,7 +57,7 @@ fn line_field(t: &[u64], base: u64, i: u64, from: u64, k: u64) -> u64
 // Field from + k of the line at place base + 25 * r + i: base is the place of such a line in rule 0.
 fn rule_field(t: &[u64], base: u64, r: u64, i: u64, from: u64, k: u64) -> u64
     requires { ⌜ (base ≤ 74) × (from ≤ 5) ⌝ }
-    ensures { λ x. ⌜ x ≡ fieldAt (now (t .entry)) (base + 25 * r + i) (from + k) ⌝ }
+    ensures { λ x. ⌜ x ≡ lineField (now (t .entry)) (base + 25 * r + i) (from + k) ⌝ }
 {
     if r >= 46116860184273880 {
         return 0;

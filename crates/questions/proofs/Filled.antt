@@ -2,7 +2,7 @@
 use mathlib.Core.Path.{_≡_, refl, sym, ap, ap₂, _∙_}
 use mathlib.Core.Bool.{Bool, true, false, cond}
 use mathlib.Core.List.{List, [], _++_}
-use Prim.Native.Nat.{ℕ, zero, suc, _+_, _-_, _*_, _/_, _%_, _^_, _≤_, _<_, min}
+use Prim.Native.Nat.{ℕ, zero, suc, _+_, _-_, _*_, _≤_, _<_, min}
 use native.Mathlib.Nat.{not-suc-le-zero}
 use native.Mathlib.Omega.{arith}
 use lib.ListN.{length, getD, take, drop, replicate, length-replicate, length-append, take-append-drop}
@@ -17,12 +17,12 @@ use Rattle.hrg.proofs.Sums.{length-tabulate}
 use Rattle.hrg.proofs.Degrees.{test-T, T-test}
 use Rattle.format.specs.Lines.{linesOf}
 use Rattle.format.specs.Writing.{Writable, lineText}
-use Rattle.questions.specs.Layout.{placeOf, fieldAt, stored, grammarWords, graphWords, symbolCount, ruleCount, ruleEdges, rulePlan, graphEdges, rankAt}
+use Rattle.questions.specs.Layout.{placeOf, lineField, stored, grammarWords, graphWords, symbolCount, ruleCount, ruleEdges, rulePlan, graphEdges, rankAt}
 use Rattle.questions.specs.Questions.{judge}
 use Rattle.questions.specs.Reading.{next, Verdict, refused, accepted, whenDone, goOn, readLines, grammarVerdict, graphVerdict, delivered, Outcome, readGrammar}
 use Rattle.questions.specs.Checking.{fieldsDue, storedFields, checkLines, filledBy, checkGrammar, checkGraph, FilledGrammar, FilledGraph}
 use Rattle.questions.specs.Walk.{Room, Walk, done, line}
-use Rattle.questions.proofs.StoredLaws.{getD-tabulate, length-stored, field-stored-same}
+use Rattle.questions.proofs.StoredLaws.{getD-tabulate, length-stored, field-stored-same, same-line}
 use Rattle.questions.proofs.WellFormedWalk.{IsLine, room-place, room-next, next-forward, judged-line, walk-onward, onward-agree}
 use Rattle.questions.proofs.WellFormedReading.{read-walk, check-walk}
 use Rattle.questions.proofs.Refusals.{grammar-refused-first, grammar-passed-first}
@@ -100,16 +100,16 @@ left-falls n t (GraphEdge e) l h = cond-left (64 - e) (ltb (e + 1) (min 64 (grap
 left-falls n t Nothing l h = absurd l
 
 -- the fields that a table holds at a place are those that were stored there
-fields-stored : (g c t : List ℕ) (due : Due) (fs : List ℕ) → IsLine due → length fs ≡ countDue g c due fs → ((j : ℕ) → j < 9 → fieldAt t (placeOf due) j ≡ getD fs j 0) → storedFields g c t due ≡ fs
+fields-stored : (g c t : List ℕ) (due : Due) (fs : List ℕ) → IsLine due → length fs ≡ countDue g c due fs → ((j : ℕ) → j < 9 → lineField t (placeOf due) j ≡ getD fs j 0) → storedFields g c t due ≡ fs
 unfolding storedFields fieldsDue
 fields-stored g c t due fs l n w =
     let same : fieldsDue g c t due ≡ length fs = count due w ∙ sym n in
     let few = count-few g c due fs l in
-    let long = length-tabulate (fieldsDue g c t due) (λ j. fieldAt t (placeOf due) j) in
-    ext-getD 0 (tabulate (fieldsDue g c t due) (λ j. fieldAt t (placeOf due) j)) fs (long ∙ same)
-    (λ j k. getD-tabulate (fieldsDue g c t due) (λ j. fieldAt t (placeOf due) j) j 0 (omega (arith, long)) ∙ w j (omega (arith, long, same, n, few .1)))
+    let long = length-tabulate (fieldsDue g c t due) (λ j. lineField t (placeOf due) j) in
+    ext-getD 0 (tabulate (fieldsDue g c t due) (λ j. lineField t (placeOf due) j)) fs (long ∙ same)
+    (λ j k. getD-tabulate (fieldsDue g c t due) (λ j. lineField t (placeOf due) j) j 0 (omega (arith, long)) ∙ w j (omega (arith, long, same, n, few .1)))
   where
-    count : (due : Due) → ((j : ℕ) → j < 9 → fieldAt t (placeOf due) j ≡ getD fs j 0) → fieldsDue g c t due ≡ countDue g c due fs
+    count : (due : Due) → ((j : ℕ) → j < 9 → lineField t (placeOf due) j ≡ getD fs j 0) → fieldsDue g c t due ≡ countDue g c due fs
     count Grammar w = refl
     count (Symbol s) w = refl
     count (Rule r) w = ap (λ (x : ℕ). 5 + rankAt c x) (w 1 (omega arith))
@@ -121,7 +121,7 @@ fields-stored g c t due fs l n w =
 
 -- a table that has the fields of the walk's end passes the check
 walk-check : {g u c : List ℕ} {d : Due} {fss : List (List ℕ)} (k : ℕ) (t : List ℕ) → Walk g u c d fss → Room (length c) d → left d < k
-    → ((q j : ℕ) → q < length c → fieldAt t q j ≡ fieldAt u q j) → checkLines k g t c d ≡ accepted u
+    → ((q j : ℕ) → q < length c → lineField t q j ≡ lineField u q j) → checkLines k g t c d ≡ accepted u
 unfolding checkLines
 walk-check zero t w m fuel same = absurd (not-suc-le-zero fuel)
 walk-check (suc k) t done m fuel same = refl
@@ -179,9 +179,8 @@ delivered-done size (accepted c) former t q = go (leb size (length former)) refl
     go false e q = let d : Refused 8 ≡ Done = ap (λ (o : Outcome). o .answer) q in let z : _≡_ {A = ℕ} 0 1 = cc in absurd (omega arith)
 
 -- the fields of a table are those of its beginning
-pub field-take : (size : ℕ) (t : List ℕ) (p j : ℕ) → p < size → fieldAt (take size t) p j ≡ fieldAt t p j
-unfolding fieldAt
-field-take size t p j l = ap (λ w. w / 2 ^ (7 * j) % 128) (getD-take size t p 0 l)
+pub field-take : (size : ℕ) (t : List ℕ) (p j : ℕ) → p < size → lineField (take size t) p j ≡ lineField t p j
+field-take size t p j l = same-line (take size t) t p j (getD-take size t p 0 l)
 
 -- for one file: its size in words, its first line, and fuel for all of its lines
 module _ (size fuel : ℕ) (first : Due) (room : Room size first) (enough : left first < fuel) (g : List ℕ) where
@@ -203,8 +202,8 @@ module _ (size fuel : ℕ) (first : Due) (room : Room size first) (enough : left
       let long : length c ≡ size = walk-onward w zeros-room .same-length ∙ length-replicate {A = ℕ} size 0 in
       let fits : size ≤ length t = omega (arith, ap length e, length-append c (drop size former)) in
       let own : c ≡ take size t = sym (ap (take size) e ∙ take-at c (drop size former) size long) in
-      let same : (q j : ℕ) → q < length (replicate {A = ℕ} size 0) → fieldAt t q j ≡ fieldAt c q j
-      = λ q j a. sym (ap (λ (x : List ℕ). fieldAt x q j) own ∙ field-take size t q j (omega (arith, length-replicate {A = ℕ} size 0))) in
+      let same : (q j : ℕ) → q < length (replicate {A = ℕ} size 0) → lineField t q j ≡ lineField c q j
+      = λ q j a. sym (ap (λ (x : List ℕ). lineField x q j) own ∙ field-take size t q j (omega (arith, length-replicate {A = ℕ} size 0))) in
       ap (filledBy size t) (walk-check fuel t w zeros-room enough same) ∙ by-filled size t c fits own
 
 -- Question 8 of a grammar table.

@@ -1,4 +1,4 @@
--- Laws of `stored` and `fieldAt`: what a table holds after a line was stored in it, and where lines stand.
+-- Laws of `stored` and `lineField`: what a table holds after a line was stored in it, and where lines stand.
 use mathlib.Core.Path.{_≡_, refl, sym, ap, _∙_}
 use mathlib.Core.Logic.{_≢_}
 use mathlib.Core.Bool.{Bool, true, false, cond, _&&_, false≢true}
@@ -8,12 +8,12 @@ use native.Mathlib.Nat.{zero-div, div-one}
 use native.Mathlib.Omega.{arith}
 use native.Mathlib.Decide.{decLt}
 use lib.ListN.{length, getD, take, drop, replicate, length-set, List·getD-append, List·getD-eq-default, length-replicate, getD-replicate}
-use lib.Pow.{shr-shr}
+use lib.Pow.{pow-add, shr-shr}
 use lib.Seq.{getD-set-same, getD-set-other, set-append-left}
 use lib.Dec.{eqb, ltb}
 use borrow.Author.Tests.{ltb-true, lt-ltb, le-ltb, ne-eqb}
 use Rattle.hrg.specs.Counts.{tabulate}
-use Rattle.questions.specs.Layout.{placeOf, inTable, fieldAt, packed, stored, grammarWords, graphWords}
+use Rattle.questions.specs.Layout.{placeOf, inTable, wordField, lineField, packed, stored, grammarWords, graphWords}
 use Rattle.questions.specs.declared.Due.{Due}
 use Rattle.questions.specs.declared.Due.the-variants.{Grammar, Symbol, Rule, RuleEdge, PlanLine, Graph, GraphEdge, Nothing}
 
@@ -39,9 +39,9 @@ tabulate-four f a b c d p q r s = rw (p, q, r, s)
 later-field : (w j : ℕ) → w / 2 ^ (7 * suc j) ≡ w / 128 / 2 ^ (7 * j)
 later-field w j = ap (λ k. w / 2 ^ k) (let e : 7 * suc j ≡ 7 + 7 * j = omega arith in e) ∙ sym (shr-shr w 7 (7 * j))
 
-second : (fs : List ℕ) (j : ℕ) → getD (drop 1 fs) j 0 ≡ getD fs (suc j) 0
-second [] j = refl
-second (f ∷ fs) j = refl
+rest-at : (fs : List ℕ) (j : ℕ) → getD (drop 1 fs) j 0 ≡ getD fs (suc j) 0
+rest-at [] j = refl
+rest-at (f ∷ fs) j = refl
 
 packed-first : (a b : ℕ) → (a % 128 + 128 * b) % 128 ≡ a % 128
 packed-first a b = omega arith
@@ -49,19 +49,31 @@ packed-first a b = omega arith
 packed-later : (a b : ℕ) → (a % 128 + 128 * b) / 128 ≡ b
 packed-later a b = omega arith
 
-pub field-small : (t : List ℕ) (p j : ℕ) → fieldAt t p j < 128
-unfolding fieldAt
+pub field-small : (t : List ℕ) (p j : ℕ) → lineField t p j < 128
+unfolding lineField wordField
 field-small t p j = omega arith
 
+-- two tables with one word at a place have one line there
+pub same-line : (c t : List ℕ) (q j : ℕ) → getD c q 0 ≡ getD t q 0 → lineField c q j ≡ lineField t q j
+unfolding lineField
+same-line c t q j e = ap (λ w. wordField w j) e
+
 -- the fields of a packed word
-packed-field : (n : ℕ) (fs : List ℕ) (j : ℕ) → j < n → packed n fs / 2 ^ (7 * j) % 128 ≡ getD fs j 0 % 128
-unfolding packed
+packed-field : (n : ℕ) (fs : List ℕ) (j : ℕ) → j < n → wordField (packed n fs) j ≡ getD fs j 0 % 128
+unfolding packed wordField
 packed-field zero fs j h = absurd (omega arith)
 packed-field (suc n) fs zero h =
     ap (λ w. w % 128) (div-one (packed (suc n) fs)) ∙ packed-first (getD fs 0 0) (packed n (drop 1 fs))
 packed-field (suc n) fs (suc j) h =
     ap (λ w. w % 128) (later-field (getD fs 0 0 % 128 + 128 * packed n (drop 1 fs)) j ∙ ap (λ w. w / 2 ^ (7 * j)) (packed-later (getD fs 0 0) (packed n (drop 1 fs))))
-    ∙ packed-field n (drop 1 fs) j (omega arith) ∙ ap (λ x. x % 128) (second fs j)
+    ∙ packed-field n (drop 1 fs) j (omega arith) ∙ ap (λ x. x % 128) (rest-at fs j)
+
+pub packed-small : (n : ℕ) (fs : List ℕ) → packed n fs < 2 ^ (7 * n)
+unfolding packed
+packed-small zero fs = omega arith
+packed-small (suc n) fs =
+    let size : 2 ^ (7 * suc n) ≡ 128 * 2 ^ (7 * n) = ap (λ k. 2 ^ k) (let e : 7 * suc n ≡ 7 + 7 * n = omega arith in e) ∙ pow-add 2 7 (7 * n) in
+    omega (arith, size, packed-small n (drop 1 fs))
 
 -- it has nothing behind as many as there are
 packed-none : (n : ℕ) → packed n [] ≡ 0
@@ -84,21 +96,22 @@ past-later w n m z h =
     ∙ sym (shr-shr w (7 * n) (7 * (m - n))) ∙ ap (λ x. x / 2 ^ (7 * (m - n))) z ∙ zero-div (2 ^ (7 * (m - n)))
 
 -- a word that has these fields, and nothing behind its first n
-packed-back : (n w : ℕ) (fs : List ℕ) → w / 2 ^ (7 * n) ≡ 0 → ((j : ℕ) → j < n → w / 2 ^ (7 * j) % 128 ≡ getD fs j 0) → packed n fs ≡ w
-unfolding packed
+packed-back : (n w : ℕ) (fs : List ℕ) → w / 2 ^ (7 * n) ≡ 0 → ((j : ℕ) → j < n → wordField w j ≡ getD fs j 0) → packed n fs ≡ w
+unfolding packed wordField
 packed-back zero w fs z h = sym (sym (div-one w) ∙ z)
 packed-back (suc n) w fs z h =
     let first : w % 128 ≡ getD fs 0 0 = ap (λ x. x % 128) (sym (div-one w)) ∙ h 0 (omega arith) in
     let later : packed n (drop 1 fs) ≡ w / 128
     = packed-back n (w / 128) (drop 1 fs) (sym (later-field w n) ∙ z)
-    (λ j l. ap (λ x. x % 128) (sym (later-field w j)) ∙ h (suc j) (omega arith) ∙ sym (second fs j)) in
+    (λ j l. ap (λ x. x % 128) (sym (later-field w j)) ∙ h (suc j) (omega arith) ∙ sym (rest-at fs j)) in
     omega arith
 
 -- the word of a line, from its fields
-pub packed-line : (w n : ℕ) (fs : List ℕ) → n ≤ 9 → length fs ≡ n → w / 2 ^ (7 * n) ≡ 0 → ((j : ℕ) → j < n → w / 2 ^ (7 * j) % 128 ≡ getD fs j 0) → packed 9 fs ≡ w
+pub packed-line : (w n : ℕ) (fs : List ℕ) → n ≤ 9 → length fs ≡ n → w / 2 ^ (7 * n) ≡ 0 → ((j : ℕ) → j < n → wordField w j ≡ getD fs j 0) → packed 9 fs ≡ w
+unfolding wordField
 packed-line w n fs l e z h = packed-back 9 w fs (past-later w n 9 z l) (λ j b. go j (decLt j n))
   where
-    go : (j : ℕ) → Dec (j < n) → w / 2 ^ (7 * j) % 128 ≡ getD fs j 0
+    go : (j : ℕ) → Dec (j < n) → wordField w j ≡ getD fs j 0
     go j (yes d) = h j d
     go j (no d) = ap (λ x. x % 128) (past-later w n j z (omega arith)) ∙ sym (List·getD-eq-default fs 0 {n = j} (omega arith))
 
@@ -117,25 +130,18 @@ module _ (t : List ℕ) (p : ℕ) (fs : List ℕ) where
   stored-other q n = getD-set-other t p q (packed 9 fs) 0 n
 
   -- fields of seven bits are read as they were stored
-  pub field-stored-same : p < length t → ((j : ℕ) → getD fs j 0 < 128) → (j : ℕ) → j < 9 → fieldAt (stored t p fs) p j ≡ getD fs j 0
-  unfolding fieldAt
+  pub field-stored-same : p < length t → ((j : ℕ) → getD fs j 0 < 128) → (j : ℕ) → j < 9 → lineField (stored t p fs) p j ≡ getD fs j 0
+  unfolding lineField
   field-stored-same fits small j h =
-      ap (λ w. w / 2 ^ (7 * j) % 128) (stored-same fits) ∙ packed-field 9 fs j h ∙ omega (arith, small j)
+      ap (λ w. wordField w j) (stored-same fits) ∙ packed-field 9 fs j h ∙ omega (arith, small j)
 
-  pub field-stored-other : (q j : ℕ) → q ≢ p → fieldAt (stored t p fs) q j ≡ fieldAt t q j
-  unfolding fieldAt
-  field-stored-other q j n = ap (λ w. w / 2 ^ (7 * j) % 128) (stored-other q n)
-
--- two tables with one word at a place have one line there
-pub same-line : (c t : List ℕ) (q j : ℕ) → getD c q 0 ≡ getD t q 0 → fieldAt c q j ≡ fieldAt t q j
-unfolding fieldAt
-same-line c t q j e = ap (λ w. w / 2 ^ (7 * j) % 128) e
+  pub field-stored-other : (q j : ℕ) → q ≢ p → lineField (stored t p fs) q j ≡ lineField t q j
+  field-stored-other q j n = same-line (stored t p fs) t q j (stored-other q n)
 
 -- ---- a table with more behind it: what stands there is not looked at
 module _ (c rest : List ℕ) where
-  pub field-front : (q j : ℕ) → q < length c → fieldAt (c ++ rest) q j ≡ fieldAt c q j
-  unfolding fieldAt
-  field-front q j h = ap (λ w. w / 2 ^ (7 * j) % 128) (List·getD-append c rest 0 q h)
+  pub field-front : (q j : ℕ) → q < length c → lineField (c ++ rest) q j ≡ lineField c q j
+  field-front q j h = same-line (c ++ rest) c q j (List·getD-append c rest 0 q h)
 
   pub stored-longer : (p : ℕ) (fs : List ℕ) → p < length c → stored (c ++ rest) p fs ≡ stored c p fs ++ rest
   unfolding stored

@@ -14,7 +14,7 @@ use Rattle.hrg.specs.Grammars.{Kind, terminal, nonterminal, PlanNode, leaf, int
 use Rattle.hrg.specs.WellFormed.{children, introduced, GrammarOk}
 use Rattle.hrg.proofs.Sums.{hit-self}
 use Rattle.format.specs.Writing.{Writable}
-use Rattle.questions.specs.Layout.{placeOf, fieldAt, grammarWords, symbolCount, ruleCount, kindField, rankAt, ruleSymbol, ruleEdges, rulePlan, ruleExternal, edgeLabel, edgeNode, planKind, planFirst, planSecond}
+use Rattle.questions.specs.Layout.{placeOf, lineField, grammarWords, symbolCount, ruleCount, kindField, rankAt, ruleSymbol, ruleEdges, rulePlan, ruleExternal, edgeLabel, edgeNode, planKind, planFirst, planSecond}
 use Rattle.questions.specs.Questions.{field}
 use Rattle.questions.specs.Reading.{next, accepted, grammarVerdict, readGrammar}
 use Rattle.questions.specs.Abstract.{build, kindFrom, planFrom, ruleFrom, grammarOf}
@@ -359,7 +359,7 @@ module _ (G : Grammars.Grammar) (ok : GrammarOk G) where
       ∙ cleared-size
 
   -- it holds the lines of the grammar, whatever stands behind it
-  holds : (d : Due) → HasLine G d → (j : ℕ) → j < 9 → fieldAt table (placeOf d) j ≡ field (grammarFields G d) j
+  holds : (d : Due) → HasLine G d → (j : ℕ) → j < 9 → lineField table (placeOf d) j ≡ field (grammarFields G d) j
   unfolding table
   holds d h = chain-holds (grammarFields G) (HasLine G) (afterGrammar G) grammarWords (line-is G) (line-room G ok) (line-forward G ok) (line-small G ok) (grammar-chain G ok) cleared cleared-size d (in-grammar G d h)
 

@@ -16,7 +16,7 @@ use Rattle.format.specs.Shape.{kindLetter}
 use Rattle.format.specs.Fields.{fieldsOf}
 use Rattle.format.specs.Writing.{lineBody, lineText, Writable}
 use Rattle.format.specs.RoundTrip.{written-letter, written-fields, written-shape, written-line}
-use Rattle.questions.specs.Layout.{placeOf, letterDue, fieldAt, stored}
+use Rattle.questions.specs.Layout.{placeOf, letterDue, lineField, stored}
 use Rattle.questions.specs.Questions.{field, judge}
 use Rattle.questions.specs.Reading.{next, judgeLine, Verdict, accepted, readLines, delivered}
 use Rattle.questions.specs.TableText.{series, linesText}
@@ -167,7 +167,7 @@ module _ (fields : Due → List ℕ) (has : Due → Type 0) (after : Due → Due
 
   -- each line stands at its place
   pub chain-holds : ((d : Due) → has d → Small (fields d)) → {d : Due} {ds : List Due} → Chain has after d ds → (c : List ℕ) → length c ≡ size → (x : Due) → In x ds
-      → (j : ℕ) → j < 9 → fieldAt (filled fields c ds) (placeOf x) j ≡ field (fields x) j
+      → (j : ℕ) → j < 9 → lineField (filled fields c ds) (placeOf x) j ≡ field (fields x) j
   unfolding filled
   chain-holds small (link {d} {ds} h rest) c e x here j l =
       let p = placeOf d in

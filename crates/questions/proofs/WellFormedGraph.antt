@@ -12,7 +12,7 @@ use Rattle.hrg.specs.Counts.{tabulate}
 use Rattle.hrg.specs.Grammars
 use Rattle.hrg.specs.Grammars.{terminal, nonterminal, noEdge, kindOf, rankOf, edgeAt}
 use Rattle.hrg.specs.WellFormed.{Between, Listed, EdgeOk, GrammarOk, GraphOk}
-use Rattle.questions.specs.Layout.{placeOf, fieldAt, symbolCount, startSymbol, kindField, rankAt, graphNodes, graphEdges, graphExternal, graphLabel, graphNode}
+use Rattle.questions.specs.Layout.{placeOf, lineField, symbolCount, startSymbol, kindField, rankAt, graphNodes, graphEdges, graphExternal, graphLabel, graphNode}
 use Rattle.questions.specs.Questions.{field, nodesOnGraph, judge}
 use Rattle.questions.specs.Reading.{accepted, grammarVerdict, graphVerdict}
 use Rattle.questions.specs.Abstract.{kindFrom, grammarOf, graphOf}
@@ -45,7 +45,7 @@ HasGraphLine H (GraphEdge e) = e < length (H .edges)
 HasGraphLine H Nothing = ⊥
 
 abbrev pub GraphIn : Grammars.Graph → List ℕ → Type 0
-GraphIn H t = (d : Due) → HasGraphLine H d → (j : ℕ) → j < 9 → fieldAt t (placeOf d) j ≡ field (graphFields H d) j
+GraphIn H t = (d : Due) → HasGraphLine H d → (j : ℕ) → j < 9 → lineField t (placeOf d) j ≡ field (graphFields H d) j
 
 abbrev pub GraphPass : List ℕ → Grammars.Graph → List ℕ → Type 0
 GraphPass g H t = (d : Due) → HasGraphLine H d → judge g t d (graphFields H d) ≡ 0

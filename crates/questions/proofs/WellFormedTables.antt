@@ -10,7 +10,7 @@ use Rattle.hrg.specs.Counts.{occurs, tabulate}
 use Rattle.hrg.specs.Grammars
 use Rattle.hrg.specs.Grammars.{Kind, terminal, nonterminal, PlanNode, leaf, introduce, join, Edge, noEdge, kindOf, rankOf, lhsOf, rightOf, planOf, planNode, edgeAt}
 use Rattle.hrg.specs.WellFormed.{Listed, OnEdge, children, introduced}
-use Rattle.questions.specs.Layout.{placeOf, fieldAt, symbolCount, ruleCount, startSymbol, kindField, rankAt, ruleSymbol, ruleNodes, ruleEdges, rulePlan, ruleExternal, edgeLabel, edgeNode, planKind, planFirst, planSecond}
+use Rattle.questions.specs.Layout.{placeOf, lineField, symbolCount, ruleCount, startSymbol, kindField, rankAt, ruleSymbol, ruleNodes, ruleEdges, rulePlan, ruleExternal, edgeLabel, edgeNode, planKind, planFirst, planSecond}
 use Rattle.questions.specs.Questions.{field, nodesOnEdges, childrenOf, introducedBy, childrenBefore, introducedBefore}
 use Rattle.questions.specs.TableText.{kindNumber, planFields, grammarFields}
 use Rattle.questions.specs.declared.Due.{Due}
@@ -125,7 +125,7 @@ HasLine G (GraphEdge e) = ⊥
 HasLine G Nothing = ⊥
 
 pub record GrammarIn (G : Grammars.Grammar) (t : List ℕ) : Type 0 where
-  pub lines : (d : Due) → HasLine G d → (j : ℕ) → j < 9 → fieldAt t (placeOf d) j ≡ field (grammarFields G d) j
+  pub lines : (d : Due) → HasLine G d → (j : ℕ) → j < 9 → lineField t (placeOf d) j ≡ field (grammarFields G d) j
   pub ranks : (s : ℕ) → s < length (G .symbols) → rankOf G s ≤ 4
 
 -- the lines of edges are as long as the ranks say
@@ -204,7 +204,7 @@ module _ (G : Grammars.Grammar) (t : List ℕ) (held : GrammarIn G t) where
     nodes-on-edges (suc n) l k = ap₂ _++_ (nodes-on-edges n (omega arith) (λ i b. k i (omega arith))) (edge-nodes n l (k n (omega arith)))
 
     module _ (q : ℕ) (l : q < length (planOf G r)) where
-      pub plan-field : (j : ℕ) → j < 9 → fieldAt t (74 + 25 * r + q) j ≡ field (planFields (planNode (planOf G r) q)) j
+      pub plan-field : (j : ℕ) → j < 9 → lineField t (74 + 25 * r + q) j ≡ field (planFields (planNode (planOf G r) q)) j
       unfolding placeOf grammarFields
       plan-field j b = held .lines (PlanLine r q) (h, l) j b
 

@@ -10,7 +10,7 @@ use lib.Dec.{eqb, ltb, leb}
 use borrow.Author.Tests.{lt-ltb, ltb-true}
 use Rattle.hrg.specs.Counts.{tabulate}
 use Rattle.hrg.proofs.Sums.{tabulate-ext}
-use Rattle.questions.specs.Layout.{placeOf, inTable, fieldAt, stored, symbolCount, ruleCount, rankAt, ruleEdges, rulePlan, edgeLabel, edgeNode, graphEdges, graphLabel, graphNode}
+use Rattle.questions.specs.Layout.{placeOf, inTable, lineField, stored, symbolCount, ruleCount, rankAt, ruleEdges, rulePlan, edgeLabel, edgeNode, graphEdges, graphLabel, graphNode}
 use Rattle.questions.specs.Questions.{ask, field, judgeSymbol, judgeRule, nodesOnEdges, judgeRuleEdge, childrenBefore, introducedBefore, judgePlan, nodesOnGraph, judgeGraphEdge, judge}
 use Rattle.questions.specs.Reading.{next}
 use Rattle.questions.specs.Walk.{Room, Walk, done, line, Lines, none, more}
@@ -153,7 +153,7 @@ judged-line g t Nothing fs h = omega arith
 
 -- ---- tables that agree on the places below p
 abbrev pub Agree : List ℕ → List ℕ → ℕ → Type 0
-Agree c t p = (q j : ℕ) → q < p → j < 9 → fieldAt c q j ≡ fieldAt t q j
+Agree c t p = (q j : ℕ) → q < p → j < 9 → lineField c q j ≡ lineField t q j
 
 -- what holds of the lines before the one due, as far as its own line needs it: labels lead to `S` lines
 abbrev pub Before : List ℕ → Due → Type 0

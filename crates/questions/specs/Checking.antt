@@ -8,7 +8,7 @@ use lib.ListN.{length, take, replicate}
 use lib.Dec.{leb}
 use Rattle.hrg.specs.Counts.{tabulate}
 use Rattle.hrg.specs.ClosureRun.{sameList}
-use Rattle.questions.specs.Layout.{placeOf, fieldAt, stored, grammarWords, graphWords, startSymbol, rankAt}
+use Rattle.questions.specs.Layout.{placeOf, lineField, stored, grammarWords, graphWords, startSymbol, rankAt}
 use Rattle.questions.specs.Questions.{judge}
 use Rattle.questions.specs.Reading.{Verdict, refused, accepted, whenDone, goOn, next, delivered, Outcome, graphVerdict, readGrammar}
 use Rattle.questions.specs.declared.Due.{Due}
@@ -20,17 +20,17 @@ use Rattle.questions.specs.declared.Answer.the-variants.{Done, Refused}
 unfoldable pub fieldsDue : List ℕ → List ℕ → List ℕ → Due → ℕ
 fieldsDue g c t Grammar = 3
 fieldsDue g c t (Symbol s) = 3
-fieldsDue g c t (Rule r) = 5 + rankAt c (fieldAt t (placeOf (Rule r)) 1)
-fieldsDue g c t (RuleEdge r i) = 1 + rankAt c (fieldAt t (placeOf (RuleEdge r i)) 0)
+fieldsDue g c t (Rule r) = 5 + rankAt c (lineField t (placeOf (Rule r)) 1)
+fieldsDue g c t (RuleEdge r i) = 1 + rankAt c (lineField t (placeOf (RuleEdge r i)) 0)
 fieldsDue g c t (PlanLine r q) = 3
 fieldsDue g c t Graph = 2 + rankAt g (startSymbol g)
-fieldsDue g c t (GraphEdge e) = 1 + rankAt g (fieldAt t (placeOf (GraphEdge e)) 0)
+fieldsDue g c t (GraphEdge e) = 1 + rankAt g (lineField t (placeOf (GraphEdge e)) 0)
 fieldsDue g c t Nothing = 0
 
 -- the fields of the line at a place of t
 unfoldable pub storedFields : List ℕ → List ℕ → List ℕ → Due → List ℕ
 unfolding fieldsDue tabulate
-storedFields g c t due = tabulate (fieldsDue g c t due) (λ j. fieldAt t (placeOf due) j)
+storedFields g c t due = tabulate (fieldsDue g c t due) (λ j. lineField t (placeOf due) j)
 
 -- the lines of t from `due` on, at most k of them, judged and stored in c
 unfoldable pub checkLines : ℕ → List ℕ → List ℕ → List ℕ → Due → Verdict

@@ -50,9 +50,14 @@ grammarWords = 1665
 abbrev pub graphWords : ℕ
 graphWords = 65
 
--- field j of the line at place p: bits 7 * j to 7 * j + 6 of its word
-unfoldable pub fieldAt : List ℕ → ℕ → ℕ → ℕ
-fieldAt t p j = getD t p 0 / 2 ^ (7 * j) % 128
+-- field j of a word: its bits 7 * j to 7 * j + 6
+unfoldable pub wordField : ℕ → ℕ → ℕ
+wordField w j = w / 2 ^ (7 * j) % 128
+
+-- field j of the line at place p
+unfoldable pub lineField : List ℕ → ℕ → ℕ → ℕ
+unfolding wordField
+lineField t p j = wordField (getD t p 0) j
 
 -- the word of the first n of these fields, each cut to seven bits
 unfoldable pub packed : ℕ → List ℕ → ℕ
@@ -66,64 +71,64 @@ stored t p fs = set t p (packed 9 fs)
 
 -- ---- the fields of a grammar table by name
 abbrev pub symbolCount : List ℕ → ℕ
-symbolCount g = fieldAt g 0 0
+symbolCount g = lineField g 0 0
 
 abbrev pub ruleCount : List ℕ → ℕ
-ruleCount g = fieldAt g 0 1
+ruleCount g = lineField g 0 1
 
 abbrev pub startSymbol : List ℕ → ℕ
-startSymbol g = fieldAt g 0 2
+startSymbol g = lineField g 0 2
 
 -- 0 terminal, 1 nonterminal
 abbrev pub kindField : List ℕ → ℕ → ℕ
-kindField g s = fieldAt g (1 + s) 1
+kindField g s = lineField g (1 + s) 1
 
 -- ranks are at most 4, whatever stands in a table that no reader filled
 abbrev pub rankAt : List ℕ → ℕ → ℕ
-rankAt g s = min 4 (fieldAt g (1 + s) 2)
+rankAt g s = min 4 (lineField g (1 + s) 2)
 
 abbrev pub ruleSymbol : List ℕ → ℕ → ℕ
-ruleSymbol g r = fieldAt g (65 + 25 * r) 1
+ruleSymbol g r = lineField g (65 + 25 * r) 1
 
 abbrev pub ruleNodes : List ℕ → ℕ → ℕ
-ruleNodes g r = fieldAt g (65 + 25 * r) 2
+ruleNodes g r = lineField g (65 + 25 * r) 2
 
 abbrev pub ruleEdges : List ℕ → ℕ → ℕ
-ruleEdges g r = fieldAt g (65 + 25 * r) 3
+ruleEdges g r = lineField g (65 + 25 * r) 3
 
 abbrev pub rulePlan : List ℕ → ℕ → ℕ
-rulePlan g r = fieldAt g (65 + 25 * r) 4
+rulePlan g r = lineField g (65 + 25 * r) 4
 
 abbrev pub ruleExternal : List ℕ → ℕ → ℕ → ℕ
-ruleExternal g r k = fieldAt g (65 + 25 * r) (5 + k)
+ruleExternal g r k = lineField g (65 + 25 * r) (5 + k)
 
 abbrev pub edgeLabel : List ℕ → ℕ → ℕ → ℕ
-edgeLabel g r i = fieldAt g (66 + 25 * r + i) 0
+edgeLabel g r i = lineField g (66 + 25 * r + i) 0
 
 abbrev pub edgeNode : List ℕ → ℕ → ℕ → ℕ → ℕ
-edgeNode g r i k = fieldAt g (66 + 25 * r + i) (1 + k)
+edgeNode g r i k = lineField g (66 + 25 * r + i) (1 + k)
 
 abbrev pub planKind : List ℕ → ℕ → ℕ → ℕ
-planKind g r q = fieldAt g (74 + 25 * r + q) 0
+planKind g r q = lineField g (74 + 25 * r + q) 0
 
 abbrev pub planFirst : List ℕ → ℕ → ℕ → ℕ
-planFirst g r q = fieldAt g (74 + 25 * r + q) 1
+planFirst g r q = lineField g (74 + 25 * r + q) 1
 
 abbrev pub planSecond : List ℕ → ℕ → ℕ → ℕ
-planSecond g r q = fieldAt g (74 + 25 * r + q) 2
+planSecond g r q = lineField g (74 + 25 * r + q) 2
 
 -- ---- and of a graph table
 abbrev pub graphNodes : List ℕ → ℕ
-graphNodes h = fieldAt h 0 0
+graphNodes h = lineField h 0 0
 
 abbrev pub graphEdges : List ℕ → ℕ
-graphEdges h = fieldAt h 0 1
+graphEdges h = lineField h 0 1
 
 abbrev pub graphExternal : List ℕ → ℕ → ℕ
-graphExternal h k = fieldAt h 0 (2 + k)
+graphExternal h k = lineField h 0 (2 + k)
 
 abbrev pub graphLabel : List ℕ → ℕ → ℕ
-graphLabel h e = fieldAt h (1 + e) 0
+graphLabel h e = lineField h (1 + e) 0
 
 abbrev pub graphNode : List ℕ → ℕ → ℕ → ℕ
-graphNode h e k = fieldAt h (1 + e) (1 + k)
+graphNode h e k = lineField h (1 + e) (1 + k)

@@ -2,7 +2,7 @@
 use mathlib.Core.Path.{_≡_}
 use mathlib.Core.List.{List, [], _∷_}
 use Prim.Native.Nat.{ℕ, _≤_, _<_}
-use Rattle.questions.specs.Layout.{placeOf, fieldAt, stored, grammarWords, graphWords}
+use Rattle.questions.specs.Layout.{placeOf, lineField, stored, grammarWords, graphWords}
 use Rattle.questions.specs.Questions.{field, judge}
 use Rattle.questions.specs.Reading.{next}
 use Rattle.questions.specs.declared.Due.{Due}
@@ -28,7 +28,7 @@ pub data Walk (g t : List ℕ) : List ℕ → Due → List (List ℕ) → Type 0
 -- The fields of a line stand at its place in t, and pass questions 3 to 7 in t.
 pub record Stands (g t : List ℕ) (due : Due) (fs : List ℕ) : Type 0 where
   pub passed : judge g t due fs ≡ 0
-  pub there : (j : ℕ) → j < 9 → fieldAt t (placeOf due) j ≡ field fs j
+  pub there : (j : ℕ) → j < 9 → lineField t (placeOf due) j ≡ field fs j
 
 -- The same lines judged by the finished table: from `due` on each stands in t.
 pub data Lines (g t : List ℕ) : Due → Type 0 where

@@ -17,7 +17,7 @@ use Rattle.hrg.specs.Counts.{hit, occurs, tabulate}
 use Rattle.hrg.specs.WellFormedTest.{Decides, every}
 use Rattle.hrg.proofs.Sums.{hit-ne, length-tabulate}
 use Rattle.hrg.proofs.WellFormedTest.{_and_, decides-le, decides-eq, decides-map, decides-every}
-use Rattle.questions.specs.Layout.{fieldAt, rankAt, edgeLabel, graphLabel}
+use Rattle.questions.specs.Layout.{lineField, rankAt, edgeLabel, graphLabel}
 use Rattle.questions.proofs.StoredLaws.{getD-tabulate}
 use Rattle.tables.specs.Marks.{marked, marks, nodesAt, Distinct}
 use Rattle.questions.specs.Questions.{listed, covered, nodesOnEdges, nodesOnGraph}
@@ -103,9 +103,9 @@ unfolding marks nodesOnEdges
 edges-none g r = refl
 
 pub edges-next : (g : List ℕ) (r i label rank m x : ℕ) → label ≡ edgeLabel g r i → rank ≡ rankAt g label → m ≡ marks 0 (nodesOnEdges g r i)
-    → x ≡ marks m (tabulate rank (λ k. fieldAt g (66 + 25 * r + i) (1 + k))) → x ≡ marks 0 (nodesOnEdges g r (i + 1))
+    → x ≡ marks m (tabulate rank (λ k. lineField g (66 + 25 * r + i) (1 + k))) → x ≡ marks 0 (nodesOnEdges g r (i + 1))
 unfolding nodesOnEdges
-edges-next g r i label rank m x a b c d = d ∙ rw (b, a, c, add-one) (sym (marks-append 0 (nodesOnEdges g r i) (tabulate (rankAt g (edgeLabel g r i)) (λ k. fieldAt g (66 + 25 * r + i) (1 + k)))))
+edges-next g r i label rank m x a b c d = d ∙ rw (b, a, c, add-one) (sym (marks-append 0 (nodesOnEdges g r i) (tabulate (rankAt g (edgeLabel g r i)) (λ k. lineField g (66 + 25 * r + i) (1 + k)))))
 
 pub edges-done : (g : List ℕ) (r n i x : ℕ) → i ≤ n → n ≤ i → x ≡ marks 0 (nodesOnEdges g r i) → x ≡ marks 0 (nodesOnEdges g r n)
 edges-done g r n i x a b p = p ∙ ap (λ k. marks 0 (nodesOnEdges g r k)) (let e : i ≡ n = omega arith in e)
@@ -115,9 +115,9 @@ unfolding marks nodesOnGraph
 graph-none g h = refl
 
 pub graph-next : (g h : List ℕ) (e label rank m x : ℕ) → label ≡ graphLabel h e → rank ≡ rankAt g label → m ≡ marks 0 (nodesOnGraph g h e)
-    → x ≡ marks m (tabulate rank (λ k. fieldAt h (1 + e) (1 + k))) → x ≡ marks 0 (nodesOnGraph g h (e + 1))
+    → x ≡ marks m (tabulate rank (λ k. lineField h (1 + e) (1 + k))) → x ≡ marks 0 (nodesOnGraph g h (e + 1))
 unfolding nodesOnGraph
-graph-next g h e label rank m x a b c d = d ∙ rw (b, a, c, add-one) (sym (marks-append 0 (nodesOnGraph g h e) (tabulate (rankAt g (graphLabel h e)) (λ k. fieldAt h (1 + e) (1 + k)))))
+graph-next g h e label rank m x a b c d = d ∙ rw (b, a, c, add-one) (sym (marks-append 0 (nodesOnGraph g h e) (tabulate (rankAt g (graphLabel h e)) (λ k. lineField h (1 + e) (1 + k)))))
 
 pub graph-done : (g h : List ℕ) (n i x : ℕ) → i ≤ n → n ≤ i → x ≡ marks 0 (nodesOnGraph g h i) → x ≡ marks 0 (nodesOnGraph g h n)
 graph-done g h n i x a b p = p ∙ ap (λ k. marks 0 (nodesOnGraph g h k)) (let e : i ≡ n = omega arith in e)
@@ -178,16 +178,16 @@ module _ (nodes : ℕ) (t : List ℕ) (p n seen k : ℕ) (s : Sought nodes (node
 
   pub sought-all : n ≤ k → Distinct nodes own true seen
   sought-all h = record {
-    kept = seen-all nodes own seen k (s .part) (omega (arith, length-tabulate n (λ j. fieldAt t p (1 + j))));
-    set = λ y. line-done n (λ j. fieldAt t p (1 + j)) k seen (marks 0 own) h (s .set);
+    kept = seen-all nodes own seen k (s .part) (omega (arith, length-tabulate n (λ j. lineField t p (1 + j))));
+    set = λ y. line-done n (λ j. lineField t p (1 + j)) k seen (marks 0 own) h (s .set);
   }
 
-  module _ (few : nodes ≤ 64) (x : ℕ) (h : k < n) (v : x ≡ fieldAt t p (1 + k)) where
+  module _ (few : nodes ≤ 64) (x : ℕ) (h : k < n) (v : x ≡ lineField t p (1 + k)) where
     inside : k < length own
-    inside = omega (arith, length-tabulate n (λ j. fieldAt t p (1 + j)))
+    inside = omega (arith, length-tabulate n (λ j. lineField t p (1 + j)))
 
     value : x ≡ getD own k 0
-    value = v ∙ sym (getD-tabulate n (λ j. fieldAt t p (1 + j)) k 0 h)
+    value = v ∙ sym (getD-tabulate n (λ j. lineField t p (1 + j)) k 0 h)
 
     refused : (m : ℕ) → false ≡ listed nodes own → Distinct nodes own false m
     refused m f = record { kept = f; set = λ y. absurd (false≢true y) }
@@ -205,7 +205,7 @@ module _ (nodes : ℕ) (t : List ℕ) (p n seen k : ℕ) (s : Sought nodes (node
         let one : bitOr seen (1 * 2 ^ x % 2 ^ 64) ≡ seen ∪ single x = ap (bitOr seen) (shifted-single x (omega arith)) in
         record {
           part = seen-more nodes own seen k x inside value (s .part) (omega arith) (false-member seen x new) _ one;
-          set = line-next n (λ j. fieldAt t p (1 + j)) k x seen _ (marks 0 own) h v (added seen x _ (omega arith) one) (s .set);
+          set = line-next n (λ j. lineField t p (1 + j)) k x seen _ (marks 0 own) h v (added seen x _ (omega arith) one) (s .set);
         }
       where
         go : bit seen x ≡ 1 → ⊥

@@ -15,7 +15,7 @@ use Rattle.masks.specs.Masks.{_∪_, full}
 use Rattle.hrg.proofs.Sums.{length-tabulate}
 use Rattle.questions.specs.declared.Due.{Due}
 use Rattle.questions.specs.declared.Due.the-variants.{RuleEdge, PlanLine, GraphEdge, Nothing}
-use Rattle.questions.specs.Layout.{placeOf, fieldAt, symbolCount, kindField, rankAt, ruleNodes, ruleEdges, graphNodes, graphEdges, edgeLabel, graphLabel}
+use Rattle.questions.specs.Layout.{placeOf, lineField, symbolCount, kindField, rankAt, ruleNodes, ruleEdges, graphNodes, graphEdges, edgeLabel, graphLabel}
 use Rattle.questions.specs.Questions.{ask, listed, covered, nodesOnEdges, nodesOnGraph, judge}
 use Rattle.questions.specs.Reading.{next}
 use Rattle.questions.specs.Checking.{fieldsDue, storedFields}
@@ -157,14 +157,14 @@ module _ (g t : List ℕ) (due : Due) (a b : Bool) (rank nodes j edges : ℕ) (b
 
   long : length fs ≡ 1 + rank
   unfolding storedFields
-  long = length-tabulate (fieldsDue g t t due) (λ k. fieldAt t (placeOf due) k) ∙ count
+  long = length-tabulate (fieldsDue g t t due) (λ k. lineField t (placeOf due) k) ∙ count
 
-  own-field : (k : ℕ) → k < 1 + rank → fieldAt t (placeOf due) k ≡ getD fs k 0
+  own-field : (k : ℕ) → k < 1 + rank → lineField t (placeOf due) k ≡ getD fs k 0
   unfolding storedFields
-  own-field k h = sym (getD-tabulate (fieldsDue g t t due) (λ i. fieldAt t (placeOf due) i) k 0 (omega (arith, count)))
+  own-field k h = sym (getD-tabulate (fieldsDue g t t due) (λ i. lineField t (placeOf due) i) k 0 (omega (arith, count)))
 
   own-nodes : nodesAt t (placeOf due) rank ≡ drop 1 fs
-  own-nodes = fields-listed fs 1 rank (λ k. fieldAt t (placeOf due) (1 + k)) long (λ i l. own-field (1 + i) (omega arith))
+  own-nodes = fields-listed fs 1 rank (λ k. lineField t (placeOf due) (1 + k)) long (λ i l. own-field (1 + i) (omega arith))
 
   abbrev asks : Bool → Bool → List ℕ → ℕ
   asks one four l = ask 3 (one && a && b) (ask 4 four (ask 5 (listed nodes l) (ask 6 (ltb j edges || covered nodes (before ++ l)) 0)))

@@ -10,7 +10,7 @@ use borrow.Author.Tests.{lt-ltb, le-ltb, not-true, not-false}
 use Rattle.hrg.specs.WellFormed.{Between}
 use Rattle.questions.specs.declared.Due.{Due}
 use Rattle.questions.specs.declared.Due.the-variants.{Grammar, Symbol, Rule, RuleEdge, PlanLine, Graph, GraphEdge, Nothing}
-use Rattle.questions.specs.Layout.{placeOf, fieldAt, symbolCount, ruleCount, ruleEdges, rulePlan, graphEdges}
+use Rattle.questions.specs.Layout.{placeOf, lineField, symbolCount, ruleCount, ruleEdges, rulePlan, graphEdges}
 use Rattle.questions.specs.Questions.{judge}
 use Rattle.questions.specs.Reading.{next}
 use Rattle.questions.specs.Checking.{fieldsDue, storedFields}
@@ -136,9 +136,9 @@ module _ (t : List ℕ) (n : ℕ) where
   next-graph-edge e c = rw (count-min n (graphEdges t) 64 c)
 
 -- ---- the counts of a line that stands
-own-field : (g t : List ℕ) (due : Due) (j : ℕ) → j < fieldsDue g t t due → getD (storedFields g t t due) j 0 ≡ fieldAt t (placeOf due) j
+own-field : (g t : List ℕ) (due : Due) (j : ℕ) → j < fieldsDue g t t due → getD (storedFields g t t due) j 0 ≡ lineField t (placeOf due) j
 unfolding storedFields
-own-field g t due j h = getD-tabulate (fieldsDue g t t due) (λ k. fieldAt t (placeOf due) k) j 0 h
+own-field g t due j h = getD-tabulate (fieldsDue g t t due) (λ k. lineField t (placeOf due) k) j 0 h
 
 count-of : (n w x low most : ℕ) → n ≡ w → x ≡ w → Between (suc low) x most → Count n w most
 count-of n w x low most e same b = record { same = e; some = omega (arith, b .lower); few = omega (arith, b .upper) }

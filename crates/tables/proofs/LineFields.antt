@@ -12,7 +12,7 @@ use borrow.Author.Tests.{eqb-true, eqb-false}
 use Rattle.hrg.specs.Counts.{tabulate}
 use Rattle.hrg.proofs.Sums.{length-tabulate}
 use Rattle.questions.specs.declared.Due.{Due}
-use Rattle.questions.specs.Layout.{placeOf, fieldAt}
+use Rattle.questions.specs.Layout.{placeOf, lineField}
 use Rattle.questions.specs.Questions.{judge}
 use Rattle.questions.specs.Checking.{fieldsDue, storedFields}
 use Rattle.questions.proofs.StoredLaws.{getD-tabulate}
@@ -27,33 +27,33 @@ module _ (t : List ℕ) (p n : ℕ) (z : Bool) (e : z ≡ eqb (behind t p n) 0) 
   ends-no y = eqb-false (behind t p n) 0 (sym e ∙ y)
 
 -- ---- its fields, put into f one by one
-abbrev pub Holds : List ℕ → ℕ → List ℕ → ℕ → Type 0
-Holds t p f k = (j : ℕ) → j < k → getD f j 0 ≡ fieldAt t p j
+abbrev pub Copied : List ℕ → ℕ → List ℕ → ℕ → Type 0
+Copied t p f k = (j : ℕ) → j < k → getD f j 0 ≡ lineField t p j
 
-module _ (t : List ℕ) (p : ℕ) (f : List ℕ) (k : ℕ) (H : Holds t p f k) where
-  pub holds-next : k < length f → (x : ℕ) → x ≡ fieldAt t p k → Holds t p (set f k x) (k + 1)
-  holds-next l x e j b = go (decLt j k)
+module _ (t : List ℕ) (p : ℕ) (f : List ℕ) (k : ℕ) (C : Copied t p f k) where
+  pub copied-next : k < length f → (x : ℕ) → x ≡ lineField t p k → Copied t p (set f k x) (k + 1)
+  copied-next l x e j b = go (decLt j k)
     where
-      go : Dec (j < k) → getD (set f k x) j 0 ≡ fieldAt t p j
-      go (yes d) = getD-set-other f k j x 0 (λ z. omega arith) ∙ H j d
+      go : Dec (j < k) → getD (set f k x) j 0 ≡ lineField t p j
+      go (yes d) = getD-set-other f k j x 0 (λ z. omega arith) ∙ C j d
       go (no d) =
           let same : j ≡ k = omega arith in
-          ap (λ i. getD (set f k x) i 0) same ∙ getD-set-same f k x 0 l ∙ e ∙ ap (fieldAt t p) (sym same)
+          ap (λ i. getD (set f k x) i 0) same ∙ getD-set-same f k x 0 l ∙ e ∙ ap (lineField t p) (sym same)
 
-  pub holds-done : (n : ℕ) → n ≤ k → n ≤ length f → take n f ≡ tabulate n (λ j. fieldAt t p j)
-  holds-done n b l =
-      let long = length-tabulate n (λ j. fieldAt t p j) in
-      ext-getD 0 (take n f) (tabulate n (λ j. fieldAt t p j)) (length-take-le n f l ∙ sym long)
+  pub copied-done : (n : ℕ) → n ≤ k → n ≤ length f → take n f ≡ tabulate n (λ j. lineField t p j)
+  copied-done n b l =
+      let long = length-tabulate n (λ j. lineField t p j) in
+      ext-getD 0 (take n f) (tabulate n (λ j. lineField t p j)) (length-take-le n f l ∙ sym long)
       λ j d.
-      getD-take n f j 0 (omega (arith, length-take-le n f l)) ∙ H j (omega (arith, length-take-le n f l))
-      ∙ sym (getD-tabulate n (λ j. fieldAt t p j) j 0 (omega (arith, length-take-le n f l)))
+      getD-take n f j 0 (omega (arith, length-take-le n f l)) ∙ C j (omega (arith, length-take-le n f l))
+      ∙ sym (getD-tabulate n (λ j. lineField t p j) j 0 (omega (arith, length-take-le n f l)))
 
 -- ---- and judged
-module _ (g t : List ℕ) (due : Due) (p n : ℕ) (place : p ≡ placeOf due) (count : n ≡ fieldsDue g t t due) (fs : List ℕ) (own : fs ≡ tabulate n (λ j. fieldAt t p j))
+module _ (g t : List ℕ) (due : Due) (p n : ℕ) (place : p ≡ placeOf due) (count : n ≡ fieldsDue g t t due) (fs : List ℕ) (own : fs ≡ tabulate n (λ j. lineField t p j))
     (k : ℕ) (e : k ≡ judge g t due fs) where
   fields : fs ≡ storedFields g t t due
   unfolding storedFields
-  fields = own ∙ ap₂ (λ m q. tabulate m (λ j. fieldAt t q j)) count place
+  fields = own ∙ ap₂ (λ m q. tabulate m (λ j. lineField t q j)) count place
 
   judged : k ≡ judge g t due (storedFields g t t due)
   judged = e ∙ ap (judge g t due) fields
@@ -71,9 +71,9 @@ module _ (g t : List ℕ) (due : Due) (p n : ℕ) (place : p ≡ placeOf due) (c
       there = ap₂ (behind t) place count
 
 -- the same where their number is not known beforehand
-module _ (g t : List ℕ) (due : Due) (p n : ℕ) (place : p ≡ placeOf due) (count : n ≡ fieldsDue g t t due) (f : List ℕ) (own : take n f ≡ tabulate n (λ j. fieldAt t p j))
+module _ (g t : List ℕ) (due : Due) (p n : ℕ) (place : p ≡ placeOf due) (count : n ≡ fieldsDue g t t due) (f : List ℕ) (own : take n f ≡ tabulate n (λ j. lineField t p j))
     (k : ℕ) (e : k ≡ judge g t due (take (n - 0) (drop 0 f))) where
-  part : take (n - 0) (drop 0 f) ≡ tabulate n (λ j. fieldAt t p j)
+  part : take (n - 0) (drop 0 f) ≡ tabulate n (λ j. lineField t p j)
   part = ap (λ m. take m f) (let s : n - 0 ≡ n = omega arith in s) ∙ own
 
   pub part-no : (k ≡ 0 → ⊥) → Stands g t due false

@@ -13,7 +13,7 @@ use Rattle.hrg.specs.Counts.{tabulate}
 use Rattle.hrg.proofs.Sums.{length-tabulate}
 use Rattle.questions.specs.declared.Due.{Due}
 use Rattle.questions.specs.declared.Due.the-variants.{Grammar, Symbol, Rule, RuleEdge, PlanLine, Graph, GraphEdge, Nothing}
-use Rattle.questions.specs.Layout.{placeOf, fieldAt, packed, stored, grammarWords, graphWords, symbolCount, rankAt}
+use Rattle.questions.specs.Layout.{placeOf, lineField, packed, stored, grammarWords, graphWords, symbolCount, rankAt}
 use Rattle.questions.specs.Questions.{judgeRule, judgeRuleEdge, judge}
 use Rattle.questions.specs.Reading.{Verdict, refused, accepted, whenDone, goOn, next}
 use Rattle.questions.specs.Checking.{fieldsDue, storedFields, checkLines, filledBy, checkGrammar, checkGraph}
@@ -114,30 +114,30 @@ module _ (g c t : List ℕ) where
   rank-alike : (x p : ℕ) → x < 64 → 65 ≤ p → Agree c t p → rankAt c x ≡ rankAt t x
   rank-alike x p l h a = rw (a (1 + x) 2 (omega arith) (omega arith))
 
-  rule-alike : (r : ℕ) → symbolCount c ≤ 64 → Agree c t (65 + 25 * r) → Dec (fieldAt t (65 + 25 * r) 1 < 64) → Alike (Rule r)
+  rule-alike : (r : ℕ) → symbolCount c ≤ 64 → Agree c t (65 + 25 * r) → Dec (lineField t (65 + 25 * r) 1 < 64) → Alike (Rule r)
   unfolding storedFields fieldsDue placeOf judge
-  rule-alike r b a (yes l) = inl (ap (λ n. tabulate (5 + n) (λ j. fieldAt t (65 + 25 * r) j)) (rank-alike (fieldAt t (65 + 25 * r) 1) (65 + 25 * r) l (omega arith) a))
+  rule-alike r b a (yes l) = inl (ap (λ n. tabulate (5 + n) (λ j. lineField t (65 + 25 * r) j)) (rank-alike (lineField t (65 + 25 * r) 1) (65 + 25 * r) l (omega arith) a))
   rule-alike r b a (no l) =
       inr (
-        rule-far c r (rankAt c (fieldAt t (65 + 25 * r) 1)) (λ j. fieldAt t (65 + 25 * r) j) b (omega arith),
-        rule-far t r (rankAt t (fieldAt t (65 + 25 * r) 1)) (λ j. fieldAt t (65 + 25 * r) j) (omega (arith, a 0 0 (omega arith) (omega arith))) (omega arith),
+        rule-far c r (rankAt c (lineField t (65 + 25 * r) 1)) (λ j. lineField t (65 + 25 * r) j) b (omega arith),
+        rule-far t r (rankAt t (lineField t (65 + 25 * r) 1)) (λ j. lineField t (65 + 25 * r) j) (omega (arith, a 0 0 (omega arith) (omega arith))) (omega arith),
       )
 
-  edge-alike : (r i : ℕ) → symbolCount c ≤ 64 → Agree c t (66 + 25 * r + i) → Dec (fieldAt t (66 + 25 * r + i) 0 < 64) → Alike (RuleEdge r i)
+  edge-alike : (r i : ℕ) → symbolCount c ≤ 64 → Agree c t (66 + 25 * r + i) → Dec (lineField t (66 + 25 * r + i) 0 < 64) → Alike (RuleEdge r i)
   unfolding storedFields fieldsDue placeOf judge
-  edge-alike r i b a (yes l) = inl (ap (λ n. tabulate (1 + n) (λ j. fieldAt t (66 + 25 * r + i) j)) (rank-alike (fieldAt t (66 + 25 * r + i) 0) (66 + 25 * r + i) l (omega arith) a))
+  edge-alike r i b a (yes l) = inl (ap (λ n. tabulate (1 + n) (λ j. lineField t (66 + 25 * r + i) j)) (rank-alike (lineField t (66 + 25 * r + i) 0) (66 + 25 * r + i) l (omega arith) a))
   edge-alike r i b a (no l) =
       inr (
-        edge-far c r i (rankAt c (fieldAt t (66 + 25 * r + i) 0)) (λ j. fieldAt t (66 + 25 * r + i) j) b (omega arith),
-        edge-far t r i (rankAt t (fieldAt t (66 + 25 * r + i) 0)) (λ j. fieldAt t (66 + 25 * r + i) j) (omega (arith, a 0 0 (omega arith) (omega arith))) (omega arith),
+        edge-far c r i (rankAt c (lineField t (66 + 25 * r + i) 0)) (λ j. lineField t (66 + 25 * r + i) j) b (omega arith),
+        edge-far t r i (rankAt t (lineField t (66 + 25 * r + i) 0)) (λ j. lineField t (66 + 25 * r + i) j) (omega (arith, a 0 0 (omega arith) (omega arith))) (omega arith),
       )
 
   fields-alike : (d : Due) → Before c d → Agree c t (placeOf d) → Alike d
   unfolding storedFields fieldsDue placeOf
   fields-alike Grammar b a = inl refl
   fields-alike (Symbol s) b a = inl refl
-  fields-alike (Rule r) b a = rule-alike r b a (decLt (fieldAt t (65 + 25 * r) 1) 64)
-  fields-alike (RuleEdge r i) b a = edge-alike r i (b .0) a (decLt (fieldAt t (66 + 25 * r + i) 0) 64)
+  fields-alike (Rule r) b a = rule-alike r b a (decLt (lineField t (65 + 25 * r) 1) 64)
+  fields-alike (RuleEdge r i) b a = edge-alike r i (b .0) a (decLt (lineField t (66 + 25 * r + i) 0) 64)
   fields-alike (PlanLine r q) b a = inl refl
   fields-alike Graph b a = inl refl
   fields-alike (GraphEdge e) b a = inl refl
@@ -272,7 +272,7 @@ module _ (size : ℕ) (g t : List ℕ) (goal : Bool) (fits : size ≤ length t) 
 
         length-fs : length fs ≡ fieldsDue g t t due
         unfolding storedFields
-        length-fs = length-tabulate (fieldsDue g t t due) (λ j. fieldAt t (placeOf due) j)
+        length-fs = length-tabulate (fieldsDue g t t due) (λ j. lineField t (placeOf due) j)
 
         -- c has nothing behind the fields of the line
         pass-behind : goal ≡ true → behind t (placeOf due) (fieldsDue g t t due) ≡ 0
@@ -288,10 +288,10 @@ module _ (size : ℕ) (g t : List ℕ) (goal : Bool) (fits : size ≤ length t) 
 
         module _ (tail : behind t (placeOf due) (fieldsDue g t t due) ≡ 0) where
           own-line : packed 9 fs ≡ getD t (placeOf due) 0
-          unfolding behind storedFields fieldAt
+          unfolding behind storedFields lineField
           own-line =
               packed-line (getD t (placeOf due) 0) (fieldsDue g t t due) fs (fields-few g t due) length-fs tail
-              (λ j b. sym (getD-tabulate (fieldsDue g t t due) (λ i. fieldAt t (placeOf due) i) j 0 b))
+              (λ j b. sym (getD-tabulate (fieldsDue g t t due) (λ i. lineField t (placeOf due) i) j 0 b))
 
           same-c : (q : ℕ) → q < suc (placeOf due) → getD c′ q 0 ≡ getD t q 0
           same-c q a = go (decLt q (placeOf due))

@@ -6,7 +6,7 @@ use Prim.Native.Nat.{ℕ, _+_}
 use lib.Dec.{ltb}
 use Rattle.masks.specs.Masks.{_∪_, single}
 use Rattle.hrg.specs.Counts.{tabulate}
-use Rattle.questions.specs.Layout.{fieldAt}
+use Rattle.questions.specs.Layout.{lineField}
 use Rattle.questions.specs.Questions.{listed}
 
 -- m with x; a number from 64 on has no place in a mask
@@ -20,7 +20,7 @@ marks m (x ∷ xs) = marks (marked m x) xs
 
 -- the n nodes of the edge's line at place p
 abbrev pub nodesAt : List ℕ → ℕ → ℕ → List ℕ
-nodesAt t p n = tabulate n (λ k. fieldAt t p (1 + k))
+nodesAt t p n = tabulate n (λ k. lineField t p (1 + k))
 
 -- ok says whether the nodes of a list are in range and distinct; then `seen` is their set
 pub record Distinct (nodes : ℕ) (l : List ℕ) (ok : Bool) (seen : ℕ) : Type 0 where

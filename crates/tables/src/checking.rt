@@ -7,7 +7,7 @@ ghost use lib.ListN.{length, take};
 ghost use lib.Dec.{eqb};
 ghost use Rattle.hrg.specs.Counts.{tabulate};
 ghost use Rattle.questions.specs.declared.Due.the-variants.{Grammar, Symbol, Rule, RuleEdge, PlanLine, Graph, GraphEdge};
-ghost use Rattle.questions.specs.Layout.{grammarWords, graphWords, fieldAt, symbolCount, ruleCount, ruleNodes, ruleEdges, rulePlan, graphNodes, graphEdges};
+ghost use Rattle.questions.specs.Layout.{grammarWords, graphWords, lineField, symbolCount, ruleCount, ruleNodes, ruleEdges, rulePlan, graphNodes, graphEdges};
 ghost use Rattle.questions.specs.Walk.{Room};
 ghost use Rattle.questions.specs.Checking.{checkGrammar, checkGraph};
 ghost use Rattle.tables.specs.Concluding.{Zeros, Gathered, eightFrom, behind, Stands, Attached, NearlyStands, Count, ruleAfter, Reaches, Concludes};
@@ -86,7 +86,7 @@ fn ends(t: &[u64], p: u64, n: u64) -> bool
 // Its first n fields, put into f.
 fn fields_into(t: &[u64], p: u64, n: u64, f: &mut [u64])
     requires { ⌜ (p < length (now t)) × (n ≤ 9) × (length (now f) ≡ 9) ⌝ }
-    ensures { λ x. ⌜ take n (now (f .exit)) ≡ tabulate n (λ j. fieldAt (now (t .entry)) p j) ⌝ }
+    ensures { λ x. ⌜ take n (now (f .exit)) ≡ tabulate n (λ j. lineField (now (t .entry)) p j) ⌝ }
 {
     let mut k: u64 = 0;
     while k < n {

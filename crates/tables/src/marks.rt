@@ -7,7 +7,7 @@ ghost use lib.Dec.{leb, eqb};
 ghost use Rattle.masks.specs.Masks.{_∪_, full};
 ghost use lib.ListN.{drop, length};
 ghost use Rattle.hrg.specs.Counts.{tabulate};
-ghost use Rattle.questions.specs.Layout.{fieldAt, ruleNodes, graphNodes};
+ghost use Rattle.questions.specs.Layout.{lineField, ruleNodes, graphNodes};
 ghost use Rattle.questions.specs.Questions.{listed, covered, nodesOnEdges, nodesOnGraph};
 ghost use Rattle.tables.specs.Marks.{marks, nodesAt, Distinct};
 
@@ -77,7 +77,7 @@ fn mark_fields(m: u64, f: &[u64], from: u64) -> u64
 // m with the fields 1 to n of the line at place p.
 fn mark_line(m: u64, t: &[u64], p: u64, n: u64) -> u64
     requires { ⌜ n ≤ 4 ⌝ }
-    ensures { λ r. ⌜ r ≡ marks m (tabulate n (λ k. fieldAt (now (t .entry)) p (1 + k))) ⌝ }
+    ensures { λ r. ⌜ r ≡ marks m (tabulate n (λ k. lineField (now (t .entry)) p (1 + k))) ⌝ }
 {
     let mut mask = m;
     let mut k: u64 = 0;

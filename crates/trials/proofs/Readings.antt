@@ -12,7 +12,7 @@ use Rattle.hrg.specs.Counts.{hit, occurs, tabulate, upTo, select}
 use Rattle.hrg.specs.Grammars.{Grammar, Graph}
 use Rattle.hrg.specs.Cases.{Case, grammarA, grammarB, k1, k2, k3, k4, k5, k6}
 use Rattle.hrg.specs.WellFormedTest.{every, some, each}
-use Rattle.questions.specs.Layout.{grammarWords, graphWords, placeOf, letterDue, inTable, fieldAt, packed, stored}
+use Rattle.questions.specs.Layout.{grammarWords, graphWords, placeOf, letterDue, inTable, wordField, lineField, packed, stored}
 use Rattle.questions.specs.Questions.{listed, covered, judgeGrammar, judgeSymbol, judgeRule, nodesOnEdges, judgeRuleEdge, childrenOf, introducedBy, childrenBefore, introducedBefore, planSoFar, planWhole, judgePlan, judgeGraph, nodesOnGraph, judgeGraphEdge, judge}
 use Rattle.questions.specs.Reading.{Outcome, next, judgeLine, readLines, grammarVerdict, graphVerdict, delivered, readGrammar}
 use Rattle.questions.specs.Checking.{checkGrammar, checkGraph, readGraph, FilledGrammar, FilledGraph}
@@ -99,7 +99,7 @@ record TextsShown : Type 0 where
   K6 : shownGraph (filled (trialAt 0 .grammar)) (trialAt 5 .graph) ≡ accepted (k6 .graph)
 
 texts-shown : TextsShown
-unfolding bytesOf allBelow sameBytes withByte linesOf lineBytes textOf lineLen lineOf lineStart lineEnd isEnded afterLine countingStart countingOf column fieldText digitOf valueFrom valueOf cellOf fieldCount fieldBytes fieldOf numberOf numbersFrom fieldsOf letterOf letterKind kindLetter isCapital shapeOf hit occurs tabulate upTo select every some each placeOf letterDue inTable fieldAt packed stored listed covered judgeGrammar judgeSymbol judgeRule nodesOnEdges judgeRuleEdge childrenOf introducedBy childrenBefore introducedBefore planSoFar planWhole judgePlan judgeGraph nodesOnGraph judgeGraphEdge judge next judgeLine readLines grammarVerdict graphVerdict delivered readGrammar build ruleFrom grammarOf graphOf filled
+unfolding bytesOf allBelow sameBytes withByte linesOf lineBytes textOf lineLen lineOf lineStart lineEnd isEnded afterLine countingStart countingOf column fieldText digitOf valueFrom valueOf cellOf fieldCount fieldBytes fieldOf numberOf numbersFrom fieldsOf letterOf letterKind kindLetter isCapital shapeOf hit occurs tabulate upTo select every some each placeOf letterDue inTable wordField lineField packed stored listed covered judgeGrammar judgeSymbol judgeRule nodesOnEdges judgeRuleEdge childrenOf introducedBy childrenBefore introducedBefore planSoFar planWhole judgePlan judgeGraph nodesOnGraph judgeGraphEdge judge next judgeLine readLines grammarVerdict graphVerdict delivered readGrammar build ruleFrom grammarOf graphOf filled
 texts-shown = record { A = refl; B = refl; K1 = refl; K2 = refl; K3 = refl; K4 = refl; K5 = refl; K6 = refl }
 
 pub reading-K1 : Reading (trialAt 0 .grammar) (trialAt 0 .graph) (k1 .grammar) (k1 .graph)

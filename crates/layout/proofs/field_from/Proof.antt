@@ -1,6 +1,8 @@
 -- A field from 10 on is past the word's 64 bits.
 use native.Mathlib.Omega.{arith}
+use mathlib.Core.Path.{refl}
 use borrow.Author.Needs.{needs}
+use Rattle.questions.specs.Layout.{wordField}
 use Rattle.layout.proofs.Fields.{field-past}
 use Rattle.layout.proofs.field_from.Statement.{statement}
 use Rattle.layout.proofs.field_from.Tie as tie
@@ -21,7 +23,8 @@ shr-result : tie.Need-shr-result
 shr-result c = search needs
 
 returns-2 : tie.Need-returns-2
-returns-2 c = search needs
+unfolding wordField
+returns-2 c = refl
 
 pub field-from-spec : {M : Type 1} → statement M
 field-from-spec = tie.close (tie.spec sub-if1 returns add-result mul-result shr-result returns-2)

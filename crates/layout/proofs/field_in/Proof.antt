@@ -1,7 +1,7 @@
 -- The definition itself.
 use mathlib.Core.Path.{refl}
 use borrow.Author.Needs.{needs}
-use Rattle.questions.specs.Layout.{fieldAt}
+use Rattle.questions.specs.Layout.{wordField, lineField}
 use Rattle.layout.proofs.field_in.Statement.{statement}
 use Rattle.layout.proofs.field_in.Tie as tie
 
@@ -18,7 +18,7 @@ shr-result : tie.Need-shr-result
 shr-result c = search needs
 
 returns : tie.Need-returns
-unfolding fieldAt
+unfolding lineField wordField
 returns c = refl
 
 pub field-in-spec : {M : Type 1} → statement M

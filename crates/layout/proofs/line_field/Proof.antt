@@ -1,7 +1,7 @@
 -- A place past the end has no fields, so that the sum does not wrap.
 use native.Mathlib.Omega.{arith}
 use borrow.Author.Needs.{needs}
-use Rattle.questions.specs.Layout.{fieldAt}
+use Rattle.questions.specs.Layout.{lineField}
 use Rattle.layout.proofs.Fields.{place-past}
 use Rattle.layout.proofs.line_field.Statement.{statement}
 use Rattle.layout.proofs.line_field.Tie as tie
@@ -25,7 +25,7 @@ field-from-requires : tie.Need-field-from-requires
 field-from-requires c κs = search needs
 
 returns-3 : tie.Need-returns-3
-unfolding fieldAt
+unfolding lineField
 returns-3 c = c .field-from .ensures
 
 pub line-field-spec : {M : Type 1} → statement M

@@ -4,12 +4,12 @@ use native.Mathlib.Omega.{arith}
 use mathlib.Core.Path.{_≡_}
 use lib.ListN.{length, length-set}
 use borrow.Author.Needs.{needs}
-use Rattle.tables.proofs.LineFields.{Holds, holds-next, holds-done}
+use Rattle.tables.proofs.LineFields.{Copied, copied-next, copied-done}
 use Rattle.tables.proofs.checking.fields_into.Statement.{statement}
 use Rattle.tables.proofs.checking.fields_into.Tie as tie
 
 abbrev Inv-loop : tie.InvT-loop
-Inv-loop t p n f₀ k₀ f k = (k ≤ n) × (length f ≡ 9) × Holds t p f k
+Inv-loop t p n f₀ k₀ f k = (k ≤ n) × (length f ≡ 9) × Copied t p f k
 
 abbrev μ-loop : tie.MeasureT-loop
 μ-loop t p n f₀ k₀ f k = n - k
@@ -34,13 +34,13 @@ loop-less c = search needs
 
 loop-again : tie.Need-loop-again Inv-loop μ-loop
 loop-again c =
-    (omega arith, simp length-set (c .before .before .loop .inv .1), holds-next _ _ (c .before .before .loop .f) (c .before .before .loop .k) (c .before .before .loop .inv .2) (omega (arith, c .before .before .before .before .before .pre .1, c .before .before .loop .inv .1, c .before .loop-test .taken)) _ (c .field-in .ensures))
+    (omega arith, simp length-set (c .before .before .loop .inv .1), copied-next _ _ (c .before .before .loop .f) (c .before .before .loop .k) (c .before .before .loop .inv .2) (omega (arith, c .before .before .before .before .before .pre .1, c .before .before .loop .inv .1, c .before .loop-test .taken)) _ (c .field-in .ensures))
 
 same-length : tie.Need-same-length Inv-loop μ-loop
 same-length c = omega (arith, c .before .before .before .before .pre .2, c .before .loop .inv .1)
 
 returns : tie.Need-returns Inv-loop μ-loop
-returns c = holds-done _ _ (c .before .loop .f) (c .before .loop .k) (c .before .loop .inv .2) _ (c .loop-test .left) (omega (arith, c .before .before .before .before .pre .1, c .before .loop .inv .1))
+returns c = copied-done _ _ (c .before .loop .f) (c .before .loop .k) (c .before .loop .inv .2) _ (c .loop-test .left) (omega (arith, c .before .before .before .before .pre .1, c .before .loop .inv .1))
 
 pub fields-into-spec : {M : Type 1} → statement M
 fields-into-spec =

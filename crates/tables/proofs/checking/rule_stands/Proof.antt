@@ -1,5 +1,4 @@
 -- The line's fields judged, and what is behind them (proofs/LineFields).
-use native.Mathlib.Omega.{arith}
 use mathlib.Core.Path.{refl, ap, _∙_}
 use mathlib.Core.List.{[]}
 use Prim.Native.Nat.{_+_}

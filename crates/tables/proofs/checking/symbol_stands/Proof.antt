@@ -1,5 +1,4 @@
 -- The line's fields judged, and what is behind them (proofs/LineFields).
-use native.Mathlib.Omega.{arith}
 use mathlib.Core.Path.{refl}
 use mathlib.Core.List.{[]}
 use borrow.Author.Needs.{needs}
