@@ -512,7 +512,8 @@ static void test_nested(void)
 
 static uint64_t *put_item(uint64_t *at, uint64_t kind, uint64_t of, uint64_t plan, uint64_t first, uint64_t second)
 {
-    const uint64_t item[16] = {kind, of, plan, 1, 1, 1, 0, 1, 64, 64, 64, 64, 64, 64, first, second};
+    const int leaf = kind == 0 && plan == 0; /* a leaf has no nodes */
+    const uint64_t item[16] = {kind, of, plan, 1, 1, 1, leaf ? 64 : 0, leaf ? 64 : 1, 64, 64, 64, 64, 64, 64, first, second};
     memcpy(at, item, sizeof item);
     return at + 16;
 }

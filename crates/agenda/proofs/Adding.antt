@@ -9,7 +9,7 @@ use native.Mathlib.Omega.{arith}
 use lib.ListN.{length, set}
 use lib.Dec.{leb}
 use borrow.Author.Tests.{leb-true, leb-false, ltb-true, ltb-false, eq-eqb, ne-eqb}
-use Rattle.agenda.specs.Records.{sameRecord, isHandled}
+use Rattle.agenda.specs.Records.{sameChartItem, isHandled}
 use Rattle.agenda.specs.Consequences.{recordIn}
 use Rattle.agenda.specs.Steps.{Chart, lastSame, improved, placed, added, addedAll}
 use Rattle.agenda.specs.declared.Record.{Record}
@@ -23,8 +23,8 @@ New x rs = (k : ℕ) → k < length rs → bare x ≡ bare (recordIn rs k) → �
 
 -- One record more, in a chart that is not found too small by it.
 pub data Adds (cap : ℕ) (x : Record) (rs : List Record) : List Record → Type 0 where
-  kept : (k : ℕ) → k < length rs → bare x ≡ bare (recordIn rs k) → (isHandled (recordIn rs k) ≡ true) ⊎ (recordIn rs k .count ≤ x .count) → Adds cap x rs rs
-  better : (k : ℕ) → k < length rs → bare x ≡ bare (recordIn rs k) → isHandled (recordIn rs k) ≡ false → x .count < recordIn rs k .count
+  kept : (k : ℕ) → k < length rs → bare x ≡ bare (recordIn rs k) → (isHandled (recordIn rs k) ≡ true) ⊎ (recordIn rs k .item .count ≤ x .item .count) → Adds cap x rs rs
+  better : (k : ℕ) → k < length rs → bare x ≡ bare (recordIn rs k) → isHandled (recordIn rs k) ≡ false → x .item .count < recordIn rs k .item .count
       → Adds cap x rs (set rs k (improved (recordIn rs k) x))
   new : New x rs → length rs < cap → Adds cap x rs (rs ++ (x ∷ []))
 
@@ -51,17 +51,17 @@ pub cond-by : {A : Type 0} (P : A → Type 0) (b : Bool) {x y : A} → (b ≡ tr
 cond-by P true f g = f refl
 cond-by P false f g = g refl
 
-pub searched : (x : Record) (rs : List Record) (n : ℕ) → Search x rs n (lastSame x rs n)
+pub searched : (x : Record) (rs : List Record) (n : ℕ) → Search x rs n (lastSame (x .item) rs n)
 unfolding lastSame
 searched x rs zero = missing (λ k l e. omega arith)
 searched x rs (suc n) =
-    cond-by (Search x rs (suc n)) _ (λ e. found {k = n} (omega arith) (same-bare x (recordIn rs n) e)) (λ e. before e (lastSame x rs n) (searched x rs n))
+    cond-by (Search x rs (suc n)) _ (λ e. found {k = n} (omega arith) (same-bare (x .item) (recordIn rs n .item) e)) (λ e. before e (lastSame (x .item) rs n) (searched x rs n))
   where
-    last : (k : ℕ) → k < suc n → sameRecord x (recordIn rs n) ≡ false → bare x ≡ bare (recordIn rs k) → Dec (k < n) → k < n
+    last : (k : ℕ) → k < suc n → sameChartItem (x .item) (recordIn rs n .item) ≡ false → bare x ≡ bare (recordIn rs k) → Dec (k < n) → k < n
     last k l f e (yes h) = h
-    last k l f e (no h) = let q : k ≡ n = omega arith in absurd (apart (bare-same x (recordIn rs n) (subst (λ (i : ℕ). bare x ≡ bare (recordIn rs i)) q e)) f)
+    last k l f e (no h) = let q : k ≡ n = omega arith in absurd (apart (bare-same (x .item) (recordIn rs n .item) (subst (λ (i : ℕ). bare x ≡ bare (recordIn rs i)) q e)) f)
 
-    before : sameRecord x (recordIn rs n) ≡ false → (f : Found) → Search x rs n f → Search x rs (suc n) f
+    before : sameChartItem (x .item) (recordIn rs n .item) ≡ false → (f : Found) → Search x rs n f → Search x rs (suc n) f
     before e (At k) (found l s) = found {k = k} (omega arith) s
     before e Nowhere (missing g) = missing (λ k l s. g k (last k l e s (decLt k n)) s)
 
@@ -81,12 +81,12 @@ or-false false b e = (refl, e)
 placed-adds : (cap : ℕ) (x : Record) (c : Chart) (f : Found) → Search x (c .records) (length (c .records)) f → Added cap x c (placed cap x c f)
 unfolding placed
 placed-adds cap x c (At k) (found l e) =
-    cond-by (Added cap x c) _ (λ h. adds (kept k l e (less (or-true _ _ h)))) (λ h. let t = or-false (isHandled y) (leb (y .count) (x .count)) h in adds (better k l e (t .0) (leb-false _ _ (t .1))))
+    cond-by (Added cap x c) _ (λ h. adds (kept k l e (less (or-true _ _ h)))) (λ h. let t = or-false (isHandled y) (leb (y .item .count) (x .item .count)) h in adds (better k l e (t .0) (leb-false _ _ (t .1))))
   where
     y : Record
     y = recordIn (c .records) k
 
-    less : (isHandled y ≡ true) ⊎ (leb (y .count) (x .count) ≡ true) → (isHandled y ≡ true) ⊎ (y .count ≤ x .count)
+    less : (isHandled y ≡ true) ⊎ (leb (y .item .count) (x .item .count) ≡ true) → (isHandled y ≡ true) ⊎ (y .item .count ≤ x .item .count)
     less (inl h) = inl h
     less (inr h) = inr (leb-true _ _ h)
 placed-adds cap x c Nowhere (missing g) = cond-by (Added cap x c) _ (λ h. adds (new g (ltb-true _ _ h))) (λ h. marks g (ltb-false _ _ h))
@@ -94,7 +94,7 @@ placed-adds cap x c Nowhere (missing g) = cond-by (Added cap x c) _ (λ h. adds 
 added-adds : (cap : ℕ) (x : Record) (c : Chart) → c .mark ≡ 0 → Added cap x c (added cap x c)
 unfolding added
 added-adds cap x c e =
-    subst (λ (b : Bool). Added cap x c (cond b (placed cap x c (lastSame x (c .records) (length (c .records)))) c)) (sym (eq-eqb (c .mark) 0 e))
+    subst (λ (b : Bool). Added cap x c (cond b (placed cap x c (lastSame (x .item) (c .records) (length (c .records)))) c)) (sym (eq-eqb (c .mark) 0 e))
     (placed-adds cap x c _ (searched x (c .records) (length (c .records))))
 
 -- ---- a marked chart stays as it is

@@ -18,7 +18,7 @@ use Rattle.agenda.proofs.Adding.{apart, cond-by, or-true, or-false}
 
 -- Among the first n records the one at j waits with the least count, or none waits.
 pub data Chosen (rs : List Record) (n : ℕ) : Found → Type 0 where
-  waits : {j : ℕ} → j < n → isHandled (recordIn rs j) ≡ false → ((k : ℕ) → k < n → isHandled (recordIn rs k) ≡ false → recordIn rs j .count ≤ recordIn rs k .count)
+  waits : {j : ℕ} → j < n → isHandled (recordIn rs j) ≡ false → ((k : ℕ) → k < n → isHandled (recordIn rs k) ≡ false → recordIn rs j .item .count ≤ recordIn rs k .item .count)
       → Chosen rs n (At j)
   nothing : ((k : ℕ) → k < n → isHandled (recordIn rs k) ≡ true) → Chosen rs n Nowhere
 
@@ -32,7 +32,7 @@ module _ (rs : List Record) (n : ℕ) where
       go (no h) = let e : n ≡ k = omega arith in subst P e p
 
   abbrev NotLess : ℕ → ℕ → Type 0
-  NotLess j k = isHandled (recordIn rs k) ≡ false → recordIn rs j .count ≤ recordIn rs k .count
+  NotLess j k = isHandled (recordIn rs k) ≡ false → recordIn rs j .item .count ≤ recordIn rs k .item .count
 
   next : (f : Found) → Chosen rs n f → Chosen rs (suc n) (lesser rs n f)
   unfolding lesser
@@ -41,10 +41,10 @@ module _ (rs : List Record) (n : ℕ) where
       (λ e. waits {j = n} (omega arith) e (each (NotLess n) (λ k l q. absurd (apart (h k l) q)) (λ q. omega arith)))
   next (At j) (waits l w h) =
       cond-by (Chosen rs (suc n)) _ (λ e. waits {j = j} (omega arith) w (each (NotLess j) h (last (or-true _ _ e))))
-      (λ e. let t = or-false (isHandled (recordIn rs n)) (leb (recordIn rs j .count) (recordIn rs n .count)) e in
-      waits {j = n} (omega arith) (t .0) (each (NotLess n) (λ k m q. omega (arith, h k m q, leb-false (recordIn rs j .count) (recordIn rs n .count) (t .1))) (λ q. omega arith)))
+      (λ e. let t = or-false (isHandled (recordIn rs n)) (leb (recordIn rs j .item .count) (recordIn rs n .item .count)) e in
+      waits {j = n} (omega arith) (t .0) (each (NotLess n) (λ k m q. omega (arith, h k m q, leb-false (recordIn rs j .item .count) (recordIn rs n .item .count) (t .1))) (λ q. omega arith)))
     where
-      last : (isHandled (recordIn rs n) ≡ true) ⊎ (leb (recordIn rs j .count) (recordIn rs n .count) ≡ true) → NotLess j n
+      last : (isHandled (recordIn rs n) ≡ true) ⊎ (leb (recordIn rs j .item .count) (recordIn rs n .item .count) ≡ true) → NotLess j n
       last (inl e) q = absurd (apart e q)
       last (inr e) q = leb-true _ _ e
 

@@ -30,12 +30,12 @@ pub data TerminalRule (G : Grammar) (H : Graph) (g : ℕ) : Item → Item → Ty
 
 -- The record at j makes item i with count n and partners a and b.
 pub data Consequence (G : Grammar) (H : Graph) (rs : List Record) (j : ℕ) : Item → (n a b : ℕ) → Type 0 where
-  from-root : {k s m : ℕ} {L : List ℕ} → UnaryRule G H (itemOf G (recordIn rs j)) k (passive s m L) → Consequence G H rs j (passive s m L) (plus (recordIn rs j .count) k) j 0
-  from-edge : {i : Item} {g : ℕ} → g < length (H .edges) → TerminalRule G H g (itemOf G (recordIn rs j)) i → Consequence G H rs j i (recordIn rs j .count) j g
-  from-first : {i : Item} {k : ℕ} → k < length rs → isHandled (recordIn rs k) ≡ true → BinaryRule G H (itemOf G (recordIn rs j)) (itemOf G (recordIn rs k)) i
-      → Consequence G H rs j i (plus (recordIn rs j .count) (recordIn rs k .count)) j k
-  from-second : {i : Item} {k : ℕ} → k < length rs → isHandled (recordIn rs k) ≡ true → BinaryRule G H (itemOf G (recordIn rs k)) (itemOf G (recordIn rs j)) i
-      → Consequence G H rs j i (plus (recordIn rs k .count) (recordIn rs j .count)) k j
+  from-root : {k s m : ℕ} {L : List ℕ} → UnaryRule G H (itemOf G (recordIn rs j .item)) k (passive s m L) → Consequence G H rs j (passive s m L) (plus (recordIn rs j .item .count) k) j 0
+  from-edge : {i : Item} {g : ℕ} → g < length (H .edges) → TerminalRule G H g (itemOf G (recordIn rs j .item)) i → Consequence G H rs j i (recordIn rs j .item .count) j g
+  from-first : {i : Item} {k : ℕ} → k < length rs → isHandled (recordIn rs k) ≡ true → BinaryRule G H (itemOf G (recordIn rs j .item)) (itemOf G (recordIn rs k .item)) i
+      → Consequence G H rs j i (plus (recordIn rs j .item .count) (recordIn rs k .item .count)) j k
+  from-second : {i : Item} {k : ℕ} → k < length rs → isHandled (recordIn rs k) ≡ true → BinaryRule G H (itemOf G (recordIn rs k .item)) (itemOf G (recordIn rs j .item)) i
+      → Consequence G H rs j i (plus (recordIn rs k .item .count) (recordIn rs j .item .count)) k j
 
 -- Record x is such a one.
 pub record MadeBy (G : Grammar) (H : Graph) (rs : List Record) (j : ℕ) (x : Record) : Type 0 where
@@ -122,23 +122,23 @@ module _ (G : Grammar) (H : Graph) where
 
   -- ---- the rules of two premises
   in-pair : {z : Record} (x y : Record) (j k : ℕ) → In z (pair G H x j y k)
-      → (i : Item) × BinaryRule G H (itemOf G x) (itemOf G y) i × (z ≡ recordOf i (plus (x .count) (y .count)) j k)
+      → (i : Item) × BinaryRule G H (itemOf G (x .item)) (itemOf G (y .item)) i × (z ≡ recordOf i (plus (x .item .count) (y .item .count)) j k)
   unfolding pair
   in-pair x y j k m =
-      let t = of-map (λ (i : Item). recordOf i (plus (x .count) (y .count)) j k) (binaryOf G H (itemOf G x) (itemOf G y)) m in
-      (t .0, in-binary G H (itemOf G x) (itemOf G y) (t .1), sym (t .2))
+      let t = of-map (λ (i : Item). recordOf i (plus (x .item .count) (y .item .count)) j k) (binaryOf G H (itemOf G (x .item)) (itemOf G (y .item))) m in
+      (t .0, in-binary G H (itemOf G (x .item)) (itemOf G (y .item)) (t .1), sym (t .2))
 
-  pair-in : {i : Item} (x y : Record) (j k : ℕ) → BinaryRule G H (itemOf G x) (itemOf G y) i → In (recordOf i (plus (x .count) (y .count)) j k) (pair G H x j y k)
+  pair-in : {i : Item} (x y : Record) (j k : ℕ) → BinaryRule G H (itemOf G (x .item)) (itemOf G (y .item)) i → In (recordOf i (plus (x .item .count) (y .item .count)) j k) (pair G H x j y k)
   unfolding pair
-  pair-in x y j k b = in-map (λ (i : Item). recordOf i (plus (x .count) (y .count)) j k) (binary-in G H b)
+  pair-in x y j k b = in-map (λ (i : Item). recordOf i (plus (x .item .count) (y .item .count)) j k) (binary-in G H b)
 
   -- ---- all that a record makes
   module _ (rs : List Record) (j : ℕ) where
     abbrev roots : List Record
-    roots = atRoot G (itemOf G (recordIn rs j)) (recordIn rs j .count) j
+    roots = atRoot G (itemOf G (recordIn rs j .item)) (recordIn rs j .item .count) j
 
     abbrev withEdges : List Record
-    withEdges = gather (length (H .edges)) (λ e. withTerminal G H (itemOf G (recordIn rs j)) (recordIn rs j .count) j e)
+    withEdges = gather (length (H .edges)) (λ e. withTerminal G H (itemOf G (recordIn rs j .item)) (recordIn rs j .item .count) j e)
 
     partner-in : {x : Record} (k : ℕ) → k < length rs → isHandled (recordIn rs k) ≡ true
         → In x (pair G H (recordIn rs j) j (recordIn rs k) k ++ pair G H (recordIn rs k) k (recordIn rs j) j) → In x (consequences G H rs j)
@@ -148,7 +148,7 @@ module _ (G : Grammar) (H : Graph) where
     pub consequence-in : {i : Item} {n a b : ℕ} → Consequence G H rs j i n a b → In (recordOf i n a b) (consequences G H rs j)
     unfolding consequences
     consequence-in (from-root u) = in-left _ (in-left withEdges (root-in _ j u))
-    consequence-in (from-edge {g = g} l t) = in-left _ (in-right roots (in-gather (length (H .edges)) (λ e. withTerminal G H (itemOf G (recordIn rs j)) (recordIn rs j .count) j e) g l (terminal-in _ j t)))
+    consequence-in (from-edge {g = g} l t) = in-left _ (in-right roots (in-gather (length (H .edges)) (λ e. withTerminal G H (itemOf G (recordIn rs j .item)) (recordIn rs j .item .count) j e) g l (terminal-in _ j t)))
     consequence-in (from-first {k = k} l h b) = partner-in k l h (in-left (pair G H (recordIn rs k) k (recordIn rs j) j) (pair-in (recordIn rs j) (recordIn rs k) j k b))
     consequence-in (from-second {k = k} l h b) = partner-in k l h (in-right (pair G H (recordIn rs j) j (recordIn rs k) k) (pair-in (recordIn rs k) (recordIn rs j) k j b))
 
@@ -160,22 +160,22 @@ module _ (G : Grammar) (H : Graph) where
         rest = gather (length rs) (λ k. withPartner G H rs j k)
 
         by-root : In x roots → MadeBy G H rs j x
-        by-root m = let t = in-root (recordIn rs j .count) j (itemOf G (recordIn rs j)) m in
-            record { item = passive (t .1) (t .2) (t .3); count = plus (recordIn rs j .count) (t .0); first = j; second = 0; by = from-root (t .4); is = t .5 }
+        by-root m = let t = in-root (recordIn rs j .item .count) j (itemOf G (recordIn rs j .item)) m in
+            record { item = passive (t .1) (t .2) (t .3); count = plus (recordIn rs j .item .count) (t .0); first = j; second = 0; by = from-root (t .4); is = t .5 }
 
         by-edge : In x withEdges → MadeBy G H rs j x
         by-edge m =
-            let t = of-gather (length (H .edges)) (λ e. withTerminal G H (itemOf G (recordIn rs j)) (recordIn rs j .count) j e) m in
-            let u = in-terminal (recordIn rs j .count) j (t .0) (itemOf G (recordIn rs j)) (t .1) (t .2) in
-            record { item = u .0; count = recordIn rs j .count; first = j; second = t .0; by = from-edge (t .1) (u .1); is = u .2 }
+            let t = of-gather (length (H .edges)) (λ e. withTerminal G H (itemOf G (recordIn rs j .item)) (recordIn rs j .item .count) j e) m in
+            let u = in-terminal (recordIn rs j .item .count) j (t .0) (itemOf G (recordIn rs j .item)) (t .1) (t .2) in
+            record { item = u .0; count = recordIn rs j .item .count; first = j; second = t .0; by = from-edge (t .1) (u .1); is = u .2 }
 
         by-pair : (k : ℕ) → k < length rs → isHandled (recordIn rs k) ≡ true → In x (pair G H (recordIn rs j) j (recordIn rs k) k) ⊎ In x (pair G H (recordIn rs k) k (recordIn rs j) j) → MadeBy G H rs j x
         by-pair k l h (inl m) =
             let t = in-pair (recordIn rs j) (recordIn rs k) j k m in
-            record { item = t .0; count = plus (recordIn rs j .count) (recordIn rs k .count); first = j; second = k; by = from-first l h (t .1); is = t .2 }
+            record { item = t .0; count = plus (recordIn rs j .item .count) (recordIn rs k .item .count); first = j; second = k; by = from-first l h (t .1); is = t .2 }
         by-pair k l h (inr m) =
             let t = in-pair (recordIn rs k) (recordIn rs j) k j m in
-            record { item = t .0; count = plus (recordIn rs k .count) (recordIn rs j .count); first = k; second = j; by = from-second l h (t .1); is = t .2 }
+            record { item = t .0; count = plus (recordIn rs k .item .count) (recordIn rs j .item .count); first = k; second = j; by = from-second l h (t .1); is = t .2 }
 
         of-test : (b : Bool) → T b → b ≡ true
         of-test true t = refl

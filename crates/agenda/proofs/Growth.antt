@@ -13,7 +13,8 @@ use borrow.Author.Tests.{eqb-true, eqb-false, not-false, eq-eqb}
 use Rattle.hrg.specs.Counts.{flag}
 use Rattle.agenda.specs.Records.{isHandled}
 use Rattle.agenda.specs.Consequences.{noRecord, recordIn}
-use Rattle.agenda.specs.Steps.{Chart, improved, handledCount, addedAll}
+use Rattle.agenda.specs.Steps.{Chart, withCount, improved, handledCount, addedAll}
+use Rattle.agenda.specs.declared.ChartItem.{ChartItem}
 use Rattle.agenda.specs.declared.Record.{Record}
 use Rattle.agenda.proofs.Records.{bare}
 use Rattle.agenda.proofs.Adding.{Adds, kept, better, new, AddsAll, done, next, Ends, held, full, apart, all-ends, marked-all}
@@ -57,20 +58,16 @@ fresh-test x e = rw (eq-eqb (x .handled) 0 e) refl
 -- an unhandled record improved by a new one of its item is that one
 improved-is : (y x : Record) → bare x ≡ bare y → isHandled y ≡ false → Fresh x → improved y x ≡ x
 improved-is y x e h f =
-    let kind : x .kind ≡ y .kind = ap (λ (z : Record). z .kind) e in
-    let rule : x .of ≡ y .of = ap (λ (z : Record). z .of) e in
-    let plan : x .plan ≡ y .plan = ap (λ (z : Record). z .plan) e in
-    let edges : x .edges ≡ y .edges = ap (λ (z : Record). z .edges) e in
-    let nodes : x .nodes ≡ y .nodes = ap (λ (z : Record). z .nodes) e in
+    let item : x .item ≡ withCount (y .item) (x .item .count) = ap (λ (z : ChartItem). withCount z (x .item .count)) e in
     let mark : x .handled ≡ y .handled = f ∙ sym (unhandled y h) in
-    rw (← kind, ← rule, ← plan, ← edges, ← nodes, ← mark)
+    rw (← item, ← mark)
 
 -- ---- records that stay
 pub record Grew (rs ts : List Record) : Type 0 where
   pub longer : length rs ≤ length ts
   pub item : (k : ℕ) → k < length rs → bare (recordIn ts k) ≡ bare (recordIn rs k)
   pub mark : (k : ℕ) → k < length rs → isHandled (recordIn ts k) ≡ isHandled (recordIn rs k)
-  pub count : (k : ℕ) → k < length rs → recordIn ts k .count ≤ recordIn rs k .count
+  pub count : (k : ℕ) → k < length rs → recordIn ts k .item .count ≤ recordIn rs k .item .count
   pub stays : (k : ℕ) → k < length rs → isHandled (recordIn rs k) ≡ true → recordIn ts k ≡ recordIn rs k
 
 pub grew-refl : (rs : List Record) → Grew rs rs
@@ -111,9 +108,9 @@ adds-grew {x = x} {rs = rs} (better k l e h c) =
     mark i (changed q p) = ap isHandled p ∙ ap (λ (z : ℕ). isHandled (recordIn rs z)) (sym q)
     mark i (other n p) = ap isHandled p
 
-    count : (i : ℕ) → SetAt rs k y i → recordIn (set rs k y) i .count ≤ recordIn rs i .count
-    count i (changed q p) = omega (arith, ap (λ (z : Record). z .count) p, ap (λ (z : ℕ). recordIn rs z .count) q, c)
-    count i (other n p) = omega (arith, ap (λ (z : Record). z .count) p)
+    count : (i : ℕ) → SetAt rs k y i → recordIn (set rs k y) i .item .count ≤ recordIn rs i .item .count
+    count i (changed q p) = omega (arith, ap (λ (z : Record). z .item .count) p, ap (λ (z : ℕ). recordIn rs z .item .count) q, c)
+    count i (other n p) = omega (arith, ap (λ (z : Record). z .item .count) p)
 
     stays : (i : ℕ) → SetAt rs k y i → isHandled (recordIn rs i) ≡ true → recordIn (set rs k y) i ≡ recordIn rs i
     stays i (changed q p) t = absurd (apart (subst (λ (z : ℕ). isHandled (recordIn rs z) ≡ true) q t) h)
@@ -123,7 +120,7 @@ adds-grew {x = x} {rs = rs} (new n l) =
       longer = omega (arith, snoc-length rs x);
       item = λ i m. ap bare (same i m);
       mark = λ i m. ap isHandled (same i m);
-      count = λ i m. omega (arith, ap (λ (z : Record). z .count) (same i m));
+      count = λ i m. omega (arith, ap (λ (z : Record). z .item .count) (same i m));
       stays = λ i m h. same i m;
     }
   where
@@ -218,12 +215,12 @@ pub record FoundIn (ts : List Record) (x : Record) : Type 0 where
   pub at : ℕ
   pub known : at < length ts
   pub same : bare x ≡ bare (recordIn ts at)
-  pub less : (isHandled (recordIn ts at) ≡ true) ⊎ (recordIn ts at .count ≤ x .count)
+  pub less : (isHandled (recordIn ts at) ≡ true) ⊎ (recordIn ts at .item .count ≤ x .item .count)
 
 pub found-grew : {rs ts : List Record} {x : Record} → Grew rs ts → FoundIn rs x → FoundIn ts x
 found-grew {rs} {ts} {x} g f = record { at = f .at; known = omega (arith, f .known, g .longer); same = f .same ∙ sym (g .item (f .at) (f .known)); less = go (f .less) }
   where
-    go : (isHandled (recordIn rs (f .at)) ≡ true) ⊎ (recordIn rs (f .at) .count ≤ x .count) → (isHandled (recordIn ts (f .at)) ≡ true) ⊎ (recordIn ts (f .at) .count ≤ x .count)
+    go : (isHandled (recordIn rs (f .at)) ≡ true) ⊎ (recordIn rs (f .at) .item .count ≤ x .item .count) → (isHandled (recordIn ts (f .at)) ≡ true) ⊎ (recordIn ts (f .at) .item .count ≤ x .item .count)
     go (inl h) = inl (g .mark (f .at) (f .known) ∙ h)
     go (inr l) = inr (omega (arith, g .count (f .at) (f .known)))
 
@@ -232,10 +229,10 @@ adds-found (kept k l e c) = record { at = k; known = l; same = e; less = c }
 adds-found {x = x} {rs = rs} (better k l e h c) =
     let y = improved (recordIn rs k) x in
     let p = getD-set-same rs k y noRecord l in
-    record { at = k; known = omega (arith, length-set rs k y); same = e ∙ sym (ap bare p); less = inr (omega (arith, ap (λ (z : Record). z .count) p)) }
+    record { at = k; known = omega (arith, length-set rs k y); same = e ∙ sym (ap bare p); less = inr (omega (arith, ap (λ (z : Record). z .item .count) p)) }
 adds-found {x = x} {rs = rs} (new w l) =
     let p = getD-append-seam rs x [] noRecord in
-    record { at = length rs; known = omega (arith, snoc-length rs x); same = sym (ap bare p); less = inr (omega (arith, ap (λ (z : Record). z .count) p)) }
+    record { at = length rs; known = omega (arith, snoc-length rs x); same = sym (ap bare p); less = inr (omega (arith, ap (λ (z : Record). z .item .count) p)) }
 
 pub all-found : {cap : ℕ} {xs rs ts : List Record} → AddsAll cap xs rs ts → (x : Record) → In x xs → FoundIn ts x
 all-found done x m = absurd (in-nil m)

@@ -70,7 +70,7 @@ module _ (G : Grammar) (H : Graph) (ok : GrammarOk G) where
       }
 
   module _ {rs : List Record} {hs : List (Entry Item)} (shown : Shown G H rs true hs) (reached : (e : Entry Item) → In e hs → Reachable (closure G H) (e .item) (e .count))
-      (small : (k : ℕ) → k < length rs → isHandled (recordIn rs k) ≡ true → recordIn rs k .count ≤ 4097) where
+      (small : (k : ℕ) → k < length rs → isHandled (recordIn rs k) ≡ true → recordIn rs k .item .count ≤ 4097) where
     handled-at : {a b : ℕ} → a ≡ b → b < length rs → isHandled (recordIn rs b) ≡ true → HandledAt rs a (recordIn rs b)
     handled-at {a} {b} e l h = record { known = subst (λ (k : ℕ). k < length rs) (sym e) l; is = ap (λ (k : ℕ). recordIn rs k) e; handled = h }
 
@@ -79,13 +79,13 @@ module _ (G : Grammar) (H : Graph) (ok : GrammarOk G) where
     is-of x i n a b k e r = subst (λ (z : Record). Is G z i n a b) (sym e) (is-record G i n a b (reached-fits G H ok r))
 
     pair-making : {i : Item} (x : Record) (a b : ℕ) → a < length rs → isHandled (recordIn rs a) ≡ true → b < length rs → isHandled (recordIn rs b) ≡ true
-        → BinaryRule G H (itemOf G (recordIn rs a)) (itemOf G (recordIn rs b)) i → x ≡ recordOf i (plus (recordIn rs a .count) (recordIn rs b .count)) a b → Making G H rs hs x
+        → BinaryRule G H (itemOf G (recordIn rs a .item)) (itemOf G (recordIn rs b .item)) i → x ≡ recordOf i (plus (recordIn rs a .item .count) (recordIn rs b .item .count)) a b → Making G H rs hs x
     pair-making {i} x a b l h m k r e =
         let o = shown .entry a l h in
         let p = shown .entry b m k in
         let s : BinaryRule G H (o .0 .item) (p .0 .item) i = subst₂ (λ (u v : Item). BinaryRule G H u v i) (o .2 .item) (p .2 .item) r in
         let is = is-of x i _ a b _ e (by-binary (reached (o .0) (o .1)) (reached (p .0) (p .1)) s) in
-        let sum = plus-exact (recordIn rs a .count) (recordIn rs b .count) (omega (arith, small a l h, small b m k)) in
+        let sum = plus-exact (recordIn rs a .item .count) (recordIn rs b .item .count) (omega (arith, small a l h, small b m k)) in
         record {
           entry = record { item = i; count = o .0 .count + p .0 .count; how = from₂ i (o .0 .how) (p .0 .how) };
           made = binary-made (o .1) (p .1) s;
@@ -107,7 +107,7 @@ module _ (G : Grammar) (H : Graph) (ok : GrammarOk G) where
           let o = shown .entry j l h in
           let v : UnaryRule G H (o .0 .item) k (passive s m L) = subst (λ (z : Item). UnaryRule G H z k (passive s m L)) (o .2 .item) u in
           let is = is-of x (passive s m L) _ j 0 _ e (by-unary (reached (o .0) (o .1)) v) in
-          let sum = plus-exact (recordIn rs j .count) k (omega (arith, small j l h, unary-small u)) in
+          let sum = plus-exact (recordIn rs j .item .count) k (omega (arith, small j l h, unary-small u)) in
           record {
             entry = record { item = passive s m L; count = o .0 .count + k; how = from (passive s m L) (o .0 .how) };
             made = unary-made (o .1) v;
@@ -149,10 +149,10 @@ module _ (G : Grammar) (H : Graph) (ok : GrammarOk G) where
       -- ---- and what one rule makes of handled entries without the last one, or the record at j makes it
       unary-at : (a : Entry Item) {k : ℕ} {i : Item} → EntryOf G H rs (recordIn rs j) a → Split G H (a .item) k i → MadeAt G H rs j (record { item = i; count = a .count + k; how = from i (a .how) })
       unary-at a {i = i} o (by-edge {g = g} b t) =
-          record { count = recordIn rs j .count; first = j; second = g; by = from-edge b (subst (λ (z : Item). TerminalRule G H g z i) (sym (o .item)) t); exact = omega (arith, o .count) }
+          record { count = recordIn rs j .item .count; first = j; second = g; by = from-edge b (subst (λ (z : Item). TerminalRule G H g z i) (sym (o .item)) t); exact = omega (arith, o .count) }
       unary-at a o (by-root {k = k} {s = s} {m = m} {L = L} u) =
-          let sum = plus-exact (recordIn rs j .count) k (omega (arith, small j l h, unary-small u)) in
-          record { count = plus (recordIn rs j .count) k; first = j; second = 0; by = from-root (subst (λ (z : Item). UnaryRule G H z k (passive s m L)) (sym (o .item)) u); exact = omega (arith, o .count) }
+          let sum = plus-exact (recordIn rs j .item .count) k (omega (arith, small j l h, unary-small u)) in
+          record { count = plus (recordIn rs j .item .count) k; first = j; second = 0; by = from-root (subst (λ (z : Item). UnaryRule G H z k (passive s m L)) (sym (o .item)) u); exact = omega (arith, o .count) }
 
       pub made-at : (x : Entry Item) (ks : List (Entry Item)) {e : Entry Item} → EntryOf G H rs (recordIn rs j) x → ((a : Entry Item) → In a hs → (a ≡ x) ⊎ In a ks)
           → Made (closure G H) hs e → MadeAt G H rs j e ⊎ Made (closure G H) ks e
@@ -174,9 +174,9 @@ module _ (G : Grammar) (H : Graph) (ok : GrammarOk G) where
               → MadeAt G H rs j (record { item = i; count = a .count + b .count; how = from₂ i (a .how) (b .how) }) ⊎ Made (closure G H) ks (record { item = i; count = a .count + b .count; how = from₂ i (a .how) (b .how) })
           go (inl q) c =
               let oa : EntryOf G H rs (recordIn rs j) a = subst (λ (z : Entry Item). EntryOf G H rs (recordIn rs j) z) (sym q) o in
-              let sum = plus-exact (recordIn rs j .count) (recordIn rs (pb .0) .count) (omega (arith, small j l h, small (pb .0) (pb .1) (pb .2))) in
+              let sum = plus-exact (recordIn rs j .item .count) (recordIn rs (pb .0) .item .count) (omega (arith, small j l h, small (pb .0) (pb .1) (pb .2))) in
               inl (record {
-                count = plus (recordIn rs j .count) (recordIn rs (pb .0) .count);
+                count = plus (recordIn rs j .item .count) (recordIn rs (pb .0) .item .count);
                 first = j;
                 second = pb .0;
                 by = from-first (pb .1) (pb .2) (subst₂ (λ (u v : Item). BinaryRule G H u v i) (sym (oa .item)) (sym (pb .3 .item)) r);
@@ -184,9 +184,9 @@ module _ (G : Grammar) (H : Graph) (ok : GrammarOk G) where
               })
           go (inr c) (inl q) =
               let ob : EntryOf G H rs (recordIn rs j) b = subst (λ (z : Entry Item). EntryOf G H rs (recordIn rs j) z) (sym q) o in
-              let sum = plus-exact (recordIn rs (pa .0) .count) (recordIn rs j .count) (omega (arith, small j l h, small (pa .0) (pa .1) (pa .2))) in
+              let sum = plus-exact (recordIn rs (pa .0) .item .count) (recordIn rs j .item .count) (omega (arith, small j l h, small (pa .0) (pa .1) (pa .2))) in
               inl (record {
-                count = plus (recordIn rs (pa .0) .count) (recordIn rs j .count);
+                count = plus (recordIn rs (pa .0) .item .count) (recordIn rs j .item .count);
                 first = pa .0;
                 second = j;
                 by = from-second (pa .1) (pa .2) (subst₂ (λ (u v : Item). BinaryRule G H u v i) (sym (pa .3 .item)) (sym (ob .item)) r);

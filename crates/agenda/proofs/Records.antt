@@ -15,7 +15,9 @@ use Rattle.hrg.specs.Deduction.{Reachable, by-axiom, by-unary, by-binary}
 use Rattle.hrg.specs.Items.{Item, active, passive, restrict, Joins, LeafRule, leaf-rule, UnaryRule, terminal-rule, root-rule, BinaryRule, nonterminal-rule, join-rule, closure}
 use Rattle.hrg.specs.WellFormed.{GrammarOk}
 use Rattle.hrg.proofs.ClosureRun.{of-and, list-eq, list-same}
-use Rattle.agenda.specs.Records.{recordOf, itemOf, sameRecord}
+use Rattle.agenda.specs.Records.{chartItem, recordOf, itemOf, sameChartItem}
+use Rattle.agenda.specs.Steps.{withCount}
+use Rattle.agenda.specs.declared.ChartItem.{ChartItem}
 use Rattle.agenda.specs.declared.Record.{Record}
 
 -- ---- lengths
@@ -65,61 +67,60 @@ padded-take (suc n) (x ∷ xs) f h e =
     let tail = padded-take n xs (λ k. f (suc k)) (omega arith) (λ k. e (suc k)) in
     cc
 
--- a record by its kind
-pub item-active : (G : Grammar) (x : Record) → x .kind ≡ 0 → itemOf G x ≡ active (x .of) (x .plan) (x .edges) (take (rightOf G (x .of) .nodes) (x .nodes))
+-- an item by its kind
+pub item-active : (G : Grammar) (x : ChartItem) → x .kind ≡ 0 → itemOf G x ≡ active (x .of) (x .plan) (x .edges) (take (rightOf G (x .of) .nodes) (x .nodes))
 unfolding itemOf
 item-active G x e = rw (eq-eqb (x .kind) 0 e) refl
 
-pub item-passive : (G : Grammar) (x : Record) → (x .kind ≡ 0 → ⊥) → itemOf G x ≡ passive (x .of) (x .edges) (take (rankOf G (x .of)) (x .nodes))
+pub item-passive : (G : Grammar) (x : ChartItem) → (x .kind ≡ 0 → ⊥) → itemOf G x ≡ passive (x .of) (x .edges) (take (rankOf G (x .of)) (x .nodes))
 unfolding itemOf
 item-passive G x h = rw (ne-eqb (x .kind) 0 h) refl
 
-pub item-of : (G : Grammar) (i : Item) (n a b : ℕ) → Fitting G i → itemOf G (recordOf i n a b) ≡ i
+pub item-of : (G : Grammar) (i : Item) (n : ℕ) → Fitting G i → itemOf G (chartItem i n) ≡ i
 unfolding itemOf padded
-item-of G (active r p m f) n a b w = rw (sym (w .1)) (ap (active r p m) (padded-take 8 f _ (omega (arith, w .1, w .2)) (λ k. refl)))
-item-of G (passive s m L) n a b w = rw (sym (w .0)) (ap (passive s m) (padded-take 8 L _ (omega (arith, w .0, w .1)) (λ k. refl)))
+item-of G (active r p m f) n w = rw (sym (w .1)) (ap (active r p m) (padded-take 8 f _ (omega (arith, w .1, w .2)) (λ k. refl)))
+item-of G (passive s m L) n w = rw (sym (w .0)) (ap (passive s m) (padded-take 8 L _ (omega (arith, w .0, w .1)) (λ k. refl)))
 
 -- ---- what tells records apart
--- a record without count, mark and partners
-abbrev pub bare : Record → Record
-bare x = record { kind = x .kind; of = x .of; plan = x .plan; edges = x .edges; count = 0; handled = 0; nodes = x .nodes; first = 0; second = 0 }
+-- a record's item without its count
+abbrev pub bare : Record → ChartItem
+bare x = withCount (x .item) 0
 
 -- A record is the one of its item.
 abbrev pub Formed : Grammar → Record → Type 0
-Formed G x = bare x ≡ recordOf (itemOf G x) 0 0 0
+Formed G x = bare x ≡ chartItem (itemOf G (x .item)) 0
 
-pub bare-record : (i : Item) (n a b : ℕ) → bare (recordOf i n a b) ≡ recordOf i 0 0 0
-bare-record (active r p m f) n a b = refl
-bare-record (passive s m L) n a b = refl
+pub bare-item-of : (i : Item) (n : ℕ) → withCount (chartItem i n) 0 ≡ chartItem i 0
+bare-item-of (active r p m f) n = refl
+bare-item-of (passive s m L) n = refl
 
-pub record-count : (i : Item) (n a b : ℕ) → recordOf i n a b .count ≡ n
-record-count (active r p m f) n a b = refl
-record-count (passive s m L) n a b = refl
+pub item-count : (i : Item) (n : ℕ) → chartItem i n .count ≡ n
+item-count (active r p m f) n = refl
+item-count (passive s m L) n = refl
 
-pub record-eight : (i : Item) (n a b : ℕ) → length (recordOf i n a b .nodes) ≡ 8
+pub item-eight : (i : Item) (n : ℕ) → length (chartItem i n .nodes) ≡ 8
 unfolding padded
-record-eight (active r p m f) n a b = length-tabulate 8 (λ k. at f k)
-record-eight (passive s m L) n a b = length-tabulate 8 (λ k. at L k)
-
-pub record-fresh : (i : Item) (n a b : ℕ) → recordOf i n a b .handled ≡ 0
-record-fresh (active r p m f) n a b = refl
-record-fresh (passive s m L) n a b = refl
+item-eight (active r p m f) n = length-tabulate 8 (λ k. at f k)
+item-eight (passive s m L) n = length-tabulate 8 (λ k. at L k)
 
 pub record-formed : (G : Grammar) (i : Item) (n a b : ℕ) → Fitting G i → Formed G (recordOf i n a b)
-record-formed G i n a b w = bare-record i n a b ∙ sym (ap (λ (j : Item). recordOf j 0 0 0) (item-of G i n a b w))
+record-formed G i n a b w = bare-item-of i n ∙ sym (ap (λ (j : Item). chartItem j 0) (item-of G i n w))
 
-pub bare-item : (G : Grammar) (x y : Record) → bare x ≡ bare y → itemOf G x ≡ itemOf G y
+bare-item-is : (G : Grammar) (x : Record) → itemOf G (bare x) ≡ itemOf G (x .item)
 unfolding itemOf
-bare-item G x y e = ap (λ (z : Record). itemOf G z) e
+bare-item-is G x = refl
 
-pub item-bare : (G : Grammar) (x y : Record) → Formed G x → Formed G y → itemOf G x ≡ itemOf G y → bare x ≡ bare y
-item-bare G x y f g e = f ∙ ap (λ (i : Item). recordOf i 0 0 0) e ∙ sym g
+pub bare-item : (G : Grammar) (x y : Record) → bare x ≡ bare y → itemOf G (x .item) ≡ itemOf G (y .item)
+bare-item G x y e = sym (bare-item-is G x) ∙ ap (λ (z : ChartItem). itemOf G z) e ∙ bare-item-is G y
+
+pub item-bare : (G : Grammar) (x y : Record) → Formed G x → Formed G y → itemOf G (x .item) ≡ itemOf G (y .item) → bare x ≡ bare y
+item-bare G x y f g e = f ∙ ap (λ (i : Item). chartItem i 0) e ∙ sym g
 
 pub to-test : {b : Bool} → b ≡ true → T b
 to-test e = rw e tt
 
-pub same-bare : (x y : Record) → sameRecord x y ≡ true → bare x ≡ bare y
-unfolding sameRecord
+pub same-bare : (x y : ChartItem) → sameChartItem x y ≡ true → withCount x 0 ≡ withCount y 0
+unfolding sameChartItem
 same-bare x y h =
     let t = of-and (eqb (x .edges) (y .edges) && eqb (x .kind) (y .kind) && eqb (x .of) (y .of) && eqb (x .plan) (y .plan)) _ (to-test h) in
     let u = of-and (eqb (x .edges) (y .edges) && eqb (x .kind) (y .kind) && eqb (x .of) (y .of)) _ (t .0) in
@@ -135,24 +136,19 @@ same-bare x y h =
 pub eqb-same : (n : ℕ) → eqb n n ≡ true
 eqb-same n = eq-eqb n n refl
 
-same-itself : (x : Record) → sameRecord x x ≡ true
-unfolding sameRecord
+same-itself : (x : ChartItem) → sameChartItem x x ≡ true
+unfolding sameChartItem
 same-itself x = simp (eqb-same, list-same)
 
-pub bare-same : (x y : Record) → bare x ≡ bare y → sameRecord x y ≡ true
-unfolding sameRecord
-bare-same x y e = subst (λ (z : Record). sameRecord (bare x) z ≡ true) e (same-itself x)
+pub bare-same : (x y : ChartItem) → withCount x 0 ≡ withCount y 0 → sameChartItem x y ≡ true
+unfolding sameChartItem
+bare-same x y e = subst (λ (z : ChartItem). sameChartItem (withCount x 0) z ≡ true) e (same-itself x)
 
--- two such records are found the same exactly where their items are equal
-pub same-item : (G : Grammar) (x y : Record) → sameRecord x y ≡ true → itemOf G x ≡ itemOf G y
-same-item G x y e = bare-item G x y (same-bare x y e)
-
-pub item-same : (G : Grammar) (x y : Record) → Formed G x → Formed G y → itemOf G x ≡ itemOf G y → sameRecord x y ≡ true
-item-same G x y f g e = bare-same x y (item-bare G x y f g e)
-
--- so of records made for items of the closure
-pub same-record : (G : Grammar) (i j : Item) (n a b k c d : ℕ) → Fitting G i → Fitting G j → (sameRecord (recordOf i n a b) (recordOf j k c d) ≡ true) ↔ (i ≡ j)
-same-record G i j n a b k c d v w = (
-  λ e. sym (item-of G i n a b v) ∙ same-item G (recordOf i n a b) (recordOf j k c d) e ∙ item-of G j k c d w,
-  λ e. item-same G (recordOf i n a b) (recordOf j k c d) (record-formed G i n a b v) (record-formed G j k c d w) (item-of G i n a b v ∙ e ∙ sym (item-of G j k c d w)),
+-- two that were made for items of the closure are found the same exactly where these are equal
+pub same-item : (G : Grammar) (i j : Item) (n k : ℕ) → Fitting G i → Fitting G j → (sameChartItem (chartItem i n) (chartItem j k) ≡ true) ↔ (i ≡ j)
+unfolding itemOf
+same-item G i j n k v w = (
+  λ e.
+      sym (item-of G i n v) ∙ ap (λ (z : ChartItem). itemOf G z) (same-bare (chartItem i n) (chartItem j k) e) ∙ item-of G j k w,
+  λ e. bare-same (chartItem i n) (chartItem j k) (bare-item-of i n ∙ ap (λ (z : Item). chartItem z 0) e ∙ sym (bare-item-of j k)),
 )

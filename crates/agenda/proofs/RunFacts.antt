@@ -64,9 +64,9 @@ some-leaf G ok =
 pub record Spelt (G : Grammar) (H : Graph) (rs : List Record) (k : ℕ) : Type 0 where
   pub how : Derivation Item
   pub spells : Spells G H rs (recordIn rs k) how
-  pub concludes : conclusion how ≡ itemOf G (recordIn rs k)
+  pub concludes : conclusion how ≡ itemOf G (recordIn rs k .item)
   pub once : Distinct (passivesOf how)
-  pub count : length (passivesOf how) ≡ recordIn rs k .count
+  pub count : length (passivesOf how) ≡ recordIn rs k .item .count
 
 module _ (G : Grammar) (H : Graph) (ok : GrammarOk G) (hok : GraphOk G H) where
   module _ {cap n : ℕ} {rs : List Record} (r : Reached G H cap n rs) where
@@ -166,7 +166,7 @@ module _ (G : Grammar) (H : Graph) (ok : GrammarOk G) (hok : GraphOk G H) where
         go true h = let o = r .shows .handled .entry k l h in entry-spelt k (o .0) (in-left (r .state .waiting) (o .1)) (o .2)
         go false h = let o = r .shows .waiting .entry k l h in entry-spelt k (o .0) (in-right hs (o .1)) (o .2)
 
-    reached-count : (k : ℕ) → k < length rs → isHandled (recordIn rs k) ≡ true → recordIn rs k .count ≤ handledCount rs
+    reached-count : (k : ℕ) → k < length rs → isHandled (recordIn rs k) ≡ true → recordIn rs k .item .count ≤ handledCount rs
     reached-count k l h =
         let o = r .shows .handled .entry k l h in
         omega (arith, bounded G H ok (r .starts) (r .run) .count .handled (o .0) (o .1), within-le (edgesOfItem (o .0 .item)) hs, o .2 .count, r .shows .steps)
@@ -245,7 +245,7 @@ module _ (G : Grammar) (H : Graph) (ok : GrammarOk G) (hok : GraphOk G H) where
     records-spell m k l = reached-spell (runs-reached m) k l
 
     -- a handled record's count, the passive items of what it spells, is at most the steps done
-    pub count-most : c .mark ≡ 0 → (k : ℕ) → k < length (c .records) → isHandled (recordIn (c .records) k) ≡ true → recordIn (c .records) k .count ≤ handledCount (c .records)
+    pub count-most : c .mark ≡ 0 → (k : ℕ) → k < length (c .records) → isHandled (recordIn (c .records) k) ≡ true → recordIn (c .records) k .item .count ≤ handledCount (c .records)
     count-most m k l h = reached-count (runs-reached m) k l h
 
   -- on a fresh chart something waits: a leaf item

@@ -23,7 +23,6 @@ use Rattle.agenda.specs.Steps.{Chart, leastWaiting, handledNow, handledA
 use Rattle.agenda.specs.declared.Record.{Record}
 use Rattle.agenda.specs.declared.Found.{Found}
 use Rattle.agenda.specs.declared.Found.the-variants.{At, Nowhere}
-use Rattle.agenda.proofs.Records.{record-fresh}
 use Rattle.agenda.proofs.Consequences.{in-consequence, in-leaf-record}
 use Rattle.agenda.proofs.Adding.{apart, cond-by, AddsAll, done, Ends, held, full, all-ends, marked-all}
 use Rattle.agenda.proofs.Growth.{SetAt, changed, other, set-at, Fresh, all-grew, all-held, all-count, count-set, count-le}
@@ -118,7 +117,7 @@ module _ (G : Grammar) (H : Graph) (cap : ℕ) where
       rs = handledIn (c .records) j
 
       fresh : (x : Record) → In x (consequences G H rs j) → Fresh x
-      fresh x m = let t = in-consequence G H rs j x m in subst (λ (y : Record). Fresh y) (sym (t .is)) (record-fresh (t .item) (t .count) (t .first) (t .second))
+      fresh x m = let t = in-consequence G H rs j x m in subst (λ (y : Record). Fresh y) (sym (t .is)) refl
 
       ended : {d : Chart} → Ends cap (consequences G H rs j) rs d → Moved c d
       ended (held m a) = moved j (consequences G H rs j) fresh l w a
@@ -209,7 +208,7 @@ module _ (G : Grammar) (H : Graph) (cap : ℕ) where
   start-none = go (start-ends G cap)
     where
       fresh : (x : Record) → In x (leafRecords G) → Fresh x
-      fresh x m = let t = in-leaf-record G H x m in subst (λ (y : Record). Fresh y) (sym (t .2)) (record-fresh (t .0) 0 0 0)
+      fresh x m = let t = in-leaf-record G H x m in subst (λ (y : Record). Fresh y) (sym (t .2)) refl
 
       go : {d : Chart} → Ends cap (leafRecords G) [] d → handledCount (d .records) ≡ 0
       go (held m a) = all-count a fresh
@@ -280,7 +279,7 @@ module _ (G : Grammar) (H : Graph) (ok : GrammarOk G) {cap : ℕ} (most : cap �
       too-small : d .mark ≢ 0 → ((is : List Item) → Closure (closure G H) is → cap < length is) → Stepped d
 
     handled-stepped : (m j : ℕ) → m ≡ 0 → j < length rs → isHandled (recordIn rs j) ≡ false
-        → ((k : ℕ) → k < length rs → isHandled (recordIn rs k) ≡ false → recordIn rs j .count ≤ recordIn rs k .count) → Stepped (handledAt G H cap j (record { mark = m; records = rs }))
+        → ((k : ℕ) → k < length rs → isHandled (recordIn rs k) ≡ false → recordIn rs j .item .count ≤ recordIn rs k .item .count) → Stepped (handledAt G H cap j (record { mark = m; records = rs }))
     handled-stepped m j e l w h = go (handled-ends G H cap j (record { mark = m; records = rs }) e)
       where
         ss : List Record

@@ -20,11 +20,11 @@ use Rattle.agenda.specs.Records.{recordOf, itemOf, isHandled}
 use Rattle.agenda.specs.Consequences.{noRecord, recordIn, consequences, leafRecords}
 use Rattle.agenda.specs.Steps.{handledNow, handledCount}
 use Rattle.agenda.specs.declared.Record.{Record}
-use Rattle.agenda.proofs.Records.{bare, Formed, bare-item, item-bare, item-of, reached-fits, record-count}
+use Rattle.agenda.proofs.Records.{bare, Formed, bare-item, item-bare, item-of, item-count, reached-fits}
 use Rattle.agenda.proofs.Consequences.{consequence-in, leaf-record-in}
 use Rattle.agenda.proofs.Adding.{apart, New, AddsAll}
 use Rattle.agenda.proofs.Growth.{SetAt, changed, other, set-at, fresh-test, Grew, From, Differ, all-grew, all-differ, all-from, all-found, all-count, count-set}
-use Rattle.agenda.proofs.Spelling.{EntryOf, Shown, Shows, Stays, entry-stays, entry-at, now-item, entry-now}
+use Rattle.agenda.proofs.Spelling.{EntryOf, Shown, Shows, Stays, entry-stays, entry-at, entry-now}
 use Rattle.agenda.proofs.Making.{Making, MadeAt, leaf-making, making, made-at}
 
 -- ---- a list of entries by places
@@ -100,7 +100,7 @@ module _ (G : Grammar) (H : Graph) where
     pub waiting : (k : ℕ) → k < length rs → isHandled (recordIn rs k) ≡ false → (e : Entry Item) × P e × EntryOf G H rs (recordIn rs k) e
 
   -- records of one item are at one place
-  pub one-place : (rs : List Record) → ((k : ℕ) → k < length rs → Formed G (recordIn rs k)) → Differ rs → (j k : ℕ) → j < length rs → k < length rs → itemOf G (recordIn rs j) ≡ itemOf G (recordIn rs k) → j ≡ k
+  pub one-place : (rs : List Record) → ((k : ℕ) → k < length rs → Formed G (recordIn rs k)) → Differ rs → (j k : ℕ) → j < length rs → k < length rs → itemOf G (recordIn rs j .item) ≡ itemOf G (recordIn rs k .item) → j ≡ k
   one-place rs f d j k l m e = d j k l m (item-bare G (recordIn rs j) (recordIn rs k) (f j l) (f k m) e)
 
   module _ {cap : ℕ} {hs : List (Entry Item)} {P : Entry Item → Type 0} {xs rs ts : List Record} (b : Base hs P rs) (makes : (x : Record) → In x xs → Making G H rs hs x) (s : AddsAll cap xs rs ts) where
@@ -180,13 +180,13 @@ module _ (G : Grammar) (H : Graph) where
 
   -- a record found again or added stands for a handled entry, or one that waits with no larger count
   module _ {hs : List (Entry Item)} {P : Entry Item → Type 0} {rs : List Record} (b : Base hs P rs) (t : Stood hs P rs) where
-    pub has-entry : (i : Item) (n k : ℕ) → k < length rs → itemOf G (recordIn rs k) ≡ i → isHandled (recordIn rs k) ≡ false → recordIn rs k .count ≤ n → Has (t .ws) i n
+    pub has-entry : (i : Item) (n k : ℕ) → k < length rs → itemOf G (recordIn rs k .item) ≡ i → isHandled (recordIn rs k) ≡ false → recordIn rs k .item .count ≤ n → Has (t .ws) i n
     has-entry i n k l e h m = let o = t .shown .entry k l h in record { entry = o .0; inside = o .1; item = sym (o .2 .item) ∙ e; count = omega (arith, o .2 .count) }
 
-    pub found-entry : (i : Item) (n k : ℕ) → k < length rs → itemOf G (recordIn rs k) ≡ i → (isHandled (recordIn rs k) ≡ true) ⊎ (recordIn rs k .count ≤ n) → In i (itemsOf hs) ⊎ Has (t .ws) i n
+    pub found-entry : (i : Item) (n k : ℕ) → k < length rs → itemOf G (recordIn rs k .item) ≡ i → (isHandled (recordIn rs k) ≡ true) ⊎ (recordIn rs k .item .count ≤ n) → In i (itemsOf hs) ⊎ Has (t .ws) i n
     found-entry i n k l e c = go (isHandled (recordIn rs k)) refl c
       where
-        go : (h : Bool) → isHandled (recordIn rs k) ≡ h → (isHandled (recordIn rs k) ≡ true) ⊎ (recordIn rs k .count ≤ n) → In i (itemsOf hs) ⊎ Has (t .ws) i n
+        go : (h : Bool) → isHandled (recordIn rs k) ≡ h → (isHandled (recordIn rs k) ≡ true) ⊎ (recordIn rs k .item .count ≤ n) → In i (itemsOf hs) ⊎ Has (t .ws) i n
         go true q c = let o = b .handled .entry k l q in inl (in-cast (sym e ∙ o .2 .item) (in-items (o .1)))
         go false q (inl h) = absurd (apart h q)
         go false q (inr m) = inr (has-entry i n k l e q m)
@@ -194,36 +194,36 @@ module _ (G : Grammar) (H : Graph) where
   -- ---- more items than records
   module _ {hs : List (Entry Item)} {P : Entry Item → Type 0} {rs : List Record} (b : Base hs P rs) (reached : (e : Entry Item) → In e hs → Reachable (closure G H) (e .item) (e .count))
       (others : (e : Entry Item) → P e → Reachable (closure G H) (e .item) (e .count)) where
-    item-reached : (k : ℕ) → k < length rs → (n : ℕ) × Reachable (closure G H) (itemOf G (recordIn rs k)) n
+    item-reached : (k : ℕ) → k < length rs → (n : ℕ) × Reachable (closure G H) (itemOf G (recordIn rs k .item)) n
     item-reached k l = go (isHandled (recordIn rs k)) refl
       where
-        go : (h : Bool) → isHandled (recordIn rs k) ≡ h → (n : ℕ) × Reachable (closure G H) (itemOf G (recordIn rs k)) n
+        go : (h : Bool) → isHandled (recordIn rs k) ≡ h → (n : ℕ) × Reachable (closure G H) (itemOf G (recordIn rs k .item)) n
         go true q = let o = b .handled .entry k l q in (o .0 .count, rw (o .2 .item) (reached (o .0) (o .1)))
         go false q = let o = b .waiting k l q in (o .0 .count, rw (o .2 .item) (others (o .0) (o .1)))
 
     -- with a reachable item that is none of theirs, the closure has more items than there are records
-    too-many : (x : Record) → Formed G x → (n : ℕ) → Reachable (closure G H) (itemOf G x) n → New x rs → (is : List Item) → Closure (closure G H) is → length rs < length is
-    too-many x f n r w is c = omega (arith, distinct-le all-distinct inside, length-map rs (λ (y : Record). itemOf G y))
+    too-many : (x : Record) → Formed G x → (n : ℕ) → Reachable (closure G H) (itemOf G (x .item)) n → New x rs → (is : List Item) → Closure (closure G H) is → length rs < length is
+    too-many x f n r w is c = omega (arith, distinct-le all-distinct inside, length-map rs (λ (y : Record). itemOf G (y .item)))
       where
-        differs : In (itemOf G x) (map (λ (y : Record). itemOf G y) rs) → ⊥
+        differs : In (itemOf G (x .item)) (map (λ (y : Record). itemOf G (y .item)) rs) → ⊥
         differs m =
-            let o = of-map (λ (y : Record). itemOf G y) rs m in
+            let o = of-map (λ (y : Record). itemOf G (y .item)) rs m in
             let p = place-of (o .1) in
-            w (p .0) (p .1) (item-bare G x (recordIn rs (p .0)) f (b .formed (p .0) (p .1)) (sym (ap (λ (y : Record). itemOf G y) (p .2) ∙ o .2)))
+            w (p .0) (p .1) (item-bare G x (recordIn rs (p .0)) f (b .formed (p .0) (p .1)) (sym (ap (λ (y : Record). itemOf G (y .item)) (p .2) ∙ o .2)))
 
-        all-distinct : Distinct (itemOf G x ∷ map (λ (y : Record). itemOf G y) rs)
-        all-distinct = more differs (items-distinct (λ (y : Record). itemOf G y) rs (one-place rs (b .formed) (b .differ)))
+        all-distinct : Distinct (itemOf G (x .item) ∷ map (λ (y : Record). itemOf G (y .item)) rs)
+        all-distinct = more differs (items-distinct (λ (y : Record). itemOf G (y .item)) rs (one-place rs (b .formed) (b .differ)))
 
-        inside : (i : Item) → In i (itemOf G x ∷ map (λ (y : Record). itemOf G y) rs) → In i is
+        inside : (i : Item) → In i (itemOf G (x .item) ∷ map (λ (y : Record). itemOf G (y .item)) rs) → In i is
         inside i m = go (in-cons m)
           where
-            go : (i ≡ itemOf G x) ⊎ In i (map (λ (y : Record). itemOf G y) rs) → In i is
-            go (inl e) = in-cast e (c .present (itemOf G x) n r)
+            go : (i ≡ itemOf G (x .item)) ⊎ In i (map (λ (y : Record). itemOf G (y .item)) rs) → In i is
+            go (inl e) = in-cast e (c .present (itemOf G (x .item)) n r)
             go (inr m) =
-                let o = of-map (λ (y : Record). itemOf G y) rs m in
+                let o = of-map (λ (y : Record). itemOf G (y .item)) rs m in
                 let p = place-of (o .1) in
                 let q = item-reached (p .0) (p .1) in
-                in-cast (sym (ap (λ (y : Record). itemOf G y) (p .2) ∙ o .2)) (c .present _ (q .0) (q .1))
+                in-cast (sym (ap (λ (y : Record). itemOf G (y .item)) (p .2) ∙ o .2)) (c .present _ (q .0) (q .1))
 
   -- ---- the start
   no-records : Base [] (λ e. Made (closure G H) [] e) []
@@ -248,12 +248,12 @@ module _ (G : Grammar) (H : Graph) where
     start-present : {e : Entry Item} → Made (closure G H) [] e → Has (leaves-wait .ws) (e .item) (e .count)
     start-present (axiom-made {i = i} x) =
         let f = all-found s (recordOf i 0 0 0) (leaf-record-in G H x) in
-        let e = sym (bare-item G (recordOf i 0 0 0) (recordIn ts (f .at)) (f .same)) ∙ item-of G i 0 0 0 (reached-fits G H ok (by-axiom x)) in
+        let e = sym (bare-item G (recordOf i 0 0 0) (recordIn ts (f .at)) (f .same)) ∙ item-of G i 0 (reached-fits G H ok (by-axiom x)) in
         go (found-entry start-base leaves-wait i 0 (f .at) (f .known) e (less (f .less)))
       where
-        less : {n : ℕ} {b : Bool} → (b ≡ true) ⊎ (n ≤ recordOf i 0 0 0 .count) → (b ≡ true) ⊎ (n ≤ 0)
+        less : {n : ℕ} {b : Bool} → (b ≡ true) ⊎ (n ≤ recordOf i 0 0 0 .item .count) → (b ≡ true) ⊎ (n ≤ 0)
         less (inl h) = inl h
-        less (inr l) = inr (omega (arith, record-count i 0 0 0))
+        less (inr l) = inr (omega (arith, item-count i 0))
 
         go : In i [] ⊎ Has (leaves-wait .ws) i 0 → Has (leaves-wait .ws) i 0
         go (inl m) = absurd (in-nil m)
@@ -293,7 +293,7 @@ module _ (G : Grammar) (H : Graph) where
   -- ---- a step
   module _ (ok : GrammarOk G) {rs : List Record} {s : State Item} (shows : Shows G H rs s) (v : Invariant (closure G H) s)
       (small : (e : Entry Item) → In e (s .handled ++ s .waiting) → e .count ≤ 4097) (j : ℕ) (l : j < length rs) (w : isHandled (recordIn rs j) ≡ false)
-      (least : (k : ℕ) → k < length rs → isHandled (recordIn rs k) ≡ false → recordIn rs j .count ≤ recordIn rs k .count) where
+      (least : (k : ℕ) → k < length rs → isHandled (recordIn rs k) ≡ false → recordIn rs j .item .count ≤ recordIn rs k .item .count) where
     abbrev x₀ : Record
     x₀ = recordIn rs j
 
@@ -331,7 +331,7 @@ module _ (G : Grammar) (H : Graph) where
     now-bare k (other n p) = ap bare p
 
     now-formed : (k : ℕ) → k < length rs → SetAt rs j (handledNow x₀) k → Formed G (recordIn nowHandled k)
-    now-formed k m (changed q p) = subst (λ (x : Record). Formed G x) (sym p) (shows .formed j l ∙ ap (λ (i : Item). recordOf i 0 0 0) (sym (now-item G x₀)))
+    now-formed k m (changed q p) = subst (λ (x : Record). Formed G x) (sym p) (shows .formed j l)
     now-formed k m (other n p) = subst (λ (x : Record). Formed G x) (sym p) (shows .formed k m)
 
     now-entry : EntryOf G H nowHandled (handledNow x₀) (the .0)
@@ -373,7 +373,7 @@ module _ (G : Grammar) (H : Graph) where
     now-reached : (e : Entry Item) → In e hs → Reachable (closure G H) (e .item) (e .count)
     now-reached e m = v .reached e (was-present e (in-cons m))
 
-    now-small : (k : ℕ) → k < length nowHandled → isHandled (recordIn nowHandled k) ≡ true → recordIn nowHandled k .count ≤ 4097
+    now-small : (k : ℕ) → k < length nowHandled → isHandled (recordIn nowHandled k) ≡ true → recordIn nowHandled k .item .count ≤ 4097
     now-small k m h = let o = now-base .handled .entry k m h in omega (arith, o .2 .count, small (o .0) (was-present (o .0) (in-cons (o .1))))
 
     makes : (x : Record) → In x (consequences G H nowHandled j) → Making G H nowHandled hs x
@@ -409,12 +409,12 @@ module _ (G : Grammar) (H : Graph) where
           g = all-grew a
 
           go : SetAt rs j (handledNow x₀) (o .0) → (e .item ≡ the .0 .item) ⊎ Has (after .ws) (e .item) (e .count)
-          go (changed q p) = inl (sym (o .3 .item) ∙ ap (λ (k : ℕ). itemOf G (recordIn rs k)) q ∙ the .2 .item)
+          go (changed q p) = inl (sym (o .3 .item) ∙ ap (λ (k : ℕ). itemOf G (recordIn rs k .item)) q ∙ the .2 .item)
           go (other n p) =
               let k = o .0 in
               let i : k < length nowHandled = in-now k (o .1) in
-              let same = bare-item G (recordIn ts k) (recordIn nowHandled k) (g .item k i) ∙ ap (λ (x : Record). itemOf G x) p ∙ o .3 .item in
-              inr (has-entry base after (e .item) (e .count) k (omega (arith, g .longer)) same (g .mark k i ∙ ap isHandled p ∙ o .2) (omega (arith, g .count k i, ap (λ (x : Record). x .count) p, o .3 .count)))
+              let same = bare-item G (recordIn ts k) (recordIn nowHandled k) (g .item k i) ∙ ap (λ (x : Record). itemOf G (x .item)) p ∙ o .3 .item in
+              inr (has-entry base after (e .item) (e .count) k (omega (arith, g .longer)) same (g .mark k i ∙ ap isHandled p ∙ o .2) (omega (arith, g .count k i, ap (λ (x : Record). x .item .count) p, o .3 .count)))
 
       adds : (e : Entry Item) → Made (closure G H) hs e → In (e .item) (itemsOf hs) ⊎ Has (after .ws) (e .item) (e .count)
       adds e m = go (made-at G H ok (now-base .handled) now-reached now-small j (in-now j l) (ap isHandled now-at) (the .0) (s .handled) (subst (λ (x : Record). EntryOf G H nowHandled x (the .0)) (sym now-at) now-entry) (λ d n. in-cons n) m)
@@ -433,8 +433,8 @@ module _ (G : Grammar) (H : Graph) where
               let x = recordOf (e .item) (n .count) (n .first) (n .second) in
               let c = consequence-in G H nowHandled j (n .by) in
               let f = all-found a x c in
-              let same = sym (bare-item G x (recordIn ts (f .at)) (f .same)) ∙ item-of G (e .item) (n .count) (n .first) (n .second) (reached-fits G H ok (made-reached now-reached m)) in
-              found-entry base after (e .item) (e .count) (f .at) (f .known) same (less (record-count (e .item) (n .count) (n .first) (n .second) ∙ n .exact) (f .less))
+              let same = sym (bare-item G x (recordIn ts (f .at)) (f .same)) ∙ item-of G (e .item) (n .count) (reached-fits G H ok (made-reached now-reached m)) in
+              found-entry base after (e .item) (e .count) (f .at) (f .known) same (less (item-count (e .item) (n .count) ∙ n .exact) (f .less))
             where
               less : {n k : ℕ} {b : Bool} {u : ℕ} → k ≡ u → (b ≡ true) ⊎ (n ≤ k) → (b ≡ true) ⊎ (n ≤ u)
               less q (inl h) = inl h

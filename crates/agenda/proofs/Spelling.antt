@@ -24,21 +24,21 @@ pub record HandledAt (rs : List Record) (a : ℕ) (y : Record) : Type 0 where
 -- The partners of record x spell a derivation: one rule makes its item of the items of handled records, or of one and a graph edge,
 -- and its count is the sum of theirs.
 pub data Spells (G : Grammar) (H : Graph) (rs : List Record) : Record → Derivation Item → Type 0 where
-  spelt-leaf : {x : Record} → LeafRule G (itemOf G x) → x .count ≡ 0 → Spells G H rs x (given (itemOf G x))
+  spelt-leaf : {x : Record} → LeafRule G (itemOf G (x .item)) → x .item .count ≡ 0 → Spells G H rs x (given (itemOf G (x .item)))
   -- a passive item: `first` is its root item
-  spelt-root : {x y : Record} {s m k : ℕ} {L : List ℕ} {d : Derivation Item} → HandledAt rs (x .first) y → itemOf G x ≡ passive s m L → UnaryRule G H (itemOf G y) k (itemOf G x)
-      → x .count ≡ y .count + k → Spells G H rs y d → Spells G H rs x (from (itemOf G x) d)
+  spelt-root : {x y : Record} {s m k : ℕ} {L : List ℕ} {d : Derivation Item} → HandledAt rs (x .first) y → itemOf G (x .item) ≡ passive s m L → UnaryRule G H (itemOf G (y .item)) k (itemOf G (x .item))
+      → x .item .count ≡ y .item .count + k → Spells G H rs y d → Spells G H rs x (from (itemOf G (x .item)) d)
   -- the terminal rule: `first` is the child's item, `second` the graph edge
-  spelt-edge : {x y : Record} {d : Derivation Item} → HandledAt rs (x .first) y → x .second < length (H .edges) → TerminalRule G H (x .second) (itemOf G y) (itemOf G x)
-      → x .count ≡ y .count → Spells G H rs y d → Spells G H rs x (from (itemOf G x) d)
+  spelt-edge : {x y : Record} {d : Derivation Item} → HandledAt rs (x .first) y → x .second < length (H .edges) → TerminalRule G H (x .second) (itemOf G (y .item)) (itemOf G (x .item))
+      → x .item .count ≡ y .item .count → Spells G H rs y d → Spells G H rs x (from (itemOf G (x .item)) d)
   -- the nonterminal rule and joins: two items
-  spelt-pair : {x y z : Record} {d c : Derivation Item} → HandledAt rs (x .first) y → HandledAt rs (x .second) z → BinaryRule G H (itemOf G y) (itemOf G z) (itemOf G x)
-      → x .count ≡ y .count + z .count → Spells G H rs y d → Spells G H rs z c → Spells G H rs x (from₂ (itemOf G x) d c)
+  spelt-pair : {x y z : Record} {d c : Derivation Item} → HandledAt rs (x .first) y → HandledAt rs (x .second) z → BinaryRule G H (itemOf G (y .item)) (itemOf G (z .item)) (itemOf G (x .item))
+      → x .item .count ≡ y .item .count + z .item .count → Spells G H rs y d → Spells G H rs z c → Spells G H rs x (from₂ (itemOf G (x .item)) d c)
 
 -- Record x stands for entry e.
 pub record EntryOf (G : Grammar) (H : Graph) (rs : List Record) (x : Record) (e : Entry Item) : Type 0 where
-  pub item : itemOf G x ≡ e .item
-  pub count : x .count ≡ e .count
+  pub item : itemOf G (x .item) ≡ e .item
+  pub count : x .item .count ≡ e .count
   pub how : Spells G H rs x (e .how)
 
 -- The handled records, or those that are not, stand for the entries es.
@@ -78,10 +78,6 @@ module _ {G : Grammar} {H : Graph} {rs ts : List Record} (st : Stays rs ts) wher
   entry-at k {e} q o = subst (λ (z : Record). EntryOf G H ts z e) (sym q) (entry-stays o)
 
 -- a record that becomes handled spells the same
-pub now-item : (G : Grammar) (x : Record) → itemOf G (handledNow x) ≡ itemOf G x
-unfolding itemOf
-now-item G x = refl
-
 module _ (G : Grammar) (H : Graph) {rs : List Record} where
   spelt-now : {x : Record} {d : Derivation Item} → Spells G H rs x d → Spells G H rs (handledNow x) d
   unfolding itemOf
@@ -91,12 +87,12 @@ module _ (G : Grammar) (H : Graph) {rs : List Record} where
   spelt-now (spelt-pair h i b c d e) = spelt-pair h i b c d e
 
   pub entry-now : {x : Record} {e : Entry Item} → EntryOf G H rs x e → EntryOf G H rs (handledNow x) e
-  entry-now {x} o = record { item = now-item G x ∙ o .item; count = o .count; how = spelt-now (o .how) }
+  entry-now {x} o = record { item = o .item; count = o .count; how = spelt-now (o .how) }
 
 -- ---- the record of an item
 pub record Is (G : Grammar) (x : Record) (i : Item) (n a b : ℕ) : Type 0 where
-  pub item : itemOf G x ≡ i
-  pub count : x .count ≡ n
+  pub item : itemOf G (x .item) ≡ i
+  pub count : x .item .count ≡ n
   pub first : x .first ≡ a
   pub second : x .second ≡ b
   pub formed : Formed G x
@@ -104,6 +100,6 @@ pub record Is (G : Grammar) (x : Record) (i : Item) (n a b : ℕ) : Type 0 where
 
 pub is-record : (G : Grammar) (i : Item) (n a b : ℕ) → Fitting G i → Is G (recordOf i n a b) i n a b
 is-record G (active r p m f) n a b w =
-    record { item = item-of G (active r p m f) n a b w; count = refl; first = refl; second = refl; formed = record-formed G (active r p m f) n a b w; fresh = refl }
+    record { item = item-of G (active r p m f) n w; count = refl; first = refl; second = refl; formed = record-formed G (active r p m f) n a b w; fresh = refl }
 is-record G (passive s m L) n a b w =
-    record { item = item-of G (passive s m L) n a b w; count = refl; first = refl; second = refl; formed = record-formed G (passive s m L) n a b w; fresh = refl }
+    record { item = item-of G (passive s m L) n w; count = refl; first = refl; second = refl; formed = record-formed G (passive s m L) n a b w; fresh = refl }

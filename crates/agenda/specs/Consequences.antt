@@ -1,14 +1,15 @@
 -- What one rule makes of a record, alone or with a handled one, with the partners that it is made of.
-use mathlib.Core.Bool.{Bool, true, false, _&&_}
-use mathlib.Core.List.{List, [], _∷_, _++_, map}
+use mathlib.Core.Bool.{_&&_}
+use mathlib.Core.List.{List, [], _++_, map}
 use Prim.Native.Nat.{ℕ, zero, suc}
 use lib.ListN.{length, getD}
 use lib.Dec.{eqb}
-use Rattle.hrg.specs.Grammars.{Graph, PlanNode, leaf, introduce, join, Rule, Grammar, cost, kindOf, ruleOf, rightOf, planOf, planNode, edgeAt}
+use Rattle.hrg.specs.Grammars.{Graph, PlanNode, leaf, introduce, join, Grammar, kindOf, ruleOf, rightOf, planOf, planNode, edgeAt}
 use Rattle.hrg.specs.Items.{Item, active, passive}
 use Rattle.hrg.specs.ClosureRun.{guard, eachTo, isTerminal, withEdge, rootAt, leaves, binaryOf}
 use Rattle.hrg.specs.AgendaRun.{Conclusion}
 use Rattle.agenda.specs.Records.{recordOf, itemOf, isHandled, plus}
+use Rattle.agenda.specs.declared.ChartItem.{ChartItem}
 use Rattle.agenda.specs.declared.Record.{Record}
 
 -- what f gives for the numbers below n, in rising order
@@ -18,7 +19,9 @@ gather (suc n) f = gather n f ++ f n
 
 -- the item at a place of the chart's list, and a record past the end
 abbrev pub noRecord : Record
-noRecord = record { kind = 0; of = 0; plan = 0; edges = 0; count = 0; handled = 0; nodes = []; first = 0; second = 0 }
+noRecord =
+    let none : ChartItem = record { kind = 0; of = 0; plan = 0; edges = 0; count = 0; nodes = [] } in
+    record { item = none; handled = 0; first = 0; second = 0 }
 
 abbrev pub recordIn : List Record → ℕ → Record
 recordIn rs j = getD rs j noRecord
@@ -50,7 +53,7 @@ withTerminal G H (passive s m L) n j e = []
 -- the nonterminal rule and the join rule: the record at j first, the one at k second
 unfoldable pub pair : Grammar → Graph → Record → ℕ → Record → ℕ → List Record
 unfolding itemOf binaryOf
-pair G H x j y k = map (λ (i : Item). recordOf i (plus (x .count) (y .count)) j k) (binaryOf G H (itemOf G x) (itemOf G y))
+pair G H x j y k = map (λ (i : Item). recordOf i (plus (x .item .count) (y .item .count)) j k) (binaryOf G H (itemOf G (x .item)) (itemOf G (y .item)))
 
 -- the record at j with the one at k, in both orders, where that one is handled
 unfoldable pub withPartner : Grammar → Graph → List Record → ℕ → ℕ → List Record
@@ -61,8 +64,8 @@ withPartner G H rs j k = guard (isHandled (recordIn rs k)) (pair G H (recordIn r
 unfoldable pub consequences : Grammar → Graph → List Record → ℕ → List Record
 unfolding atRoot withTerminal withPartner gather
 consequences G H rs j =
-    atRoot G (itemOf G (recordIn rs j)) (recordIn rs j .count) j
-    ++ gather (length (H .edges)) (λ e. withTerminal G H (itemOf G (recordIn rs j)) (recordIn rs j .count) j e)
+    atRoot G (itemOf G (recordIn rs j .item)) (recordIn rs j .item .count) j
+    ++ gather (length (H .edges)) (λ e. withTerminal G H (itemOf G (recordIn rs j .item)) (recordIn rs j .item .count) j e)
     ++ gather (length rs) (λ k. withPartner G H rs j k)
 
 -- the leaf items, count 0

@@ -1,13 +1,14 @@
 -- The run of a chart in steps, on its records: at most `cap` of them, and a mark where one item more was found than it holds.
-use mathlib.Core.Bool.{Bool, true, false, _&&_, _||_, not, cond}
+use mathlib.Core.Bool.{_||_, not, cond}
 use mathlib.Core.List.{List, [], _∷_, _++_}
 use Prim.Native.Nat.{ℕ, zero, suc, _+_}
 use lib.ListN.{length, set}
 use lib.Dec.{eqb, ltb, leb}
 use Rattle.hrg.specs.Counts.{flag}
 use Rattle.hrg.specs.Grammars.{Graph, Grammar}
-use Rattle.agenda.specs.Records.{sameRecord, isHandled}
+use Rattle.agenda.specs.Records.{sameChartItem, isHandled}
 use Rattle.agenda.specs.Consequences.{recordIn, consequences, leafRecords}
+use Rattle.agenda.specs.declared.ChartItem.{ChartItem}
 use Rattle.agenda.specs.declared.Record.{Record}
 use Rattle.agenda.specs.declared.Found.{Found}
 use Rattle.agenda.specs.declared.Found.the-variants.{At, Nowhere}
@@ -16,20 +17,24 @@ pub record Chart : Type 0 where
   pub mark : ℕ
   pub records : List Record
 
--- the last record of the same item among the first n
-unfoldable pub lastSame : Record → List Record → ℕ → Found
-unfolding sameRecord
+-- the last record of the item x among the first n
+unfoldable pub lastSame : ChartItem → List Record → ℕ → Found
+unfolding sameChartItem
 lastSame x rs zero = Nowhere
-lastSame x rs (suc n) = cond (sameRecord x (recordIn rs n)) (At n) (lastSame x rs n)
+lastSame x rs (suc n) = cond (sameChartItem x (recordIn rs n .item)) (At n) (lastSame x rs n)
+
+-- an item with another count
+abbrev pub withCount : ChartItem → ℕ → ChartItem
+withCount x n = record { kind = x .kind; of = x .of; plan = x .plan; edges = x .edges; count = n; nodes = x .nodes }
 
 -- a record with another's count and partners
 abbrev pub improved : Record → Record → Record
-improved y x = record { kind = y .kind; of = y .of; plan = y .plan; edges = y .edges; count = x .count; handled = y .handled; nodes = y .nodes; first = x .first; second = x .second }
+improved y x = record { item = withCount (y .item) (x .item .count); handled = y .handled; first = x .first; second = x .second }
 
 -- An item found again takes the lesser count and its partners, unless it is handled; a new one has a record of its own, and where there is none left the chart is marked.
 unfoldable pub placed : ℕ → Record → Chart → Found → Chart
 placed cap x c (At j) =
-    cond (isHandled (recordIn (c .records) j) || leb (recordIn (c .records) j .count) (x .count)) c
+    cond (isHandled (recordIn (c .records) j) || leb (recordIn (c .records) j .item .count) (x .item .count)) c
     (record { mark = c .mark; records = set (c .records) j (improved (recordIn (c .records) j) x) })
 placed cap x c Nowhere =
     cond (ltb (length (c .records)) cap) (record { mark = c .mark; records = c .records ++ (x ∷ []) }) (record { mark = 1; records = c .records })
@@ -37,7 +42,7 @@ placed cap x c Nowhere =
 -- once a chart is marked nothing changes
 unfoldable pub added : ℕ → Record → Chart → Chart
 unfolding placed lastSame
-added cap x c = cond (eqb (c .mark) 0) (placed cap x c (lastSame x (c .records) (length (c .records)))) c
+added cap x c = cond (eqb (c .mark) 0) (placed cap x c (lastSame (x .item) (c .records) (length (c .records)))) c
 
 unfoldable pub addedAll : ℕ → List Record → Chart → Chart
 unfolding added
@@ -47,7 +52,7 @@ addedAll cap (x ∷ xs) c = addedAll cap xs (added cap x c)
 -- the lesser of the one found so far and the record at n, if that is not handled
 unfoldable pub lesser : List Record → ℕ → Found → Found
 lesser rs n Nowhere = cond (isHandled (recordIn rs n)) Nowhere (At n)
-lesser rs n (At j) = cond (isHandled (recordIn rs n) || leb (recordIn rs j .count) (recordIn rs n .count)) (At j) (At n)
+lesser rs n (At j) = cond (isHandled (recordIn rs n) || leb (recordIn rs j .item .count) (recordIn rs n .item .count)) (At j) (At n)
 
 -- the first of least count among the first n records, of those that are not handled: the program's choice among equal counts
 unfoldable pub leastWaiting : List Record → ℕ → Found
@@ -56,7 +61,7 @@ leastWaiting rs zero = Nowhere
 leastWaiting rs (suc n) = lesser rs n (leastWaiting rs n)
 
 abbrev pub handledNow : Record → Record
-handledNow x = record { kind = x .kind; of = x .of; plan = x .plan; edges = x .edges; count = x .count; handled = 1; nodes = x .nodes; first = x .first; second = x .second }
+handledNow x = record { item = x .item; handled = 1; first = x .first; second = x .second }
 
 -- one step: the record at j is handled, and what it makes is added
 unfoldable pub handledAt : Grammar → Graph → ℕ → ℕ → Chart → Chart

@@ -1,12 +1,11 @@
 -- Laws of what crosses: from the contract of the function beneath to the numbers.
-use mathlib.Core.Path.{_≡_, refl, sym, ap, _∙_, subst}
+use mathlib.Core.Path.{_≡_, ap, _∙_, subst}
 use mathlib.Core.Bool.{cond, _&&_}
 use mathlib.Core.List.{List}
-use Prim.Native.Nat.{ℕ, _+_, _*_, _<_, _≤_}
-use native.Mathlib.Omega.{arith}
-use lib.ListN.{length}
+use Prim.Native.Nat.{ℕ, _<_, _≤_}
 use lib.Dec.{leb}
 use borrow.Author.Tests.{le-leb, lt-leb}
+use Rattle.records.specs.Words.{wordsFor}
 use Rattle.questions.specs.Reading.{Outcome as Reading}
 use Rattle.questions.specs.declared.Answer.{Answer as ReadingAnswer}
 use Rattle.readers.specs.Readers.{Gives}
@@ -24,7 +23,7 @@ use Rattle.programs.specs.Files.{FileGives, numbered, readingNumber}
 use Rattle.capi.specs.Crossing.{stepsTold, bytesTold, Started, Ran, Written, FilledRow, Replayed}
 
 abbrev words : ℕ → ℕ
-words items = cond (leb 1 items && leb items 4096) (2 + 16 * items) 0
+words items = cond (leb 1 items && leb items 4096) (wordsFor items) 0
 
 pub words-none : (items : ℕ) → items < 1 → 0 ≡ words items
 words-none items h = rw (lt-leb 1 items h)
@@ -32,7 +31,7 @@ words-none items h = rw (lt-leb 1 items h)
 pub words-many : (items : ℕ) → 1 ≤ items → 4096 < items → 0 ≡ words items
 words-many items l h = rw (le-leb 1 items l, lt-leb items 4096 h)
 
-pub words-some : (items : ℕ) → 1 ≤ items → items ≤ 4096 → 2 + 16 * items ≡ words items
+pub words-some : (items : ℕ) → 1 ≤ items → items ≤ 4096 → wordsFor items ≡ words items
 words-some items l h = rw (le-leb 1 items l, le-leb items 4096 h)
 
 pub read-crosses : (o : Reading) (a : ReadingAnswer) (table : List ℕ) (k : ℕ) → Gives o a table → k ≡ readingNumber a → FileGives (numbered o) k table

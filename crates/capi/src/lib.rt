@@ -3,6 +3,7 @@ ghost use mathlib.Core.Path.{_≡_};
 ghost use mathlib.Core.Bool.{cond, _&&_};
 ghost use Prim.Native.Nat.{_+_, _*_};
 ghost use lib.Dec.{leb};
+ghost use Rattle.records.specs.Words.{wordsFor};
 ghost use Rattle.questions.specs.Layout.{grammarWords, graphWords};
 ghost use Rattle.questions.specs.Reading.{readGrammar};
 ghost use Rattle.questions.specs.Checking.{readGraph};
@@ -23,20 +24,20 @@ use writing::Application;
 pub extern "C" fn bobbinmarl_grammar_words() -> usize
     ensures { λ r. ⌜ r ≡ grammarWords ⌝ }
 {
-    1665
+    layout::GRAMMAR_WORDS
 }
 
 #[no_mangle]
 pub extern "C" fn bobbinmarl_graph_words() -> usize
     ensures { λ r. ⌜ r ≡ graphWords ⌝ }
 {
-    65
+    layout::GRAPH_WORDS
 }
 
 // The words of a chart that holds so many items, 0 where no chart does.
 #[no_mangle]
 pub extern "C" fn bobbinmarl_chart_words(items: usize) -> usize
-    ensures { λ r. ⌜ r ≡ cond (leb 1 items && leb items 4096) (2 + 16 * items) 0 ⌝ }
+    ensures { λ r. ⌜ r ≡ cond (leb 1 items && leb items 4096) (wordsFor items) 0 ⌝ }
 {
     if items < 1 {
         return 0;
@@ -44,7 +45,7 @@ pub extern "C" fn bobbinmarl_chart_words(items: usize) -> usize
     if 4096 < items {
         return 0;
     }
-    2 + 16 * items
+    records::words_for(items as u64) as usize
 }
 
 // ---- the readers

@@ -3,31 +3,32 @@ ghost use mathlib.Core.Path.{_≡_};
 ghost use Prim.Native.Nat.{_≤_, _<_};
 ghost use lib.ListN.{length};
 ghost use Rattle.agenda.specs.Steps.{lastSame};
-ghost use Rattle.records.specs.Words.{ofWords, itemCount, chartOf};
+ghost use Rattle.records.specs.Words.{itemCount, chartOf};
 ghost use Rattle.chains.specs.Chains.{hashOf, Chained, linked, Cleared};
+use agenda::ChartItem;
 use agenda::Found;
 
-// The hash of a record, by its rule or symbol, its plan node, its edges and two of its nodes. Words of the map that was just made are slow to read: more of them cost more than they tell apart.
-pub fn hash(x: &[u64]) -> u64
-    requires { ⌜ length (now x) ≡ 16 ⌝ }
-    ensures { λ r. ⌜ (r ≡ hashOf (ofWords (now (x .entry)))) × (r < 4294967296) ⌝ }
+// The hash of an item, by its rule or symbol, its plan node, its edges and two of its nodes.
+pub fn hash(x: ChartItem) -> u64
+    ensures { λ r. ⌜ (r ≡ hashOf x) × (r < 4294967296) × (length (x .nodes) ≡ 8) ⌝ }
 {
-    let edges = x[3];
-    let small = x[1] % 64 + x[2] % 64 * 64 + x[6] % 64 * 4096 + x[7] % 64 * 262144;
+    let edges = x.edges;
+    let nodes = x.nodes;
+    let small = x.of % 64 + x.plan % 64 * 64 + nodes[0] % 64 * 4096 + nodes[1] % 64 * 262144;
     let mix = edges % 4294967296 * 191825777 + edges / 4294967296 * 139261425 + small * 2507321997;
     mix % 4294967296
 }
 
-// The last record that is of the same item as that of the sixteen words, whose hash is h: only those of its bucket are looked at, from the last one back, as long as its bit is in the set of those that are left.
-pub fn find(chart: &[u64], links: &[u32], x: &[u64], h: u64) -> Found
-    requires { ⌜ Chained (now links) (chartOf (now chart) .records) × (length (now x) ≡ 16) × (h ≡ hashOf (ofWords (now x))) × (h < 4294967296) ⌝ }
-    ensures { λ r. ⌜ r ≡ lastSame (ofWords (now (x .entry))) (chartOf (now (chart .entry)) .records) (length (chartOf (now (chart .entry)) .records)) ⌝ }
+// The last record of the item x, whose hash is h: only those of its bucket are looked at, from the last one back, as long as its bit is in the set of those that are left.
+pub fn find(chart: &[u64], links: &[u32], x: ChartItem, h: u64) -> Found
+    requires { ⌜ Chained (now links) (chartOf (now chart) .records) × (h ≡ hashOf x) × (h < 4294967296) ⌝ }
+    ensures { λ r. ⌜ r ≡ lastSame x (chartOf (now (chart .entry)) .records) (length (chartOf (now (chart .entry)) .records)) ⌝ }
 {
     let bit = 8192u64 << (h / 65536 % 16);
     let mut i = links[(h / 1048576) as usize] as u64;
     while i & bit != 0 {
         let k = i % 8192;
-        if records::same_words(chart, k - 1, x) {
+        if records::same(chart, k - 1, x) {
             return Found::At(k - 1);
         }
         i = links[(4095 + k) as usize] as u64;
@@ -54,8 +55,7 @@ pub fn build(chart: &[u64], links: &mut [u32])
     let n = records::item_count(chart);
     let mut j = 0;
     while j < n {
-        let at = (2 + 16 * j) as usize;
-        let h = hash(&chart[at..at + 16]);
+        let h = hash(records::item_at(chart, j));
         link(links, j, h);
         j += 1;
     }

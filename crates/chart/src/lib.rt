@@ -8,6 +8,7 @@ ghost use Rattle.steps.specs.Runs.{nextIn};
 ghost use Rattle.charting.specs.Calls.{fit, answerOf, startOf, runOf, standingOf};
 ghost use Rattle.charting.specs.Facts.{StartChoices, RunChoices};
 use charting::Outcome;
+use rules::plans::PLAN_TABLE_WORDS;
 
 // Question 8 before a start: does the chart hold 1 to 4,096 items, and could texts have filled the tables?
 fn is_fit(grammar: &[u64], graph: &[u64], chart: &[u64]) -> bool
@@ -72,7 +73,9 @@ pub fn standing(grammar: &[u64], graph: &[u64], chart: &[u64]) -> Outcome
     if !is_fit(grammar, graph, chart) {
         return Outcome::Unfit;
     }
-    let tested = validator::known(grammar, graph, chart);
+    let mut plans = [0u32; PLAN_TABLE_WORDS];
+    rules::plans::fill(grammar, &mut plans);
+    let tested = validator::known(grammar, graph, &plans, chart);
     if !tested.known {
         return Outcome::Unfit;
     }
@@ -86,7 +89,9 @@ pub fn run(grammar: &[u64], graph: &[u64], chart: &mut [u64], steps: u64) -> Out
     if !is_fit(grammar, graph, chart) {
         return Outcome::Unfit;
     }
-    if !validator::known(grammar, graph, chart).known {
+    let mut plans = [0u32; PLAN_TABLE_WORDS];
+    rules::plans::fill(grammar, &mut plans);
+    if !validator::known(grammar, graph, &plans, chart).known {
         return Outcome::Unfit;
     }
     let all = steps::advance(grammar, graph, chart, steps);

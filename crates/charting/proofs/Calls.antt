@@ -65,7 +65,7 @@ module _ (g h w : List ℕ) (e : fitChart g h w ≡ true) where
   unfolding fitChart
   chart-fit = both (fit g h w) (knownChart (grammarOf g) (graphOf g h) w) e .0
 
-  chart-known : knownChart (grammarOf g) (graphOf g h) w ≡ true
+  pub chart-known : knownChart (grammarOf g) (graphOf g h) w ≡ true
   unfolding fitChart
   chart-known = both (fit g h w) (knownChart (grammarOf g) (graphOf g h) w) e .1
 

@@ -168,8 +168,8 @@ fn derive_tables(grammar: &[u64], graph: &[u64], out: &mut [u8; 32774]) -> usize
 pub fn derive(grammar: &[u8], graph: &[u8], out: &mut [u8; 32774]) -> usize
     ensures { λ r. ⌜ Prints (derivedText (deriveFiles (now (grammar .entry)) (now (graph .entry)))) (now (out .entry)) (now (out .exit)) r ⌝ }
 {
-    let mut g = [0u64; 1665];
-    let mut h = [0u64; 65];
+    let mut g = [0u64; layout::GRAMMAR_WORDS];
+    let mut h = [0u64; layout::GRAPH_WORDS];
     let k = read_files(grammar, graph, &mut g, &mut h);
     if k != 0 {
         return put_refusal(k, out);
@@ -193,8 +193,8 @@ fn replay_tables(grammar: &[u64], graph: &[u64], derivation: &[u8]) -> u64
 fn replay_number(grammar: &[u8], graph: &[u8], derivation: &[u8]) -> u64
     ensures { λ r. ⌜ r ≡ replayFiles (now (grammar .entry)) (now (graph .entry)) (now (derivation .entry)) ⌝ }
 {
-    let mut g = [0u64; 1665];
-    let mut h = [0u64; 65];
+    let mut g = [0u64; layout::GRAMMAR_WORDS];
+    let mut h = [0u64; layout::GRAPH_WORDS];
     let k = read_files(grammar, graph, &mut g, &mut h);
     if k != 0 {
         return k;

@@ -30,7 +30,7 @@ PartFor look G H r p j i q = (b : ℕ) × Has look (planOf G r) p j i b × Part 
 
 -- The record at j is of rule r, and the parts that it spells make its active item true.
 pub record ActiveSpelt (look : ℕ → Record) (G : Grammar) (H : Graph) (j r p m : ℕ) (f : List ℕ) (n : ℕ) : Type 0 where
-  pub rule : look j .of ≡ r
+  pub rule : look j .item .of ≡ r
   pub known : r < length (G .rules)
   pub inside : p < length (planOf G r)
   pub truth : ActiveTruth G H (ruleOf G r) p m f n
@@ -38,13 +38,13 @@ pub record ActiveSpelt (look : ℕ → Record) (G : Grammar) (H : Graph) (j r p 
 
 -- The record at j lists the nodes L, and the tree that it spells makes its passive item true.
 pub record PassiveSpelt (look : ℕ → Record) (G : Grammar) (H : Graph) (j s m : ℕ) (L : List ℕ) (n : ℕ) : Type 0 where
-  pub nodes : take (rankOf G s) (look j .nodes) ≡ L
+  pub nodes : take (rankOf G s) (look j .item .nodes) ≡ L
   pub truth : PassiveTruth G H s m L n
   pub spells : SpellsTree look G H j (truth .tree)
 
 module _ (G : Grammar) (H : Graph) (ok : GrammarOk G) (hok : GraphOk G H) (look : ℕ → Record) where
   -- ---- active items
-  pub leaf-spelt : (j r p : ℕ) → look j .of ≡ r → r < length (G .rules) → p < length (planOf G r) → planNode (planOf G r) p ≡ leaf
+  pub leaf-spelt : (j r p : ℕ) → look j .item .of ≡ r → r < length (G .rules) → p < length (planOf G r) → planNode (planOf G r) p ≡ leaf
       → ActiveSpelt look G H j r p 0 (tabulate (rightOf G r .nodes) (λ x. unplaced)) 0
   leaf-spelt j r p o l b q =
       record {
@@ -65,7 +65,7 @@ module _ (G : Grammar) (H : Graph) (ok : GrammarOk G) (hok : GraphOk G H) (look 
       → Part look G H (edgeAt (rightOf G r .edges) i) (look j .second) s → Each (λ i q. PartFor look G H r p j i q) (i ∷ []) s
   new-part j r p c i l q s = each-one (look j .second, has-new look (planOf G r) _ (ok .rule r l .plan) p c i j q, s)
 
-  pub terminal-spelt : (j r p c i m₁ m n : ℕ) (f h : List ℕ) → look j .of ≡ r → p < length (planOf G r) → planNode (planOf G r) p ≡ introduce c i
+  pub terminal-spelt : (j r p c i m₁ m n : ℕ) (f h : List ℕ) → look j .item .of ≡ r → p < length (planOf G r) → planNode (planOf G r) p ≡ introduce c i
       → FitsEdge G H (edgeAt (rightOf G r .edges) i .label) (edgeAt (H .edges) (look j .second) .attachment) (look j .second)
       → Joins H (ruleOf G r) p m₁ (single (look j .second)) f
       (attach (rightOf G r .nodes) (edgeAt (rightOf G r .edges) i .attachment) (edgeAt (H .edges) (look j .second) .attachment)) m h
@@ -82,7 +82,7 @@ module _ (G : Grammar) (H : Graph) (ok : GrammarOk G) (hok : GraphOk G H) (look 
             (each-append (child-parts j r p c i (a .known) q (a .each)) (new-part j r p c i (a .known) q by-edge));
       }
 
-  pub nonterminal-spelt : (j r p c i m₁ m₂ m n k : ℕ) (f L h : List ℕ) → look j .of ≡ r → p < length (planOf G r) → planNode (planOf G r) p ≡ introduce c i
+  pub nonterminal-spelt : (j r p c i m₁ m₂ m n k : ℕ) (f L h : List ℕ) → look j .item .of ≡ r → p < length (planOf G r) → planNode (planOf G r) p ≡ introduce c i
       → Joins H (ruleOf G r) p m₁ m₂ f (attach (rightOf G r .nodes) (edgeAt (rightOf G r .edges) i .attachment) L) m h
       → ActiveSpelt look G H (look j .first) r c m₁ f n → PassiveSpelt look G H (look j .second) (edgeAt (rightOf G r .edges) i .label) m₂ L k
       → ActiveSpelt look G H j r p m h (n + k)
@@ -98,7 +98,7 @@ module _ (G : Grammar) (H : Graph) (ok : GrammarOk G) (hok : GraphOk G H) (look 
             (each-append (child-parts j r p c i (a .known) q (a .each)) (new-part j r p c i (a .known) q (by-tree (u .spells) (rw (u .nodes) (u .truth .fits)))));
       }
 
-  pub join-spelt : (j r p a c m₁ m₂ m n k : ℕ) (f g h : List ℕ) → look j .of ≡ r → p < length (planOf G r) → planNode (planOf G r) p ≡ join a c
+  pub join-spelt : (j r p a c m₁ m₂ m n k : ℕ) (f g h : List ℕ) → look j .item .of ≡ r → p < length (planOf G r) → planNode (planOf G r) p ≡ join a c
       → Joins H (ruleOf G r) p m₁ m₂ f g m h → ActiveSpelt look G H (look j .first) r a m₁ f n → ActiveSpelt look G H (look j .second) r c m₂ g k
       → ActiveSpelt look G H j r p m h (n + k)
   join-spelt j r p a c m₁ m₂ m n k f g h o b q J t u =
@@ -127,7 +127,7 @@ module _ (G : Grammar) (H : Graph) (ok : GrammarOk G) (hok : GraphOk G H) (look 
       applied r (placedBy look G H (rightOf G r) (partnersFrom r p a) (length (rightOf G r .edges)))
       (partsBy (λ b. treeAt look G H k b) G (partnersFrom r p a) (rightOf G r .edges) 0)
 
-  tree-with : (k j r p : ℕ) → look (look j .first) .of ≡ r → suc p ≡ length (planOf G r) → treeAt look G H (suc k) j ≡ treeWith k r p (look j .first)
+  tree-with : (k j r p : ℕ) → look (look j .first) .item .of ≡ r → suc p ≡ length (planOf G r) → treeAt look G H (suc k) j ≡ treeWith k r p (look j .first)
   unfolding treeAt placeAt partnersAt
   tree-with k j r p e q =
       ap (λ (z : ℕ). treeWith k z (length (planOf G z) - 1) (look j .first)) e
@@ -179,7 +179,7 @@ module _ (G : Grammar) (H : Graph) (ok : GrammarOk G) (hok : GraphOk G H) (look 
         ∙ ap₂ (λ (place : List ℕ) (ps : SpeltParts). applied r place ps) place-read
         (parts-spelt look G H k (a .truth .place) partners (rightOf G r .edges) (rightOf G r .edges) 0 (λ i. i) (ordered .parts) (λ x. omega arith) (λ x. refl) (ordered .each) (omega arith))
 
-    pub root-spelt : take (rankOf G (lhsOf G r)) (look j .nodes) ≡ images f (rightOf G r .externals)
+    pub root-spelt : take (rankOf G (lhsOf G r)) (look j .item .nodes) ≡ images f (rightOf G r .externals)
         → PassiveSpelt look G H j (lhsOf G r) m (images f (rightOf G r .externals)) (n + cost (ruleOf G r))
     unfolding moved
     root-spelt e =

@@ -22,7 +22,7 @@ SpellsTree look G H b t = (k : ℕ) → size t ≤ k → treeAt look G H k b ≡
 -- What edge e has by its partner b.
 pub data Part (look : ℕ → Record) (G : Grammar) (H : Graph) (e : Edge) (b : ℕ) : Parts → Type 0 where
   by-edge : Part look G H e b (edge b end)
-  by-tree : {t : Tree} → SpellsTree look G H b t → Fits G H (e .label) (take (rankOf G (e .label)) (look b .nodes)) t → Part look G H e b (tree t end)
+  by-tree : {t : Tree} → SpellsTree look G H b t → Fits G H (e .label) (take (rankOf G (e .label)) (look b .item .nodes)) t → Part look G H e b (tree t end)
 
 -- It stands on a placement.
 pub record Placed (look : ℕ → Record) (G : Grammar) (H : Graph) (place : List ℕ) (e : Edge) (b : ℕ) (q : Parts) : Type 0 where

@@ -28,14 +28,14 @@ use Rattle.extraction.proofs.SpelledItems.{ActiveSpelt, PassiveSpelt, l
 
 -- What a record has of its item: the rule of an active one, the listed nodes of a passive one.
 abbrev HasItem : Grammar → Record → Item → Type 0
-HasItem G x (active r p m f) = x .of ≡ r
-HasItem G x (passive s m L) = take (rankOf G s) (x .nodes) ≡ L
+HasItem G x (active r p m f) = x .item .of ≡ r
+HasItem G x (passive s m L) = take (rankOf G s) (x .item .nodes) ≡ L
 
-has-item : (G : Grammar) (x : Record) → HasItem G x (itemOf G x)
+has-item : (G : Grammar) (x : Record) → HasItem G x (itemOf G (x .item))
 unfolding itemOf
-has-item G x = go (eqb (x .kind) 0)
+has-item G x = go (eqb (x .item .kind) 0)
   where
-    go : (b : Bool) → HasItem G x (cond b (active (x .of) (x .plan) (x .edges) (take (rightOf G (x .of) .nodes) (x .nodes))) (passive (x .of) (x .edges) (take (rankOf G (x .of)) (x .nodes))))
+    go : (b : Bool) → HasItem G x (cond b (active (x .item .of) (x .item .plan) (x .item .edges) (take (rightOf G (x .item .of) .nodes) (x .item .nodes))) (passive (x .item .of) (x .item .edges) (take (rankOf G (x .item .of)) (x .item .nodes))))
     go true = refl
     go false = refl
 
@@ -62,51 +62,51 @@ module _ (G : Grammar) (H : Graph) (ok : GrammarOk G) (hok : GraphOk G H) (look 
 
   module _ (rs : List Record) (same : (j : ℕ) → j < length rs → look j ≡ recordIn rs j) where
     -- ---- the records, by what they spell
-    held : {x : Record} (j : ℕ) → look j ≡ x → HasItem G (look j) (itemOf G x)
-    held {x} j e = subst (λ (z : Record). HasItem G z (itemOf G x)) (sym e) (has-item G x)
+    held : {x : Record} (j : ℕ) → look j ≡ x → HasItem G (look j) (itemOf G (x .item))
+    held {x} j e = subst (λ (z : Record). HasItem G z (itemOf G (x .item))) (sym e) (has-item G x)
 
     found : {a : ℕ} {y : Record} → HandledAt rs a y → look a ≡ y
     found {a} h = same a (h .known) ∙ h .is
 
-    record-spelt : {x : Record} {d : Derivation Item} (j : ℕ) → look j ≡ x → Spells G H rs x d → SpeltAt j (x .count) (itemOf G x)
-    record-spelt j e (spelt-leaf {x = x} l c) = subst (λ (n : ℕ). SpeltAt j n (itemOf G x)) (sym c) (by-leaf j l (held j e))
+    record-spelt : {x : Record} {d : Derivation Item} (j : ℕ) → look j ≡ x → Spells G H rs x d → SpeltAt j (x .item .count) (itemOf G (x .item))
+    record-spelt j e (spelt-leaf {x = x} l c) = subst (λ (n : ℕ). SpeltAt j n (itemOf G (x .item))) (sym c) (by-leaf j l (held j e))
     record-spelt j e (spelt-root {x = x} {y = y} {s = s} {m = m} {L = L} h w u c d) =
-        subst (λ (n : ℕ). SpeltAt j n (itemOf G x)) (sym c)
-        (by-root j (y .count) s m L u w (held j e) (subst (λ (z : Record). SpeltAt (z .first) (y .count) (itemOf G y)) (sym e) (record-spelt (x .first) (found h) d)))
+        subst (λ (n : ℕ). SpeltAt j n (itemOf G (x .item))) (sym c)
+        (by-root j (y .item .count) s m L u w (held j e) (subst (λ (z : Record). SpeltAt (z .first) (y .item .count) (itemOf G (y .item))) (sym e) (record-spelt (x .first) (found h) d)))
     record-spelt j e (spelt-edge {x = x} {y = y} h l t c d) =
-        subst (λ (n : ℕ). SpeltAt j n (itemOf G x)) (let z : y .count + 0 ≡ x .count = omega (arith, c) in z)
-        (by-terminal j (y .count) (subst (λ (z : Record). TerminalRule G H (z .second) (itemOf G y) (itemOf G x)) (sym e) t) (held j e)
-        (subst (λ (z : Record). SpeltAt (z .first) (y .count) (itemOf G y)) (sym e) (record-spelt (x .first) (found h) d)))
+        subst (λ (n : ℕ). SpeltAt j n (itemOf G (x .item))) (let z : y .item .count + 0 ≡ x .item .count = omega (arith, c) in z)
+        (by-terminal j (y .item .count) (subst (λ (z : Record). TerminalRule G H (z .second) (itemOf G (y .item)) (itemOf G (x .item))) (sym e) t) (held j e)
+        (subst (λ (z : Record). SpeltAt (z .first) (y .item .count) (itemOf G (y .item))) (sym e) (record-spelt (x .first) (found h) d)))
     record-spelt j e (spelt-pair {x = x} {y = y} {z = z} h i b c d f) =
-        subst (λ (n : ℕ). SpeltAt j n (itemOf G x)) (sym c)
-        (by-pair j (y .count) (z .count) b (held j e) (subst (λ (w : Record). SpeltAt (w .first) (y .count) (itemOf G y)) (sym e) (record-spelt (x .first) (found h) d))
-        (subst (λ (w : Record). SpeltAt (w .second) (z .count) (itemOf G z)) (sym e) (record-spelt (x .second) (found i) f)))
+        subst (λ (n : ℕ). SpeltAt j n (itemOf G (x .item))) (sym c)
+        (by-pair j (y .item .count) (z .item .count) b (held j e) (subst (λ (w : Record). SpeltAt (w .first) (y .item .count) (itemOf G (y .item))) (sym e) (record-spelt (x .first) (found h) d))
+        (subst (λ (w : Record). SpeltAt (w .second) (z .item .count) (itemOf G (z .item))) (sym e) (record-spelt (x .second) (found i) f)))
 
     module _ (j : ℕ) (l : j < length rs) (d : Derivation Item) (w : Spells G H rs (recordIn rs j) d) where
       -- a passive record that spells a derivation: its tree makes its item true, with its count
-      pub spelled-tree : (s m : ℕ) (L : List ℕ) → itemOf G (recordIn rs j) ≡ passive s m L → (t : PassiveTruth G H s m L (recordIn rs j .count)) × SpellsTree look G H j (t .tree)
+      pub spelled-tree : (s m : ℕ) (L : List ℕ) → itemOf G (recordIn rs j .item) ≡ passive s m L → (t : PassiveTruth G H s m L (recordIn rs j .item .count)) × SpellsTree look G H j (t .tree)
       spelled-tree s m L e =
-          let p = subst (λ (i : Item). SpeltAt j (recordIn rs j .count) i) e (record-spelt j (same j l) w) in
+          let p = subst (λ (i : Item). SpeltAt j (recordIn rs j .item .count) i) e (record-spelt j (same j l) w) in
           (p .truth, p .spells)
 
       -- for the goal its tree generates the graph, and has as many applications as the record's count
-      pub goal-tree : itemOf G (recordIn rs j) ≡ goal G H
-          → (t : Tree) × Generates G H t × (applications G t ≡ recordIn rs j .count) × (size t ≡ recordIn rs j .count) × ((k : ℕ) → size t ≤ k → treeAt look G H k j ≡ spelt t)
+      pub goal-tree : itemOf G (recordIn rs j .item) ≡ goal G H
+          → (t : Tree) × Generates G H t × (applications G t ≡ recordIn rs j .item .count) × (size t ≡ recordIn rs j .item .count) × ((k : ℕ) → size t ≤ k → treeAt look G H k j ≡ spelt t)
       goal-tree e =
           let p = spelled-tree _ _ _ e in
-          (p .0 .tree, truth-tree G H ok hok (recordIn rs j .count) (p .0), p .0 .count, sym (size-applications G (p .0 .tree)) ∙ p .0 .count, p .1)
+          (p .0 .tree, truth-tree G H ok hok (recordIn rs j .item .count) (p .0), p .0 .count, sym (size-applications G (p .0 .tree)) ∙ p .0 .count, p .1)
 
 -- On a chart after a start and any list of runs, while it is not found too small, so of every passive record and of the goal.
 module _ (G : Grammar) (H : Graph) (ok : GrammarOk G) (hok : GraphOk G H) (cap : ℕ) (most : cap ≤ 4096) (ks : List ℕ) (c : Chart) (is : c ≡ runsChart G H cap ks (startChart G cap))
     (fits : c .mark ≡ 0) (look : ℕ → Record) (same : (j : ℕ) → j < length (c .records) → look j ≡ recordIn (c .records) j) (j : ℕ) (known : j < length (c .records)) where
-  pub chart-tree : (s m : ℕ) (L : List ℕ) → itemOf G (recordIn (c .records) j) ≡ passive s m L
-      → (t : PassiveTruth G H s m L (recordIn (c .records) j .count)) × SpellsTree look G H j (t .tree)
+  pub chart-tree : (s m : ℕ) (L : List ℕ) → itemOf G (recordIn (c .records) j .item) ≡ passive s m L
+      → (t : PassiveTruth G H s m L (recordIn (c .records) j .item .count)) × SpellsTree look G H j (t .tree)
   chart-tree =
       let w = records-spell G H ok hok cap most ks c is fits j known in
       spelled-tree G H ok hok look (c .records) same j known (w .how) (w .spells)
 
-  pub chart-goal-tree : itemOf G (recordIn (c .records) j) ≡ goal G H
-      → (t : Tree) × Generates G H t × (applications G t ≡ recordIn (c .records) j .count) × (size t ≡ recordIn (c .records) j .count) × ((k : ℕ) → size t ≤ k → treeAt look G H k j ≡ spelt t)
+  pub chart-goal-tree : itemOf G (recordIn (c .records) j .item) ≡ goal G H
+      → (t : Tree) × Generates G H t × (applications G t ≡ recordIn (c .records) j .item .count) × (size t ≡ recordIn (c .records) j .item .count) × ((k : ℕ) → size t ≤ k → treeAt look G H k j ≡ spelt t)
   chart-goal-tree =
       let w = records-spell G H ok hok cap most ks c is fits j known in
       goal-tree G H ok hok look (c .records) same j known (w .how) (w .spells)

@@ -1,6 +1,6 @@
 -- The derivation tree that partners spell, from a passive record down. It is the program's choice among derivations; nothing here trusts a chart:
 -- whether the tree derives the graph is asked afterwards. `look` gives the record at each place of a chart.
-use mathlib.Core.List.{List, [], _∷_, _++_}
+use mathlib.Core.List.{List, [], _∷_}
 use Prim.Native.Nat.{ℕ, zero, suc, _+_, _-_}
 use lib.ListN.{length, getD, set, take, replicate}
 use Rattle.hrg.specs.Counts.{tabulate}
@@ -23,7 +23,7 @@ partnersWithin look pl (suc k) p j bs = partnersVia (λ c i cs. partnersWithin l
 
 -- the rule of the passive record at j is that of its root item
 abbrev pub ruleAt : (ℕ → Record) → ℕ → ℕ
-ruleAt look j = look (look j .first) .of
+ruleAt look j = look (look j .first) .item .of
 
 -- For each edge of the rule, in eight places: a graph edge, or the place of a passive record.
 unfoldable pub partnersAt : (ℕ → Record) → Grammar → ℕ → List ℕ
@@ -35,7 +35,7 @@ partnersAt look G j =
 -- ---- where the application places the nodes of its rule
 abbrev pub nodesBy : (ℕ → Record) → Graph → Kind → ℕ → List ℕ
 nodesBy look H terminal b = padded (edgeAt (H .edges) b .attachment)
-nodesBy look H nonterminal b = look b .nodes
+nodesBy look H nonterminal b = look b .item .nodes
 
 -- the nodes on which edge e stands by its partner b: those of the graph edge, or those that the record lists
 unfoldable pub partNodes : (ℕ → Record) → Grammar → Graph → Edge → ℕ → List ℕ

@@ -8,9 +8,7 @@ use borrow.Author.Tests.{ne-eqb}
 use Rattle.hrg.specs.Grammars.{PlanNode, leaf, introduce, join, Grammar, planOf, planNode}
 use Rattle.questions.specs.Abstract.{planFrom}
 use Rattle.agenda.specs.declared.Record.{Record}
-use Rattle.hrg.specs.Counts.{tabulate}
-use Rattle.records.specs.Words.{fieldAt, blockAt, ofWords, recordAt}
-use Rattle.records.proofs.WordLaws.{rule-of}
+use Rattle.records.specs.Words.{recordAt}
 use Rattle.extraction.specs.Extraction.{partnersVia, partnersWithin, ruleAt, partnersAt}
 
 less : (n : ℕ) → suc n - 1 ≡ n
@@ -54,18 +52,9 @@ module _ (w : List ℕ) where
             let here : planNode pl p ≡ join first second = node ∙ rw (ne-eqb kind 0 y, ne-eqb kind 1 z) in
             x′ ∙ rw (x, at-a, at-b) (sym (within-step some ∙ ap below here))
 
-  -- ---- the partners of a record
-  pub first-by : (j x : ℕ) → x ≡ fieldAt w j 14 → x ≡ recordAt w j .first
-  unfolding recordAt ofWords blockAt tabulate
-  first-by j x e = e
-
-  pub second-by : (j x : ℕ) → x ≡ fieldAt w j 15 → x ≡ recordAt w j .second
-  unfolding recordAt ofWords blockAt tabulate
-  second-by j x e = e
-
   -- ---- a passive record
-  pub rule-by : (j x y : ℕ) → x ≡ recordAt w j .first → y ≡ fieldAt w x 1 → y ≡ ruleAt look j
-  rule-by j x y a b = b ∙ sym (rule-of w x) ∙ ap (λ k. recordAt w k .of) a
+  pub rule-by : (j x y : ℕ) → x ≡ recordAt w j .first → y ≡ recordAt w x .item .of → y ≡ ruleAt look j
+  rule-by j x y a b = b ∙ ap (λ k. recordAt w k .item .of) a
 
   module _ (G : Grammar) (j r n : ℕ) (rule : r ≡ ruleAt look j) (size : n ≡ length (planOf G r)) where
     sized : n ≡ length (planOf G (ruleAt look j))

@@ -2,12 +2,12 @@
 use mathlib.Core.Path.{_≡_, refl, sym, ap, ap₂, _∙_}
 use mathlib.Core.Bool.{Bool, true, false}
 use mathlib.Core.List.{List, [], _∷_}
-use Prim.Native.Nat.{ℕ, zero, suc, _+_, _-_, _*_, _≤_, _<_, min}
+use Prim.Native.Nat.{ℕ, zero, suc, _+_, _-_, _≤_, _<_, min}
 use native.Mathlib.Numerals.{add-one}
 use native.Mathlib.Omega.{arith}
 use native.Mathlib.Decide.{decLt}
-use lib.ListN.{length, getD, set, take, drop, replicate, length-set, length-take, length-drop, drop-of-length-le, List·getD-eq-default}
-use lib.Seq.{drop-cons, getD-set-same, getD-set-other, getD-take, getD-drop, ext-getD}
+use lib.ListN.{length, getD, set, take, drop, replicate, length-set, length-take, drop-of-length-le, List·getD-eq-default}
+use lib.Seq.{drop-cons, getD-set-same, getD-set-other, getD-take}
 use lib.Dec.{eqb}
 use borrow.Author.Tests.{eq-eqb, ne-eqb, eqb-true, eqb-false}
 use Rattle.hrg.specs.Counts.{hit, occurs, tabulate}
@@ -24,9 +24,7 @@ use Rattle.joins.proofs.GraphLaws.{edge-nodes}
 use Rattle.joins.proofs.EdgeMaps.{length-padded, at-padded, at-past, is-padded, padded-bare, same-bare, at-none, edge-ok, edge-rank, node-there, edge-node-few}
 use Rattle.joins.proofs.MapLaws.{getD-any, length-joined, at-joined}
 use Rattle.agenda.specs.declared.Record.{Record}
-use Rattle.records.specs.Words.{blockAt, recordAt}
-use Rattle.records.proofs.WordLaws.{block-word, node-words, words-record}
-use Rattle.records.proofs.Written.{eight-nodes}
+use Rattle.records.specs.Words.{recordAt}
 use Rattle.extraction.specs.Extraction.{nodesBy, partNodes, placedBy}
 use Rattle.extractor.specs.Reading.{isNonterminal}
 use Rattle.extractor.proofs.RuleLookup.{label-rank}
@@ -210,27 +208,6 @@ module _ (g : List ℕ) (r i : ℕ) (known : KnownEdge g r i) (l start : List �
       let e : k ≡ 0 = omega arith in
       merged-done (ruleNodes g r) (edgeNodes g r i) (take rank l) start f (edge-ok g r i known .listed .inside) bare (rw e at (p .merged))
 
--- ---- the nodes of a partner
--- of a record, as a part of the chart's words
-pub part-nodes : (w : List ℕ) (j from n : ℕ) → from ≡ 8 + 16 * j → n ≡ 8 → 2 + 16 * j + 16 ≤ length w → take n (drop from w) ≡ recordAt w j .nodes
-part-nodes w j from n p q h =
-    ap₂ (λ (m k : ℕ). take m (drop k w)) q p ∙ ext-getD 0 (take 8 rest) (recordAt w j .nodes) (rest-long ∙ sym (eight-nodes w j)) (λ i l. node i (omega (arith, rest-long)))
-  where
-    rest : List ℕ
-    rest = drop (8 + 16 * j) w
-
-    rest-long : length (take 8 rest) ≡ 8
-    rest-long = simp (length-take, length-drop) (omega arith)
-
-    node : (i : ℕ) → i < 8 → getD (take 8 rest) i 0 ≡ getD (recordAt w j .nodes) i 0
-    node i l =
-        getD-take 8 rest i 0 l
-        ∙ getD-drop (8 + 16 * j) w i 0
-        ∙ ap (λ k. getD w k 0) (let e : 8 + 16 * j + i ≡ 2 + 16 * j + (6 + i) = omega arith in e)
-        ∙ sym (block-word w j (6 + i) (omega arith))
-        ∙ sym (node-words (blockAt w j) i l)
-        ∙ ap (λ (x : Record). getD (x .nodes) i 0) (words-record w j)
-
 -- of a graph edge, the first of four places, as many as the rank of its label
 pub part-edge : (g h l : List ℕ) (b n : ℕ) → b < graphEdges h → n ≡ rankAt g (graphLabel h b) → l ≡ tabulate 4 (λ k. graphNode h b k)
     → take n l ≡ edgeAt (graphOf g h .edges) b .attachment
@@ -241,7 +218,7 @@ module _ (w : List ℕ) where
   abbrev look : ℕ → Record
   look = λ k. recordAt w k
 
-  by-record : (H : Graph) (b : ℕ) (x : Kind) → true ≡ isNonterminal x → recordAt w b .nodes ≡ nodesBy look H x b
+  by-record : (H : Graph) (b : ℕ) (x : Kind) → true ≡ isNonterminal x → recordAt w b .item .nodes ≡ nodesBy look H x b
   by-record H b terminal e = let z : _≡_ {A = ℕ} 0 1 = cc in absurd (omega arith)
   by-record H b nonterminal e = refl
 
@@ -267,7 +244,7 @@ module _ (w : List ℕ) where
     unfolding partNodes
     part-is = ap (λ (k : ℕ). take k (nodesBy look (graphOf g h) kindAt b)) (label-rank g r i known)
 
-    pub placed-record : (f v : List ℕ) → t ≡ true → v ≡ with f (take rankHere (recordAt w b .nodes)) → v ≡ with f part
+    pub placed-record : (f v : List ℕ) → t ≡ true → v ≡ with f (take rankHere (recordAt w b .item .nodes)) → v ≡ with f part
     placed-record f v e q = q ∙ ap (with f) (ap (take rankHere) (by-record (graphOf g h) b kindAt (sym e ∙ test)) ∙ sym part-is)
 
     -- eight places have the nodes that the rank takes

@@ -9,22 +9,8 @@ ghost use Rattle.joins.specs.Joins.{KnownNode};
 ghost use Rattle.records.specs.Words.{recordAt};
 ghost use Rattle.extraction.specs.Extraction.{partnersWithin, ruleAt, partnersAt};
 
-// The first partner of the record at j: of a passive one, the place of its root item.
-fn first_at(chart: &[u64], j: u64) -> u64
-    ensures { λ x. ⌜ x ≡ recordAt (now (chart .entry)) j .first ⌝ }
-{
-    records::field(chart, j, 14)
-}
-
-// The second partner.
-fn second_at(chart: &[u64], j: u64) -> u64
-    ensures { λ x. ⌜ x ≡ recordAt (now (chart .entry)) j .second ⌝ }
-{
-    records::field(chart, j, 15)
-}
-
-// Puts the partners of the edges that are introduced from plan node p of rule r down, with so many levels left and the record at j, over those in bs. A record is read
-// only where the plan node has something below it, and two of its words are enough.
+// Puts the partners of the edges that are introduced from plan node p of rule r down, with so many levels left and the record at j, over those in bs. Its partners are read
+// only where the plan node has something below it.
 fn partners_within(
     grammar: &[u64],
     chart: &[u64],
@@ -44,8 +30,8 @@ fn partners_within(
     if line.kind == 0 {
         return;
     }
-    let first = first_at(chart, j);
-    let second = second_at(chart, j);
+    let first = records::first_at(chart, j);
+    let second = records::second_at(chart, j);
     if line.kind == 1 {
         let i = line.second as usize;
         bs[i] = second;
@@ -60,7 +46,7 @@ fn partners_within(
 pub(crate) fn rule_at(chart: &[u64], j: u64) -> u64
     ensures { λ x. ⌜ x ≡ ruleAt (λ k. recordAt (now (chart .entry)) k) j ⌝ }
 {
-    records::field(chart, first_at(chart, j), 1)
+    records::of_at(chart, records::first_at(chart, j))
 }
 
 // For each edge of its rule r, in eight places that were 0: a graph edge, or the place of a passive record.
@@ -72,5 +58,5 @@ pub(crate) fn partners_at(grammar: &[u64], chart: &[u64], r: u64, j: u64, bs: &m
     if n == 0 {
         return;
     }
-    partners_within(grammar, chart, r, n, n - 1, first_at(chart, j), bs);
+    partners_within(grammar, chart, r, n, n - 1, records::first_at(chart, j), bs);
 }

@@ -54,19 +54,25 @@ fn place_edge(grammar: &[u64], graph: &[u64], r: u64, i: u64, b: u64, f: &mut [u
     place_nodes(grammar, r, i, &nodes[..rank as usize], f);
 }
 
-// The same by the nodes that the record at b lists; one that the chart does not hold whole is copied first.
-fn place_record(grammar: &[u64], chart: &[u64], r: u64, i: u64, b: u64, f: &mut [u64])
-    requires { ⌜ KnownEdge (now grammar) r i × (length (now f) ≡ 8) × BareFrom (ruleNodes (now grammar) r) (now f) ⌝ }
-    ensures { λ x. ⌜ now (f .exit) ≡ padded (joined (ruleNodes (now (grammar .entry)) r) (now (f .entry)) (attach (ruleNodes (now (grammar .entry)) r) (edgeNodes (now (grammar .entry)) r i) (take (rankAt (now (grammar .entry)) (edgeLabel (now (grammar .entry)) r i)) (recordAt (now (chart .entry)) b .nodes)))) ⌝ }
+// The nodes of the record at b; past the chart's end its words are 0.
+fn nodes_at(chart: &[u64], b: u64) -> [u64; 8]
+    ensures { λ r. ⌜ r ≡ recordAt (now (chart .entry)) b .item .nodes ⌝ }
 {
     if b < records::capacity_of(chart) {
-        let from = (8 + 16 * b) as usize;
-        let end = from + 8;
-        place_nodes(grammar, r, i, &chart[from..end], f);
-        return;
+        let x = records::item_at(chart, b);
+        return x.nodes;
     }
-    let y = records::load(chart, b);
-    let nodes = y.nodes;
+    let y = records::load_any(chart, b);
+    let x = y.item;
+    x.nodes
+}
+
+// The same by the nodes that the record at b lists.
+fn place_record(grammar: &[u64], chart: &[u64], r: u64, i: u64, b: u64, f: &mut [u64])
+    requires { ⌜ KnownEdge (now grammar) r i × (length (now f) ≡ 8) × BareFrom (ruleNodes (now grammar) r) (now f) ⌝ }
+    ensures { λ x. ⌜ now (f .exit) ≡ padded (joined (ruleNodes (now (grammar .entry)) r) (now (f .entry)) (attach (ruleNodes (now (grammar .entry)) r) (edgeNodes (now (grammar .entry)) r i) (take (rankAt (now (grammar .entry)) (edgeLabel (now (grammar .entry)) r i)) (recordAt (now (chart .entry)) b .item .nodes)))) ⌝ }
+{
+    let nodes = nodes_at(chart, b);
     place_nodes(grammar, r, i, &nodes, f);
 }
 

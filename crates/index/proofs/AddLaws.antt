@@ -13,8 +13,8 @@ use Rattle.agenda.specs.declared.Found.the-variants.{At, Nowhere}
 use Rattle.agenda.specs.Records.{isHandled}
 use Rattle.agenda.specs.Consequences.{recordIn}
 use Rattle.agenda.specs.Steps.{Chart, improved, handledNow, lastSame, placed, added}
-use Rattle.records.specs.Words.{Fits, capacity, itemCount, fieldAt, recordAt, chartOf, improvedAt, appendedTo, addedTo, markedAt}
-use Rattle.records.proofs.WordLaws.{Below, one, last-below, record-in, count-of, handled-yes, handled-no, improve-handled, improve-less, add-found, add-new}
+use Rattle.records.specs.Words.{Fits, capacity, itemCount, recordAt, chartOf, improvedAt, appendedTo, addedTo, markedAt}
+use Rattle.records.proofs.WordLaws.{Below, one, last-below, record-in, improve-handled, improve-less, add-found, add-new}
 use Rattle.records.proofs.Written.{add-written, handle-written, chart-of-written}
 use Rattle.records.proofs.Rewritten.{handledIn, grown-added, grown-handled}
 use Rattle.records.proofs.Grown.{holds-own}
@@ -25,11 +25,11 @@ use Rattle.index.proofs.CoverLaws.{covered-kept, covered-again, covered
 
 -- ---- the records of a chart with one record more
 module _ (cap : ℕ) (x : Record) (c : Chart) where
-  placed-stays : (j : ℕ) → isHandled (recordIn (c .records) j) || leb (recordIn (c .records) j .count) (x .count) ≡ true → placed cap x c (At j) .records ≡ c .records
+  placed-stays : (j : ℕ) → isHandled (recordIn (c .records) j) || leb (recordIn (c .records) j .item .count) (x .item .count) ≡ true → placed cap x c (At j) .records ≡ c .records
   unfolding placed
   placed-stays j e = rw e
 
-  placed-improved : (j : ℕ) → isHandled (recordIn (c .records) j) || leb (recordIn (c .records) j .count) (x .count) ≡ false
+  placed-improved : (j : ℕ) → isHandled (recordIn (c .records) j) || leb (recordIn (c .records) j .item .count) (x .item .count) ≡ false
       → placed cap x c (At j) .records ≡ set (c .records) j (improved (recordIn (c .records) j) x)
   unfolding placed
   placed-improved j e = rw e
@@ -49,48 +49,45 @@ inside w j l = omega (arith, counted w)
 pub small : (keys w ix ls : List ℕ) (j : ℕ) → Indexed keys ix ls (chartOf w .records) → j < itemCount w → j < 4096
 small keys w ix ls j I l = let f = I .chained .few in omega (arith, counted w)
 
--- the record at a place, by its words
-module _ (w : List ℕ) (j : ℕ) (l : j < itemCount w) (r : ℕ) (e : r ≡ fieldAt w j 5) where
+-- the record at a place, by what is looked at there
+module _ (w : List ℕ) (j : ℕ) (l : j < itemCount w) where
   here : recordIn (chartOf w .records) j ≡ recordAt w j
   unfolding chartOf
   here = record-in w (itemCount w) j l
 
-  is-handled : (r ≡ 0 → ⊥) → isHandled (recordIn (chartOf w .records) j) ≡ true
-  is-handled h = ap isHandled here ∙ handled-yes w j r e h
+  pub is-waiting : isHandled (recordAt w j) ≡ false → isHandled (recordIn (chartOf w .records) j) ≡ false
+  is-waiting z = ap isHandled here ∙ z
 
-  pub is-waiting : r ≡ 0 → isHandled (recordIn (chartOf w .records) j) ≡ false
-  is-waiting z = ap isHandled here ∙ handled-no w j r e z
+  pub has-count : (n : ℕ) → n ≡ recordAt w j .item .count → n ≡ recordIn (chartOf w .records) j .item .count
+  has-count n p = p ∙ sym (ap (λ (y : Record). y .item .count) here)
 
-  pub has-count : (n : ℕ) → n ≡ fieldAt w j 4 → n ≡ recordIn (chartOf w .records) j .count
-  has-count n p = sym (ap (λ (y : Record). y .count) here ∙ count-of w j ∙ sym p)
-
-module _ (w ix : List ℕ) (j : ℕ) (x : Record) (l : j < itemCount w) (r : ℕ) (e : r ≡ fieldAt w j 5) where
+module _ (w ix : List ℕ) (j : ℕ) (x : Record) (l : j < itemCount w) where
   abbrev Placed : List ℕ → Type 0
   Placed new = (keys ls : List ℕ) → Indexed keys ix ls (chartOf w .records) → Indexed keys new ls (placed (capacity w) x (chartOf w) (At j) .records)
 
-  pub again-handled : (r ≡ 0 → ⊥) → (w ≡ improvedAt w j x) × Placed ix
+  pub again-handled : isHandled (recordAt w j) ≡ true → (w ≡ improvedAt w j x) × Placed ix
   again-handled h =
-      let t = is-handled w j l r e h in
-      (improve-handled w j x r e h, λ keys ls I. rw (placed-stays (capacity w) x (chartOf w) j (rw t)) I)
+      let t = ap isHandled (here w j l) ∙ h in
+      (improve-handled w j x h, λ keys ls I. rw (placed-stays (capacity w) x (chartOf w) j (rw t)) I)
 
-  module _ (z : r ≡ 0) (n : ℕ) (p : n ≡ fieldAt w j 4) where
+  module _ (z : isHandled (recordAt w j) ≡ false) (n : ℕ) (p : n ≡ recordAt w j .item .count) where
     waits : isHandled (recordIn (chartOf w .records) j) ≡ false
-    waits = is-waiting w j l r e z
+    waits = is-waiting w j l z
 
-    count-is : n ≡ recordIn (chartOf w .records) j .count
-    count-is = has-count w j l r e n p
+    count-is : n ≡ recordIn (chartOf w .records) j .item .count
+    count-is = has-count w j l n p
 
-    pub again-less : n ≤ x .count → (w ≡ improvedAt w j x) × Placed ix
+    pub again-less : n ≤ x .item .count → (w ≡ improvedAt w j x) × Placed ix
     again-less h =
-        let q : recordIn (chartOf w .records) j .count ≤ x .count = omega (arith, count-is) in
-        let t : isHandled (recordIn (chartOf w .records) j) || leb (recordIn (chartOf w .records) j .count) (x .count) ≡ true = rw (waits, le-leb _ _ q) in
-        (improve-less w j x r e z n p h, λ keys ls I. rw (placed-stays (capacity w) x (chartOf w) j t) I)
+        let q : recordIn (chartOf w .records) j .item .count ≤ x .item .count = omega (arith, count-is) in
+        let t : isHandled (recordIn (chartOf w .records) j) || leb (recordIn (chartOf w .records) j .item .count) (x .item .count) ≡ true = rw (waits, le-leb _ _ q) in
+        (improve-less w j x z (omega arith), λ keys ls I. rw (placed-stays (capacity w) x (chartOf w) j t) I)
 
-    pub again-more : (keys new ls : List ℕ) → x .count < n → Indexed keys new ls (set (chartOf w .records) j (improved (recordIn (chartOf w .records) j) x))
+    pub again-more : (keys new ls : List ℕ) → x .item .count < n → Indexed keys new ls (set (chartOf w .records) j (improved (recordIn (chartOf w .records) j) x))
         → Indexed keys new ls (placed (capacity w) x (chartOf w) (At j) .records)
     again-more keys new ls h J =
-        let q : x .count < recordIn (chartOf w .records) j .count = omega (arith, count-is) in
-        let t : isHandled (recordIn (chartOf w .records) j) || leb (recordIn (chartOf w .records) j .count) (x .count) ≡ false = rw (waits, lt-leb _ _ q) in
+        let q : x .item .count < recordIn (chartOf w .records) j .item .count = omega (arith, count-is) in
+        let t : isHandled (recordIn (chartOf w .records) j) || leb (recordIn (chartOf w .records) j .item .count) (x .item .count) ≡ false = rw (waits, lt-leb _ _ q) in
         rw (placed-improved (capacity w) x (chartOf w) j t) J
 
 -- ---- behind the others
@@ -105,7 +102,7 @@ module _ (keys w ix ls : List ℕ) (x : Record) (n cap : ℕ) (p : n ≡ itemCou
   behind-full h I = rw (placed-full (capacity w) x (chartOf w) (omega (arith, number w n p))) I
 
   -- .. and covers its open nodes
-  pub room-covered : (g h new : List ℕ) → n < cap → DoubtKept ix new → Covered g h ix (chartOf w .records) → (doubtOf ix ≡ 0 → Covering g h x)
+  pub room-covered : (g h new : List ℕ) → n < cap → DoubtKept ix new → Covered g h ix (chartOf w .records) → (doubtOf ix ≡ 0 → Covering g h (x .item))
       → Covered g h new (placed (capacity w) x (chartOf w) Nowhere .records)
   room-covered g h new room k C f =
       rw (placed-room (capacity w) x (chartOf w) (omega (arith, number w n p)))
@@ -121,11 +118,11 @@ at-below n j g e b = go (subst (Below n) e b)
     go : Below n (At j) → j < n
     go (one h) = h
 
-module _ (w : List ℕ) (x : Record) (o : Found) (p : o ≡ lastSame x (chartOf w .records) (length (chartOf w .records))) where
+module _ (w : List ℕ) (x : Record) (o : Found) (p : o ≡ lastSame (x .item) (chartOf w .records) (length (chartOf w .records))) where
   pub found-inside : (j : ℕ) → o ≡ At j → j < itemCount w
-  found-inside j e = let h = at-below (length (chartOf w .records)) j o e (rw p (last-below x (chartOf w .records) (length (chartOf w .records)))) in omega (arith, counted w)
+  found-inside j e = let h = at-below (length (chartOf w .records)) j o e (rw p (last-below (x .item) (chartOf w .records) (length (chartOf w .records)))) in omega (arith, counted w)
 
-  module _ (keys : List ℕ) (f : Fits w) (e : length (x .nodes) ≡ 8) (m : ℕ) (is : m ≡ getD w 1 0) (z : m ≡ 0) where
+  module _ (keys : List ℕ) (f : Fits w) (e : length (x .item .nodes) ≡ 8) (m : ℕ) (is : m ≡ getD w 1 0) (z : m ≡ 0) where
     mark-is : chartOf w .mark ≡ getD w 1 0
     unfolding chartOf
     mark-is = refl
@@ -141,11 +138,11 @@ module _ (w : List ℕ) (x : Record) (o : Found) (p : o ≡ lastSame x (chartOf 
 
     pub add-again : (v ix ls : List ℕ) (j : ℕ) → o ≡ At j → v ≡ improvedAt w j x → Indexed keys ix ls (placed (capacity w) x (chartOf w) (At j) .records)
         → (v ≡ addedTo w x) × Indexed keys ix ls (chartOf v .records)
-    add-again v ix ls j t q I = by v ix ls (add-found w x m (itemCount w) o is z refl (p ∙ same-found x w) v j t q) (rw t I)
+    add-again v ix ls j t q I = by v ix ls (add-found w x m (itemCount w) o is z refl (p ∙ same-found (x .item) w) v j t q) (rw t I)
 
     pub add-behind : (v ix ls : List ℕ) → o ≡ Nowhere → v ≡ appendedTo w (itemCount w) x → Indexed keys ix ls (placed (capacity w) x (chartOf w) Nowhere .records)
         → (v ≡ addedTo w x) × Indexed keys ix ls (chartOf v .records)
-    add-behind v ix ls t q I = by v ix ls (add-new w x m (itemCount w) o is z refl (p ∙ same-found x w) v t q) (rw t I)
+    add-behind v ix ls t q I = by v ix ls (add-new w x m (itemCount w) o is z refl (p ∙ same-found (x .item) w) v t q) (rw t I)
 
     covered-by : (g h v ix : List ℕ) → v ≡ addedTo w x → Covered g h ix (placed (capacity w) x (chartOf w) o .records) → Covered g h ix (chartOf v .records)
     covered-by g h v ix q C = subst (λ (d : Chart). Covered g h ix (d .records)) (sym (ap chartOf q ∙ chart-added)) C

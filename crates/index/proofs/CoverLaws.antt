@@ -9,6 +9,7 @@ use native.Mathlib.Decide.{decLt, ℕ-discrete}
 use lib.Dec.{leb}
 use lib.ListN.{length, length-append, set, length-set, List·getD-append}
 use lib.Seq.{getD-at, getD-set-same, getD-set-other}
+use Rattle.agenda.specs.declared.ChartItem.{ChartItem}
 use Rattle.agenda.specs.declared.Record.{Record}
 use Rattle.agenda.specs.declared.Found.the-variants.{At}
 use Rattle.agenda.specs.Records.{isHandled}
@@ -53,46 +54,43 @@ module _ (g h : List ℕ) where
   covered-kept ix new rs k C = record { each = λ z. C .each (sym (k .word) ∙ z) }
 
   -- ---- what covers is told of the item only, not of the count or the partners
-  covering-improved : (y x : Record) → Covering g h y → Covering g h (improved y x)
+  covering-improved : (y x : Record) → Covering g h (y .item) → Covering g h (improved y x .item)
   covering-improved y x C = record { plain = C .plain; shown = λ v l o. let S = C .shown v l o in record { active = S .active; passive = S .passive } }
 
-  covering-handled : (y : Record) → Covering g h y → Covering g h (handledNow y)
-  covering-handled y C = record { plain = C .plain; shown = λ v l o. let S = C .shown v l o in record { active = S .active; passive = S .passive } }
-
   -- a record that covers if the one does in whose place it comes
-  covered-set : (ix : List ℕ) (rs : List Record) (j : ℕ) (y : Record) → (Covering g h (recordIn rs j) → Covering g h y) → Covered g h ix rs → Covered g h ix (set rs j y)
+  covered-set : (ix : List ℕ) (rs : List Record) (j : ℕ) (y : Record) → (Covering g h (recordIn rs j .item) → Covering g h (y .item)) → Covered g h ix rs → Covered g h ix (set rs j y)
   covered-set ix rs j y f C = record { each = λ z k l. at z k (let q = length-set rs j y in omega arith) (ℕ-discrete k j) }
     where
-      at : doubtOf ix ≡ 0 → (k : ℕ) → k < length rs → Dec (k ≡ j) → Covering g h (recordIn (set rs j y) k)
+      at : doubtOf ix ≡ 0 → (k : ℕ) → k < length rs → Dec (k ≡ j) → Covering g h (recordIn (set rs j y) k .item)
       at z k l (yes p) =
-          subst (Covering g h) (sym (ap (recordIn (set rs j y)) p ∙ getD-set-same rs j y noRecord (omega arith))) (f (subst (λ i. Covering g h (recordIn rs i)) p (C .each z k l)))
-      at z k l (no n) = subst (Covering g h) (sym (getD-set-other rs j k y noRecord n)) (C .each z k l)
+          subst (λ (z : Record). Covering g h (z .item)) (sym (ap (recordIn (set rs j y)) p ∙ getD-set-same rs j y noRecord (omega arith))) (f (subst (λ i. Covering g h (recordIn rs i .item)) p (C .each z k l)))
+      at z k l (no n) = subst (λ (z : Record). Covering g h (z .item)) (sym (getD-set-other rs j k y noRecord n)) (C .each z k l)
 
   pub covered-again : (ix : List ℕ) (cap : ℕ) (x : Record) (c : Chart) (j : ℕ) → Covered g h ix (c .records) → Covered g h ix (placed cap x c (At j) .records)
   unfolding placed
-  covered-again ix cap x c j C = go (isHandled (recordIn (c .records) j) || leb (recordIn (c .records) j .count) (x .count)) refl
+  covered-again ix cap x c j C = go (isHandled (recordIn (c .records) j) || leb (recordIn (c .records) j .item .count) (x .item .count)) refl
     where
-      go : (b : Bool) → (isHandled (recordIn (c .records) j) || leb (recordIn (c .records) j .count) (x .count)) ≡ b → Covered g h ix (placed cap x c (At j) .records)
+      go : (b : Bool) → (isHandled (recordIn (c .records) j) || leb (recordIn (c .records) j .item .count) (x .item .count)) ≡ b → Covered g h ix (placed cap x c (At j) .records)
       go true e = rw e C
       go false e = rw e (covered-set ix (c .records) j (improved (recordIn (c .records) j) x) (covering-improved (recordIn (c .records) j) x) C)
 
   pub covered-handled : (ix : List ℕ) (rs : List Record) (j : ℕ) → Covered g h ix rs → Covered g h ix (set rs j (handledNow (recordIn rs j)))
-  covered-handled ix rs j = covered-set ix rs j (handledNow (recordIn rs j)) (covering-handled (recordIn rs j))
+  covered-handled ix rs j = covered-set ix rs j (handledNow (recordIn rs j)) (λ c. c)
 
   -- one record more
-  pub covered-more : (ix : List ℕ) (x : Record) (rs : List Record) → Covered g h ix rs → (doubtOf ix ≡ 0 → Covering g h x) → Covered g h ix (rs ++ (x ∷ []))
+  pub covered-more : (ix : List ℕ) (x : Record) (rs : List Record) → Covered g h ix rs → (doubtOf ix ≡ 0 → Covering g h (x .item)) → Covered g h ix (rs ++ (x ∷ []))
   covered-more ix x rs C f = record { each = λ z j l. at z j (decLt j (length rs)) (let p = length-append rs (x ∷ []) in omega arith) }
     where
-      at : doubtOf ix ≡ 0 → (j : ℕ) → Dec (j < length rs) → j ≤ length rs → Covering g h (recordIn (rs ++ (x ∷ [])) j)
-      at z j (yes l) m = subst (Covering g h) (sym (List·getD-append rs (x ∷ []) noRecord j l)) (C .each z j l)
-      at z j (no l) m = subst (Covering g h) (sym (getD-at rs x [] noRecord j (omega arith))) (f z)
+      at : doubtOf ix ≡ 0 → (j : ℕ) → Dec (j < length rs) → j ≤ length rs → Covering g h (recordIn (rs ++ (x ∷ [])) j .item)
+      at z j (yes l) m = subst (λ (z : Record). Covering g h (z .item)) (sym (List·getD-append rs (x ∷ []) noRecord j l)) (C .each z j l)
+      at z j (no l) m = subst (λ (z : Record). Covering g h (z .item)) (sym (getD-at rs x [] noRecord j (omega arith))) (f z)
 
   -- ---- the first records of words
   pub covered-first : (w ix : List ℕ) → Covered g h ix (recordsAt w 0)
   unfolding recordsAt
   covered-first w ix = record { each = λ z j l. absurd (omega arith) }
 
-  pub covered-next : (w ix : List ℕ) (j : ℕ) (x : Record) → x ≡ recordAt w j → Covering g h x → Covered g h ix (recordsAt w j) → Covered g h ix (recordsAt w (j + 1))
+  pub covered-next : (w ix : List ℕ) (j : ℕ) (x : ChartItem) → x ≡ recordAt w j .item → Covering g h x → Covered g h ix (recordsAt w j) → Covered g h ix (recordsAt w (j + 1))
   unfolding recordsAt
   covered-next w ix j x e t C = rw add-one (covered-more ix (recordAt w j) (recordsAt w j) C (λ z. subst (Covering g h) e t))
 

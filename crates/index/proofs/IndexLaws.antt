@@ -9,6 +9,7 @@ use native.Mathlib.Decide.{decLt, ℕ-discrete}
 use lib.Dec.{eqb}
 use lib.ListN.{length, length-append, getD, set, length-set, replicate, length-replicate, getD-replicate, List·getD-eq-default, List·getD-append}
 use lib.Seq.{getD-at, getD-set-same, getD-set-other}
+use Rattle.agenda.specs.declared.ChartItem.{ChartItem}
 use Rattle.agenda.specs.declared.Record.{Record}
 use Rattle.agenda.specs.declared.Found.{Found}
 use Rattle.agenda.specs.declared.Found.the-variants.{At, Nowhere}
@@ -24,7 +25,7 @@ use Rattle.ranking.proofs.Orders.{order-past, waiting-order, appended-order, im
 use Rattle.lists.specs.Lists.{Listed, Unlisted, Ready, Within, enteredAll}
 use Rattle.lists.proofs.ListLaws.{listed-none, listed-ready, listed-entered-all}
 use Rattle.keys.specs.Keys.{keysOf, regularOf}
-use Rattle.keys.proofs.KeyLaws.{keys-few, improved-keys, handled-keys, improved-regular, handled-regular}
+use Rattle.keys.proofs.KeyLaws.{keys-few, improved-keys, improved-regular}
 use Rattle.index.specs.Index.{indexWords, linksOf, ranksOf, markOf, keysFor, Indexed, Empty, Keyed, Kept, markedFor, DoubtKept}
 use Rattle.ranking.proofs.Parts.{part-zeros, length-part, part-set, put, length-put, put-same, put-before, put-behind, word-behind}
 use Rattle.index.proofs.CoverLaws.{doubt-same, doubt-on, doubt-put, doubt-marked}
@@ -100,7 +101,7 @@ kept-on ix mid new p q = record { links = q .links ∙ p .links; ranks = q .rank
 
 module _ (keys : List ℕ) where
   abbrev Regular : List Record → Type 0
-  Regular rs = (j : ℕ) → j < length rs → regularOf keys (recordIn rs j) ≡ true
+  Regular rs = (j : ℕ) → j < length rs → regularOf keys (recordIn rs j .item) ≡ true
 
   -- words with the same mark
   keyed-same : (ix new ls : List ℕ) (rs : List Record) → length new ≡ indexWords → markOf new ≡ markOf ix → Keyed keys ix ls rs → Keyed keys new ls rs
@@ -123,24 +124,24 @@ module _ (keys : List ℕ) where
   pub indexed-ready : (ix ls : List ℕ) (rs : List Record) → Indexed keys ix ls rs → Ready ls
   indexed-ready ix ls rs I = keyed-ready ix ls rs (keyed-of ix ls rs I)
 
-  pub keys-within : (x : Record) (ks : List ℕ) → ks ≡ keysOf keys x → Within 2048 ks
+  pub keys-within : (x : ChartItem) (ks : List ℕ) → ks ≡ keysOf keys x → Within 2048 ks
   keys-within x ks e i h = rw e (keys-few keys x i)
 
   -- the lists with a record more, and the mark where it is irregular
-  pub list-marked : (ix ls new ks v : List ℕ) (n : ℕ) (x : Record) (t : Bool) → ks ≡ keysOf keys x → new ≡ enteredAll ls (5 * n) ks → t ≡ regularOf keys x → v ≡ cond t ix (set ix 12423 1)
+  pub list-marked : (ix ls new ks v : List ℕ) (n : ℕ) (x : ChartItem) (t : Bool) → ks ≡ keysOf keys x → new ≡ enteredAll ls (5 * n) ks → t ≡ regularOf keys x → v ≡ cond t ix (set ix 12423 1)
       → (new ≡ enteredAll ls (5 * n) (keysOf keys x)) × (v ≡ markedFor keys ix x)
   unfolding markedFor
   list-marked ix ls new ks v n x t e q r p = (q ∙ ap (enteredAll ls (5 * n)) e, p ∙ ap (λ (b : Bool). cond b ix (set ix 12423 1)) r)
 
   -- ---- one record more
-  regular-more : (rs : List Record) (x : Record) → regularOf keys x ≡ true → Regular rs → Regular (rs ++ (x ∷ []))
+  regular-more : (rs : List Record) (x : Record) → regularOf keys (x .item) ≡ true → Regular rs → Regular (rs ++ (x ∷ []))
   regular-more rs x t R j l = go (decLt j (length rs))
     where
-      go : Dec (j < length rs) → regularOf keys (recordIn (rs ++ (x ∷ [])) j) ≡ true
-      go (yes h) = ap (regularOf keys) (List·getD-append rs (x ∷ []) noRecord j h) ∙ R j h
-      go (no h) = ap (regularOf keys) (getD-at rs x [] noRecord j (omega (arith, length-append rs (x ∷ [])))) ∙ t
+      go : Dec (j < length rs) → regularOf keys (recordIn (rs ++ (x ∷ [])) j .item) ≡ true
+      go (yes h) = ap (λ (z : Record). regularOf keys (z .item)) (List·getD-append rs (x ∷ []) noRecord j h) ∙ R j h
+      go (no h) = ap (λ (z : Record). regularOf keys (z .item)) (getD-at rs x [] noRecord j (omega (arith, length-append rs (x ∷ [])))) ∙ t
 
-  marked-size : (ix : List ℕ) (x : Record) → length (markedFor keys ix x) ≡ length ix
+  marked-size : (ix : List ℕ) (x : ChartItem) → length (markedFor keys ix x) ≡ length ix
   unfolding markedFor
   marked-size ix x = go (regularOf keys x)
     where
@@ -149,7 +150,7 @@ module _ (keys : List ℕ) where
       go false = length-set ix 12423 1
 
   -- links and ranking are not touched by the mark, nor is the last word
-  marked-kept : (ix : List ℕ) (x : Record) → Kept ix (markedFor keys ix x)
+  marked-kept : (ix : List ℕ) (x : ChartItem) → Kept ix (markedFor keys ix x)
   unfolding markedFor
   marked-kept ix x = go (regularOf keys x)
     where
@@ -157,7 +158,7 @@ module _ (keys : List ℕ) where
       go true = kept-same ix
       go false = record { links = part-set 0 8192 12423 1 ix (omega arith); ranks = part-set 8192 4231 12423 1 ix (omega arith) }
 
-  doubt-more : (ix : List ℕ) (x : Record) → DoubtKept ix (markedFor keys ix x)
+  doubt-more : (ix : List ℕ) (x : ChartItem) → DoubtKept ix (markedFor keys ix x)
   unfolding markedFor
   doubt-more ix x = go (regularOf keys x)
     where
@@ -166,31 +167,31 @@ module _ (keys : List ℕ) where
       go false = doubt-marked ix 1
 
   module _ (ix ls : List ℕ) (n : ℕ) (x : Record) (rs : List Record) (K : Keyed keys ix ls rs) (e : n ≡ length rs) (h : n < 4096) where
-    more-listed : Listed (enteredAll ls (5 * n) (keysOf keys x)) (keysFor keys (rs ++ (x ∷ [])))
+    more-listed : Listed (enteredAll ls (5 * n) (keysOf keys (x .item))) (keysFor keys (rs ++ (x ∷ [])))
     more-listed =
         rw (keys-more keys rs x)
-        (listed-entered-all ls (keysFor keys rs) (5 * n) (keysOf keys x) (K .listed) (omega (arith, keys-length keys rs)) (omega arith) (keys-within x (keysOf keys x) refl)
-        (keys-five keys x))
+        (listed-entered-all ls (keysFor keys rs) (5 * n) (keysOf keys (x .item)) (K .listed) (omega (arith, keys-length keys rs)) (omega arith) (keys-within (x .item) (keysOf keys (x .item)) refl)
+        (keys-five keys (x .item)))
 
-    more-regular : markOf (markedFor keys ix x) ≡ 0 → Regular (rs ++ (x ∷ []))
+    more-regular : markOf (markedFor keys ix (x .item)) ≡ 0 → Regular (rs ++ (x ∷ []))
     unfolding markedFor
-    more-regular = go (regularOf keys x) refl
+    more-regular = go (regularOf keys (x .item)) refl
       where
-        go : (t : Bool) → regularOf keys x ≡ t → markOf (cond t ix (set ix 12423 1)) ≡ 0 → Regular (rs ++ (x ∷ []))
+        go : (t : Bool) → regularOf keys (x .item) ≡ t → markOf (cond t ix (set ix 12423 1)) ≡ 0 → Regular (rs ++ (x ∷ []))
         go true p z = regular-more rs x p (K .regular z)
         go false p z = let l = K .size in absurd (omega (arith, getD-set-same ix 12423 1 0 (omega arith)))
 
-    pub keyed-more : Keyed keys (markedFor keys ix x) (enteredAll ls (5 * n) (keysOf keys x)) (rs ++ (x ∷ []))
-    keyed-more = record { size = marked-size ix x ∙ K .size; listed = more-listed; regular = more-regular }
+    pub keyed-more : Keyed keys (markedFor keys ix (x .item)) (enteredAll ls (5 * n) (keysOf keys (x .item))) (rs ++ (x ∷ []))
+    keyed-more = record { size = marked-size ix (x .item) ∙ K .size; listed = more-listed; regular = more-regular }
 
   -- the first records of words, one more of them
-  pub keyed-next : (w ix ls next new : List ℕ) (j : ℕ) (x : Record) → Keyed keys ix ls (recordsAt w j) → j < 4096 → x ≡ recordAt w j
+  pub keyed-next : (w ix ls next new : List ℕ) (j : ℕ) (x : ChartItem) → Keyed keys ix ls (recordsAt w j) → j < 4096 → x ≡ recordAt w j .item
       → (new ≡ enteredAll ls (5 * j) (keysOf keys x)) × (next ≡ markedFor keys ix x) → Keyed keys next new (recordsAt w (j + 1)) × Kept ix next
   unfolding recordsAt
   keyed-next w ix ls next new j x K h e q = (
     rw add-one
         (subst (λ (v : List ℕ). Keyed keys v new (recordsAt w j ++ (recordAt w j ∷ []))) (sym (q .1 ∙ ap (markedFor keys ix) e))
-        (subst (λ (v : List ℕ). Keyed keys (markedFor keys ix (recordAt w j)) v (recordsAt w j ++ (recordAt w j ∷ []))) (sym (q .0 ∙ ap (λ (y : Record). enteredAll ls (5 * j) (keysOf keys y)) e))
+        (subst (λ (v : List ℕ). Keyed keys (markedFor keys ix (recordAt w j .item)) v (recordsAt w j ++ (recordAt w j ∷ []))) (sym (q .0 ∙ ap (λ (y : ChartItem). enteredAll ls (5 * j) (keysOf keys y)) e))
         (keyed-more ix ls j (recordAt w j) (recordsAt w j) K (sym (length-records w j)) h))),
     subst (Kept ix) (sym (q .1)) (marked-kept ix x),
   )
@@ -244,15 +245,15 @@ module _ (ix links : List ℕ) (rs : List Record) (e : Empty ix) (c : Chained li
 module _ (keys ix ls listed new links ranks : List ℕ) (n h : ℕ) (x : Record) (rs : List Record) (I : Indexed keys ix ls rs) (e : n ≡ length rs) (f : n < 4096) where
   -- what listing the record leaves: the lists, and the words with the mark
   abbrev Lists : Type 0
-  Lists = (new ≡ enteredAll ls (5 * n) (keysOf keys x)) × (listed ≡ markedFor keys ix x)
+  Lists = (new ≡ enteredAll ls (5 * n) (keysOf keys (x .item))) × (listed ≡ markedFor keys ix (x .item))
 
   keyed : Lists → Keyed keys listed new (rs ++ (x ∷ []))
   keyed o = rw (o .0, o .1) (keyed-more keys ix ls n x rs (keyed-of keys ix ls rs I) e f)
 
   kept : Lists → Kept ix listed
-  kept o = rw (o .1) (marked-kept keys ix x)
+  kept o = rw (o .1) (marked-kept keys ix (x .item))
 
-  longer : Kept ix listed → h ≡ hashOf x → links ≡ linked (linksOf listed) n h → Chained links (rs ++ (x ∷ []))
+  longer : Kept ix listed → h ≡ hashOf (x .item) → links ≡ linked (linksOf listed) n h → Chained links (rs ++ (x ∷ []))
   longer k p q =
       subst (λ (l : List ℕ). Chained l (rs ++ (x ∷ []))) (sym (q ∙ ap (λ i. linked (linksOf listed) i h) e))
       (chained-more (linksOf listed) rs x h (rw (k .links) (I .chained)) p (omega arith))
@@ -261,13 +262,13 @@ module _ (keys ix ls listed new links ranks : List ℕ) (n h : ℕ) (x : Record)
   not-not true = refl
   not-not false = refl
 
-  order : Replaces n (orderOf (eqb (x .handled) 0) n (x .count)) rs (rs ++ (x ∷ []))
+  order : Replaces n (orderOf (eqb (x .handled) 0) n (x .item .count)) rs (rs ++ (x ∷ []))
   order =
-      subst (λ k. Replaces k (orderOf (eqb (x .handled) 0) k (x .count)) rs (rs ++ (x ∷ []))) (sym e)
-      (subst (λ (t : Bool). Replaces (length rs) (orderOf t (length rs) (x .count)) rs (rs ++ (x ∷ []))) (not-not (eqb (x .handled) 0)) (appended-order rs x))
+      subst (λ k. Replaces k (orderOf (eqb (x .handled) 0) k (x .item .count)) rs (rs ++ (x ∷ []))) (sym e)
+      (subst (λ (t : Bool). Replaces (length rs) (orderOf t (length rs) (x .item .count)) rs (rs ++ (x ∷ []))) (not-not (eqb (x .handled) 0)) (appended-order rs x))
 
-  pub entered : Lists → h ≡ hashOf x → links ≡ linked (linksOf listed) n h
-      → (Ranked (ranksOf (put 0 8192 listed links)) rs → orderAt rs n ≡ 0 → Replaces n (orderOf (eqb (x .handled) 0) n (x .count)) rs (rs ++ (x ∷ [])) → Ranked ranks (rs ++ (x ∷ [])))
+  pub entered : Lists → h ≡ hashOf (x .item) → links ≡ linked (linksOf listed) n h
+      → (Ranked (ranksOf (put 0 8192 listed links)) rs → orderAt rs n ≡ 0 → Replaces n (orderOf (eqb (x .handled) 0) n (x .item .count)) rs (rs ++ (x ∷ [])) → Ranked ranks (rs ++ (x ∷ [])))
       → Indexed keys (put 8192 4231 (put 0 8192 listed links) ranks) new (rs ++ (x ∷ []))
   entered o p q r =
       let K = keyed o in
@@ -279,25 +280,25 @@ module _ (keys ix ls listed new links ranks : List ℕ) (n h : ℕ) (x : Record)
   entered-doubt o p q =
       let s = keyed o .size in
       doubt-on ix listed (put 8192 4231 (put 0 8192 listed links) ranks)
-      (rw (o .1) (doubt-more keys ix x))
+      (rw (o .1) (doubt-more keys ix (x .item)))
       (doubt-on listed (put 0 8192 listed links) (put 8192 4231 (put 0 8192 listed links) ranks) (doubt-put 0 8192 listed links s p (omega arith))
       (doubt-put 8192 4231 (put 0 8192 listed links) ranks (links-size listed links s p) q (omega arith)))
 
 -- ---- a record that is improved or handled
 module _ (ix ls ranks : List ℕ) (j : ℕ) (keys : List ℕ) (rs : List Record) (I : Indexed keys ix ls rs) (l : j < length rs) where
   -- a record with the same keys, as regular as the one in whose place it comes
-  keyed-set : (y : Record) → keysOf keys y ≡ keysOf keys (recordIn rs j) → regularOf keys y ≡ regularOf keys (recordIn rs j) → Keyed keys ix ls (set rs j y)
+  keyed-set : (y : Record) → keysOf keys (y .item) ≡ keysOf keys (recordIn rs j .item) → regularOf keys (y .item) ≡ regularOf keys (recordIn rs j .item) → Keyed keys ix ls (set rs j y)
   keyed-set y p q = record {
     size = I .size;
     listed = rw (keys-set keys rs j y p) (I .listed);
     regular = λ z k h. at z k (omega (arith, length-set rs j y)) (ℕ-discrete k j);
   }
     where
-      at : markOf ix ≡ 0 → (k : ℕ) → k < length rs → Dec (k ≡ j) → regularOf keys (recordIn (set rs j y) k) ≡ true
-      at z k h (yes e) = rw e (ap (regularOf keys) (getD-set-same rs j y noRecord l) ∙ q ∙ I .regular z j l)
-      at z k h (no e) = ap (regularOf keys) (getD-set-other rs j k y noRecord e) ∙ I .regular z k h
+      at : markOf ix ≡ 0 → (k : ℕ) → k < length rs → Dec (k ≡ j) → regularOf keys (recordIn (set rs j y) k .item) ≡ true
+      at z k h (yes e) = rw e (ap (λ (z : Record). regularOf keys (z .item)) (getD-set-same rs j y noRecord l) ∙ q ∙ I .regular z j l)
+      at z k h (no e) = ap (λ (z : Record). regularOf keys (z .item)) (getD-set-other rs j k y noRecord e) ∙ I .regular z k h
 
-  pub recounted : (x : Record) (old n : ℕ) → isHandled (recordIn rs j) ≡ false → old ≡ recordIn rs j .count → n ≡ x .count
+  pub recounted : (x : Record) (old n : ℕ) → isHandled (recordIn rs j) ≡ false → old ≡ recordIn rs j .item .count → n ≡ x .item .count
       → (Ranked (ranksOf ix) rs → orderAt rs j ≡ orderOf true j old → Replaces j (orderOf true j n) rs (set rs j (improved (recordIn rs j) x)) → Ranked ranks (set rs j (improved (recordIn rs j) x)))
       → Indexed keys (put 8192 4231 ix ranks) ls (set rs j (improved (recordIn rs j) x))
   recounted x old n h o e f =
@@ -309,7 +310,7 @@ module _ (ix ls ranks : List ℕ) (j : ℕ) (keys : List ℕ) (rs : List Record)
   handled-by : Ranked ranks (set rs j (handledNow (recordIn rs j))) → Indexed keys (put 8192 4231 ix ranks) ls (set rs j (handledNow (recordIn rs j)))
   handled-by r =
       let y = recordIn rs j in
-      indexed-ranks keys ix ranks ls (set rs j (handledNow y)) (keyed-set (handledNow y) (handled-keys keys y) (handled-regular keys y)) (chained-handled (linksOf ix) rs j (I .chained)) r
+      indexed-ranks keys ix ranks ls (set rs j (handledNow y)) (keyed-set (handledNow y) refl refl) (chained-handled (linksOf ix) rs j (I .chained)) r
 
 -- ---- a record is taken, or none: then the ranking may be made anew
 pub taken-by : (keys ix ls ranks : List ℕ) (rs : List Record) (f : Found) → f ≡ leastWaiting rs (length rs) → Ranked ranks (takenFrom rs f) → Indexed keys ix ls rs

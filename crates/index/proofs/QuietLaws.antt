@@ -1,36 +1,31 @@
 -- Quiet records by their words, and the ways of a cursor that skims over them.
 use Prim.Native.Nat.{ℕ, _+_, _-_, _*_, _/_, _≤_, _<_}
-use mathlib.Core.Path.{_≡_, refl, sym, ap, _∙_}
+use mathlib.Core.Path.{_≡_, sym, ap, _∙_}
 use mathlib.Core.List.{List, [], _∷_}
 use mathlib.Core.Bool.{Bool, true, false}
-use native.Mathlib.Omega.{arith}
-use lib.ListN.{length, getD}
+use lib.ListN.{getD}
 use Rattle.masks.specs.Masks.{disjoint}
-use Rattle.records.specs.Words.{itemCount, fieldAt, recordAt}
-use Rattle.records.proofs.WordLaws.{edges-of, handled-yes, handled-no}
+use Rattle.agenda.specs.Records.{isHandled}
+use Rattle.records.specs.Words.{recordAt}
 use Rattle.lists.specs.Cursors.{Skims, goes, SkimsAll}
 use Rattle.lists.proofs.ListLaws.{five}
 use Rattle.index.specs.Quiet.{quietIn}
 
-word-at : (w : List ℕ) (k i : ℕ) → getD w (2 + 16 * k + i) 0 ≡ fieldAt w k i
-unfolding fieldAt
-word-at w k i = refl
-
-module _ (w : List ℕ) (edges k : ℕ) (d : Bool) (is : d ≡ disjoint edges (getD w (2 + 16 * k + 3) 0)) where
-  told : disjoint edges (recordAt w k .edges) ≡ d
-  told = ap (disjoint edges) (edges-of w k ∙ sym (word-at w k 3)) ∙ sym is
+module _ (w : List ℕ) (edges k e : ℕ) (d : Bool) (at : e ≡ recordAt w k .item .edges) (is : d ≡ disjoint edges e) where
+  told : disjoint edges (recordAt w k .item .edges) ≡ d
+  told = ap (disjoint edges) (sym at) ∙ sym is
 
   pub quiet-edges : d ≡ false → true ≡ quietIn w edges k
   unfolding quietIn
   quiet-edges h = rw (told ∙ h)
 
-  pub quiet-waits : d ≡ true → getD w (2 + 16 * k + 5) 0 ≡ 0 → true ≡ quietIn w edges k
+  pub quiet-waits : d ≡ true → isHandled (recordAt w k) ≡ false → true ≡ quietIn w edges k
   unfolding quietIn
-  quiet-waits h z = rw (told ∙ h, handled-no w k _ (word-at w k 5) z)
+  quiet-waits h z = rw (told ∙ h, z)
 
-  pub quiet-not : d ≡ true → (getD w (2 + 16 * k + 5) 0 ≡ 0 → ⊥) → false ≡ quietIn w edges k
+  pub quiet-not : d ≡ true → isHandled (recordAt w k) ≡ true → false ≡ quietIn w edges k
   unfolding quietIn
-  quiet-not h z = rw (told ∙ h, handled-yes w k _ (word-at w k 5) z)
+  quiet-not h z = rw (told ∙ h, z)
 
 -- a turn of the loop
 pub skim-on : (quiet : ℕ → Bool) (ws : List ℕ) (n c d r : ℕ) (b : Bool) → Skims quiet ws n c d → 0 < d → d ≤ 5 * n → b ≡ quiet ((d - 1) / 5) → b ≡ true → r ≡ getD ws (4097 + d) 0 → Skims quiet ws n c r

@@ -4,6 +4,7 @@ use mathlib.Core.List.{List, [], _∷_, _++_}
 use mathlib.Core.Path.{_≡_}
 use Prim.Native.Nat.{ℕ, _<_}
 use lib.ListN.{length, getD, take, drop, set}
+use Rattle.agenda.specs.declared.ChartItem.{ChartItem}
 use Rattle.agenda.specs.declared.Record.{Record}
 use Rattle.agenda.specs.Consequences.{recordIn}
 use Rattle.chains.specs.Chains.{Chained}
@@ -35,7 +36,7 @@ doubtOf ix = getD ix 12424 0
 unfoldable pub keysFor : List ℕ → List Record → List ℕ
 unfolding keysOf
 keysFor keys [] = []
-keysFor keys (x ∷ rs) = keysOf keys x ++ keysFor keys rs
+keysFor keys (x ∷ rs) = keysOf keys (x .item) ++ keysFor keys rs
 
 -- each part is the index of the records that it is named for; ls has the lists
 pub record Indexed (keys ix ls : List ℕ) (rs : List Record) : Type 0 where
@@ -43,7 +44,7 @@ pub record Indexed (keys ix ls : List ℕ) (rs : List Record) : Type 0 where
   pub chained : Chained (linksOf ix) rs
   pub ranked : Ranked (ranksOf ix) rs
   pub listed : Listed ls (keysFor keys rs)
-  pub regular : markOf ix ≡ 0 → (j : ℕ) → j < length rs → regularOf keys (recordIn rs j) ≡ true
+  pub regular : markOf ix ≡ 0 → (j : ℕ) → j < length rs → regularOf keys (recordIn rs j .item) ≡ true
 
 -- words that are all 0: the indexes of no records
 pub record Empty (ix : List ℕ) : Type 0 where
@@ -54,22 +55,22 @@ pub record Empty (ix : List ℕ) : Type 0 where
 pub record Keyed (keys ix ls : List ℕ) (rs : List Record) : Type 0 where
   pub size : length ix ≡ indexWords
   pub listed : Listed ls (keysFor keys rs)
-  pub regular : markOf ix ≡ 0 → (j : ℕ) → j < length rs → regularOf keys (recordIn rs j) ≡ true
+  pub regular : markOf ix ≡ 0 → (j : ℕ) → j < length rs → regularOf keys (recordIn rs j .item) ≡ true
 
 -- the links and the ranking are as they were
 pub record Kept (ix new : List ℕ) : Type 0 where
   pub links : linksOf new ≡ linksOf ix
   pub ranks : ranksOf new ≡ ranksOf ix
 
--- marked where the record x, which comes, is irregular
-unfoldable pub markedFor : List ℕ → List ℕ → Record → List ℕ
+-- marked where the item x, which comes, is irregular
+unfoldable pub markedFor : List ℕ → List ℕ → ChartItem → List ℕ
 unfolding regularOf
 markedFor keys ix x = cond (regularOf keys x) ix (set ix 12423 1)
 
 -- ---- the last word on its own
 -- where it is 0, each record covers its open graph nodes
 pub record Covered (g h ix : List ℕ) (rs : List Record) : Type 0 where
-  pub each : doubtOf ix ≡ 0 → (j : ℕ) → j < length rs → Covering g h (recordIn rs j)
+  pub each : doubtOf ix ≡ 0 → (j : ℕ) → j < length rs → Covering g h (recordIn rs j .item)
 
 -- it is as it was
 pub record DoubtKept (ix new : List ℕ) : Type 0 where

@@ -9,4 +9,4 @@ use Rattle.records.specs.Words.{recordAt}
 -- the record at place k has one of the edges, or it is not handled
 unfoldable pub quietIn : List ℕ → ℕ → ℕ → Bool
 unfolding disjoint recordAt
-quietIn w edges k = cond (disjoint edges (recordAt w k .edges)) (cond (isHandled (recordAt w k)) false true) true
+quietIn w edges k = cond (disjoint edges (recordAt w k .item .edges)) (cond (isHandled (recordAt w k)) false true) true

@@ -12,7 +12,7 @@ ghost use Rattle.agenda.specs.declared.Found.the-variants.{At, Nowhere};
 ghost use Rattle.agenda.specs.Records.{isHandled};
 ghost use Rattle.agenda.specs.Consequences.{recordIn};
 ghost use Rattle.agenda.specs.Steps.{leastWaiting, improved, placed};
-ghost use Rattle.records.specs.Words.{Fits, ofWords, capacity, itemCount, chartOf, improvedAt, appendedTo, addedTo};
+ghost use Rattle.records.specs.Words.{Fits, capacity, itemCount, chartOf, improvedAt, appendedTo, addedTo};
 ghost use Rattle.chains.specs.Chains.{hashOf};
 ghost use Rattle.ranking.specs.Ranking.{Ranked, takenFrom};
 ghost use Rattle.keys.specs.Keys.{keysOf};
@@ -24,7 +24,9 @@ ghost use Rattle.lists.specs.Lists.{Ready, Unlisted, enteredAll};
 ghost use Rattle.lists.specs.Cursors.{Skims, SkimsAll};
 ghost use Rattle.index.specs.Quiet.{quietIn};
 ghost use Rattle.index.specs.Index.{indexWords, ranksOf, doubtOf, Indexed, Empty, Keyed, Kept, markedFor, Covered, DoubtKept};
+use agenda::ChartItem;
 use agenda::Found;
+use agenda::Record;
 
 // where the links end and the ranking starts
 const RANKS: usize = 8192;
@@ -44,10 +46,10 @@ fn mark(index: &mut [u32], regular: bool)
     index[MARK] = 1;
 }
 
-// Record n, one more than there are, is that of the words x: it comes on the lists of its keys.
-fn list_many(keys: &[u32; 2240], lists: &mut [u16], index: &mut [u32], n: u64, x: &[u64])
-    requires { ⌜ (length (now index) ≡ indexWords) × Ready (now lists) × (n < 4096) × (length (now x) ≡ 16) ⌝ }
-    ensures { λ r. ⌜ (now (lists .exit) ≡ enteredAll (now (lists .entry)) (5 * n) (keysOf (now (keys .entry)) (ofWords (now (x .entry))))) × (now (index .exit) ≡ markedFor (now (keys .entry)) (now (index .entry)) (ofWords (now (x .entry)))) ⌝ }
+// Record n, one more than there are, is of the item x: it comes on the lists of its keys.
+fn list_many(keys: &[u32; 2240], lists: &mut [u16], index: &mut [u32], n: u64, x: ChartItem)
+    requires { ⌜ (length (now index) ≡ indexWords) × Ready (now lists) × (n < 4096) ⌝ }
+    ensures { λ r. ⌜ (now (lists .exit) ≡ enteredAll (now (lists .entry)) (5 * n) (keysOf (now (keys .entry)) x)) × (now (index .exit) ≡ markedFor (now (keys .entry)) (now (index .entry)) x) ⌝ }
 {
     let listing = pivots::listing(keys, x);
     let own = listing.keys;
@@ -56,9 +58,9 @@ fn list_many(keys: &[u32; 2240], lists: &mut [u16], index: &mut [u32], n: u64, x
 }
 
 // The same; most records have one key, which comes without an array.
-fn list(keys: &[u32; 2240], lists: &mut [u16], index: &mut [u32], n: u64, x: &[u64])
-    requires { ⌜ (length (now index) ≡ indexWords) × Ready (now lists) × (n < 4096) × (length (now x) ≡ 16) ⌝ }
-    ensures { λ r. ⌜ (now (lists .exit) ≡ enteredAll (now (lists .entry)) (5 * n) (keysOf (now (keys .entry)) (ofWords (now (x .entry))))) × (now (index .exit) ≡ markedFor (now (keys .entry)) (now (index .entry)) (ofWords (now (x .entry)))) ⌝ }
+fn list(keys: &[u32; 2240], lists: &mut [u16], index: &mut [u32], n: u64, x: ChartItem)
+    requires { ⌜ (length (now index) ≡ indexWords) × Ready (now lists) × (n < 4096) ⌝ }
+    ensures { λ r. ⌜ (now (lists .exit) ≡ enteredAll (now (lists .entry)) (5 * n) (keysOf (now (keys .entry)) x)) × (now (index .exit) ≡ markedFor (now (keys .entry)) (now (index .entry)) x) ⌝ }
 {
     let own = pivots::entry(keys, x);
     if !own.single {
@@ -77,8 +79,7 @@ fn list_all(keys: &[u32; 2240], chart: &[u64], lists: &mut [u16], index: &mut [u
     let n = records::item_count(chart);
     let mut j = 0;
     while j < n {
-        let at = (2 + 16 * j) as usize;
-        list_many(keys, lists, index, j, &chart[at..at + 16]);
+        list_many(keys, lists, index, j, records::item_at(chart, j));
         j += 1;
     }
 }
@@ -98,8 +99,7 @@ fn cover_all(
     let n = records::item_count(chart);
     let mut j = 0;
     while j < n {
-        let at = (2 + 16 * j) as usize;
-        if !rules::coverage::covers(g, h, plans, graph, &chart[at..at + 16]) {
+        if !rules::coverage::covers(g, h, plans, graph, records::item_at(chart, j)) {
             index[DOUBT] = 1;
             return;
         }
@@ -140,11 +140,10 @@ pub fn quiet(chart: &[u64], edges: u64, k: u64) -> bool
     requires { ⌜ (k < itemCount (now chart)) × (k < 4096) ⌝ }
     ensures { λ r. ⌜ r ≡ quietIn (now (chart .entry)) edges k ⌝ }
 {
-    let own = chart[(2 + 16 * k + 3) as usize];
-    if !masks::disjoint(edges, own) {
+    if !masks::disjoint(edges, records::edges_at(chart, k)) {
         return true;
     }
-    if chart[(2 + 16 * k + 5) as usize] == 0 {
+    if !records::is_handled(chart, k) {
         return true;
     }
     false
@@ -203,38 +202,40 @@ pub fn sure(index: &[u32]) -> bool
     index[DOUBT] == 0
 }
 
-// Record n, one more than there are, is that of the words x.
-fn enter(keys: &[u32; 2240], lists: &mut [u16], index: &mut [u32], n: u64, x: &[u64], h: u64)
-    requires { ⌜ (length (now index) ≡ indexWords) × Ready (now lists) × (n < 4096) × (length (now x) ≡ 16) × (h ≡ hashOf (ofWords (now x))) × (h < 4294967296) ⌝ }
-    ensures { λ r. ⌜ ((rs : List Record) → Indexed (now (keys .entry)) (now (index .entry)) (now (lists .entry)) rs → n ≡ length rs → Indexed (now (keys .entry)) (now (index .exit)) (now (lists .exit)) (rs ++ (ofWords (now (x .entry)) ∷ [])) × DoubtKept (now (index .entry)) (now (index .exit))) ⌝ }
+// Record n, one more than there are, is x.
+fn enter(keys: &[u32; 2240], lists: &mut [u16], index: &mut [u32], n: u64, x: Record, h: u64)
+    requires { ⌜ (length (now index) ≡ indexWords) × Ready (now lists) × (n < 4096) × (h ≡ hashOf (x .item)) × (h < 4294967296) ⌝ }
+    ensures { λ r. ⌜ ((rs : List Record) → Indexed (now (keys .entry)) (now (index .entry)) (now (lists .entry)) rs → n ≡ length rs → Indexed (now (keys .entry)) (now (index .exit)) (now (lists .exit)) (rs ++ (x ∷ [])) × DoubtKept (now (index .entry)) (now (index .exit))) ⌝ }
 {
-    list(keys, lists, index, n, x);
+    let item = x.item;
+    list(keys, lists, index, n, item);
     chains::link(&mut index[0..RANKS], n, h);
-    ranking::place(&mut index[RANKS..MARK], n, x[5] == 0, x[4]);
+    ranking::place(&mut index[RANKS..MARK], n, x.handled == 0, item.count);
 }
 
 // Record j, which waits with the count `old`, has the count of x.
 fn recount(index: &mut [u32], j: u64, old: u64, count: u64)
     requires { ⌜ (length (now index) ≡ indexWords) × (j < 4096) ⌝ }
-    ensures { λ r. ⌜ ((keys ls : List ℕ) (rs : List Record) (x : Record) → Indexed keys (now (index .entry)) ls rs → j < length rs → isHandled (recordIn rs j) ≡ false → old ≡ recordIn rs j .count → count ≡ x .count → Indexed keys (now (index .exit)) ls (set rs j (improved (recordIn rs j) x))) × DoubtKept (now (index .entry)) (now (index .exit)) ⌝ }
+    ensures { λ r. ⌜ ((keys ls : List ℕ) (rs : List Record) (x : Record) → Indexed keys (now (index .entry)) ls rs → j < length rs → isHandled (recordIn rs j) ≡ false → old ≡ recordIn rs j .item .count → count ≡ x .item .count → Indexed keys (now (index .exit)) ls (set rs j (improved (recordIn rs j) x))) × DoubtKept (now (index .entry)) (now (index .exit)) ⌝ }
 {
     ranking::recount(&mut index[RANKS..MARK], j, old, count);
 }
 
 // The record at place j, found again with the item of x, takes the count and the partners of x if that is better.
-fn again(chart: &mut [u64], index: &mut [u32], j: u64, x: &[u64])
-    requires { ⌜ (length (now index) ≡ indexWords) × (j < itemCount (now chart)) × (j < 4096) × (length (now x) ≡ 16) ⌝ }
-    ensures { λ r. ⌜ (now (chart .exit) ≡ improvedAt (now (chart .entry)) j (ofWords (now (x .entry)))) × ((keys ls : List ℕ) → Indexed keys (now (index .entry)) ls (chartOf (now (chart .entry)) .records) → Indexed keys (now (index .exit)) ls (placed (capacity (now (chart .entry))) (ofWords (now (x .entry))) (chartOf (now (chart .entry))) (At j) .records)) × DoubtKept (now (index .entry)) (now (index .exit)) ⌝ }
+fn again(chart: &mut [u64], index: &mut [u32], j: u64, x: Record)
+    requires { ⌜ (length (now index) ≡ indexWords) × (j < itemCount (now chart)) × (j < 4096) ⌝ }
+    ensures { λ r. ⌜ (now (chart .exit) ≡ improvedAt (now (chart .entry)) j x) × ((keys ls : List ℕ) → Indexed keys (now (index .entry)) ls (chartOf (now (chart .entry)) .records) → Indexed keys (now (index .exit)) ls (placed (capacity (now (chart .entry))) x (chartOf (now (chart .entry))) (At j) .records)) × DoubtKept (now (index .entry)) (now (index .exit)) ⌝ }
 {
-    if records::field(chart, j, 5) != 0 {
+    if records::is_handled(chart, j) {
         return;
     }
-    let old = records::field(chart, j, 4);
-    if old <= x[4] {
+    let item = x.item;
+    let old = records::count_at(chart, j);
+    if old <= item.count {
         return;
     }
-    recount(index, j, old, x[4]);
-    records::improve_words(chart, j, x);
+    recount(index, j, old, item.count);
+    records::improve(chart, j, x);
 }
 
 // The record x behind the others; where no place is left the chart is marked.
@@ -243,37 +244,32 @@ fn behind(
     chart: &mut [u64],
     lists: &mut [u16],
     index: &mut [u32],
-    x: &[u64],
+    x: Record,
     h: u64,
 )
-    requires { ⌜ Indexed (now keys) (now index) (now lists) (chartOf (now chart) .records) × (capacity (now chart) ≤ 4096) × (length (now x) ≡ 16) × (h ≡ hashOf (ofWords (now x))) × (h < 4294967296) ⌝ }
-    ensures { λ r. ⌜ (now (chart .exit) ≡ appendedTo (now (chart .entry)) (itemCount (now (chart .entry))) (ofWords (now (x .entry)))) × Indexed (now (keys .entry)) (now (index .exit)) (now (lists .exit)) (placed (capacity (now (chart .entry))) (ofWords (now (x .entry))) (chartOf (now (chart .entry))) Nowhere .records) × ((g h : List ℕ) → Covered g h (now (index .entry)) (chartOf (now (chart .entry)) .records) → (doubtOf (now (index .entry)) ≡ 0 → Covering g h (ofWords (now (x .entry)))) → Covered g h (now (index .exit)) (placed (capacity (now (chart .entry))) (ofWords (now (x .entry))) (chartOf (now (chart .entry))) Nowhere .records)) ⌝ }
+    requires { ⌜ Indexed (now keys) (now index) (now lists) (chartOf (now chart) .records) × (capacity (now chart) ≤ 4096) × (h ≡ hashOf (x .item)) × (h < 4294967296) ⌝ }
+    ensures { λ r. ⌜ (now (chart .exit) ≡ appendedTo (now (chart .entry)) (itemCount (now (chart .entry))) x) × Indexed (now (keys .entry)) (now (index .exit)) (now (lists .exit)) (placed (capacity (now (chart .entry))) x (chartOf (now (chart .entry))) Nowhere .records) × ((g h : List ℕ) → Covered g h (now (index .entry)) (chartOf (now (chart .entry)) .records) → (doubtOf (now (index .entry)) ≡ 0 → Covering g h (x .item)) → Covered g h (now (index .exit)) (placed (capacity (now (chart .entry))) x (chartOf (now (chart .entry))) Nowhere .records)) ⌝ }
 {
     let n = records::item_count(chart);
     if n < records::capacity_of(chart) {
         enter(keys, lists, index, n, x, h);
-        records::append_words(chart, n, x);
+        records::append(chart, n, x);
         return;
     }
-    records::append_words(chart, n, x);
+    records::append(chart, n, x);
 }
 
 // The record x in the chart, as `records::add` has it, with the indexes kept.
-pub fn add(
-    keys: &[u32; 2240],
-    chart: &mut [u64],
-    lists: &mut [u16],
-    index: &mut [u32],
-    x: &[u64; 16],
-)
+pub fn add(keys: &[u32; 2240], chart: &mut [u64], lists: &mut [u16], index: &mut [u32], x: Record)
     requires { ⌜ Indexed (now keys) (now index) (now lists) (chartOf (now chart) .records) × Fits (now chart) × (capacity (now chart) ≤ 4096) ⌝ }
-    ensures { λ r. ⌜ (now (chart .exit) ≡ addedTo (now (chart .entry)) (ofWords (now (x .entry)))) × Indexed (now (keys .entry)) (now (index .exit)) (now (lists .exit)) (chartOf (now (chart .exit)) .records) × ((g h : List ℕ) → Covered g h (now (index .entry)) (chartOf (now (chart .entry)) .records) → (doubtOf (now (index .entry)) ≡ 0 → Covering g h (ofWords (now (x .entry)))) → Covered g h (now (index .exit)) (chartOf (now (chart .exit)) .records)) ⌝ }
+    ensures { λ r. ⌜ (now (chart .exit) ≡ addedTo (now (chart .entry)) x) × Indexed (now (keys .entry)) (now (index .exit)) (now (lists .exit)) (chartOf (now (chart .exit)) .records) × ((g h : List ℕ) → Covered g h (now (index .entry)) (chartOf (now (chart .entry)) .records) → (doubtOf (now (index .entry)) ≡ 0 → Covering g h (x .item)) → Covered g h (now (index .exit)) (chartOf (now (chart .exit)) .records)) ⌝ }
 {
     if records::mark_of(chart) != 0 {
         return;
     }
-    let h = chains::hash(x);
-    match chains::find(chart, &index[0..RANKS], x, h) {
+    let item = x.item;
+    let h = chains::hash(item);
+    match chains::find(chart, &index[0..RANKS], item, h) {
         Found::At(j) => again(chart, index, j, x),
         Found::Nowhere => behind(keys, chart, lists, index, x, h),
     }

@@ -23,7 +23,7 @@ use Rattle.questions.proofs.WellFormedLists.{getD-build}
 use Rattle.questions.proofs.WellFormedLent.{checked-grammar-ok}
 use Rattle.joins.specs.declared.Sides.{Sides}
 use Rattle.joins.specs.Joins.{Accepted, NodesIn, someBoth, Boundary, OpenIn}
-use Rattle.joins.specs.Graphs.{nodesOf, onEdge, marksTo, marks, Indexed, EdgeSets, Group, Grouped, GraphTable, Touched}
+use Rattle.joins.specs.Graphs.{graphTableWords, nodesOf, onEdge, marksTo, marks, Indexed, EdgeSets, Group, Grouped, GraphTable, Touched}
 use Rattle.joins.proofs.Known.{graph-ok, graph-size, graph-nodes, graph-nodes-few, graph-edges-few}
 use Rattle.joins.proofs.PlanMasks.{member-none, set-next}
 use Rattle.joins.proofs.Touching.{some-same, touches-some}
@@ -156,11 +156,11 @@ group-is sets i m₀ m₁ m₂ m₃ a b c d = record {
 
 -- the words before i
 pub record GroupsTo (sets t u : List ℕ) (i : ℕ) : Type 0 where
-  pub size : length u ≡ 577
+  pub size : length u ≡ graphTableWords
   pub before : (j : ℕ) → j < i → Group sets j (getD u j 0)
   pub after : (j : ℕ) → 256 ≤ j → getD u j 0 ≡ getD t j 0
 
-pub groups-none : (sets t : List ℕ) → length t ≡ 577 → GroupsTo sets t t 0
+pub groups-none : (sets t : List ℕ) → length t ≡ graphTableWords → GroupsTo sets t t 0
 groups-none sets t size = record { size = size; before = λ j l. absurd (omega arith); after = λ j l. refl }
 
 pub groups-next : (sets t u : List ℕ) (i m : ℕ) → i < 256 → Group sets i m → GroupsTo sets t u i → GroupsTo sets t (set u i m) (i + 1)
@@ -205,8 +205,8 @@ place-in g h e label rank k a b l = rw (b, a) at l
 
 -- the edges before e and so far e itself, of which n places are in
 pub record MarkedTo (g h t : List ℕ) (e n : ℕ) : Type 0 where
-  pub size : length t ≡ 577
-  pub each : (i d : ℕ) → i < 577 → d < 64 → member (getD t i 0) d ≡ ((ltb d e && marks g h d i) || (eqb d e && marksTo h e n i))
+  pub size : length t ≡ graphTableWords
+  pub each : (i d : ℕ) → i < graphTableWords → d < 64 → member (getD t i 0) d ≡ ((ltb d e && marks g h d i) || (eqb d e && marksTo h e n i))
 
 -- one word more
 word-more : (t : List ℕ) (i e w : ℕ) (p q r : Bool) → Added (getD t i 0) e w → i < length t → (j d : ℕ) → d < 64
@@ -264,8 +264,8 @@ marked-edge g h t e n k label a b l m p = record { size = p .size; each = λ i d
     go i d (no l) true s = let q : d ≡ e = eqb-true d e s in rw (le-ltb d e (omega arith), lt-ltb d (e + 1) (omega arith), s, places, q)
     go i d (no l) false s = let q : d ≡ e → ⊥ = eqb-false d e s in rw (le-ltb d e (omega arith), le-ltb d (e + 1) (omega arith), s)
 
-pub indexed-none : (g h : List ℕ) → Indexed g h (replicate 577 0) 0
-indexed-none g h = record { size = refl; each = λ i e l f. ap (λ w. member w e) (zero-word 577 i) ∙ member-none e ∙ sym (ap (λ b. b && marks g h e i) (le-ltb e 0 (omega arith))) }
+pub indexed-none : (g h : List ℕ) → Indexed g h (replicate graphTableWords 0) 0
+indexed-none g h = record { size = refl; each = λ i e l f. ap (λ w. member w e) (zero-word graphTableWords i) ∙ member-none e ∙ sym (ap (λ b. b && marks g h e i) (le-ltb e 0 (omega arith))) }
 
 pub indexed-all : (g h t : List ℕ) (n e : ℕ) → n ≡ graphEdges h → e ≤ n → n ≤ e → Indexed g h t e → Indexed g h t (graphEdges h)
 indexed-all g h t n e a l m p = let q : graphEdges h ≡ e = omega arith in rw q p

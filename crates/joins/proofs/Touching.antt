@@ -1,8 +1,8 @@
 -- The nodes of a line as a mask, and the nodes on the edges of a set.
-use mathlib.Core.Path.{_≡_, refl, sym, ap, ap₂, _∙_}
+use mathlib.Core.Path.{_≡_, refl, sym, ap, ap₂, _∙_, subst}
 use mathlib.Core.Bool.{Bool, true, false, _&&_, _||_, not, or-false, or-assoc}
 use mathlib.Core.List.{List, [], _∷_}
-use Prim.Native.Nat.{ℕ, zero, suc, _+_, _*_, _/_, _^_, _≤_, _<_, min}
+use Prim.Native.Nat.{ℕ, zero, suc, _+_, _/_, _^_, _≤_, _<_, min}
 use native.Mathlib.Numerals.{add-one}
 use native.Mathlib.Omega.{arith}
 use lib.ListN.{length}
@@ -14,7 +14,7 @@ use Rattle.hrg.specs.Counts.{hit, occurs, tabulate}
 use Rattle.hrg.specs.Grammars.{Edge, Graph, Rule, touches, ruleOf, edgeAt}
 use Rattle.hrg.specs.Items.{below, isBoundary, isOpenAt}
 use Rattle.hrg.proofs.Sums.{sum-last, occurs-tabulate}
-use Rattle.questions.specs.Layout.{lineField, rankAt, ruleSymbol, ruleEdges, ruleExternal}
+use Rattle.questions.specs.Layout.{edgesFrom, lineField, rankAt, ruleSymbol, ruleEdges, ruleExternal}
 use Rattle.questions.specs.Abstract.{ruleFrom, grammarOf}
 use Rattle.questions.proofs.WellFormedAccepted.{rule-is, edge-is}
 use Rattle.joins.specs.declared.Sides.{Sides}
@@ -62,7 +62,14 @@ listed-next f k w m n e added before = nodes-more (tabulate k f) (tabulate (k + 
 pub listed-done : (f : ℕ → ℕ) (n k m : ℕ) → k ≤ n → n ≤ k → NodesIn m (tabulate k f) → NodesIn m (tabulate n f)
 listed-done f n k m a b here = let e : n ≡ k = omega arith in rw e here
 
+-- of the line at the place that is called so
+pub listed-at : (t : List ℕ) (p q from n m : ℕ) → p ≡ q → NodesIn m (tabulate n (λ k. lineField t p (from + k))) → NodesIn m (tabulate n (λ k. lineField t q (from + k)))
+listed-at t p q from n m e nodes = subst (λ (i : ℕ). NodesIn m (tabulate n (λ k. lineField t i (from + k)))) e nodes
+
 -- ---- one edge more
+pub sides-at : (g t : List ℕ) (base at n m : ℕ) (s : Sides) → base ≡ at → SidesOf g t base n m s → SidesOf g t at n m s
+sides-at g t base at n m s e sides = subst (λ (i : ℕ). SidesOf g t i n m s) e sides
+
 pub sides-none : (g t : List ℕ) (base m : ℕ) → SidesOf g t base 0 m (record { inside = 0; outside = 0 })
 unfolding someBoth
 sides-none g t base m = record { inside = λ x h. member-none x; outside = λ x h. member-none x }
@@ -132,7 +139,7 @@ module _ (g u : List ℕ) (base n m ext o : ℕ) (s : Sides) (P : Graph) (t : �
       ∙ ap₂ _&&_ (sides .inside x h ∙ touched (λ i. member m i) t x same)
       (ap₂ _||_ (externals .members x h) (sides .outside x h ∙ touched (λ i. not (member m i)) (λ i. not (t i)) x (λ i. ap not (same i))))
 
-pub open-rule : (g : List ℕ) (r p n m ext o : ℕ) (s : Sides) → KnownNode g r p → n ≡ ruleEdges g r → EdgesBelow g r p m → SidesOf g g (66 + 25 * r) n m s
+pub open-rule : (g : List ℕ) (r p n m ext o : ℕ) (s : Sides) → KnownNode g r p → n ≡ ruleEdges g r → EdgesBelow g r p m → SidesOf g g (edgesFrom r) n m s
     → NodesIn ext (tabulate (rankAt g (ruleSymbol g r)) (λ k. ruleExternal g r k)) → Boundary s ext o → OpenAt g r p o
 unfolding isOpenAt lineNodes ruleFrom
 open-rule g r p n m ext o s known size edges sides externals made =
@@ -140,7 +147,7 @@ open-rule g r p n m ext o s known size edges sides externals made =
     let from : R ≡ ruleFrom g r = rule-is g r (known .rule) in
     record {
       members = λ x h.
-          boundary-members g g (66 + 25 * r) n m ext o s (R .production .right) (λ i. ltb 0 (occurs i (below (R .plan) p)))
+          boundary-members g g (edgesFrom r) n m ext o s (R .production .right) (λ i. ltb 0 (occurs i (below (R .plan) p)))
           (size ∙ sym (right-edges g r (known .grammar) (known .rule)))
           (edges .members)
           (λ i l. ap (λ (R : Rule). edgeAt (R .production .right .edges) i .attachment) from ∙ ap (λ (e : Edge). e .attachment) (edge-is g r i (omega (arith, size))))

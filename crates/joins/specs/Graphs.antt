@@ -13,6 +13,10 @@ use Rattle.questions.specs.Abstract.{graphOf}
 use Rattle.joins.specs.declared.Sides.{Sides}
 use Rattle.joins.specs.Joins.{NodesIn, someBoth}
 
+-- words of the table: 256 of the groups of four edges, the external nodes, and from 257 on the edges by label and by place
+abbrev pub graphTableWords : ℕ
+graphTableWords = 577
+
 -- the nodes of graph edge e; none past the last edge
 abbrev pub nodesOf : List ℕ → List ℕ → ℕ → List ℕ
 nodesOf g h e = edgeAt (graphOf g h .edges) e .attachment
@@ -31,8 +35,8 @@ marks g h e i = marksTo h e (rankAt g (graphLabel h e)) i
 
 -- the words of a table from 257 on have the edges before n that they are words of
 pub record Indexed (g h t : List ℕ) (n : ℕ) : Type 0 where
-  pub size : length t ≡ 577
-  pub each : (i e : ℕ) → i < 577 → e < 64 → member (getD t i 0) e ≡ (ltb e n && marks g h e i)
+  pub size : length t ≡ graphTableWords
+  pub each : (i e : ℕ) → i < graphTableWords → e < 64 → member (getD t i 0) e ≡ (ltb e n && marks g h e i)
 
 -- sets has the nodes of each edge
 pub record EdgeSets (g h sets : List ℕ) : Type 0 where
@@ -44,7 +48,7 @@ pub record Group (sets : List ℕ) (i m : ℕ) : Type 0 where
 
 -- the words of the groups that have an edge; from word 256 on nothing is changed
 pub record Grouped (h sets t u : List ℕ) : Type 0 where
-  pub size : length u ≡ 577
+  pub size : length u ≡ graphTableWords
   pub each : (i : ℕ) → 4 * (i / 16) < graphEdges h → Group sets i (getD u i 0)
   pub after : (i : ℕ) → 256 ≤ i → getD u i 0 ≡ getD t i 0
 
@@ -52,7 +56,7 @@ pub record Grouped (h sets t u : List ℕ) : Type 0 where
 pub record GraphTable (g h t : List ℕ) : Type 0 where
   pub touched : (b v x : ℕ) → 4 * b < graphEdges h → v < 16 → x < 64 → member (getD t (16 * b + v) 0) x ≡ someBoth (λ k. member v k) (λ k. onEdge g h x (4 * b + k)) 4
   pub externals : NodesIn (getD t 256 0) (graphOf g h .externals)
-  pub marked : (i e : ℕ) → 257 ≤ i → i < 577 → e < 64 → member (getD t i 0) e ≡ (ltb e (graphEdges h) && marks g h e i)
+  pub marked : (i e : ℕ) → 257 ≤ i → i < graphTableWords → e < 64 → member (getD t i 0) e ≡ (ltb e (graphEdges h) && marks g h e i)
 
 -- the nodes on the edges of the set m, and on the others
 pub record Touched (g h : List ℕ) (m : ℕ) (s : Sides) : Type 0 where

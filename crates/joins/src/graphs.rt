@@ -6,7 +6,10 @@ ghost use lib.ListN.{length, replicate};
 ghost use Rattle.masks.specs.Masks.{member};
 ghost use Rattle.questions.specs.Layout.{graphEdges};
 ghost use Rattle.joins.specs.Joins.{Accepted};
-ghost use Rattle.joins.specs.Graphs.{EdgeSets, Group, Grouped, Indexed, GraphTable};
+ghost use Rattle.joins.specs.Graphs.{graphTableWords, EdgeSets, Group, Grouped, Indexed, GraphTable};
+
+// Words of the table.
+pub const GRAPH_TABLE_WORDS: usize = 577;
 
 // The nodes of each edge.
 fn edge_sets(g: &[u64], h: &[u64]) -> [u64; 64]
@@ -17,8 +20,8 @@ fn edge_sets(g: &[u64], h: &[u64]) -> [u64; 64]
     let n = layout::graph_edges(h);
     let mut e: u64 = 0;
     while e < n {
-        let rank = layout::rank_at(g, layout::field_at(h, 1 + e, 0));
-        let on = crate::listed(h, 1 + e, 1, rank);
+        let rank = layout::rank_at(g, layout::graph_label(h, e));
+        let on = crate::listed(h, layout::graph_edge_place(e), 1, rank);
         t[e as usize] = on;
         e += 1;
     }
@@ -51,7 +54,7 @@ fn group(sets: &[u64; 64], i: u64) -> u64
 
 // The words of the groups that have an edge.
 fn put_groups(h: &[u64], sets: &[u64; 64], t: &mut [u64])
-    requires { ⌜ (graphEdges (now h) ≤ 64) × (length (now t) ≡ 577) ⌝ }
+    requires { ⌜ (graphEdges (now h) ≤ 64) × (length (now t) ≡ graphTableWords) ⌝ }
     ensures { λ r. ⌜ Grouped (now (h .entry)) (now (sets .entry)) (now (t .entry)) (now (t .exit)) ⌝ }
 {
     let n = 16 * ((layout::graph_edges(h) + 3) / 4);
@@ -97,7 +100,7 @@ fn mark_edges(g: &[u64], h: &[u64], t: &mut [u64])
 
 // The table of the graph, into words that are 0.
 pub fn fill(g: &[u64], h: &[u64], t: &mut [u64])
-    requires { ⌜ Accepted (now g) (now h) × (now t ≡ replicate 577 0) ⌝ }
+    requires { ⌜ Accepted (now g) (now h) × (now t ≡ replicate graphTableWords 0) ⌝ }
     ensures { λ r. ⌜ GraphTable (now (g .entry)) (now (h .entry)) (now (t .exit)) ⌝ }
 {
     mark_edges(g, h, t);

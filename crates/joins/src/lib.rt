@@ -10,7 +10,7 @@ ghost use Rattle.hrg.specs.Counts.{tabulate};
 ghost use Rattle.hrg.specs.Grammars.{ruleOf};
 ghost use Rattle.hrg.specs.Items.{attach};
 ghost use Rattle.hrg.specs.ClosureRun.{covering, combine};
-ghost use Rattle.questions.specs.Layout.{lineField, rankAt, startSymbol, ruleSymbol, ruleNodes, ruleExternal, edgeLabel, graphExternal};
+ghost use Rattle.questions.specs.Layout.{grammarWords, lineField, rankAt, startSymbol, ruleSymbol, ruleNodes, ruleExternal, edgeLabel, graphExternal};
 ghost use Rattle.questions.specs.Checking.{checkGrammar};
 ghost use Rattle.questions.specs.Abstract.{grammarOf, graphOf};
 ghost use Rattle.joins.specs.Joins.{KnownNode, KnownEdge, Accepted, EdgesBelow, MasksBelow, NodesIn, sideWith, SidesOf, Boundary, OpenAt, OpenIn, Spans, Keeps, Holds, Plain, edgeNodes, nodesWord, openBy, BareFrom, Merges, Makes};
@@ -74,7 +74,7 @@ fn with_edge(s: Sides, here: bool, on: u64) -> Sides
 
 // The nodes on the edges of the set m, and on the others, of n edges at the places from base on of table t.
 fn nodes_by(g: &[u64], t: &[u64], base: u64, n: u64, m: u64) -> Sides
-    requires { ⌜ (base ≤ 1641) × (n ≤ 64) ⌝ }
+    requires { ⌜ (base < grammarWords) × (n ≤ 64) ⌝ }
     ensures { λ s. ⌜ SidesOf (now (g .entry)) (now (t .entry)) base n m s ⌝ }
 {
     let mut s = Sides {
@@ -104,7 +104,7 @@ fn rule_externals(g: &[u64], r: u64) -> u64
     ensures { λ m. ⌜ NodesIn m (tabulate (rankAt (now (g .entry)) (ruleSymbol (now (g .entry)) r)) (λ k. ruleExternal (now (g .entry)) r k)) ⌝ }
 {
     let rank = layout::rank_at(g, layout::rule_symbol(g, r));
-    listed(g, 65 + 25 * r, 5, rank)
+    listed(g, layout::rule_place(r), 5, rank)
 }
 
 // The open rule nodes at plan node p, where m has the edges below it.
@@ -112,7 +112,7 @@ pub fn open_at(g: &[u64], r: u64, p: u64, m: u64) -> u64
     requires { ⌜ KnownNode (now g) r p × EdgesBelow (now g) r p m ⌝ }
     ensures { λ o. ⌜ OpenAt (now (g .entry)) r p o ⌝ }
 {
-    let s = nodes_by(g, g, 66 + 25 * r, layout::rule_edges(g, r), m);
+    let s = nodes_by(g, g, layout::edges_from(r), layout::rule_edges(g, r), m);
     boundary(s, rule_externals(g, r))
 }
 
@@ -125,7 +125,7 @@ fn graph_externals(g: &[u64], h: &[u64]) -> u64
 }
 
 // The nodes on the edges of the set m, and on the others, by sets of four edges.
-fn touched(g: &[u64], h: &[u64], graph: &[u64; 577], m: u64) -> Sides
+fn touched(g: &[u64], h: &[u64], graph: &[u64; graphs::GRAPH_TABLE_WORDS], m: u64) -> Sides
     requires { ⌜ Accepted (now g) (now h) × GraphTable (now g) (now h) (now graph) ⌝ }
     ensures { λ s. ⌜ Touched (now (g .entry)) (now (h .entry)) m s ⌝ }
 {
@@ -145,7 +145,7 @@ fn touched(g: &[u64], h: &[u64], graph: &[u64; 577], m: u64) -> Sides
 }
 
 // The open graph nodes of the edge set m.
-pub fn open_in(g: &[u64], h: &[u64], graph: &[u64; 577], m: u64) -> u64
+pub fn open_in(g: &[u64], h: &[u64], graph: &[u64; graphs::GRAPH_TABLE_WORDS], m: u64) -> u64
     requires { ⌜ Accepted (now g) (now h) × GraphTable (now g) (now h) (now graph) ⌝ }
     ensures { λ x. ⌜ OpenIn (now (g .entry)) (now (h .entry)) m x ⌝ }
 {
@@ -158,7 +158,7 @@ pub fn rank_of(g: &[u64], s: u64) -> u64
     requires { ⌜ (checkGrammar (now g) ≡ true) × (s < 64) ⌝ }
     ensures { λ x. ⌜ (x ≡ rankAt (now (g .entry)) s) × (x ≤ 4) ⌝ }
 {
-    layout::at_most(4, layout::field_in(g, 1 + s, 2))
+    layout::symbol_rank_in(g, s)
 }
 
 // ---- maps of rule nodes: eight places, 64 where a node has no image
@@ -182,12 +182,11 @@ pub fn nodes_word(g: &[u64], r: u64, i: u64) -> u64
     requires { ⌜ KnownEdge (now g) r i ⌝ }
     ensures { λ w. ⌜ w ≡ nodesWord (now (g .entry)) r i ⌝ }
 {
-    let p = 66 + 25 * r + i;
-    let rank = rank_of(g, layout::field_in(g, p, 0));
+    let rank = rank_of(g, layout::edge_label_in(g, r, i));
     let mut w: u64 = 0;
     let mut k: u64 = 0;
     while k < rank {
-        w = 8 * w + layout::field_in(g, p, 1 + k);
+        w = 8 * w + layout::edge_node_in(g, r, i, k);
         k += 1;
     }
     rank + 8 * w
@@ -209,7 +208,7 @@ pub fn attach_by(g: &[u64], r: u64, i: u64, w: u64, l: &[u64], t: &mut [u64])
 }
 
 // Whether graph node v is open in the edge set m, so that a rule node with this image must not be dropped. The words of v at the four places have its edges.
-fn lost(graph: &[u64; 577], m: u64, v: u64) -> bool
+fn lost(graph: &[u64; graphs::GRAPH_TABLE_WORDS], m: u64, v: u64) -> bool
     requires { ⌜ v < 64 ⌝ }
     ensures { λ x. ⌜ x ≡ openBy (now (graph .entry)) m v ⌝ }
 {
@@ -242,7 +241,7 @@ fn merge_maps(
     n: u64,
     nodes: u64,
     stays: u64,
-    graph: &[u64; 577],
+    graph: &[u64; graphs::GRAPH_TABLE_WORDS],
     m: u64,
     f: &[u64],
     t: &mut [u64],
@@ -287,7 +286,7 @@ fn merge_maps(
 fn covered(
     g: &[u64],
     h: &[u64],
-    graph: &[u64; 577],
+    graph: &[u64; graphs::GRAPH_TABLE_WORDS],
     m: u64,
     sure: bool,
     seen: u64,
@@ -308,7 +307,7 @@ fn covered(
 pub fn combine(
     g: &[u64],
     h: &[u64],
-    graph: &[u64; 577],
+    graph: &[u64; graphs::GRAPH_TABLE_WORDS],
     r: u64,
     q: u64,
     stays: u64,
@@ -324,7 +323,7 @@ pub fn combine(
     if !masks::disjoint(m1, m2) {
         return false;
     }
-    let n = layout::field_in(g, 65 + 25 * r, 2);
+    let n = layout::rule_nodes_in(g, r);
     let nodes = layout::graph_nodes(h);
     let m = masks::union(m1, m2);
     let merged = merge_maps(n, nodes, stays, graph, m, f, t);

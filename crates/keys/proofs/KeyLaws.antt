@@ -1,4 +1,4 @@
--- What it tells of two records that no key of the one is one that the other asks for.
+-- What it tells of two items that no key of the one is one that the other asks for.
 use mathlib.Core.Path.{_≡_, refl, sym, ap, ap₂, _∙_}
 use mathlib.Core.Bool.{Bool, true, false, _&&_, _||_, cond, true≢false}
 use mathlib.Core.List.{List, [], _∷_}
@@ -11,12 +11,13 @@ use borrow.Author.Tests.{eq-eqb, ne-eqb, eqb-true, eqb-false, lt-ltb, le-ltb, lt
 use Rattle.masks.specs.Masks.{bit, single}
 use Rattle.masks.specs.Laws.{bit-single-other}
 use Rattle.hrg.specs.Trees.{at}
+use Rattle.agenda.specs.declared.ChartItem.{ChartItem}
 use Rattle.agenda.specs.declared.Record.{Record}
-use Rattle.agenda.specs.Steps.{improved, handledNow}
+use Rattle.agenda.specs.Steps.{improved}
 use Rattle.questions.specs.Abstract.{grammarOf}
 use Rattle.rules.specs.Wants.{wantOf}
 use Rattle.keys.specs.Pivots.{positionOf, nodeOf, EdgePivot, JoinPivot}
-use Rattle.keys.specs.Keys.{baseOf, mixed, bucketOf, wordOf, imageOf, keyWord, placeOf, placeNode, placeWord, ruleWord, symbolWord, usesIn, KeyTable, placeKey, fiveKeys, keysBy, wordFor, usesOf, keysOf, queryOf, allPlaced, regularBy, regularOf}
+use Rattle.keys.specs.Keys.{baseOf, mixed, bucketOf, wordOf, imageOf, keyWord, placeOf, placeNode, placeWord, askedFrom, placesFrom, soughtFrom, ruleWord, symbolWord, usesIn, KeyTable, placeKey, fiveKeys, keysBy, wordFor, usesOf, keysOf, queryOf, allPlaced, regularBy, regularOf}
 
 -- ---- buckets
 pub bucket-positive : (tag s k a : ℕ) → 0 < bucketOf tag s k a
@@ -83,7 +84,7 @@ module _ (tag s k v : ℕ) (tagged : 0 < tag % 128) (few : v < 16) where
       let t : ltb (imageOf word L) 64 ≡ true = or-left 8 (ltb (imageOf word L) 64) (nodeOf word) (rw (ne-eqb word 0 word-there) at ok) (omega arith) in
       omega (arith, image-there word L (omega arith), ltb-true (imageOf word L) 64 t, ap (at L) n)
 
--- of active records
+-- of active items
 module _ (tag want w r p : ℕ) where
   pub word-edge : want < 64 → keyWord tag want w r p ≡ wordOf tag want (positionOf w) (nodeOf w)
   unfolding keyWord
@@ -128,7 +129,7 @@ last-image : (L : List ℕ) → imageOf (placeNode 4) L ≡ 64
 unfolding imageOf placeNode
 last-image L = refl
 
--- ---- the keys of a passive record
+-- ---- the keys of a passive item
 abbrev pub listedKeys : ℕ → ℕ → ℕ → List ℕ → List ℕ
 listedKeys u tag s L = keysBy (placeWord tag s u) u tag s L
 
@@ -197,7 +198,7 @@ module _ (u tag s w : ℕ) (A f L : List ℕ) (tagged : 0 < tag % 128) (size : l
   pub edge-differ : Differ A f L w
   edge-differ = go (eqb w 72) refl
     where
-      -- the place of w has a key that is not the active record's
+      -- the place of w has a key that is not the active item's
       other : (k a : ℕ) → k < 5 → positionOf w ≡ k → imageOf (placeNode k) L ≡ a → imageOf w f ≡ a → ⊥
       other k a h e n m =
           let x = listed-at u tag s L tagged k h (ap (bit u) (sym e) ∙ used) in
@@ -231,7 +232,7 @@ module _ (n w w′ : ℕ) (f k : List ℕ) (pivot : JoinPivot n w w′) (apart :
   join-differ e =
       apart (image-there w f join-node ∙ e ∙ ap (at k) (pivot .same) ∙ sym (image-there w′ k (omega (arith, pivot .same, join-node))))
 
--- ---- regular records
+-- ---- regular items
 and-parts : (a b : Bool) → (a && b) ≡ true → (a ≡ true) × (b ≡ true)
 and-parts true true h = (refl, refl)
 and-parts true false h = absurd (true≢false (sym h))
@@ -256,8 +257,8 @@ placed-at u L h k few e =
     go (suc (suc (suc zero))) few e a b c d = ltb-true _ 64 (used-placed (bit u 3) _ e d)
     go (suc (suc (suc (suc k)))) few e a b c d = absurd (omega arith)
 
--- ---- keys of records
-module _ (g t : List ℕ) (K : KeyTable g t) (x : Record) where
+-- ---- keys of items
+module _ (g t : List ℕ) (K : KeyTable g t) (x : ChartItem) where
   abbrev want : ℕ
   want = wantOf (grammarOf g) (x .of) (x .plan)
 
@@ -279,24 +280,24 @@ module _ (g t : List ℕ) (K : KeyTable g t) (x : Record) where
 
     pub edge-keys : want < 64 → getD (keysOf t x) 0 0 ≡ bucketOf 2 want (positionOf pivot) (imageOf pivot (x .nodes))
     unfolding keysOf
-    edge-keys h = keyed 0 2112 (usesOf t x) 1 2 want (positionOf pivot) (omega arith) (K .listed (x .of) (x .plan) ∙ word-edge 2 want pivot (x .of) (x .plan) h)
+    edge-keys h = keyed 0 placesFrom (usesOf t x) 1 2 want (positionOf pivot) (omega arith) (K .listed (x .of) (x .plan) ∙ word-edge 2 want pivot (x .of) (x .plan) h)
 
     pub join-keys : 64 ≤ want → (want ≡ 80 → ⊥) → getD (keysOf t x) 0 0 ≡ bucketOf 3 (x .of) (x .plan) (imageOf pivot (x .nodes))
     unfolding keysOf
-    join-keys h n = keyed 0 2112 (usesOf t x) 1 3 (x .of) (x .plan) (omega arith) (K .listed (x .of) (x .plan) ∙ word-join 2 want pivot (x .of) (x .plan) h n)
+    join-keys h n = keyed 0 placesFrom (usesOf t x) 1 3 (x .of) (x .plan) (omega arith) (K .listed (x .of) (x .plan) ∙ word-join 2 want pivot (x .of) (x .plan) h n)
 
     pub edge-query : want < 64 → getD (queryOf t x) 0 0 ≡ bucketOf 1 want (positionOf pivot) (imageOf pivot (x .nodes))
     unfolding queryOf
-    edge-query h = keyed 1024 2176 (usesOf t x) 2 1 want (positionOf pivot) (omega arith) (K .asked (x .of) (x .plan) ∙ word-edge 1 want pivot (x .of) (want % 64) h)
+    edge-query h = keyed askedFrom soughtFrom (usesOf t x) 2 1 want (positionOf pivot) (omega arith) (K .asked (x .of) (x .plan) ∙ word-edge 1 want pivot (x .of) (want % 64) h)
 
     pub join-query : 64 ≤ want → (want ≡ 80 → ⊥) → getD (queryOf t x) 0 0 ≡ bucketOf 3 (x .of) (want % 64) (imageOf pivot (x .nodes))
     unfolding queryOf
-    join-query h n = keyed 1024 2176 (usesOf t x) 2 3 (x .of) (want % 64) (omega arith) (K .asked (x .of) (x .plan) ∙ word-join 1 want pivot (x .of) (want % 64) h n)
+    join-query h n = keyed askedFrom soughtFrom (usesOf t x) 2 3 (x .of) (want % 64) (omega arith) (K .asked (x .of) (x .plan) ∙ word-join 1 want pivot (x .of) (want % 64) h n)
 
     module _ (ok : regularOf t x ≡ true) where
       regular-by : (w : ℕ) → ruleWord t 0 (x .of) (x .plan) ≡ w → regularBy w (usesOf t x) (x .nodes) ≡ true
       unfolding regularOf
-      regular-by w e = ap (λ w. regularBy w (usesOf t x) (x .nodes)) (sym (for-active 0 2112 ∙ e)) ∙ ok
+      regular-by w e = ap (λ w. regularBy w (usesOf t x) (x .nodes)) (sym (for-active 0 placesFrom ∙ e)) ∙ ok
 
       pub regular-active : (want ≡ 80 → ⊥) → nodeOf pivot < 8 → at (x .nodes) (nodeOf pivot) < 64
       regular-active n h = go (decLt want 64)
@@ -320,16 +321,16 @@ module _ (g t : List ℕ) (K : KeyTable g t) (x : Record) where
 
     pub passive-keys : keysOf t x ≡ listedKeys uses 1 (x .of) (x .nodes)
     unfolding keysOf
-    passive-keys = ap₂ (λ w u. keysBy w u 1 (x .of) (x .nodes)) (for-passive 0 2112 ∙ K .place (x .of)) uses-passive
+    passive-keys = ap₂ (λ w u. keysBy w u 1 (x .of) (x .nodes)) (for-passive 0 placesFrom ∙ K .place (x .of)) uses-passive
 
     pub passive-query : queryOf t x ≡ listedKeys uses 2 (x .of) (x .nodes)
     unfolding queryOf
-    passive-query = ap₂ (λ w u. keysBy w u 2 (x .of) (x .nodes)) (for-passive 1024 2176 ∙ K .sought (x .of)) uses-passive
+    passive-query = ap₂ (λ w u. keysBy w u 2 (x .of) (x .nodes)) (for-passive askedFrom soughtFrom ∙ K .sought (x .of)) uses-passive
 
     module _ (ok : regularOf t x ≡ true) where
       regular-place : (w : ℕ) → placeWord 1 (x .of) uses ≡ w → regularBy w uses (x .nodes) ≡ true
       unfolding regularOf
-      regular-place w e = ap₂ (λ w u. regularBy w u (x .nodes)) (sym (for-passive 0 2112 ∙ K .place (x .of) ∙ e)) (sym uses-passive) ∙ ok
+      regular-place w e = ap₂ (λ w u. regularBy w u (x .nodes)) (sym (for-passive 0 placesFrom ∙ K .place (x .of) ∙ e)) (sym uses-passive) ∙ ok
 
       pub regular-passive : (k : ℕ) → k < 4 → bit uses k ≡ 1 → at (x .nodes) k < 64
       unfolding regularBy
@@ -343,22 +344,14 @@ module _ (g t : List ℕ) (K : KeyTable g t) (x : Record) where
               omega (arith, there, ap (at (x .nodes)) v)
           go (no d) = placed-at uses (x .nodes) (regular-place 0 (place-none 1 (x .of) uses (omega arith))) k h b
 
--- ---- only what makes two records the same item tells
-pub improved-keys : (t : List ℕ) (y x : Record) → keysOf t (improved y x) ≡ keysOf t y
+-- ---- the count of an item does not tell
+pub improved-keys : (t : List ℕ) (y x : Record) → keysOf t (improved y x .item) ≡ keysOf t (y .item)
 unfolding keysOf wordFor usesOf
 improved-keys t y x = refl
 
-pub handled-keys : (t : List ℕ) (y : Record) → keysOf t (handledNow y) ≡ keysOf t y
-unfolding keysOf wordFor usesOf
-handled-keys t y = refl
-
-pub improved-regular : (t : List ℕ) (y x : Record) → regularOf t (improved y x) ≡ regularOf t y
+pub improved-regular : (t : List ℕ) (y x : Record) → regularOf t (improved y x .item) ≡ regularOf t (y .item)
 unfolding regularOf wordFor usesOf
 improved-regular t y x = refl
-
-pub handled-regular : (t : List ℕ) (y : Record) → regularOf t (handledNow y) ≡ regularOf t y
-unfolding regularOf wordFor usesOf
-handled-regular t y = refl
 
 -- ---- keys are at most 2,048
 place-few : (used tag s i a : ℕ) → placeKey used tag s i a ≤ 2048
@@ -391,10 +384,10 @@ by-few w u tag s L i = go (eqb w 0)
     go true = all-few u tag s L i
     go false = five-few (mixed (w / 16) (imageOf w L)) 0 0 0 0 (mixed-few (w / 16) (imageOf w L)) (omega arith) (omega arith) (omega arith) (omega arith) i
 
-pub keys-few : (t : List ℕ) (x : Record) (i : ℕ) → getD (keysOf t x) i 0 ≤ 2048
+pub keys-few : (t : List ℕ) (x : ChartItem) (i : ℕ) → getD (keysOf t x) i 0 ≤ 2048
 unfolding keysOf
-keys-few t x i = by-few (wordFor t 0 2112 x) (usesOf t x) 1 (x .of) (x .nodes) i
+keys-few t x i = by-few (wordFor t 0 placesFrom x) (usesOf t x) 1 (x .of) (x .nodes) i
 
-pub query-few : (t : List ℕ) (x : Record) (i : ℕ) → getD (queryOf t x) i 0 ≤ 2048
+pub query-few : (t : List ℕ) (x : ChartItem) (i : ℕ) → getD (queryOf t x) i 0 ≤ 2048
 unfolding queryOf
-query-few t x i = by-few (wordFor t 1024 2176 x) (usesOf t x) 2 (x .of) (x .nodes) i
+query-few t x i = by-few (wordFor t askedFrom soughtFrom x) (usesOf t x) 2 (x .of) (x .nodes) i

@@ -1,4 +1,4 @@
--- The root of the laws: what keys tell of two records that are not joined.
+-- The root of the laws: what keys tell of two items that are not joined.
 pub mod Differing
 pub mod KeyLaws
 pub mod PivotLaws

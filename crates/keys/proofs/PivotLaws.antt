@@ -1,4 +1,4 @@
--- Two records make nothing where no key of the one is one that the other asks for.
+-- Two items make nothing where no key of the one is one that the other asks for.
 use mathlib.Core.Path.{_≡_, refl, sym, ap, ap₂, _∙_, subst}
 use mathlib.Core.Bool.{Bool, true, false}
 use mathlib.Core.List.{List, []}
@@ -16,7 +16,7 @@ use Rattle.hrg.specs.ClosureRun.{combine, binaryOf}
 use Rattle.hrg.proofs.Sums.{occurs-at}
 use Rattle.hrg.proofs.Plans.{introduce-known}
 use Rattle.agenda.specs.Records.{itemOf}
-use Rattle.agenda.specs.declared.Record.{Record}
+use Rattle.agenda.specs.declared.ChartItem.{ChartItem}
 use Rattle.questions.specs.Layout.{rankAt, ruleCount, ruleNodes, ruleEdges}
 use Rattle.questions.specs.Checking.{checkGrammar}
 use Rattle.questions.specs.Abstract.{grammarOf}
@@ -33,7 +33,7 @@ use Rattle.keys.proofs.Differing.{differ-none, attach-at, edges-none, j
 use Rattle.keys.proofs.KeyLaws.{bucket-positive, listedKeys, edge-differ, join-node, join-differ, edge-keys, join-keys, edge-query, join-query, passive-keys, passive-query, regular-active, regular-passive}
 
 -- no rule makes anything of x and y, in either order
-pub record Unjoined (G : Grammar) (H : Graph) (x y : Record) : Type 0 where
+pub record Unjoined (G : Grammar) (H : Graph) (x y : ChartItem) : Type 0 where
   pub forth : binaryOf G H (itemOf G x) (itemOf G y) ≡ []
   pub back : binaryOf G H (itemOf G y) (itemOf G x) ≡ []
 
@@ -44,11 +44,11 @@ module _ (g t : List ℕ) (checked : checkGrammar g ≡ true) (K : KeyTable g t)
   abbrev pivot-at : ℕ → ℕ → ℕ
   pivot-at = K .pivot
 
-  abbrev pivot-for : Record → ℕ
+  abbrev pivot-for : ChartItem → ℕ
   pivot-for x = pivot-at (x .of) (x .plan)
 
-  -- ---- an active record and a passive one
-  -- tag: the one that the active record's key and the passive one's have in common
+  -- ---- an active item and a passive one
+  -- tag: the one that the active item's key and the passive one's have in common
   module _ (tag r p m m′ s : ℕ) (f L : List ℕ) (tagged : 0 < tag % 128)
       (placed : wantOf G r p ≡ s → s < 64 → nodeOf (pivot-at r p) < 8 → at f (nodeOf (pivot-at r p)) < 64)
       (listed : (k : ℕ) → k < 4 → bit (usesIn t s) k ≡ 1 → at L k < 64)
@@ -85,7 +85,7 @@ module _ (g t : List ℕ) (checked : checkGrammar g ≡ true) (K : KeyTable g t)
             (omega (arith, other, listed (positionOf w) (omega (arith, x .position, four)) used))
             (λ z. x .differ (sym own ∙ z ∙ other))
 
-  -- ---- two active records
+  -- ---- two active items
   -- p and p′ are the children of one join
   record Siblings (r p p′ : ℕ) : Type 0 where
     low : p < 16
@@ -147,8 +147,8 @@ module _ (g t : List ℕ) (checked : checkGrammar g ≡ true) (K : KeyTable g t)
     back-none : combine H (ruleOf G r) r q m′ m (take n k) (take n f) ≡ []
     back-none = differ-none H (ruleOf G r) r q m′ m _ _ v v-known there here (λ z. differ (sym z))
 
-  -- ---- two records
-  module _ (x y : Record) (ok : regularOf t x ≡ true) (ok′ : regularOf t y ≡ true)
+  -- ---- two items
+  module _ (x y : ChartItem) (ok : regularOf t x ≡ true) (ok′ : regularOf t y ≡ true)
       (apart : (i i′ : ℕ) → i < 5 → i′ < 5 → 0 < getD (queryOf t x) i 0 → getD (queryOf t x) i 0 ≡ getD (keysOf t y) i′ 0 → ⊥) where
     with-passive : eqb (x .kind) 0 ≡ true → eqb (y .kind) 0 ≡ false → Unjoined G H x y
     with-passive a b = record {

@@ -1,4 +1,4 @@
--- The pivot of a rule and a plan node: a rule node whose image tells apart the records that an active item there can be joined with.
+-- The pivot of a rule and a plan node: a rule node whose image tells apart the items that an active item there can be joined with.
 use mathlib.Core.Path.{_≡_}
 use mathlib.Core.Bool.{Bool, true, _&&_, cond}
 use mathlib.Core.List.{List}

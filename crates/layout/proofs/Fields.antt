@@ -12,7 +12,7 @@ use lib.Dec.{ltb}
 use borrow.Author.Tests.{ltb-true}
 use Rattle.questions.specs.declared.Due.{Due}
 use Rattle.questions.specs.declared.Due.the-variants.{Grammar, Symbol, Rule, RuleEdge, PlanLine, Graph, GraphEdge, Nothing}
-use Rattle.questions.specs.Layout.{placeOf, inTable, wordField, lineField, packed, stored}
+use Rattle.questions.specs.Layout.{rulePlace, grammarWords, placeOf, inTable, wordField, lineField, packed, stored}
 use Rattle.questions.proofs.StoredLaws.{packed-small}
 use Rattle.layout.specs.Storing.{storeAt}
 
@@ -32,8 +32,8 @@ unfolding lineField
 field-there t p j x e = e ∙ ap (wordField (getD t p 0)) (let z : 0 + j ≡ j = omega arith in z)
 
 -- a rule's own line is at its first place
-pub rule-line : (t : List ℕ) (r j : ℕ) → lineField t (65 + 25 * r + 0) j ≡ lineField t (65 + 25 * r) j
-rule-line t r j = ap (λ p. lineField t p j) (let e : 65 + 25 * r + 0 ≡ 65 + 25 * r = omega arith in e)
+pub rule-line : (t : List ℕ) (r j : ℕ) → lineField t (rulePlace r + 0) j ≡ lineField t (rulePlace r) j
+rule-line t r j = ap (λ p. lineField t p j) (let e : rulePlace r + 0 ≡ rulePlace r = omega arith in e)
 
 -- ---- tests
 pub and-true : (a b : Bool) → (a && b) ≡ true → (a ≡ true) × (b ≡ true)
@@ -76,6 +76,22 @@ chosen due d b f x e h p = rw (← e, h, p)
 
 pub passed : {A : Type 0} (due : Due) (b : Bool) (f : Due → A) (x : A) → b ≡ inTable due → b ≡ false → x ≡ cond (inTable due) (f due) x
 passed due b f x e h = rw (← e, h)
+
+-- a line in the table is at a place of the largest one
+place-small : (d : Due) → Inside d → placeOf d < grammarWords
+unfolding placeOf
+place-small Grammar h = omega arith
+place-small (Symbol s) h = omega arith
+place-small (Rule r) h = omega arith
+place-small (RuleEdge r i) h = omega (arith, h .0, h .1)
+place-small (PlanLine r q) h = omega (arith, h .0, h .1)
+place-small Graph h = omega arith
+place-small (GraphEdge e) h = omega arith
+place-small Nothing h = omega arith
+
+-- the place x of a line that passed the test b and is d
+pub placed : (due d : Due) (b : Bool) (x : ℕ) → b ≡ inTable due → b ≡ true → due ≡ d → x ≡ placeOf d → (x ≡ cond (inTable due) (placeOf due) 0) × (x < grammarWords)
+placed due d b x e h p q = (q ∙ chosen due d b placeOf 0 e h p, rw q (place-small d (known due d b e h p)))
 
 -- ---- a line stored
 -- the word of the fields from k on, made from the last one to the first

@@ -2,7 +2,7 @@
 use mathlib.Core.Path.{_≡_}
 use mathlib.Core.Bool.{true}
 use mathlib.Core.List.{List, []}
-use Prim.Native.Nat.{ℕ, _≤_}
+use Prim.Native.Nat.{ℕ, suc, _≤_}
 use native.Mathlib.Omega.{arith}
 use lib.ListN.{length, take, replicate}
 use lib.Dec.{leb}
@@ -20,4 +20,4 @@ filled-length size t (accepted c) e = leb-true size (length t) (and-true (leb si
 
 pub grammar-length : (g : List ℕ) → checkGrammar g ≡ true → grammarWords ≤ length g
 unfolding checkGrammar
-grammar-length g e = filled-length grammarWords g (checkLines 1666 [] g (replicate grammarWords 0) Grammar) e
+grammar-length g e = filled-length grammarWords g (checkLines (suc grammarWords) [] g (replicate grammarWords 0) Grammar) e

@@ -2,30 +2,18 @@
 use mathlib.Core.Path.{_≡_, refl, sym, ap, ap₂, _∙_}
 use mathlib.Core.Bool.{Bool, true, _&&_, _||_}
 use mathlib.Core.List.{List, [], _∷_}
-use Prim.Native.Nat.{ℕ, zero, suc, _+_, _*_, _/_, _%_, _≤_, _<_}
+use Prim.Native.Nat.{ℕ, _+_, _*_, _/_, _%_, _≤_, _<_}
 use native.Mathlib.Omega.{arith}
-use lib.ListN.{getD}
+use lib.ListN.{length, getD}
 use lib.Dec.{eqb, ltb, leb}
 use borrow.Author.Tests.{eq-eqb, ne-eqb}
 use Rattle.masks.specs.Masks.{bit}
 use Rattle.hrg.specs.Trees.{at}
-use Rattle.records.specs.Words.{ofWords}
+use Rattle.agenda.specs.declared.ChartItem.{ChartItem}
+use Rattle.joins.proofs.MapLaws.{getD-any}
 use Rattle.keys.specs.Pivots.{positionOf, nodeOf}
-use Rattle.keys.specs.Keys.{baseOf, mixed, bucketOf, wordOf, imageOf, keyWord, placeOf, placeNode, placeWord, ruleWord, symbolWord, usesIn, placeKey, fiveKeys, keysBy, wordFor, usesOf, keysOf, queryOf, allPlaced, regularBy, regularOf}
+use Rattle.keys.specs.Keys.{baseOf, mixed, bucketOf, wordOf, imageOf, keyWord, placeOf, placeNode, placeWord, askedFrom, usesFrom, placesFrom, soughtFrom, ruleWord, symbolWord, usesIn, placeKey, fiveKeys, keysBy, wordFor, usesOf, keysOf, queryOf, allPlaced, regularBy, regularOf}
 use Rattle.keys.proofs.KeyLaws.{word-edge, word-join, word-none, place-there, place-none, node-first, image-there, image-none}
-
--- ---- words of a record
-node-word : (x : List ℕ) (v : ℕ) → v < 8 → getD x (6 + v) 0 ≡ at (ofWords x .nodes) v
-unfolding ofWords
-node-word x zero h = refl
-node-word x (suc zero) h = refl
-node-word x (suc (suc zero)) h = refl
-node-word x (suc (suc (suc zero))) h = refl
-node-word x (suc (suc (suc (suc zero)))) h = refl
-node-word x (suc (suc (suc (suc (suc zero))))) h = refl
-node-word x (suc (suc (suc (suc (suc (suc zero)))))) h = refl
-node-word x (suc (suc (suc (suc (suc (suc (suc zero))))))) h = refl
-node-word x (suc (suc (suc (suc (suc (suc (suc (suc v)))))))) h = absurd (omega arith)
 
 -- ---- words of the table
 word-by : (tag s k v b x : ℕ) → b ≡ baseOf tag s k → x ≡ 16 * b + v → x ≡ wordOf tag s k v
@@ -64,30 +52,34 @@ module _ (tag s u i : ℕ) (is : i ≡ placeOf u) where
   pub node-place : (b : ℕ) → b ≡ baseOf tag s i → i < 5 → (i ≡ 4 → ⊥) → 16 * b + i ≡ placeWord tag s u
   node-place b e h n = place-by b i h e (sym (node-first i (omega arith)))
 
--- ---- words of a record's kind
-module _ (t x : List ℕ) where
-  pub active-word : (rules symbols w : ℕ) → getD x 0 0 ≡ 0 → w ≡ ruleWord t rules (getD x 1 0) (getD x 2 0) → w ≡ wordFor t rules symbols (ofWords x)
-  unfolding wordFor ofWords
-  active-word rules symbols w e q = rw (eq-eqb (getD x 0 0) 0 e) q
+-- ---- words of an item's kind
+module _ (t : List ℕ) (x : ChartItem) where
+  pub active-word : (rules symbols w : ℕ) → x .kind ≡ 0 → w ≡ ruleWord t rules (x .of) (x .plan) → w ≡ wordFor t rules symbols x
+  unfolding wordFor
+  active-word rules symbols w e q = rw (eq-eqb (x .kind) 0 e) q
 
-  pub passive-word : (rules symbols w : ℕ) → (getD x 0 0 ≡ 0 → ⊥) → w ≡ symbolWord t symbols (getD x 1 0) → w ≡ wordFor t rules symbols (ofWords x)
-  unfolding wordFor ofWords
-  passive-word rules symbols w n q = rw (ne-eqb (getD x 0 0) 0 n) q
+  pub passive-word : (rules symbols w : ℕ) → (x .kind ≡ 0 → ⊥) → w ≡ symbolWord t symbols (x .of) → w ≡ wordFor t rules symbols x
+  unfolding wordFor
+  passive-word rules symbols w n q = rw (ne-eqb (x .kind) 0 n) q
 
-  pub uses-active : getD x 0 0 ≡ 0 → 0 ≡ usesOf t (ofWords x)
-  unfolding usesOf ofWords
-  uses-active e = rw (eq-eqb (getD x 0 0) 0 e)
+  pub uses-active : x .kind ≡ 0 → 0 ≡ usesOf t x
+  unfolding usesOf
+  uses-active e = rw (eq-eqb (x .kind) 0 e)
 
-  pub uses-passive : (u : ℕ) → (getD x 0 0 ≡ 0 → ⊥) → u ≡ symbolWord t 2048 (getD x 1 0) → u ≡ usesOf t (ofWords x)
-  unfolding usesOf usesIn ofWords
-  uses-passive u n q = rw (ne-eqb (getD x 0 0) 0 n) q
+  pub uses-passive : (u : ℕ) → (x .kind ≡ 0 → ⊥) → u ≡ symbolWord t usesFrom (x .of) → u ≡ usesOf t x
+  unfolding usesOf usesIn
+  uses-passive u n q = rw (ne-eqb (x .kind) 0 n) q
 
 -- ---- one key
 pub image-no : (w : ℕ) (f : List ℕ) → 8 ≤ nodeOf w → 64 ≡ imageOf w f
 image-no w f h = sym (image-none w f h)
 
-pub image-read : (w : ℕ) (x : List ℕ) → nodeOf w < 8 → getD x (6 + nodeOf w) 0 ≡ imageOf w (ofWords x .nodes)
-image-read w x h = node-word x (nodeOf w) h ∙ sym (image-there w (ofWords x .nodes) h)
+-- one of eight places is there
+place-read : (f : List ℕ) → length f ≡ 8 → (k : ℕ) → k < 8 → getD f k 0 ≡ at f k
+place-read f size k h = getD-any f k 0 64 (omega arith)
+
+pub image-read : (w : ℕ) (f : List ℕ) → nodeOf w < 8 → length f ≡ 8 → getD f (nodeOf w) 0 ≡ imageOf w f
+image-read w f h size = place-read f size (nodeOf w) h ∙ sym (image-there w f h)
 
 module _ (used tag s i a : ℕ) where
   pub place-unused : used ≡ 0 → 0 ≡ placeKey used tag s i a
@@ -98,54 +90,66 @@ module _ (used tag s i a : ℕ) where
   unfolding placeKey bucketOf
   place-key b x n e q = rw (ne-eqb used 0 n) (q ∙ ap (λ b. mixed b a) e)
 
--- ---- the keys of a record, by its word and its uses
+-- ---- the keys of an item, by its word and its uses
 -- the last digit is a member's bit
 bit-first : (u : ℕ) → u % 2 ≡ bit u 0
 unfolding bit
 bit-first u = omega arith
 
-module _ (x : List ℕ) (w u tag : ℕ) where
+module _ (s : ℕ) (L : List ℕ) (w u tag : ℕ) where
   abbrev keys : List ℕ
-  keys = keysBy w u tag (getD x 1 0) (ofWords x .nodes)
+  keys = keysBy w u tag s L
 
   abbrev placed : ℕ → ℕ → ℕ → ℕ
-  placed d i a = placeKey (d % 2) tag (getD x 1 0) i a
+  placed d i a = placeKey (d % 2) tag s i a
 
-  pub by-word : (a k : ℕ) → (w ≡ 0 → ⊥) → a ≡ imageOf w (ofWords x .nodes) → k ≡ mixed (w / 16) a → (k ∷ 0 ∷ 0 ∷ 0 ∷ 0 ∷ []) ≡ keys
+  pub by-word : (a k : ℕ) → (w ≡ 0 → ⊥) → a ≡ imageOf w L → k ≡ mixed (w / 16) a → (k ∷ 0 ∷ 0 ∷ 0 ∷ 0 ∷ []) ≡ keys
   unfolding keysBy
   by-word a k n e q = rw (ne-eqb w 0 n) (ap (λ k. k ∷ 0 ∷ 0 ∷ 0 ∷ 0 ∷ []) (q ∙ ap (mixed (w / 16)) e))
 
   module _ (none : w ≡ 0) where
     pub by-none : u ≡ 0 → (0 ∷ 0 ∷ 0 ∷ 0 ∷ 0 ∷ []) ≡ keys
     unfolding keysBy fiveKeys placeKey bit
-    by-none e = sym (ap₂ (λ w u. keysBy w u tag (getD x 1 0) (ofWords x .nodes)) none e)
+    by-none e = sym (ap₂ (λ w u. keysBy w u tag s L) none e)
 
-    pub by-five : (a b c d e : ℕ) → a ≡ placed u 0 (getD x 6 0) → b ≡ placed (u / 2) 1 (getD x 7 0) → c ≡ placed (u / 4) 2 (getD x 8 0) → d ≡ placed (u / 8) 3 (getD x 9 0) → e ≡ placed (u / 16) 4 64
-        → (a ∷ b ∷ c ∷ d ∷ e ∷ []) ≡ keys
-    unfolding keysBy fiveKeys ofWords bit
-    by-five a b c d e p q r s t =
-        let p′ : a ≡ placeKey (bit u 0) tag (getD x 1 0) 0 (getD x 6 0) = p ∙ ap (λ n. placeKey n tag (getD x 1 0) 0 (getD x 6 0)) (bit-first u) in
-        let all : (a ∷ b ∷ c ∷ d ∷ e ∷ []) ≡ fiveKeys u tag (getD x 1 0) (ofWords x .nodes) = cc in
-        rw (eq-eqb w 0 none) all
+    module _ (size : length L ≡ 8) where
+      -- a place as it is read
+      abbrev node : ℕ → ℕ
+      node k = getD L k 0
 
-module _ (t x : List ℕ) (w u : ℕ) (uses : u ≡ usesOf t (ofWords x)) where
-  pub keys-are : (ks : List ℕ) → w ≡ wordFor t 0 2112 (ofWords x) → ks ≡ keysBy w u 1 (getD x 1 0) (ofWords x .nodes) → ks ≡ keysOf t (ofWords x)
-  unfolding keysOf ofWords
-  keys-are ks e q = q ∙ ap₂ (λ w u. keysBy w u 1 (getD x 1 0) (ofWords x .nodes)) e uses
+      pub by-five : (a b c d e : ℕ) → a ≡ placed u 0 (node 0) → b ≡ placed (u / 2) 1 (node 1) → c ≡ placed (u / 4) 2 (node 2)
+          → d ≡ placed (u / 8) 3 (node 3) → e ≡ placed (u / 16) 4 64 → (a ∷ b ∷ c ∷ d ∷ e ∷ []) ≡ keys
+      unfolding keysBy fiveKeys bit
+      by-five a b c d e h i j k l =
+          let first : a ≡ placeKey (bit u 0) tag s 0 (node 0) = h ∙ ap (λ n. placeKey n tag s 0 (node 0)) (bit-first u) in
+          let n0 = place-read L size 0 (omega arith) in
+          let n1 = place-read L size 1 (omega arith) in
+          let n2 = place-read L size 2 (omega arith) in
+          let n3 = place-read L size 3 (omega arith) in
+          let all : (a ∷ b ∷ c ∷ d ∷ e ∷ []) ≡ fiveKeys u tag s L = cc in
+          rw (eq-eqb w 0 none) all
 
-  pub query-is : (ks : List ℕ) → w ≡ wordFor t 1024 2176 (ofWords x) → ks ≡ keysBy w u 2 (getD x 1 0) (ofWords x .nodes) → ks ≡ queryOf t (ofWords x)
-  unfolding queryOf ofWords
-  query-is ks e q = q ∙ ap₂ (λ w u. keysBy w u 2 (getD x 1 0) (ofWords x .nodes)) e uses
+module _ (t : List ℕ) (x : ChartItem) (w u : ℕ) (uses : u ≡ usesOf t x) where
+  pub keys-are : (ks : List ℕ) → w ≡ wordFor t 0 placesFrom x → ks ≡ keysBy w u 1 (x .of) (x .nodes) → ks ≡ keysOf t x
+  unfolding keysOf
+  keys-are ks e q = q ∙ ap₂ (λ w u. keysBy w u 1 (x .of) (x .nodes)) e uses
 
-  pub regular-is : (b : Bool) → w ≡ wordFor t 0 2112 (ofWords x) → b ≡ regularBy w u (ofWords x .nodes) → b ≡ regularOf t (ofWords x)
-  unfolding regularOf ofWords
-  regular-is b e q = q ∙ ap₂ (λ w u. regularBy w u (ofWords x .nodes)) e uses
+  pub query-is : (ks : List ℕ) → w ≡ wordFor t askedFrom soughtFrom x → ks ≡ keysBy w u 2 (x .of) (x .nodes) → ks ≡ queryOf t x
+  unfolding queryOf
+  query-is ks e q = q ∙ ap₂ (λ w u. keysBy w u 2 (x .of) (x .nodes)) e uses
 
--- ---- regular records
-pub all-placed : (u : ℕ) (x : List ℕ)
-    → ((eqb (u % 2) 0 || ltb (getD x 6 0) 64) && (eqb (u / 2 % 2) 0 || ltb (getD x 7 0) 64) && (eqb (u / 4 % 2) 0 || ltb (getD x 8 0) 64) && (eqb (u / 8 % 2) 0 || ltb (getD x 9 0) 64)) ≡ allPlaced u (ofWords x .nodes)
-unfolding allPlaced ofWords bit
-all-placed u x = rw (bit-first u)
+  pub regular-is : (b : Bool) → w ≡ wordFor t 0 placesFrom x → b ≡ regularBy w u (x .nodes) → b ≡ regularOf t x
+  unfolding regularOf
+  regular-is b e q = q ∙ ap₂ (λ w u. regularBy w u (x .nodes)) e uses
+
+-- ---- regular items
+abbrev placedAt : List ℕ → ℕ → ℕ → Bool
+placedAt L u k = eqb (u % 2) 0 || ltb (getD L k 0) 64
+
+pub all-placed : (u : ℕ) (L : List ℕ) → length L ≡ 8 → (placedAt L u 0 && placedAt L (u / 2) 1 && placedAt L (u / 4) 2 && placedAt L (u / 8) 3) ≡ allPlaced u L
+unfolding allPlaced bit
+all-placed u L size =
+    rw (bit-first u, place-read L size 0 (omega arith), place-read L size 1 (omega arith), place-read L size 2 (omega arith), place-read L size 3 (omega arith))
 
 module _ (w u : ℕ) (L : List ℕ) where
   pub regular-word : (a : ℕ) → (w ≡ 0 → ⊥) → a ≡ imageOf w L → (leb 8 (nodeOf w) || ltb a 64) ≡ regularBy w u L

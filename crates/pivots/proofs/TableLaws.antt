@@ -20,10 +20,13 @@ use Rattle.hrg.specs.Items.{isOpenAt}
 use Rattle.hrg.specs.WellFormed.{children}
 use Rattle.hrg.proofs.Sums.{hit-self, at-tabulate}
 use Rattle.hrg.proofs.Plans.{introduce-known, introduce-lower, join-lower}
-use Rattle.questions.specs.Layout.{rankAt, ruleCount, ruleNodes, ruleEdges, edgeLabel, edgeNode, planKind, planFirst, planSecond}
+use Rattle.questions.specs.Layout.{placeOf, rankAt, ruleCount, ruleNodes, ruleEdges, edgeLabel, edgeNode, planKind, planFirst, planSecond}
 use Rattle.questions.specs.Checking.{checkGrammar}
 use Rattle.questions.specs.Abstract.{grammarOf}
+use Rattle.questions.specs.Questions.{judge}
 use Rattle.questions.proofs.WellFormedAccepted.{rule-is, edge-is}
+use Rattle.questions.proofs.WellFormedQuestions.{passes-plan}
+use Rattle.questions.proofs.WellFormedLent.{checked-grammar-stands}
 use Rattle.joins.specs.Joins.{KnownNode, KnownEdge, OpenAt, edgeNodes}
 use Rattle.joins.proofs.Known.{plan-ok, plan-size, plan-few, rule-few, right-nodes, nodes-few}
 use Rattle.joins.proofs.EdgeMaps.{edge-rank, edge-node-few}
@@ -34,7 +37,7 @@ use Rattle.rules.specs.Wants.{wantOf}
 use Rattle.rules.proofs.WantLaws.{unknown-rule, unknown-node, rules-few}
 use Rattle.rules.proofs.Meeting.{rule, label-few, want-label, few, want-first, want-second}
 use Rattle.keys.specs.Pivots.{positionOf, nodeOf, EdgePivot, lastTo, sharedNode, PivotBelow, PivotOf}
-use Rattle.keys.specs.Keys.{keyWord, placeWord, ruleWord, symbolWord, usesIn, KeyTable, Entered, Placed}
+use Rattle.keys.specs.Keys.{keyWord, placeWord, rulePlaces, askedFrom, usesFrom, placesFrom, soughtFrom, keyTableWords, rulePlace, ruleWord, symbolWord, usesIn, KeyTable, Entered, Placed}
 use Rattle.keys.proofs.KeyLaws.{word-none, place-nowhere}
 
 -- ---- an edge
@@ -127,6 +130,13 @@ module _ (g : List ℕ) (r p q here there : ℕ) (known : KnownNode g r p) (a : 
   search-end v s h = let e : 0 ≡ v = omega arith in (ap (λ n. lastTo n test) e ∙ s .rest, omega arith)
 
 -- ---- what plan node q asks, by the fields of its line
+-- the kind of a plan node that is there, by the question that its line has passed
+kind-few : (g : List ℕ) (r q : ℕ) → KnownNode g r q → planKind g r q ≤ 2
+unfolding judge placeOf
+kind-few g r q known =
+    let (fs, s) = checked-grammar-stands g (known .grammar) .rule r (known .rule) .plan q (known .node) in
+    omega (arith, s .there 0 (omega arith), passes-plan g r q fs .sound (s .passed) .kind)
+
 module _ (g : List ℕ) (r p q : ℕ) (known : KnownNode g r q) (kind first second : ℕ) (a : kind ≡ planKind g r q) (b : first ≡ planFirst g r q) (c : second ≡ planSecond g r q) where
   abbrev node : PlanNode
   node = planNode (planOf (grammarOf g) r) q
@@ -169,9 +179,9 @@ module _ (g : List ℕ) (r p q : ℕ) (known : KnownNode g r q) (kind first seco
           )
 
   -- two children
-  module _ (x : kind ≡ 0 → ⊥) (y : kind ≡ 1 → ⊥) where
+  module _ (two : kind ≡ 2) where
     both : node ≡ join first second
-    both = joined-is g r q known kind first second a b c x y
+    both = joined-is g r q known kind first second a b c (λ e. omega arith) (λ e. omega arith)
 
     known-child : (d : ℕ) → d < q → KnownNode g r d
     known-child d l = record { grammar = known .grammar; rule = known .rule; node = omega (arith, known .node) }
@@ -217,6 +227,10 @@ module _ (g : List ℕ) (r p q : ℕ) (known : KnownNode g r q) (kind first seco
       below-neither neither =
           let n = both in
           (record { edge = λ i d. absurd (clash (cc)); first = λ i d. absurd (other (cc)); second = λ i d. absurd (neither (cc)) }, omega arith)
+
+  -- there is no other kind
+  pub below-unknown : (kind ≡ 0 → ⊥) → (kind ≡ 1 → ⊥) → (kind ≡ 2 → ⊥) → PivotBelow g r p q 72 × (72 ≤ 72)
+  below-unknown x y z = absurd (omega (arith, kind-few g r q known))
 
 -- ---- what all plan nodes ask is what the one above asks
 module _ (p : ℕ) (n : PlanNode) where
@@ -268,25 +282,25 @@ module _ (g : List ℕ) (r p : ℕ) (x : Place) (above : Above g r p x) where
 pub record Told (g t : List ℕ) (k r p w : ℕ) : Type 0 where
   pub is : (wantOf (grammarOf g) r p ≡ 80 → ⊥) → PivotOf g r p w
   pub listed : getD t k 0 ≡ keyWord 2 (wantOf (grammarOf g) r p) w r p
-  pub asked : getD t (1024 + k) 0 ≡ keyWord 1 (wantOf (grammarOf g) r p) w r (wantOf (grammarOf g) r p % 64)
-  pub used : wantOf (grammarOf g) r p < 64 → member (getD t (2048 + wantOf (grammarOf g) r p) 0) (positionOf w) ≡ true
+  pub asked : getD t (askedFrom + k) 0 ≡ keyWord 1 (wantOf (grammarOf g) r p) w r (wantOf (grammarOf g) r p % 64)
+  pub used : wantOf (grammarOf g) r p < 64 → member (getD t (usesFrom + wantOf (grammarOf g) r p) 0) (positionOf w) ≡ true
 
 -- the places before i are told, and the words from i on as they were made
 pub record Filled (g t : List ℕ) (i : ℕ) : Type 0 where
   pub pivot : ℕ → ℕ
-  pub size : length t ≡ 2240
-  pub before : (k : ℕ) → k < i → k < 1024 → Told g t k (k / 16) (k % 16) (pivot k)
-  pub after : (k : ℕ) → i ≤ k → k < 1024 → (getD t k 0 ≡ 0) × (getD t (1024 + k) 0 ≡ 0)
+  pub size : length t ≡ keyTableWords
+  pub before : (k : ℕ) → k < i → k < rulePlaces → Told g t k (k / 16) (k % 16) (pivot k)
+  pub after : (k : ℕ) → i ≤ k → k < rulePlaces → (getD t k 0 ≡ 0) × (getD t (askedFrom + k) 0 ≡ 0)
 
-pub filled-none : (g : List ℕ) → Filled g (replicate 2240 0) 0
+pub filled-none : (g : List ℕ) → Filled g (replicate keyTableWords 0) 0
 filled-none g = record {
   pivot = λ k. 72;
   size = refl;
   before = λ k l. absurd (omega arith);
-  after = λ k l m. (getD-replicate 2240 k 0 0 (omega arith), getD-replicate 2240 (1024 + k) 0 0 (omega arith));
+  after = λ k l m. (getD-replicate keyTableWords k 0 0 (omega arith), getD-replicate keyTableWords (askedFrom + k) 0 0 (omega arith));
 }
 
-module _ (g t : List ℕ) (i m : ℕ) (f : Filled g t i) (l : i < 1024) (e : m ≡ i + 1) (want : ℕ) (asks : want ≡ wantOf (grammarOf g) (i / 16) (i % 16)) where
+module _ (g t : List ℕ) (i m : ℕ) (f : Filled g t i) (l : i < rulePlaces) (e : m ≡ i + 1) (want : ℕ) (asks : want ≡ wantOf (grammarOf g) (i / 16) (i % 16)) where
   abbrev wanted : ℕ → ℕ
   wanted k = wantOf (grammarOf g) (k / 16) (k % 16)
 
@@ -294,7 +308,7 @@ module _ (g t : List ℕ) (i m : ℕ) (f : Filled g t i) (l : i < 1024) (e : m �
   pub filled-idle : want ≡ 80 → Filled g t m
   filled-idle idle = record { pivot = f .pivot; size = f .size; before = λ k d b. told k d b (ℕ-discrete i k); after = λ k d b. f .after k (omega arith) b }
     where
-      told : (k : ℕ) → k < m → k < 1024 → Dec (i ≡ k) → Told g t k (k / 16) (k % 16) (f .pivot k)
+      told : (k : ℕ) → k < m → k < rulePlaces → Dec (i ≡ k) → Told g t k (k / 16) (k % 16) (f .pivot k)
       told k d b (yes q) =
           let n : wanted k ≡ 80 = ap wanted (sym q) ∙ sym asks ∙ idle in
           let z = f .after k (omega arith) b in
@@ -315,22 +329,22 @@ module _ (g t : List ℕ) (i m : ℕ) (f : Filled g t i) (l : i < 1024) (e : m �
       before = λ k d b. told k d b (ℕ-discrete k i);
       after = λ k d b. (
         n .others k (omega arith) (λ q. omega arith) (λ q. omega arith) ∙ f .after k (omega arith) b .0,
-        n .others (1024 + k) (omega arith) (λ q. omega arith) (λ q. omega arith) ∙ f .after k (omega arith) b .1,
+        n .others (askedFrom + k) (omega arith) (λ q. omega arith) (λ q. omega arith) ∙ f .after k (omega arith) b .1,
       );
     }
       where
         here : Told g t′ i (i / 16) (i % 16) w
         here = let new = subst (λ s. Entered t i s w t′) asks n in record { is = λ x. is; listed = new .listed; asked = new .asked; used = new .used }
 
-        kept : (k v : ℕ) → k < 1024 → (k ≡ i → ⊥) → Told g t k (k / 16) (k % 16) v → Told g t′ k (k / 16) (k % 16) v
+        kept : (k v : ℕ) → k < rulePlaces → (k ≡ i → ⊥) → Told g t k (k / 16) (k % 16) v → Told g t′ k (k / 16) (k % 16) v
         kept k v b q o = record {
           is = o .is;
           listed = n .others k (omega arith) q (λ z. omega arith) ∙ o .listed;
-          asked = n .others (1024 + k) (omega arith) (λ z. omega arith) (λ z. q (omega arith)) ∙ o .asked;
+          asked = n .others (askedFrom + k) (omega arith) (λ z. omega arith) (λ z. q (omega arith)) ∙ o .asked;
           used = λ h. n .kept (wanted k) (positionOf v) h (omega (arith, o .is (λ z. omega arith) .small)) (o .used h);
         }
 
-        told : (k : ℕ) → k < m → k < 1024 → Dec (k ≡ i) → Told g t′ k (k / 16) (k % 16) (cond (eqb k i) w (f .pivot k))
+        told : (k : ℕ) → k < m → k < rulePlaces → Dec (k ≡ i) → Told g t′ k (k / 16) (k % 16) (cond (eqb k i) w (f .pivot k))
         told k d b (yes q) = rw (eq-eqb k i q) (subst (λ k. Told g t′ k (k / 16) (k % 16) w) (sym q) here)
         told k d b (no q) = rw (ne-eqb k i q) (kept k (f .pivot k) b q (f .before k (let x : k < i = omega (arith, q) in x) b))
 
@@ -348,21 +362,21 @@ pub with-small : (m e u : ℕ) → Added m e u → m < 4294967296 → e < 32 →
 unfolding _∪_ single
 with-small m e u added h l = omega (arith, added .value (omega arith), or-lt 32 m (2 ^ e) h (pow-lt l))
 
-module _ (t : List ℕ) (i want w x y : ℕ) (size : length t ≡ 2240) (l : i < 1024) (a : x ≡ keyWord 2 want w (i / 16) (i % 16)) (b : y ≡ keyWord 1 want w (i / 16) (want % 64)) where
+module _ (t : List ℕ) (i want w x y : ℕ) (size : length t ≡ keyTableWords) (l : i < rulePlaces) (a : x ≡ keyWord 2 want w (i / 16) (i % 16)) (b : y ≡ keyWord 1 want w (i / 16) (want % 64)) where
   abbrev two : List ℕ
-  two = set (set t i x) (1024 + i) y
+  two = set (set t i x) (askedFrom + i) y
 
-  pub size-two : length two ≡ 2240
+  pub size-two : length two ≡ keyTableWords
   size-two = simp length-set size
 
   first : getD two i 0 ≡ keyWord 2 want w (i / 16) (i % 16)
-  first = getD-set-other (set t i x) (1024 + i) i y 0 (λ q. omega arith) ∙ getD-set-same t i x 0 (omega arith) ∙ a
+  first = getD-set-other (set t i x) (askedFrom + i) i y 0 (λ q. omega arith) ∙ getD-set-same t i x 0 (omega arith) ∙ a
 
-  second : getD two (1024 + i) 0 ≡ keyWord 1 want w (i / 16) (want % 64)
-  second = getD-set-same (set t i x) (1024 + i) y 0 (simp length-set (omega arith)) ∙ b
+  second : getD two (askedFrom + i) 0 ≡ keyWord 1 want w (i / 16) (want % 64)
+  second = getD-set-same (set t i x) (askedFrom + i) y 0 (simp length-set (omega arith)) ∙ b
 
-  rest : (k : ℕ) → (k ≡ i → ⊥) → (k ≡ 1024 + i → ⊥) → getD two k 0 ≡ getD t k 0
-  rest k p q = getD-set-other (set t i x) (1024 + i) k y 0 q ∙ getD-set-other t i k x 0 p
+  rest : (k : ℕ) → (k ≡ i → ⊥) → (k ≡ askedFrom + i → ⊥) → getD two k 0 ≡ getD t k 0
+  rest k p q = getD-set-other (set t i x) (askedFrom + i) k y 0 q ∙ getD-set-other t i k x 0 p
 
   -- of one that wants no symbol
   pub entered-two : 64 ≤ want → (new : List ℕ) → new ≡ two → Entered t i want w new
@@ -371,56 +385,56 @@ module _ (t : List ℕ) (i want w x y : ℕ) (size : length t ≡ 2240) (l : i <
     listed = first;
     asked = second;
     others = λ k d p q. rest k p q;
-    kept = λ s e c d m. ap (λ u. member u e) (rest (2048 + s) (λ z. omega arith) (λ z. omega arith)) ∙ m;
+    kept = λ s e c d m. ap (λ u. member u e) (rest (usesFrom + s) (λ z. omega arith) (λ z. omega arith)) ∙ m;
     used = λ z. absurd (omega arith);
   })
 
   -- of one that wants a symbol, whose uses are u now
-  module _ (known : want < 64) (few : w ≤ 72) (u : ℕ) (added : Added (getD two (2048 + want) 0) (positionOf w) u) where
+  module _ (known : want < 64) (few : w ≤ 72) (u : ℕ) (added : Added (getD two (usesFrom + want) 0) (positionOf w) u) where
     abbrev three : List ℕ
-    three = set two (2048 + want) u
+    three = set two (usesFrom + want) u
 
-    other : (k : ℕ) → (k ≡ 2048 + want → ⊥) → getD three k 0 ≡ getD two k 0
-    other k q = getD-set-other two (2048 + want) k u 0 q
+    other : (k : ℕ) → (k ≡ usesFrom + want → ⊥) → getD three k 0 ≡ getD two k 0
+    other k q = getD-set-other two (usesFrom + want) k u 0 q
 
-    now-is : getD three (2048 + want) 0 ≡ u
-    now-is = getD-set-same two (2048 + want) u 0 (omega (arith, size-two))
+    now-is : getD three (usesFrom + want) 0 ≡ u
+    now-is = getD-set-same two (usesFrom + want) u 0 (omega (arith, size-two))
 
-    kept : (s e : ℕ) → s < 64 → e < 64 → member (getD t (2048 + s) 0) e ≡ true → Dec (s ≡ want) → member (getD three (2048 + s) 0) e ≡ true
+    kept : (s e : ℕ) → s < 64 → e < 64 → member (getD t (usesFrom + s) 0) e ≡ true → Dec (s ≡ want) → member (getD three (usesFrom + s) 0) e ≡ true
     kept s e c d m (yes q) =
-        ap (λ s. member (getD three (2048 + s) 0) e) q
+        ap (λ s. member (getD three (usesFrom + s) 0) e) q
         ∙ ap (λ u. member u e) now-is
         ∙ added .members e d
-        ∙ or-first (member (getD two (2048 + want) 0) e) (eqb e (positionOf w))
-        (ap (λ u. member u e) (rest (2048 + want) (λ z. omega arith) (λ z. omega arith)) ∙ ap (λ s. member (getD t (2048 + s) 0) e) (sym q) ∙ m)
-    kept s e c d m (no q) = ap (λ u. member u e) (other (2048 + s) (λ z. q (omega arith)) ∙ rest (2048 + s) (λ z. omega arith) (λ z. omega arith)) ∙ m
+        ∙ or-first (member (getD two (usesFrom + want) 0) e) (eqb e (positionOf w))
+        (ap (λ u. member u e) (rest (usesFrom + want) (λ z. omega arith) (λ z. omega arith)) ∙ ap (λ s. member (getD t (usesFrom + s) 0) e) (sym q) ∙ m)
+    kept s e c d m (no q) = ap (λ u. member u e) (other (usesFrom + s) (λ z. q (omega arith)) ∙ rest (usesFrom + s) (λ z. omega arith) (λ z. omega arith)) ∙ m
 
     pub entered-three : (new : List ℕ) → new ≡ three → Entered t i want w new
     entered-three new e = subst (λ (t′ : List ℕ). Entered t i want w t′) (sym e) (record {
       size = simp length-set size;
       listed = other i (λ z. omega arith) ∙ first;
-      asked = other (1024 + i) (λ z. omega arith) ∙ second;
+      asked = other (askedFrom + i) (λ z. omega arith) ∙ second;
       others = λ k d p q. other k (λ z. omega arith) ∙ rest k p q;
       kept = λ s e c d m. kept s e c d m (ℕ-discrete s want);
       used = λ z.
           ap (λ u. member u (positionOf w)) now-is
           ∙ added .members (positionOf w) (omega arith)
-          ∙ or-second (member (getD two (2048 + want) 0) (positionOf w)) (eqb (positionOf w) (positionOf w)) (eq-eqb (positionOf w) (positionOf w) refl);
+          ∙ or-second (member (getD two (usesFrom + want) 0) (positionOf w)) (eqb (positionOf w) (positionOf w)) (eq-eqb (positionOf w) (positionOf w) refl);
     })
 
 -- ---- the words of the symbols
-pub placed-none : (t : List ℕ) → length t ≡ 2240 → Placed t 0 t
+pub placed-none : (t : List ℕ) → length t ≡ keyTableWords → Placed t 0 t
 placed-none t h = record { size = h; others = λ k l. refl; place = λ s l. absurd (omega arith); sought = λ s l. absurd (omega arith) }
 
-module _ (t t′ : List ℕ) (s u x y : ℕ) (f : Placed t s t′) (l : s < 64) (is : u ≡ getD t′ (2048 + s) 0) (a : x ≡ placeWord 1 s u) (b : y ≡ placeWord 2 s u) where
+module _ (t t′ : List ℕ) (s u x y : ℕ) (f : Placed t s t′) (l : s < 64) (is : u ≡ getD t′ (usesFrom + s) 0) (a : x ≡ placeWord 1 s u) (b : y ≡ placeWord 2 s u) where
   abbrev pair : List ℕ
-  pair = set (set t′ (2112 + s) x) (2176 + s) y
+  pair = set (set t′ (placesFrom + s) x) (soughtFrom + s) y
 
-  uses-are : u ≡ getD t (2048 + s) 0
-  uses-are = is ∙ f .others (2048 + s) (omega arith)
+  uses-are : u ≡ getD t (usesFrom + s) 0
+  uses-are = is ∙ f .others (usesFrom + s) (omega arith)
 
-  past : (k : ℕ) → (k ≡ 2112 + s → ⊥) → (k ≡ 2176 + s → ⊥) → getD pair k 0 ≡ getD t′ k 0
-  past k p q = getD-set-other (set t′ (2112 + s) x) (2176 + s) k y 0 q ∙ getD-set-other t′ (2112 + s) k x 0 p
+  past : (k : ℕ) → (k ≡ placesFrom + s → ⊥) → (k ≡ soughtFrom + s → ⊥) → getD pair k 0 ≡ getD t′ k 0
+  past k p q = getD-set-other (set t′ (placesFrom + s) x) (soughtFrom + s) k y 0 q ∙ getD-set-other t′ (placesFrom + s) k x 0 p
 
   pub placed-more : (m : ℕ) → m ≡ s + 1 → (new : List ℕ) → new ≡ pair → Placed t m new
   placed-more m e new q = subst (λ (v : List ℕ). Placed t m v) (sym q) (record {
@@ -430,20 +444,20 @@ module _ (t t′ : List ℕ) (s u x y : ℕ) (f : Placed t s t′) (l : s < 64) 
     sought = λ k d. sought k d (ℕ-discrete k s);
   })
     where
-      place : (k : ℕ) → k < m → Dec (k ≡ s) → getD pair (2112 + k) 0 ≡ placeWord 1 k (getD t (2048 + k) 0)
+      place : (k : ℕ) → k < m → Dec (k ≡ s) → getD pair (placesFrom + k) 0 ≡ placeWord 1 k (getD t (usesFrom + k) 0)
       place k d (yes z) =
-          ap (λ k. getD pair (2112 + k) 0) z
-          ∙ getD-set-other (set t′ (2112 + s) x) (2176 + s) (2112 + s) y 0 (λ q. omega arith)
-          ∙ getD-set-same t′ (2112 + s) x 0 (omega (arith, f .size))
-          ∙ a ∙ ap (placeWord 1 s) uses-are ∙ ap (λ k. placeWord 1 k (getD t (2048 + k) 0)) (sym z)
-      place k d (no z) = past (2112 + k) (λ q. z (omega arith)) (λ q. omega arith) ∙ f .place k (omega (arith, z))
+          ap (λ k. getD pair (placesFrom + k) 0) z
+          ∙ getD-set-other (set t′ (placesFrom + s) x) (soughtFrom + s) (placesFrom + s) y 0 (λ q. omega arith)
+          ∙ getD-set-same t′ (placesFrom + s) x 0 (omega (arith, f .size))
+          ∙ a ∙ ap (placeWord 1 s) uses-are ∙ ap (λ k. placeWord 1 k (getD t (usesFrom + k) 0)) (sym z)
+      place k d (no z) = past (placesFrom + k) (λ q. z (omega arith)) (λ q. omega arith) ∙ f .place k (omega (arith, z))
 
-      sought : (k : ℕ) → k < m → Dec (k ≡ s) → getD pair (2176 + k) 0 ≡ placeWord 2 k (getD t (2048 + k) 0)
+      sought : (k : ℕ) → k < m → Dec (k ≡ s) → getD pair (soughtFrom + k) 0 ≡ placeWord 2 k (getD t (usesFrom + k) 0)
       sought k d (yes z) =
-          ap (λ k. getD pair (2176 + k) 0) z
-          ∙ getD-set-same (set t′ (2112 + s) x) (2176 + s) y 0 (simp length-set (omega (arith, f .size)))
-          ∙ b ∙ ap (placeWord 2 s) uses-are ∙ ap (λ k. placeWord 2 k (getD t (2048 + k) 0)) (sym z)
-      sought k d (no z) = past (2176 + k) (λ q. omega arith) (λ q. z (omega arith)) ∙ f .sought k (omega (arith, z))
+          ap (λ k. getD pair (soughtFrom + k) 0) z
+          ∙ getD-set-same (set t′ (placesFrom + s) x) (soughtFrom + s) y 0 (simp length-set (omega (arith, f .size)))
+          ∙ b ∙ ap (placeWord 2 s) uses-are ∙ ap (λ k. placeWord 2 k (getD t (usesFrom + k) 0)) (sym z)
+      sought k d (no z) = past (soughtFrom + k) (λ q. omega arith) (λ q. z (omega arith)) ∙ f .sought k (omega (arith, z))
 
 pub placed-all : (t t′ : List ℕ) (s : ℕ) → s ≤ 64 → 64 ≤ s → Placed t s t′ → Placed t 64 t′
 placed-all t t′ s a b f = let e : s ≡ 64 = omega arith in subst (λ s. Placed t s t′) e f
@@ -458,9 +472,12 @@ module _ (t : List ℕ) (from r p : ℕ) where
   unfolding ruleWord
   rule-past a h = rw (lt-ltb r 64 a, le-ltb p 16 h)
 
-  pub rule-there : r < 64 → p < 16 → getD t (from + 16 * r + p) 0 ≡ ruleWord t from r p
+  rule-there : r < 64 → p < 16 → getD t (from + rulePlace r p) 0 ≡ ruleWord t from r p
   unfolding ruleWord
   rule-there a b = rw (lt-ltb r 64 a, lt-ltb p 16 b)
+
+  pub rule-read : (k : ℕ) → r < 64 → p < 16 → k ≡ rulePlace r p → getD t (from + k) 0 ≡ ruleWord t from r p
+  rule-read k a b e = ap (λ k. getD t (from + k) 0) e ∙ rule-there a b
 
 module _ (t : List ℕ) (from s : ℕ) where
   pub symbol-far : 64 ≤ s → 0 ≡ symbolWord t from s
@@ -471,28 +488,28 @@ module _ (t : List ℕ) (from s : ℕ) where
   unfolding symbolWord
   symbol-there h = rw (lt-ltb s 64 h)
 
-uses-there : (t : List ℕ) (s : ℕ) → s < 64 → getD t (2048 + s) 0 ≡ usesIn t s
+uses-there : (t : List ℕ) (s : ℕ) → s < 64 → getD t (usesFrom + s) 0 ≡ usesIn t s
 unfolding usesIn
-uses-there t s h = symbol-there t 2048 s h
+uses-there t s h = symbol-there t usesFrom s h
 
 uses-far : (t : List ℕ) (s : ℕ) → 64 ≤ s → 0 ≡ usesIn t s
 unfolding usesIn
-uses-far t s h = symbol-far t 2048 s h
+uses-far t s h = symbol-far t usesFrom s h
 
 -- ---- the whole
 module _ (g : List ℕ) (checked : checkGrammar g ≡ true) (t : List ℕ) (n i : ℕ) (e : n ≡ 16 * ruleCount g) (l : n ≤ i) (f : Filled g t i) (t′ : List ℕ) (d : Placed t 64 t′) where
   abbrev pivot-at : ℕ → ℕ → ℕ
-  pivot-at r p = f .pivot (16 * r + p)
+  pivot-at r p = f .pivot (rulePlace r p)
 
   abbrev want : ℕ → ℕ → ℕ
   want r p = wantOf (grammarOf g) r p
 
-  told : (r p : ℕ) → r < 64 → p < 16 → 16 * r + p < i → Told g t (16 * r + p) r p (pivot-at r p)
+  told : (r p : ℕ) → r < 64 → p < 16 → rulePlace r p < i → Told g t (rulePlace r p) r p (pivot-at r p)
   told r p a b h =
-      let q : (16 * r + p) / 16 ≡ r = omega arith in
-      let s : (16 * r + p) % 16 ≡ p = omega arith in
-      subst (λ p′. Told g t (16 * r + p) r p′ (pivot-at r p)) s
-      (subst (λ r′. Told g t (16 * r + p) r′ ((16 * r + p) % 16) (pivot-at r p)) q (f .before (16 * r + p) h (omega arith)))
+      let q : (rulePlace r p) / 16 ≡ r = omega arith in
+      let s : (rulePlace r p) % 16 ≡ p = omega arith in
+      subst (λ p′. Told g t (rulePlace r p) r p′ (pivot-at r p)) s
+      (subst (λ r′. Told g t (rulePlace r p) r′ ((rulePlace r p) % 16) (pivot-at r p)) q (f .before (rulePlace r p) h (omega arith)))
 
   -- a rule that is there has pivots where something is wanted
   known-word : (r p : ℕ) → r < ruleCount g → p < 16 → (want r p ≡ 80 → ⊥) → PivotOf g r p (pivot-at r p)
@@ -502,43 +519,41 @@ module _ (g : List ℕ) (checked : checkGrammar g ≡ true) (t : List ℕ) (n i 
   used-word r p s q h (no a) b = absurd (omega (arith, unknown-rule g r p (omega arith)))
   used-word r p s q h (yes a) (no b) = absurd (omega (arith, unknown-node g checked r p (omega arith)))
   used-word r p s q h (yes a) (yes b) =
-      ap (λ u. member u (positionOf (pivot-at r p))) (sym (uses-there t′ s h) ∙ d .others (2048 + s) (omega arith) ∙ ap (λ s. getD t (2048 + s) 0) (sym q))
+      ap (λ u. member u (positionOf (pivot-at r p))) (sym (uses-there t′ s h) ∙ d .others (usesFrom + s) (omega arith) ∙ ap (λ s. getD t (usesFrom + s) 0) (sym q))
       ∙ told r p (rule-few g r checked a) b (omega arith) .used (omega arith)
 
   -- both words of a rule and a plan node
   abbrev Words : ℕ → ℕ → Type 0
-  Words r p = (ruleWord t′ 0 r p ≡ keyWord 2 (want r p) (pivot-at r p) r p) × (ruleWord t′ 1024 r p ≡ keyWord 1 (want r p) (pivot-at r p) r (want r p % 64))
+  Words r p = (ruleWord t′ 0 r p ≡ keyWord 2 (want r p) (pivot-at r p) r p) × (ruleWord t′ askedFrom r p ≡ keyWord 1 (want r p) (pivot-at r p) r (want r p % 64))
 
-  idle : (r p : ℕ) → want r p ≡ 80 → 0 ≡ ruleWord t′ 0 r p → 0 ≡ ruleWord t′ 1024 r p → Words r p
+  idle : (r p : ℕ) → want r p ≡ 80 → 0 ≡ ruleWord t′ 0 r p → 0 ≡ ruleWord t′ askedFrom r p → Words r p
   idle r p w a b = (sym a ∙ sym (word-none 2 (want r p) (pivot-at r p) r p w), sym b ∙ sym (word-none 1 (want r p) (pivot-at r p) r (want r p % 64) w))
 
   words : (r p : ℕ) → Dec (r < 64) → Dec (p < 16) → Words r p
-  words r p (no a) b = idle r p (unknown-rule g r p (omega (arith, rules-few g checked))) (rule-far t′ 0 r p (omega arith)) (rule-far t′ 1024 r p (omega arith))
-  words r p (yes a) (no b) = idle r p (unknown-node g checked r p (omega arith)) (rule-past t′ 0 r p a (omega arith)) (rule-past t′ 1024 r p a (omega arith))
-  words r p (yes a) (yes b) = go (decLt (16 * r + p) i)
+  words r p (no a) b = idle r p (unknown-rule g r p (omega (arith, rules-few g checked))) (rule-far t′ 0 r p (omega arith)) (rule-far t′ askedFrom r p (omega arith))
+  words r p (yes a) (no b) = idle r p (unknown-node g checked r p (omega arith)) (rule-past t′ 0 r p a (omega arith)) (rule-past t′ askedFrom r p a (omega arith))
+  words r p (yes a) (yes b) = go (decLt (rulePlace r p) i)
     where
-      first : ruleWord t′ 0 r p ≡ getD t (16 * r + p) 0
+      first : ruleWord t′ 0 r p ≡ getD t (rulePlace r p) 0
       first =
-          let k : 0 + 16 * r + p ≡ 16 * r + p = omega arith in
-          sym (rule-there t′ 0 r p a b) ∙ ap (λ k. getD t′ k 0) k ∙ d .others (16 * r + p) (omega arith)
+          let k : 0 + rulePlace r p ≡ rulePlace r p = omega arith in
+          sym (rule-there t′ 0 r p a b) ∙ ap (λ k. getD t′ k 0) k ∙ d .others (rulePlace r p) (omega arith)
 
-      second : ruleWord t′ 1024 r p ≡ getD t (1024 + (16 * r + p)) 0
-      second =
-          let k : 1024 + 16 * r + p ≡ 1024 + (16 * r + p) = omega arith in
-          sym (rule-there t′ 1024 r p a b) ∙ ap (λ k. getD t′ k 0) k ∙ d .others (1024 + (16 * r + p)) (omega arith)
+      second : ruleWord t′ askedFrom r p ≡ getD t (askedFrom + rulePlace r p) 0
+      second = sym (rule-there t′ askedFrom r p a b) ∙ d .others (askedFrom + rulePlace r p) (omega arith)
 
-      go : Dec (16 * r + p < i) → Words r p
+      go : Dec (rulePlace r p < i) → Words r p
       go (yes h) = let o = told r p a b h in (first ∙ o .listed, second ∙ o .asked)
       go (no h) =
-          let o = f .after (16 * r + p) (omega arith) (omega arith) in
+          let o = f .after (rulePlace r p) (omega arith) (omega arith) in
           idle r p (unknown-rule g r p (omega arith)) (sym (first ∙ o .0)) (sym (second ∙ o .1))
 
   -- the words of a symbol
-  placed : (from tag s : ℕ) → (s < 64 → getD t′ (from + s) 0 ≡ placeWord tag s (getD t (2048 + s) 0)) → symbolWord t′ from s ≡ placeWord tag s (usesIn t′ s)
+  placed : (from tag s : ℕ) → (s < 64 → getD t′ (from + s) 0 ≡ placeWord tag s (getD t (usesFrom + s) 0)) → symbolWord t′ from s ≡ placeWord tag s (usesIn t′ s)
   placed from tag s at-s = go (decLt s 64)
     where
       go : Dec (s < 64) → symbolWord t′ from s ≡ placeWord tag s (usesIn t′ s)
-      go (yes h) = sym (symbol-there t′ from s h) ∙ at-s h ∙ ap (placeWord tag s) (sym (d .others (2048 + s) (omega arith)) ∙ uses-there t′ s h)
+      go (yes h) = sym (symbol-there t′ from s h) ∙ at-s h ∙ ap (placeWord tag s) (sym (d .others (usesFrom + s) (omega arith)) ∙ uses-there t′ s h)
       go (no h) = sym (symbol-far t′ from s (omega arith)) ∙ sym (place-nowhere tag s) ∙ ap (placeWord tag s) (uses-far t′ s (omega arith))
 
   pub filled-all : KeyTable g t′
@@ -563,6 +578,6 @@ module _ (g : List ℕ) (checked : checkGrammar g ≡ true) (t : List ℕ) (n i 
     };
     listed = λ r p. words r p (decLt r 64) (decLt p 16) .0;
     asked = λ r p. words r p (decLt r 64) (decLt p 16) .1;
-    place = λ s. placed 2112 1 s (d .place s);
-    sought = λ s. placed 2176 2 s (d .sought s);
+    place = λ s. placed placesFrom 1 s (d .place s);
+    sought = λ s. placed soughtFrom 2 s (d .sought s);
   }

@@ -1,5 +1,4 @@
-// Keys by which records of a chart that can be joined find each other: the image of one rule node, the pivot, is part of the key.
-// A record comes as its sixteen words, in the order of crate `records`.
+// Keys by which items of a chart that can be joined find each other: the image of one rule node, the pivot, is part of the key.
 ghost use mathlib.Core.Path.{_≡_};
 ghost use mathlib.Core.Bool.{true};
 ghost use mathlib.Core.List.{[], _∷_};
@@ -7,17 +6,40 @@ ghost use Prim.Native.Nat.{_≤_, _<_};
 ghost use lib.ListN.{length, replicate};
 ghost use Rattle.questions.specs.Checking.{checkGrammar};
 ghost use Rattle.questions.specs.Abstract.{grammarOf};
-ghost use Rattle.records.specs.Words.{ofWords};
 ghost use Rattle.joins.specs.Joins.{KnownNode, KnownEdge, edgeNodes};
 ghost use Rattle.rules.specs.Plans.{PlanTable};
-ghost use Rattle.keys.specs.Pivots.{sharedNode, EdgePivot, PivotBelow, PivotOf};
-ghost use Rattle.keys.specs.Keys.{baseOf, mixed, imageOf, keyWord, placeOf, placeWord, ruleWord, symbolWord, KeyTable, Entered, Placed, placeKey, wordFor, usesOf, keysOf, queryOf, allPlaced, regularOf};
+ghost use Rattle.keys.specs.Pivots.{noPivot, sharedNode, EdgePivot, PivotBelow, PivotOf};
+ghost use Rattle.keys.specs.Keys.{baseOf, mixed, imageOf, keyWord, placeOf, placeWord, rulePlaces, askedFrom, soughtFrom, keyTableWords, rulePlace, ruleWord, symbolWord, KeyTable, Entered, Placed, placeKey, wordFor, usesOf, keysOf, queryOf, allPlaced, regularOf};
+use agenda::ChartItem;
+
+// The size of the table of key words.
+pub const KEY_TABLE_WORDS: usize = 2240;
+
+// Where its parts begin, after the words by which active items are listed: those by which they ask, the positions at which each
+// symbol is wanted, and for passive items the words by which they are listed and those by which they ask.
+const ASKED_FROM: u64 = 1024;
+
+const USES_FROM: u64 = 2048;
+
+const PLACES_FROM: u64 = 2112;
+
+const SOUGHT_FROM: u64 = 2176;
+
+// What a key is of: a passive item, an active one that wants an edge filled, one that wants to be joined with another.
+const PASSIVE_TAG: u64 = 1;
+
+const EDGE_TAG: u64 = 2;
+
+const JOIN_TAG: u64 = 3;
+
+// A pivot of no position and no node.
+const NO_PIVOT: u64 = 72;
 
 // ---- pivots
 // Below a plan node that introduces edge i: the first position of the edge whose node is open at p, with that node.
 fn edge_pivot(g: &[u64], plans: &[u32; 2048], r: u64, p: u64, i: u64) -> u64
     requires { ⌜ KnownNode (now g) r p × KnownEdge (now g) r i × PlanTable (now g) (now plans) ⌝ }
-    ensures { λ w. ⌜ EdgePivot (edgeNodes (now (g .entry)) r i) w × (w ≤ 72) ⌝ }
+    ensures { λ w. ⌜ EdgePivot (edgeNodes (now (g .entry)) r i) w × (w ≤ noPivot) ⌝ }
 {
     let nodes = rules::plans::open_at(g, plans, r, p);
     let rank = layout::rank_at(g, layout::edge_label(g, r, i));
@@ -29,7 +51,7 @@ fn edge_pivot(g: &[u64], plans: &[u32; 2048], r: u64, p: u64, i: u64) -> u64
         }
         k += 1;
     }
-    72
+    NO_PIVOT
 }
 
 // At the two children of a join: the last rule node that is open at both.
@@ -52,27 +74,30 @@ fn shared_node(g: &[u64], plans: &[u32; 2048], r: u64, p: u64, q: u64) -> u64
 // What plan node q asks of the pivot of p.
 fn pivot_below(g: &[u64], plans: &[u32; 2048], r: u64, p: u64, q: u64) -> u64
     requires { ⌜ KnownNode (now g) r q × PlanTable (now g) (now plans) ⌝ }
-    ensures { λ w. ⌜ PivotBelow (now (g .entry)) r p q w × (w ≤ 72) ⌝ }
+    ensures { λ w. ⌜ PivotBelow (now (g .entry)) r p q w × (w ≤ noPivot) ⌝ }
 {
     let kind = layout::plan_kind(g, r, q);
     let first = layout::plan_first(g, r, q);
     let second = layout::plan_second(g, r, q);
-    if kind == 0 {
-        return 72;
-    }
-    if kind == 1 {
-        if first == p {
-            return edge_pivot(g, plans, r, p, second);
+    match kind {
+        0 => NO_PIVOT,
+        1 => {
+            if first == p {
+                return edge_pivot(g, plans, r, p, second);
+            }
+            NO_PIVOT
         }
-        return 72;
+        2 => {
+            if first == p {
+                return 64 + shared_node(g, plans, r, p, second);
+            }
+            if second == p {
+                return 64 + shared_node(g, plans, r, p, first);
+            }
+            NO_PIVOT
+        }
+        _ => NO_PIVOT,
     }
-    if first == p {
-        return 64 + shared_node(g, plans, r, p, second);
-    }
-    if second == p {
-        return 64 + shared_node(g, plans, r, p, first);
-    }
-    72
 }
 
 // The pivot of rule r and plan node p.
@@ -82,7 +107,7 @@ fn pivot(g: &[u64], plans: &[u32; 2048], r: u64, p: u64) -> u64
 {
     let above = rules::plans::place_above(g, plans, r, p);
     if !above.found {
-        return 72;
+        return NO_PIVOT;
     }
     pivot_below(g, plans, r, p, above.node)
 }
@@ -104,7 +129,7 @@ fn mix(b: u64, a: u64) -> u64
 }
 
 // ---- the table
-// The word for active records of rule r that want `want` and have pivot w; a join's stands at plan node p.
+// The word for active items of rule r that want `want` and have pivot w; a join's stands at plan node p.
 fn key_word(tag: u64, want: u64, w: u64, r: u64, p: u64) -> u64
     ensures { λ x. ⌜ (x ≡ keyWord tag want w r p) × (x < 4294967296) ⌝ }
 {
@@ -114,7 +139,7 @@ fn key_word(tag: u64, want: u64, w: u64, r: u64, p: u64) -> u64
     if want < 64 {
         return 16 * base(tag, want, w / 16) + w % 16;
     }
-    16 * base(3, r, p) + w % 16
+    16 * base(JOIN_TAG, r, p) + w % 16
 }
 
 // The place of a set that has no other, 5 for any other set.
@@ -131,7 +156,7 @@ fn place_of(u: u64) -> u64
     }
 }
 
-// The word for passive records of symbol s that are asked for at the places in u.
+// The word for passive items of symbol s that are asked for at the places in u.
 fn place_word(tag: u64, s: u64, u: u64) -> u64
     ensures { λ x. ⌜ (x ≡ placeWord tag s u) × (x < 4294967296) ⌝ }
 {
@@ -148,15 +173,15 @@ fn place_word(tag: u64, s: u64, u: u64) -> u64
 
 // The words for place i of the rules and their plan nodes, whose pivot is w.
 fn enter(t: &mut [u32], i: u64, want: u64, w: u64)
-    requires { ⌜ (length (now t) ≡ 2240) × (i < 1024) × (w ≤ 72) ⌝ }
+    requires { ⌜ (length (now t) ≡ keyTableWords) × (i < rulePlaces) × (w ≤ noPivot) ⌝ }
     ensures { λ r. ⌜ Entered (now (t .entry)) i want w (now (t .exit)) ⌝ }
 {
-    let own = key_word(2, want, w, i / 16, i % 16);
+    let own = key_word(EDGE_TAG, want, w, i / 16, i % 16);
     t[i as usize] = own as u32;
-    let asked = key_word(1, want, w, i / 16, want % 64);
-    t[(1024 + i) as usize] = asked as u32;
+    let asked = key_word(PASSIVE_TAG, want, w, i / 16, want % 64);
+    t[(ASKED_FROM + i) as usize] = asked as u32;
     if want < 64 {
-        let at = (2048 + want) as usize;
+        let at = (USES_FROM + want) as usize;
         let u = masks::with(t[at] as u64, w / 16);
         t[at] = u as u32;
     }
@@ -164,21 +189,21 @@ fn enter(t: &mut [u32], i: u64, want: u64, w: u64)
 
 // The words for the symbols, whose uses are there.
 fn fill_places(t: &mut [u32])
-    requires { ⌜ length (now t) ≡ 2240 ⌝ }
+    requires { ⌜ length (now t) ≡ keyTableWords ⌝ }
     ensures { λ r. ⌜ Placed (now (t .entry)) 64 (now (t .exit)) ⌝ }
 {
     let mut s: u64 = 0;
     while s < 64 {
-        let u = t[(2048 + s) as usize] as u64;
-        t[(2112 + s) as usize] = place_word(1, s, u) as u32;
-        t[(2176 + s) as usize] = place_word(2, s, u) as u32;
+        let u = t[(USES_FROM + s) as usize] as u64;
+        t[(PLACES_FROM + s) as usize] = place_word(PASSIVE_TAG, s, u) as u32;
+        t[(SOUGHT_FROM + s) as usize] = place_word(EDGE_TAG, s, u) as u32;
         s += 1;
     }
 }
 
-// The table, into words that are 0: for all rules and plan nodes the words by which active records are listed, then those by which they ask; for each symbol the positions at which it is wanted, and the same two words of passive records.
+// The table, into words that are 0: for all rules and plan nodes the words by which active items are listed, then those by which they ask; for each symbol the positions at which it is wanted, and the same two words of passive items.
 pub fn fill(g: &[u64], plans: &[u32; 2048], t: &mut [u32])
-    requires { ⌜ (checkGrammar (now g) ≡ true) × PlanTable (now g) (now plans) × (now t ≡ replicate 2240 0) ⌝ }
+    requires { ⌜ (checkGrammar (now g) ≡ true) × PlanTable (now g) (now plans) × (now t ≡ replicate keyTableWords 0) ⌝ }
     ensures { λ r. ⌜ KeyTable (now (g .entry)) (now (t .exit)) ⌝ }
 {
     let n = 16 * layout::rule_count(g);
@@ -194,9 +219,17 @@ pub fn fill(g: &[u64], plans: &[u32; 2048], t: &mut [u32])
     fill_places(t);
 }
 
+// The place of rule r and plan node p in a part of the table.
+fn place(r: u64, p: u64) -> u64
+    requires { ⌜ (r < 64) × (p < 16) ⌝ }
+    ensures { λ i. ⌜ i ≡ rulePlace r p ⌝ }
+{
+    16 * r + p
+}
+
 // A word for rule r and plan node p, read off a table: 0 where it has none.
 fn rule_word(t: &[u32], from: u64, r: u64, p: u64) -> u64
-    requires { ⌜ (length (now t) ≡ 2240) × (from ≤ 1024) ⌝ }
+    requires { ⌜ (length (now t) ≡ keyTableWords) × (from ≤ askedFrom) ⌝ }
     ensures { λ w. ⌜ (w ≡ ruleWord (now (t .entry)) from r p) × (w < 4294967296) ⌝ }
 {
     if r >= 64 {
@@ -205,12 +238,12 @@ fn rule_word(t: &[u32], from: u64, r: u64, p: u64) -> u64
     if p >= 16 {
         return 0;
     }
-    t[(from + 16 * r + p) as usize] as u64
+    t[(from + place(r, p)) as usize] as u64
 }
 
 // And for symbol s.
 fn symbol_word(t: &[u32], from: u64, s: u64) -> u64
-    requires { ⌜ (length (now t) ≡ 2240) × (from ≤ 2176) ⌝ }
+    requires { ⌜ (length (now t) ≡ keyTableWords) × (from ≤ soughtFrom) ⌝ }
     ensures { λ w. ⌜ (w ≡ symbolWord (now (t .entry)) from s) × (w < 4294967296) ⌝ }
 {
     if s >= 64 {
@@ -220,41 +253,41 @@ fn symbol_word(t: &[u32], from: u64, s: u64) -> u64
 }
 
 // ---- keys
-// The word of a record: an active one's from word `rules` on, a passive one's from `symbols` on.
-fn word_for(t: &[u32], rules: u64, symbols: u64, x: &[u64]) -> u64
-    requires { ⌜ (length (now t) ≡ 2240) × (length (now x) ≡ 16) × (rules ≤ 1024) × (symbols ≤ 2176) ⌝ }
-    ensures { λ w. ⌜ (w ≡ wordFor (now (t .entry)) rules symbols (ofWords (now (x .entry)))) × (w < 4294967296) ⌝ }
+// The word of an item: an active one's from word `rules` on, a passive one's from `symbols` on.
+fn word_for(t: &[u32], rules: u64, symbols: u64, x: ChartItem) -> u64
+    requires { ⌜ (length (now t) ≡ keyTableWords) × (rules ≤ askedFrom) × (symbols ≤ soughtFrom) ⌝ }
+    ensures { λ w. ⌜ (w ≡ wordFor (now (t .entry)) rules symbols x) × (w < 4294967296) ⌝ }
 {
-    if x[0] == 0 {
-        return rule_word(t, rules, x[1], x[2]);
+    if x.kind == 0 {
+        return rule_word(t, rules, x.of, x.plan);
     }
-    symbol_word(t, symbols, x[1])
+    symbol_word(t, symbols, x.of)
 }
 
 // The positions at which it is asked for, if it is passive.
-fn uses_of(t: &[u32], x: &[u64]) -> u64
-    requires { ⌜ (length (now t) ≡ 2240) × (length (now x) ≡ 16) ⌝ }
-    ensures { λ u. ⌜ u ≡ usesOf (now (t .entry)) (ofWords (now (x .entry))) ⌝ }
+fn uses_of(t: &[u32], x: ChartItem) -> u64
+    requires { ⌜ length (now t) ≡ keyTableWords ⌝ }
+    ensures { λ u. ⌜ u ≡ usesOf (now (t .entry)) x ⌝ }
 {
-    if x[0] == 0 {
+    if x.kind == 0 {
         return 0;
     }
-    symbol_word(t, 2048, x[1])
+    symbol_word(t, USES_FROM, x.of)
 }
 
-// The image of a word's node by the nodes of a record.
-fn image(w: u64, x: &[u64]) -> u64
-    requires { ⌜ length (now x) ≡ 16 ⌝ }
-    ensures { λ a. ⌜ a ≡ imageOf w (ofWords (now (x .entry)) .nodes) ⌝ }
+// The image of a word's node by the nodes of an item.
+fn image(w: u64, x: ChartItem) -> u64
+    ensures { λ a. ⌜ a ≡ imageOf w (x .nodes) ⌝ }
 {
     let v = w % 16;
     if v >= 8 {
         return 64;
     }
-    x[(6 + v) as usize]
+    let nodes = x.nodes;
+    nodes[v as usize]
 }
 
-// The key of position i of a passive record, if that is used.
+// The key of position i of a passive item, if that is used.
 fn place_key(used: u64, tag: u64, s: u64, i: u64, a: u64) -> u64
     ensures { λ x. ⌜ x ≡ placeKey used tag s i a ⌝ }
 {
@@ -264,18 +297,17 @@ fn place_key(used: u64, tag: u64, s: u64, i: u64, a: u64) -> u64
     mix(base(tag, s, i), a)
 }
 
-// The key that the partners of a record have, where a word of the table tells that there is but one; 0 where it has no partners.
+// The key that the partners of an item have, where a word of the table tells that there is but one; 0 where it has no partners.
 pub struct AskedKey {
     pub single: bool,
     pub key: u64,
 }
 
-// Of a record.
-pub fn asked(keys: &[u32; 2240], x: &[u64]) -> AskedKey
-    requires { ⌜ length (now x) ≡ 16 ⌝ }
-    ensures { λ r. ⌜ (r .single ≡ true → (r .key ∷ 0 ∷ 0 ∷ 0 ∷ 0 ∷ []) ≡ queryOf (now (keys .entry)) (ofWords (now (x .entry)))) ⌝ }
+// Of an item.
+pub fn asked(keys: &[u32; KEY_TABLE_WORDS], x: ChartItem) -> AskedKey
+    ensures { λ r. ⌜ (r .single ≡ true → (r .key ∷ 0 ∷ 0 ∷ 0 ∷ 0 ∷ []) ≡ queryOf (now (keys .entry)) x) ⌝ }
 {
-    let w = word_for(keys, 1024, 2176, x);
+    let w = word_for(keys, ASKED_FROM, SOUGHT_FROM, x);
     if w != 0 {
         let key = mix(w / 16, image(w, x));
         return AskedKey { single: true, key };
@@ -287,12 +319,11 @@ pub fn asked(keys: &[u32; 2240], x: &[u64]) -> AskedKey
     }
 }
 
-// The keys that the partners of a record have, 0 for none. The five places are written out here and in `listing`: a function for both would hand an array over by value.
-pub fn query(keys: &[u32; 2240], x: &[u64]) -> [u64; 5]
-    requires { ⌜ length (now x) ≡ 16 ⌝ }
-    ensures { λ ks. ⌜ ks ≡ queryOf (now (keys .entry)) (ofWords (now (x .entry))) ⌝ }
+// The keys that the partners of an item have, 0 for none. The five places are written out here and in `listing`: a function for both would hand an array over by value.
+pub fn query(keys: &[u32; KEY_TABLE_WORDS], x: ChartItem) -> [u64; 5]
+    ensures { λ ks. ⌜ ks ≡ queryOf (now (keys .entry)) x ⌝ }
 {
-    let w = word_for(keys, 1024, 2176, x);
+    let w = word_for(keys, ASKED_FROM, SOUGHT_FROM, x);
     if w != 0 {
         return [mix(w / 16, image(w, x)), 0, 0, 0, 0];
     }
@@ -300,39 +331,39 @@ pub fn query(keys: &[u32; 2240], x: &[u64]) -> [u64; 5]
     if u == 0 {
         return [0, 0, 0, 0, 0];
     }
-    let s = x[1];
+    let s = x.of;
+    let nodes = x.nodes;
     [
-        place_key(u % 2, 2, s, 0, x[6]),
-        place_key(u / 2 % 2, 2, s, 1, x[7]),
-        place_key(u / 4 % 2, 2, s, 2, x[8]),
-        place_key(u / 8 % 2, 2, s, 3, x[9]),
-        place_key(u / 16 % 2, 2, s, 4, 64),
+        place_key(u % 2, EDGE_TAG, s, 0, nodes[0]),
+        place_key(u / 2 % 2, EDGE_TAG, s, 1, nodes[1]),
+        place_key(u / 4 % 2, EDGE_TAG, s, 2, nodes[2]),
+        place_key(u / 8 % 2, EDGE_TAG, s, 3, nodes[3]),
+        place_key(u / 16 % 2, EDGE_TAG, s, 4, 64),
     ]
 }
 
-// Whether a node stands in each of a passive record's first four places that is in u.
-fn all_placed(u: u64, x: &[u64]) -> bool
-    requires { ⌜ length (now x) ≡ 16 ⌝ }
-    ensures { λ t. ⌜ t ≡ allPlaced u (ofWords (now (x .entry)) .nodes) ⌝ }
+// Whether a node stands in each of a passive item's first four places that is in u.
+fn all_placed(u: u64, x: ChartItem) -> bool
+    ensures { λ t. ⌜ t ≡ allPlaced u (x .nodes) ⌝ }
 {
-    ((u % 2 == 0) | (x[6] < 64))
-        & ((u / 2 % 2 == 0) | (x[7] < 64))
-        & ((u / 4 % 2 == 0) | (x[8] < 64))
-        & ((u / 8 % 2 == 0) | (x[9] < 64))
+    let nodes = x.nodes;
+    ((u % 2 == 0) | (nodes[0] < 64))
+        & ((u / 2 % 2 == 0) | (nodes[1] < 64))
+        & ((u / 4 % 2 == 0) | (nodes[2] < 64))
+        & ((u / 8 % 2 == 0) | (nodes[3] < 64))
 }
 
-// The keys that a record has, 0 for none, and whether the nodes by which it is keyed are there. Both rest on the same words, which are looked up once.
+// The keys that an item has, 0 for none, and whether the nodes by which it is keyed are there. Both rest on the same words, which are looked up once.
 pub struct Entries {
     pub keys: [u64; 5],
     pub regular: bool,
 }
 
-// Of a record. An only key comes first.
-pub fn listing(keys: &[u32; 2240], x: &[u64]) -> Entries
-    requires { ⌜ length (now x) ≡ 16 ⌝ }
-    ensures { λ r. ⌜ (r .keys ≡ keysOf (now (keys .entry)) (ofWords (now (x .entry)))) × (r .regular ≡ regularOf (now (keys .entry)) (ofWords (now (x .entry)))) ⌝ }
+// Of an item. An only key comes first.
+pub fn listing(keys: &[u32; KEY_TABLE_WORDS], x: ChartItem) -> Entries
+    ensures { λ r. ⌜ (r .keys ≡ keysOf (now (keys .entry)) x) × (r .regular ≡ regularOf (now (keys .entry)) x) ⌝ }
 {
-    let w = word_for(keys, 0, 2112, x);
+    let w = word_for(keys, 0, PLACES_FROM, x);
     if w != 0 {
         let a = image(w, x);
         return Entries {
@@ -347,32 +378,32 @@ pub fn listing(keys: &[u32; 2240], x: &[u64]) -> Entries
             regular: true,
         };
     }
-    let s = x[1];
+    let s = x.of;
+    let nodes = x.nodes;
     Entries {
         keys: [
-            place_key(u % 2, 1, s, 0, x[6]),
-            place_key(u / 2 % 2, 1, s, 1, x[7]),
-            place_key(u / 4 % 2, 1, s, 2, x[8]),
-            place_key(u / 8 % 2, 1, s, 3, x[9]),
-            place_key(u / 16 % 2, 1, s, 4, 64),
+            place_key(u % 2, PASSIVE_TAG, s, 0, nodes[0]),
+            place_key(u / 2 % 2, PASSIVE_TAG, s, 1, nodes[1]),
+            place_key(u / 4 % 2, PASSIVE_TAG, s, 2, nodes[2]),
+            place_key(u / 8 % 2, PASSIVE_TAG, s, 3, nodes[3]),
+            place_key(u / 16 % 2, PASSIVE_TAG, s, 4, 64),
         ],
         regular: all_placed(u, x),
     }
 }
 
-// The key that a record has, where a word of the table tells that there is but one, or 0 where it has none; and whether the node by which it is keyed is there.
+// The key that an item has, where a word of the table tells that there is but one, or 0 where it has none; and whether the node by which it is keyed is there.
 pub struct OwnKey {
     pub single: bool,
     pub key: u64,
     pub regular: bool,
 }
 
-// Of a record.
-pub fn entry(keys: &[u32; 2240], x: &[u64]) -> OwnKey
-    requires { ⌜ length (now x) ≡ 16 ⌝ }
-    ensures { λ r. ⌜ (r .single ≡ true → ((r .key ∷ 0 ∷ 0 ∷ 0 ∷ 0 ∷ []) ≡ keysOf (now (keys .entry)) (ofWords (now (x .entry)))) × (r .regular ≡ regularOf (now (keys .entry)) (ofWords (now (x .entry))))) ⌝ }
+// Of an item.
+pub fn entry(keys: &[u32; KEY_TABLE_WORDS], x: ChartItem) -> OwnKey
+    ensures { λ r. ⌜ (r .single ≡ true → ((r .key ∷ 0 ∷ 0 ∷ 0 ∷ 0 ∷ []) ≡ keysOf (now (keys .entry)) x) × (r .regular ≡ regularOf (now (keys .entry)) x)) ⌝ }
 {
-    let w = word_for(keys, 0, 2112, x);
+    let w = word_for(keys, 0, PLACES_FROM, x);
     if w != 0 {
         let a = image(w, x);
         return OwnKey {

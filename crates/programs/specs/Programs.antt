@@ -5,12 +5,13 @@ use mathlib.Core.List.{List, [], _∷_, _++_}
 use Prim.Native.Nat.{ℕ}
 use lib.ListN.{length, take, drop, replicate}
 use lib.Dec.{eqb, leb}
+use Rattle.records.specs.Words.{wordsFor}
 use Rattle.format.specs.Writing.{lineText}
 use Rattle.questions.specs.Layout.{grammarWords, graphWords}
 use Rattle.charting.specs.Calls.{numberOf as chartNumber, startOf, runOf}
 use Rattle.charting.specs.declared.Outcome.{Outcome}
 use Rattle.charting.specs.declared.Outcome.the-variants.{Unfit as Unfit-chart, TooSmall as TooSmall-chart, Unfinished as Unfinished-chart, Done}
-use Rattle.writing.specs.Writing.{numberOf as writingNumber, writeOf}
+use Rattle.writing.specs.Writing.{writeOf}
 use Rattle.writing.specs.declared.Answer.{Answer}
 use Rattle.writing.specs.declared.Answer.the-variants.{Unfit, TooSmall, Unfinished, Underivable, NoRoom, Written}
 use Rattle.replayer.specs.Verdicts.{numberOf as verdictNumber, replayOf}
@@ -40,7 +41,7 @@ abbrev pub items : ℕ
 items = 2048
 
 abbrev pub chartWords : ℕ
-chartWords = 32770
+chartWords = wordsFor items
 
 abbrev pub outputBytes : ℕ
 outputBytes = 32768

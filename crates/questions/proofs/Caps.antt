@@ -3,9 +3,9 @@
 use mathlib.Core.Path.{_≡_}
 use mathlib.Core.Bool.{true}
 use mathlib.Core.List.{List}
-use Prim.Native.Nat.{ℕ, _+_, _<_, min}
+use Prim.Native.Nat.{ℕ, _<_, min}
 use native.Mathlib.Omega.{arith}
-use Rattle.questions.specs.Layout.{placeOf, lineField, symbolCount, ruleCount, rankAt, ruleNodes, ruleEdges, rulePlan, graphNodes, graphEdges}
+use Rattle.questions.specs.Layout.{symbolPlace, placeOf, lineField, symbolCount, ruleCount, rankAt, ruleNodes, ruleEdges, rulePlan, graphNodes, graphEdges}
 use Rattle.questions.specs.Questions.{judge}
 use Rattle.questions.specs.Reading.{accepted, grammarVerdict, graphVerdict}
 use Rattle.questions.specs.Checking.{checkGrammar, checkGraph}
@@ -16,7 +16,7 @@ use Rattle.questions.proofs.WellFormedLent.{checked-grammar-stands, che
 pub record GrammarUncapped (t : List ℕ) : Type 0 where
   pub symbols : min 64 (symbolCount t) ≡ symbolCount t
   pub rules : min 64 (ruleCount t) ≡ ruleCount t
-  pub rank : (s : ℕ) → s < symbolCount t → rankAt t s ≡ lineField t (1 + s) 2
+  pub rank : (s : ℕ) → s < symbolCount t → rankAt t s ≡ lineField t (symbolPlace s) 2
   pub nodes : (r : ℕ) → r < ruleCount t → min 64 (ruleNodes t r) ≡ ruleNodes t r
   pub edges : (r : ℕ) → r < ruleCount t → min 8 (ruleEdges t r) ≡ ruleEdges t r
   pub plan : (r : ℕ) → r < ruleCount t → min 16 (rulePlan t r) ≡ rulePlan t r
@@ -39,7 +39,7 @@ module _ (t : List ℕ) (all : GrammarStands t) where
       let (fs, s) = all .grammar in
       omega (arith, s .there 1 (omega arith), passes-grammar fs .sound (s .passed) .rules .upper)
 
-  small-rank : (i : ℕ) → i < symbolCount t → rankAt t i ≡ lineField t (1 + i) 2
+  small-rank : (i : ℕ) → i < symbolCount t → rankAt t i ≡ lineField t (symbolPlace i) 2
   unfolding judge placeOf
   small-rank i l =
       let (fs, s) = all .symbol i l in

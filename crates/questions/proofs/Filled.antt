@@ -2,7 +2,7 @@
 use mathlib.Core.Path.{_≡_, refl, sym, ap, ap₂, _∙_}
 use mathlib.Core.Bool.{Bool, true, false, cond}
 use mathlib.Core.List.{List, [], _++_}
-use Prim.Native.Nat.{ℕ, zero, suc, _+_, _-_, _*_, _≤_, _<_, min}
+use Prim.Native.Nat.{ℕ, zero, suc, _+_, _-_, _≤_, _<_, min}
 use native.Mathlib.Nat.{not-suc-le-zero}
 use native.Mathlib.Omega.{arith}
 use lib.ListN.{length, getD, take, drop, replicate, length-replicate, length-append, take-append-drop}
@@ -17,7 +17,7 @@ use Rattle.hrg.proofs.Sums.{length-tabulate}
 use Rattle.hrg.proofs.Degrees.{test-T, T-test}
 use Rattle.format.specs.Lines.{linesOf}
 use Rattle.format.specs.Writing.{Writable, lineText}
-use Rattle.questions.specs.Layout.{placeOf, lineField, stored, grammarWords, graphWords, symbolCount, ruleCount, ruleEdges, rulePlan, graphEdges, rankAt}
+use Rattle.questions.specs.Layout.{symbolPlace, rulePlace, edgePlace, planPlace, graphEdgePlace, placeOf, lineField, stored, grammarWords, graphWords, symbolCount, ruleCount, ruleEdges, rulePlan, graphEdges, rankAt}
 use Rattle.questions.specs.Questions.{judge}
 use Rattle.questions.specs.Reading.{next, Verdict, refused, accepted, whenDone, goOn, readLines, grammarVerdict, graphVerdict, delivered, Outcome, readGrammar}
 use Rattle.questions.specs.Checking.{fieldsDue, storedFields, checkLines, filledBy, checkGrammar, checkGraph, FilledGrammar, FilledGraph}
@@ -74,13 +74,13 @@ walk-text {g} {t} n (line {c} {due} {fs} h w) m =
 -- ---- from a walk to the check
 -- at most so many lines are left
 abbrev left : Due → ℕ
-left Grammar = 1665
-left (Symbol s) = 1664 - s
-left (Rule r) = 1600 - 25 * r
-left (RuleEdge r i) = 1599 - 25 * r - i
-left (PlanLine r q) = 1591 - 25 * r - q
-left Graph = 65
-left (GraphEdge e) = 64 - e
+left Grammar = grammarWords
+left (Symbol s) = grammarWords - symbolPlace s
+left (Rule r) = grammarWords - rulePlace r
+left (RuleEdge r i) = grammarWords - edgePlace r i
+left (PlanLine r q) = grammarWords - planPlace r q
+left Graph = graphWords
+left (GraphEdge e) = graphWords - graphEdgePlace e
 left Nothing = 0
 
 cond-left : (k : ℕ) (b : Bool) (x y : Due) → left x < k → left y < k → left (cond b x y) < k
@@ -90,13 +90,13 @@ cond-left k false x y a c = c
 left-falls : (n : ℕ) (t : List ℕ) (d : Due) → IsLine d → Room n d → left (next t d) < left d
 unfolding next
 left-falls n t Grammar l h = omega arith
-left-falls n t (Symbol s) l h = cond-left (1664 - s) (ltb (s + 1) (min 64 (symbolCount t))) (Symbol (s + 1)) (Rule 0) (omega (arith, h .0)) (omega (arith, h .0))
+left-falls n t (Symbol s) l h = cond-left (grammarWords - symbolPlace s) (ltb (s + 1) (min 64 (symbolCount t))) (Symbol (s + 1)) (Rule 0) (omega (arith, h .0)) (omega (arith, h .0))
 left-falls n t (Rule r) l h = omega (arith, h .0)
-left-falls n t (RuleEdge r i) l h = cond-left (1599 - 25 * r - i) (ltb (i + 1) (min 8 (ruleEdges t r))) (RuleEdge r (i + 1)) (PlanLine r 0) (omega (arith, h .0, h .1)) (omega (arith, h .0, h .1))
+left-falls n t (RuleEdge r i) l h = cond-left (grammarWords - edgePlace r i) (ltb (i + 1) (min 8 (ruleEdges t r))) (RuleEdge r (i + 1)) (PlanLine r 0) (omega (arith, h .0, h .1)) (omega (arith, h .0, h .1))
 left-falls n t (PlanLine r q) l h =
-    cond-left (1591 - 25 * r - q) (ltb (q + 1) (min 16 (rulePlan t r))) (PlanLine r (q + 1)) (cond (ltb (r + 1) (min 64 (ruleCount t))) (Rule (r + 1)) Nothing) (omega (arith, h .0, h .1)) (cond-left (1591 - 25 * r - q) (ltb (r + 1) (min 64 (ruleCount t))) (Rule (r + 1)) Nothing (omega (arith, h .0, h .1)) (omega (arith, h .0, h .1)))
+    cond-left (grammarWords - planPlace r q) (ltb (q + 1) (min 16 (rulePlan t r))) (PlanLine r (q + 1)) (cond (ltb (r + 1) (min 64 (ruleCount t))) (Rule (r + 1)) Nothing) (omega (arith, h .0, h .1)) (cond-left (grammarWords - planPlace r q) (ltb (r + 1) (min 64 (ruleCount t))) (Rule (r + 1)) Nothing (omega (arith, h .0, h .1)) (omega (arith, h .0, h .1)))
 left-falls n t Graph l h = omega arith
-left-falls n t (GraphEdge e) l h = cond-left (64 - e) (ltb (e + 1) (min 64 (graphEdges t))) (GraphEdge (e + 1)) Nothing (omega (arith, h .0)) (omega (arith, h .0))
+left-falls n t (GraphEdge e) l h = cond-left (graphWords - graphEdgePlace e) (ltb (e + 1) (min 64 (graphEdges t))) (GraphEdge (e + 1)) Nothing (omega (arith, h .0)) (omega (arith, h .0))
 left-falls n t Nothing l h = absurd l
 
 -- the fields that a table holds at a place are those that were stored there
@@ -210,7 +210,7 @@ module _ (size fuel : ℕ) (first : Due) (room : Room size first) (enough : left
 pub check-grammar-filled : (t : List ℕ) → checkGrammar t ≡ true → FilledGrammar t
 unfolding checkGrammar readGrammar grammarVerdict
 check-grammar-filled t q =
-    let a = check-reads grammarWords 1666 Grammar (omega arith) (omega arith) [] t q in
+    let a = check-reads grammarWords (suc grammarWords) Grammar (omega arith) (omega arith) [] t q in
     record {
       text = a .0;
       former = t;
@@ -221,13 +221,13 @@ pub grammar-filled-check : (t : List ℕ) → FilledGrammar t → checkGrammar t
 unfolding checkGrammar readGrammar grammarVerdict
 grammar-filled-check t f =
     let a = delivered-done grammarWords (grammarVerdict (f .text)) (f .former) t (f .read) in
-    reads-check grammarWords 1666 Grammar (omega arith) (omega arith) [] t (f .text) (a .0) (f .former) (a .3) (a .1)
+    reads-check grammarWords (suc grammarWords) Grammar (omega arith) (omega arith) [] t (f .text) (a .0) (f .former) (a .3) (a .1)
 
 -- Question 8 of a graph table, with an accepted grammar table.
 pub check-graph-filled : (g t : List ℕ) → checkGrammar g ≡ true → checkGraph g t ≡ true → FilledGraph g t
 unfolding checkGraph graphVerdict
 check-graph-filled g t ok q =
-    let a = check-reads graphWords 66 Graph (omega arith) (omega arith) g t q in
+    let a = check-reads graphWords (suc graphWords) Graph (omega arith) (omega arith) g t q in
     record {
       text = a .0;
       former = t;
@@ -246,4 +246,4 @@ graph-filled-check g t f = go (checkGrammar g) refl
         absurd (omega arith)
     go true e =
         let a = delivered-done graphWords (graphVerdict g (f .text)) (f .former) t (sym (grammar-passed-first g (f .text) (f .former) e) ∙ f .read) in
-        (e, reads-check graphWords 66 Graph (omega arith) (omega arith) g t (f .text) (a .0) (f .former) (a .3) (a .1))
+        (e, reads-check graphWords (suc graphWords) Graph (omega arith) (omega arith) g t (f .text) (a .0) (f .former) (a .3) (a .1))

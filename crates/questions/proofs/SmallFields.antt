@@ -2,12 +2,12 @@
 use mathlib.Core.Path.{_≡_, refl}
 use mathlib.Core.Logic.{_⊎_, inl, inr}
 use mathlib.Core.List.{List, [], _∷_}
-use Prim.Native.Nat.{ℕ, zero, suc, _+_, _*_, _≤_, _<_, min}
+use Prim.Native.Nat.{ℕ, zero, suc, _+_, _≤_, _<_, min}
 use native.Mathlib.Omega.{arith}
 use lib.ListN.{length, getD, drop}
 use Rattle.hrg.specs.Counts.{occurs}
 use Rattle.hrg.proofs.Sums.{hit-self}
-use Rattle.questions.specs.Layout.{symbolCount, startSymbol, rankAt, ruleNodes, graphNodes}
+use Rattle.questions.specs.Layout.{rulePlace, symbolCount, startSymbol, rankAt, ruleNodes, graphNodes}
 use Rattle.questions.specs.Questions.{field, childrenOf, introducedBy, judge}
 use Rattle.questions.specs.Walk.{Room}
 use Rattle.questions.proofs.WellFormedQuestions.{InOrder, passes-grammar, passes-symbol, passes-rule, passes-edge, SoFar, passes-plan, passes-graph, passes-graph-edge}
@@ -85,7 +85,7 @@ module _ (g t : List ℕ) where
       leaf-of (inr e) = (omega (arith, e .0), omega (arith, e .1))
   by-kind r q (suc zero) first second l m s = (
     omega (arith, s .lower first (omega (arith, hit-self first))),
-    omega (arith, s .known second (omega (arith, hit-self second)) .0, field-small t (65 + 25 * r) 3),
+    omega (arith, s .known second (omega (arith, hit-self second)) .0, field-small t (rulePlace r) 3),
   )
   by-kind r q (suc (suc zero)) first second l m s = (
     omega (arith, s .lower first (omega (arith, hit-self first))),

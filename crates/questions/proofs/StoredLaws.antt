@@ -13,7 +13,7 @@ use lib.Seq.{getD-set-same, getD-set-other, set-append-left}
 use lib.Dec.{eqb, ltb}
 use borrow.Author.Tests.{ltb-true, lt-ltb, le-ltb, ne-eqb}
 use Rattle.hrg.specs.Counts.{tabulate}
-use Rattle.questions.specs.Layout.{placeOf, inTable, wordField, lineField, packed, stored, grammarWords, graphWords}
+use Rattle.questions.specs.Layout.{symbolPlace, ruleStride, edgesFrom, plansFrom, graphEdgePlace, rulePlace, edgePlace, planPlace, placeOf, inTable, wordField, lineField, packed, stored, grammarWords, graphWords}
 use Rattle.questions.specs.declared.Due.{Due}
 use Rattle.questions.specs.declared.Due.the-variants.{Grammar, Symbol, Rule, RuleEdge, PlanLine, Graph, GraphEdge, Nothing}
 
@@ -207,47 +207,56 @@ graph-place-inside (GraphEdge e) h l = omega (arith, ltb-true e 64 h)
 graph-place-inside Nothing h l = absurd (false≢true l)
 
 -- ---- different lines of one file stand at different places: a place tells its line
+-- how far behind its R line the E lines and the P lines of a rule start
+abbrev edgesBehind : ℕ
+edgesBehind = edgesFrom 0 - rulePlace 0
+
+abbrev plansBehind : ℕ
+plansBehind = plansFrom 0 - rulePlace 0
+
 ruleLine : ℕ → ℕ → Due
-ruleLine r k = cond (eqb k 0) (Rule r) (cond (ltb k 9) (RuleEdge r (k - 1)) (PlanLine r (k - 9)))
+ruleLine r k = cond (eqb k 0) (Rule r) (cond (ltb k plansBehind) (RuleEdge r (k - edgesBehind)) (PlanLine r (k - plansBehind)))
 
 grammarLine : ℕ → Due
-grammarLine p = cond (eqb p 0) Grammar (cond (ltb p 65) (Symbol (p - 1)) (ruleLine ((p - 65) / 25) ((p - 65) % 25)))
+grammarLine p =
+    cond (eqb p 0) Grammar
+    (cond (ltb p (rulePlace 0)) (Symbol (p - symbolPlace 0)) (ruleLine ((p - rulePlace 0) / ruleStride) ((p - rulePlace 0) % ruleStride)))
 
 graphLine : ℕ → Due
-graphLine p = cond (eqb p 0) Graph (GraphEdge (p - 1))
+graphLine p = cond (eqb p 0) Graph (GraphEdge (p - graphEdgePlace 0))
 
 first-line : grammarLine 0 ≡ Grammar
 unfolding grammarLine
 first-line = refl
 
-symbol-line : (s : ℕ) → s < 64 → grammarLine (1 + s) ≡ Symbol s
+symbol-line : (s : ℕ) → s < 64 → grammarLine (symbolPlace s) ≡ Symbol s
 unfolding grammarLine
 symbol-line s h =
-    let same : 1 + s - 1 ≡ s = omega arith in
-    rw (ne-eqb (1 + s) 0 (λ z. omega arith), lt-ltb (1 + s) 65 (omega arith), same)
+    let same : symbolPlace s - symbolPlace 0 ≡ s = omega arith in
+    rw (ne-eqb (symbolPlace s) 0 (λ z. omega arith), lt-ltb (symbolPlace s) (rulePlace 0) (omega arith), same)
 
-rule-line : (p r k : ℕ) → p ≡ 65 + 25 * r + k → k < 25 → grammarLine p ≡ ruleLine r k
+rule-line : (p r k : ℕ) → p ≡ rulePlace r + k → k < ruleStride → grammarLine p ≡ ruleLine r k
 unfolding grammarLine
 rule-line p r k e h =
-    let rule : (p - 65) / 25 ≡ r = omega arith in
-    let line : (p - 65) % 25 ≡ k = omega arith in
-    rw (ne-eqb p 0 (λ z. omega arith), le-ltb p 65 (omega arith), rule, line)
+    let rule : (p - rulePlace 0) / ruleStride ≡ r = omega arith in
+    let line : (p - rulePlace 0) % ruleStride ≡ k = omega arith in
+    rw (ne-eqb p 0 (λ z. omega arith), le-ltb p (rulePlace 0) (omega arith), rule, line)
 
 line-there : (d : Due) → inTable d ≡ true → ofGrammar d ≡ true → grammarLine (placeOf d) ≡ d
 unfolding placeOf inTable ofGrammar ruleLine
 line-there Grammar h l = first-line
 line-there (Symbol s) h l = symbol-line s (ltb-true s 64 h)
-line-there (Rule r) h l = rule-line (65 + 25 * r) r 0 (omega arith) (omega arith)
+line-there (Rule r) h l = rule-line (rulePlace r) r 0 (omega arith) (omega arith)
 line-there (RuleEdge r i) h l =
     let two = both-below r i 64 8 h in
-    let same : 1 + i - 1 ≡ i = omega arith in
-    rule-line (66 + 25 * r + i) r (1 + i) (omega arith) (omega arith)
-    ∙ rw (ne-eqb (1 + i) 0 (λ z. omega arith), lt-ltb (1 + i) 9 (omega arith), same)
+    let same : edgesBehind + i - edgesBehind ≡ i = omega arith in
+    rule-line (edgePlace r i) r (edgesBehind + i) (omega arith) (omega arith)
+    ∙ rw (ne-eqb (edgesBehind + i) 0 (λ z. omega arith), lt-ltb (edgesBehind + i) plansBehind (omega arith), same)
 line-there (PlanLine r q) h l =
     let two = both-below r q 64 16 h in
-    let same : 9 + q - 9 ≡ q = omega arith in
-    rule-line (74 + 25 * r + q) r (9 + q) (omega arith) (omega arith)
-    ∙ rw (ne-eqb (9 + q) 0 (λ z. omega arith), le-ltb (9 + q) 9 (omega arith), same)
+    let same : plansBehind + q - plansBehind ≡ q = omega arith in
+    rule-line (planPlace r q) r (plansBehind + q) (omega arith) (omega arith)
+    ∙ rw (ne-eqb (plansBehind + q) 0 (λ z. omega arith), le-ltb (plansBehind + q) plansBehind (omega arith), same)
 line-there Graph h l = absurd (false≢true l)
 line-there (GraphEdge e) h l = absurd (false≢true l)
 line-there Nothing h l = absurd (false≢true l)
@@ -261,8 +270,8 @@ graph-line-there (RuleEdge r i) l = absurd (false≢true l)
 graph-line-there (PlanLine r q) l = absurd (false≢true l)
 graph-line-there Graph l = refl
 graph-line-there (GraphEdge e) l =
-    let same : 1 + e - 1 ≡ e = omega arith in
-    rw (ne-eqb (1 + e) 0 (λ z. omega arith), same)
+    let same : graphEdgePlace e - graphEdgePlace 0 ≡ e = omega arith in
+    rw (ne-eqb (graphEdgePlace e) 0 (λ z. omega arith), same)
 graph-line-there Nothing l = absurd (false≢true l)
 
 pub place-apart : (a b : Due) → inTable a ≡ true → inTable b ≡ true → ofGrammar a ≡ true → ofGrammar b ≡ true → placeOf a ≡ placeOf b → a ≡ b

@@ -2,7 +2,7 @@
 use mathlib.Core.Path.{_≡_, refl, sym, ap, _∙_, subst}
 use mathlib.Core.Bool.{cond}
 use mathlib.Core.List.{List, [], _∷_, _++_}
-use Prim.Native.Nat.{ℕ, zero, suc, _+_, _*_, _≤_, _<_, min}
+use Prim.Native.Nat.{ℕ, zero, suc, _+_, _≤_, _<_, min}
 use native.Mathlib.Omega.{arith}
 use native.Mathlib.Decide.{decLt}
 use lib.ListN.{length, getD, drop, replicate, length-replicate}
@@ -14,7 +14,7 @@ use Rattle.hrg.specs.Grammars.{Kind, terminal, nonterminal, PlanNode, leaf, int
 use Rattle.hrg.specs.WellFormed.{children, introduced, GrammarOk}
 use Rattle.hrg.proofs.Sums.{hit-self}
 use Rattle.format.specs.Writing.{Writable}
-use Rattle.questions.specs.Layout.{placeOf, lineField, grammarWords, symbolCount, ruleCount, kindField, rankAt, ruleSymbol, ruleEdges, rulePlan, ruleExternal, edgeLabel, edgeNode, planKind, planFirst, planSecond}
+use Rattle.questions.specs.Layout.{symbolPlace, edgePlace, planPlace, placeOf, lineField, grammarWords, symbolCount, ruleCount, kindField, rankAt, ruleSymbol, ruleEdges, rulePlan, ruleExternal, edgeLabel, edgeNode, planKind, planFirst, planSecond}
 use Rattle.questions.specs.Questions.{field}
 use Rattle.questions.specs.Reading.{next, accepted, grammarVerdict, readGrammar}
 use Rattle.questions.specs.Abstract.{build, kindFrom, planFrom, ruleFrom, grammarOf}
@@ -138,16 +138,16 @@ module _ (G : Grammars.Grammar) (ok : GrammarOk G) where
   unfolding placeOf afterGrammar
   line-forward Grammar h = omega arith
   line-forward (Symbol s) h =
-      cond-by (λ (d : Due). 1 + s < reach d) (ltb (s + 1) (length (G .symbols))) (Symbol (s + 1)) (Rule 0) (λ e. omega arith) (λ e. omega (arith, ok .symbol-count .upper))
+      cond-by (λ (d : Due). symbolPlace s < reach d) (ltb (s + 1) (length (G .symbols))) (Symbol (s + 1)) (Rule 0) (λ e. omega arith) (λ e. omega (arith, ok .symbol-count .upper))
   line-forward (Rule r) h = omega arith
   line-forward (RuleEdge r i) h =
-      cond-by (λ (d : Due). 66 + 25 * r + i < reach d) (ltb (i + 1) (length (rightOf G r .edges))) (RuleEdge r (i + 1)) (PlanLine r 0)
+      cond-by (λ (d : Due). edgePlace r i < reach d) (ltb (i + 1) (length (rightOf G r .edges))) (RuleEdge r (i + 1)) (PlanLine r 0)
       (λ e. omega arith) (λ e. omega (arith, ok .rule r (h .0) .right .edge-count .upper))
   line-forward (PlanLine r q) h =
       let few = ok .rule r (h .0) .plan .size .upper in
-      cond-by (λ (d : Due). 74 + 25 * r + q < reach d) (ltb (q + 1) (length (planOf G r))) (PlanLine r (q + 1)) (cond (ltb (r + 1) (length (G .rules))) (Rule (r + 1)) Nothing)
+      cond-by (λ (d : Due). planPlace r q < reach d) (ltb (q + 1) (length (planOf G r))) (PlanLine r (q + 1)) (cond (ltb (r + 1) (length (G .rules))) (Rule (r + 1)) Nothing)
       (λ e. omega arith)
-      (λ e. cond-by (λ (d : Due). 74 + 25 * r + q < reach d) (ltb (r + 1) (length (G .rules))) (Rule (r + 1)) Nothing (λ f. omega arith) (λ f. omega (arith, ok .rule-count .upper)))
+      (λ e. cond-by (λ (d : Due). planPlace r q < reach d) (ltb (r + 1) (length (G .rules))) (Rule (r + 1)) Nothing (λ f. omega arith) (λ f. omega (arith, ok .rule-count .upper)))
   line-forward Graph h = absurd h
   line-forward (GraphEdge e) h = absurd h
   line-forward Nothing h = absurd h

@@ -11,7 +11,7 @@ use Rattle.hrg.specs.Grammars
 use Rattle.hrg.specs.Grammars.{noEdge, rankOf, edgeAt}
 use Rattle.hrg.specs.WellFormed.{GrammarOk, GraphOk}
 use Rattle.format.specs.Writing.{Writable}
-use Rattle.questions.specs.Layout.{placeOf, graphWords, startSymbol, rankAt, graphEdges, graphExternal, graphLabel, graphNode}
+use Rattle.questions.specs.Layout.{graphEdgePlace, placeOf, graphWords, startSymbol, rankAt, graphEdges, graphExternal, graphLabel, graphNode}
 use Rattle.questions.specs.Reading.{next, accepted, grammarVerdict, graphVerdict}
 use Rattle.questions.specs.Checking.{checkGrammar, readGraph}
 use Rattle.questions.specs.Abstract.{build, grammarOf, graphOf}
@@ -87,7 +87,7 @@ line-forward H few (RuleEdge r i) h = absurd h
 line-forward H few (PlanLine r q) h = absurd h
 line-forward H few Graph h = omega arith
 line-forward H few (GraphEdge e) h =
-    cond-by (λ (d : Due). 1 + e < reach d) (ltb (e + 1) (length (H .edges))) (GraphEdge (e + 1)) Nothing (λ l. omega arith) (λ l. omega arith)
+    cond-by (λ (d : Due). graphEdgePlace e < reach d) (ltb (e + 1) (length (H .edges))) (GraphEdge (e + 1)) Nothing (λ l. omega arith) (λ l. omega arith)
 line-forward H few Nothing h = absurd h
 
 line-before : (H : Grammars.Graph) (t : List ℕ) (d : Due) → HasGraphLine H d → Before t d

@@ -2,7 +2,7 @@
 use mathlib.Core.Path.{_≡_, refl, sym, ap, _∙_, subst}
 use mathlib.Core.Bool.{true, false≢true}
 use mathlib.Core.List.{List, [], _++_}
-use Prim.Native.Nat.{ℕ, _≤_}
+use Prim.Native.Nat.{ℕ, suc, _≤_}
 use native.Mathlib.Omega.{arith}
 use lib.ListN.{length, take, drop, replicate, length-append, length-replicate, take-append-drop}
 use lib.Dec.{leb}
@@ -58,16 +58,16 @@ longer n rest = omega (arith, zeros n, length-append (replicate {A = ℕ} n 0) r
 pub checked-grammar-stands : (t : List ℕ) → checkGrammar t ≡ true → GrammarStands t
 unfolding checkGrammar
 checked-grammar-stands t h =
-    let (c, v, e) = passed-check grammarWords t (checkLines 1666 [] t (replicate grammarWords 0) Grammar) h in
-    let (fss, w) = check-walk 1666 [] t (replicate grammarWords 0) c Grammar v in
+    let (c, v, e) = passed-check grammarWords t (checkLines (suc grammarWords) [] t (replicate grammarWords 0) Grammar) h in
+    let (fss, w) = check-walk (suc grammarWords) [] t (replicate grammarWords 0) c Grammar v in
     let w′ = walk-longer (drop grammarWords t) w (omega (arith, zeros grammarWords)) tt in
     subst GrammarStands e (grammar-stands (c ++ drop grammarWords t) (walk-lines w′ (longer grammarWords (drop grammarWords t)) tt))
 
 pub checked-graph-stands : (g t : List ℕ) → checkGraph g t ≡ true → GraphStands g t
 unfolding checkGraph
 checked-graph-stands g t h =
-    let (c, v, e) = passed-check graphWords t (checkLines 66 g t (replicate graphWords 0) Graph) h in
-    let (fss, w) = check-walk 66 g t (replicate graphWords 0) c Graph v in
+    let (c, v, e) = passed-check graphWords t (checkLines (suc graphWords) g t (replicate graphWords 0) Graph) h in
+    let (fss, w) = check-walk (suc graphWords) g t (replicate graphWords 0) c Graph v in
     let w′ = walk-longer (drop graphWords t) w (omega (arith, zeros graphWords)) tt in
     subst (GraphStands g) e (graph-stands g (c ++ drop graphWords t) (walk-lines w′ (longer graphWords (drop graphWords t)) tt))
 

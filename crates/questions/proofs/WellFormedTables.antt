@@ -2,7 +2,7 @@
 use mathlib.Core.Path.{_≡_, refl, sym, ap, ap₂, _∙_}
 use mathlib.Core.Logic.{_⊎_, inl, inr}
 use mathlib.Core.List.{List, _++_}
-use Prim.Native.Nat.{ℕ, zero, suc, _+_, _*_, _≤_, _<_, pred}
+use Prim.Native.Nat.{ℕ, zero, suc, _+_, _≤_, _<_, pred}
 use native.Mathlib.Omega.{arith}
 use native.Mathlib.Decide.{decLt}
 use lib.ListN.{length, getD}
@@ -10,7 +10,7 @@ use Rattle.hrg.specs.Counts.{occurs, tabulate}
 use Rattle.hrg.specs.Grammars
 use Rattle.hrg.specs.Grammars.{Kind, terminal, nonterminal, PlanNode, leaf, introduce, join, Edge, noEdge, kindOf, rankOf, lhsOf, rightOf, planOf, planNode, edgeAt}
 use Rattle.hrg.specs.WellFormed.{Listed, OnEdge, children, introduced}
-use Rattle.questions.specs.Layout.{placeOf, lineField, symbolCount, ruleCount, startSymbol, kindField, rankAt, ruleSymbol, ruleNodes, ruleEdges, rulePlan, ruleExternal, edgeLabel, edgeNode, planKind, planFirst, planSecond}
+use Rattle.questions.specs.Layout.{planPlace, placeOf, lineField, symbolCount, ruleCount, startSymbol, kindField, rankAt, ruleSymbol, ruleNodes, ruleEdges, rulePlan, ruleExternal, edgeLabel, edgeNode, planKind, planFirst, planSecond}
 use Rattle.questions.specs.Questions.{field, nodesOnEdges, childrenOf, introducedBy, childrenBefore, introducedBefore}
 use Rattle.questions.specs.TableText.{kindNumber, planFields, grammarFields}
 use Rattle.questions.specs.declared.Due.{Due}
@@ -204,7 +204,7 @@ module _ (G : Grammars.Grammar) (t : List ℕ) (held : GrammarIn G t) where
     nodes-on-edges (suc n) l k = ap₂ _++_ (nodes-on-edges n (omega arith) (λ i b. k i (omega arith))) (edge-nodes n l (k n (omega arith)))
 
     module _ (q : ℕ) (l : q < length (planOf G r)) where
-      pub plan-field : (j : ℕ) → j < 9 → lineField t (74 + 25 * r + q) j ≡ field (planFields (planNode (planOf G r) q)) j
+      pub plan-field : (j : ℕ) → j < 9 → lineField t (planPlace r q) j ≡ field (planFields (planNode (planOf G r) q)) j
       unfolding placeOf grammarFields
       plan-field j b = held .lines (PlanLine r q) (h, l) j b
 

@@ -2,7 +2,7 @@
 use mathlib.Core.Path.{_≡_, refl, sym, ap, ap₂, _∙_, subst}
 use mathlib.Core.Bool.{Bool, true, false, cond, _&&_, false≢true}
 use mathlib.Core.List.{List, _++_}
-use Prim.Native.Nat.{ℕ, zero, suc, _+_, _*_, _≤_, _<_, min}
+use Prim.Native.Nat.{ℕ, zero, suc, _+_, _≤_, _<_, min}
 use native.Mathlib.Omega.{arith}
 use native.Mathlib.Decide.{decLt}
 use lib.ListN.{length, getD}
@@ -10,7 +10,7 @@ use lib.Dec.{eqb, ltb, leb}
 use borrow.Author.Tests.{lt-ltb, ltb-true}
 use Rattle.hrg.specs.Counts.{tabulate}
 use Rattle.hrg.proofs.Sums.{tabulate-ext}
-use Rattle.questions.specs.Layout.{placeOf, inTable, lineField, stored, symbolCount, ruleCount, rankAt, ruleEdges, rulePlan, edgeLabel, edgeNode, graphEdges, graphLabel, graphNode}
+use Rattle.questions.specs.Layout.{symbolPlace, graphEdgePlace, grammarWords, rulePlace, edgePlace, planPlace, placeOf, inTable, lineField, stored, symbolCount, ruleCount, rankAt, ruleEdges, rulePlan, edgeLabel, edgeNode, graphEdges, graphLabel, graphNode}
 use Rattle.questions.specs.Questions.{ask, field, judgeSymbol, judgeRule, nodesOnEdges, judgeRuleEdge, childrenBefore, introducedBefore, judgePlan, nodesOnGraph, judgeGraphEdge, judge}
 use Rattle.questions.specs.Reading.{next}
 use Rattle.questions.specs.Walk.{Room, Walk, done, line, Lines, none, more}
@@ -64,7 +64,7 @@ reach (RuleEdge r i) = placeOf (RuleEdge r i)
 reach (PlanLine r q) = placeOf (PlanLine r q)
 reach Graph = placeOf Graph
 reach (GraphEdge e) = placeOf (GraphEdge e)
-reach Nothing = 1665
+reach Nothing = grammarWords
 
 -- ---- room
 pub room-in : (n : ℕ) (d : Due) → Room n d → inTable d ≡ true
@@ -126,17 +126,17 @@ pub next-forward : (n : ℕ) (t : List ℕ) (d : Due) → IsLine d → Room n d 
 unfolding next placeOf
 next-forward n t Grammar l h = omega arith
 next-forward n t (Symbol s) l h =
-    cond-by (λ (d : Due). 1 + s < reach d) (ltb (s + 1) (min 64 (symbolCount t))) (Symbol (s + 1)) (Rule 0) (λ e. omega arith) (λ e. omega arith)
+    cond-by (λ (d : Due). symbolPlace s < reach d) (ltb (s + 1) (min 64 (symbolCount t))) (Symbol (s + 1)) (Rule 0) (λ e. omega arith) (λ e. omega arith)
 next-forward n t (Rule r) l h = omega arith
 next-forward n t (RuleEdge r i) l h =
-    cond-by (λ (d : Due). 66 + 25 * r + i < reach d) (ltb (i + 1) (min 8 (ruleEdges t r))) (RuleEdge r (i + 1)) (PlanLine r 0) (λ e. omega arith) (λ e. omega arith)
+    cond-by (λ (d : Due). edgePlace r i < reach d) (ltb (i + 1) (min 8 (ruleEdges t r))) (RuleEdge r (i + 1)) (PlanLine r 0) (λ e. omega arith) (λ e. omega arith)
 next-forward n t (PlanLine r q) l h =
-    cond-by (λ (d : Due). 74 + 25 * r + q < reach d) (ltb (q + 1) (min 16 (rulePlan t r))) (PlanLine r (q + 1)) (cond (ltb (r + 1) (min 64 (ruleCount t))) (Rule (r + 1)) Nothing)
+    cond-by (λ (d : Due). planPlace r q < reach d) (ltb (q + 1) (min 16 (rulePlan t r))) (PlanLine r (q + 1)) (cond (ltb (r + 1) (min 64 (ruleCount t))) (Rule (r + 1)) Nothing)
     (λ e. omega arith)
-    (λ e. cond-by (λ (d : Due). 74 + 25 * r + q < reach d) (ltb (r + 1) (min 64 (ruleCount t))) (Rule (r + 1)) Nothing (λ f. omega arith) (λ f. omega arith))
+    (λ e. cond-by (λ (d : Due). planPlace r q < reach d) (ltb (r + 1) (min 64 (ruleCount t))) (Rule (r + 1)) Nothing (λ f. omega arith) (λ f. omega arith))
 next-forward n t Graph l h = omega arith
 next-forward n t (GraphEdge e) l h =
-    cond-by (λ (d : Due). 1 + e < reach d) (ltb (e + 1) (min 64 (graphEdges t))) (GraphEdge (e + 1)) Nothing (λ f. omega arith) (λ f. omega arith)
+    cond-by (λ (d : Due). graphEdgePlace e < reach d) (ltb (e + 1) (min 64 (graphEdges t))) (GraphEdge (e + 1)) Nothing (λ f. omega arith) (λ f. omega arith)
 next-forward n t Nothing l h = absurd l
 
 -- a line that passes is a line
@@ -171,77 +171,77 @@ unfolding next placeOf
 next-agree c t Grammar a = refl
 next-agree c t (Symbol s) a = rw (a 0 0 (omega arith) (omega arith))
 next-agree c t (Rule r) a = refl
-next-agree c t (RuleEdge r i) a = rw (a (65 + 25 * r) 3 (omega arith) (omega arith))
-next-agree c t (PlanLine r q) a = rw (a (65 + 25 * r) 4 (omega arith) (omega arith), a 0 1 (omega arith) (omega arith))
+next-agree c t (RuleEdge r i) a = rw (a (rulePlace r) 3 (omega arith) (omega arith))
+next-agree c t (PlanLine r q) a = rw (a (rulePlace r) 4 (omega arith) (omega arith), a 0 1 (omega arith) (omega arith))
 next-agree c t Graph a = refl
 next-agree c t (GraphEdge e) a = rw (a 0 1 (omega arith) (omega arith))
 next-agree c t Nothing a = refl
 
 module _ (c t : List ℕ) where
-  rank-agree : (s p : ℕ) → s < 64 → 65 ≤ p → Agree c t p → rankAt c s ≡ rankAt t s
-  rank-agree s p h l a = rw (a (1 + s) 2 (omega arith) (omega arith))
+  rank-agree : (s p : ℕ) → s < 64 → rulePlace 0 ≤ p → Agree c t p → rankAt c s ≡ rankAt t s
+  rank-agree s p h l a = rw (a (symbolPlace s) 2 (omega arith) (omega arith))
 
-  nodes-agree : (r n : ℕ) → ((k : ℕ) → k < n → edgeLabel c r k < 64) → Agree c t (66 + 25 * r + n) → nodesOnEdges c r n ≡ nodesOnEdges t r n
+  nodes-agree : (r n : ℕ) → ((k : ℕ) → k < n → edgeLabel c r k < 64) → Agree c t (edgePlace r n) → nodesOnEdges c r n ≡ nodesOnEdges t r n
   unfolding nodesOnEdges
   nodes-agree r zero h a = refl
   nodes-agree r (suc n) h a =
-      let label : edgeLabel c r n ≡ edgeLabel t r n = a (66 + 25 * r + n) 0 (omega arith) (omega arith) in
+      let label : edgeLabel c r n ≡ edgeLabel t r n = a (edgePlace r n) 0 (omega arith) (omega arith) in
       let rank : rankAt c (edgeLabel c r n) ≡ rankAt t (edgeLabel t r n) =
-      rank-agree (edgeLabel c r n) (66 + 25 * r + n) (h n (omega arith)) (omega arith) (λ q j l. a q j (omega arith)) ∙ ap (rankAt t) label
+      rank-agree (edgeLabel c r n) (edgePlace r n) (h n (omega arith)) (omega arith) (λ q j l. a q j (omega arith)) ∙ ap (rankAt t) label
       in
       ap₂ _++_ (nodes-agree r n (λ k l. h k (omega arith)) (λ q j l. a q j (omega arith)))
-      (tabulate-ext (rankAt c (edgeLabel c r n)) (edgeNode c r n) (edgeNode t r n) (λ k l. a (66 + 25 * r + n) (1 + k) (omega arith) (omega arith))
+      (tabulate-ext (rankAt c (edgeLabel c r n)) (edgeNode c r n) (edgeNode t r n) (λ k l. a (edgePlace r n) (1 + k) (omega arith) (omega arith))
       ∙ ap (λ (m : ℕ). tabulate m (edgeNode t r n)) rank)
 
-  children-agree : (r n : ℕ) → Agree c t (74 + 25 * r + n) → childrenBefore c r n ≡ childrenBefore t r n
+  children-agree : (r n : ℕ) → Agree c t (planPlace r n) → childrenBefore c r n ≡ childrenBefore t r n
   unfolding childrenBefore
   children-agree r zero a = refl
   children-agree r (suc n) a =
       rw (
         children-agree r n (λ q j l. a q j (omega arith)),
-        a (74 + 25 * r + n) 0 (omega arith) (omega arith),
-        a (74 + 25 * r + n) 1 (omega arith) (omega arith),
-        a (74 + 25 * r + n) 2 (omega arith) (omega arith),
+        a (planPlace r n) 0 (omega arith) (omega arith),
+        a (planPlace r n) 1 (omega arith) (omega arith),
+        a (planPlace r n) 2 (omega arith) (omega arith),
       )
 
-  introduced-agree : (r n : ℕ) → Agree c t (74 + 25 * r + n) → introducedBefore c r n ≡ introducedBefore t r n
+  introduced-agree : (r n : ℕ) → Agree c t (planPlace r n) → introducedBefore c r n ≡ introducedBefore t r n
   unfolding introducedBefore
   introduced-agree r zero a = refl
   introduced-agree r (suc n) a =
       rw (
         introduced-agree r n (λ q j l. a q j (omega arith)),
-        a (74 + 25 * r + n) 0 (omega arith) (omega arith),
-        a (74 + 25 * r + n) 2 (omega arith) (omega arith),
+        a (planPlace r n) 0 (omega arith) (omega arith),
+        a (planPlace r n) 2 (omega arith) (omega arith),
       )
 
-  nodes-on-graph-agree : (g : List ℕ) (n : ℕ) → Agree c t (1 + n) → nodesOnGraph g c n ≡ nodesOnGraph g t n
+  nodes-on-graph-agree : (g : List ℕ) (n : ℕ) → Agree c t (graphEdgePlace n) → nodesOnGraph g c n ≡ nodesOnGraph g t n
   unfolding nodesOnGraph
   nodes-on-graph-agree g zero a = refl
   nodes-on-graph-agree g (suc n) a =
-      let label : graphLabel c n ≡ graphLabel t n = a (1 + n) 0 (omega arith) (omega arith) in
+      let label : graphLabel c n ≡ graphLabel t n = a (graphEdgePlace n) 0 (omega arith) (omega arith) in
       ap₂ _++_ (nodes-on-graph-agree g n (λ q j l. a q j (omega arith)))
-      (tabulate-ext (rankAt g (graphLabel c n)) (graphNode c n) (graphNode t n) (λ k l. a (1 + n) (1 + k) (omega arith) (omega arith))
+      (tabulate-ext (rankAt g (graphLabel c n)) (graphNode c n) (graphNode t n) (λ k l. a (graphEdgePlace n) (1 + k) (omega arith) (omega arith))
       ∙ ap (λ (m : ℕ). tabulate (rankAt g m) (graphNode t n)) label)
 
   -- ---- a line is judged alike in both
-  symbol-agree : (s : ℕ) (fs : List ℕ) → Agree c t (1 + s) → judgeSymbol c s fs ≡ judgeSymbol t s fs
+  symbol-agree : (s : ℕ) (fs : List ℕ) → Agree c t (symbolPlace s) → judgeSymbol c s fs ≡ judgeSymbol t s fs
   unfolding judgeSymbol
   symbol-agree s fs a = rw (a 0 2 (omega arith) (omega arith))
 
-  rule-agree : (r : ℕ) (fs : List ℕ) → symbolCount c ≤ 64 → Agree c t (65 + 25 * r) → judgeRule c r fs ≡ judgeRule t r fs
+  rule-agree : (r : ℕ) (fs : List ℕ) → symbolCount c ≤ 64 → Agree c t (rulePlace r) → judgeRule c r fs ≡ judgeRule t r fs
   unfolding judgeRule
   rule-agree r fs b a =
       ask-cong 3 _ _ _ _
       (and-cong _ _ _ _ (and-cong _ _ _ _ (and-cong _ _ _ _ (and-cong _ _ _ _
       (ap (λ (n : ℕ). leb 5 (length fs) && eqb (field fs 0) r && ltb (field fs 1) n) (a 0 0 (omega arith) (omega arith)))
-      (λ h. ap (λ (n : ℕ). eqb n 1) (a (1 + field fs 1) 1 (omega (arith, known h)) (omega arith))))
+      (λ h. ap (λ (n : ℕ). eqb n 1) (a (symbolPlace (field fs 1)) 1 (omega (arith, known h)) (omega arith))))
       (λ h. refl)) (λ h. refl)) (λ h. refl))
-      (λ h. let same = rank-agree (field fs 1) (65 + 25 * r) (omega (arith, known (and-fst _ _ (and-fst _ _ (and-fst _ _ (and-fst _ _ h)))))) (omega arith) a in rw same)
+      (λ h. let same = rank-agree (field fs 1) (rulePlace r) (omega (arith, known (and-fst _ _ (and-fst _ _ (and-fst _ _ (and-fst _ _ h)))))) (omega arith) a in rw same)
     where
       known : (leb 5 (length fs) && eqb (field fs 0) r && ltb (field fs 1) (symbolCount c)) ≡ true → field fs 1 < 64
       known h = omega (arith, ltb-true (field fs 1) (symbolCount c) (and-snd (leb 5 (length fs) && eqb (field fs 0) r) (ltb (field fs 1) (symbolCount c)) h))
 
-  rule-edge-agree : (r i : ℕ) (fs : List ℕ) → symbolCount c ≤ 64 → ((k : ℕ) → k < i → edgeLabel c r k < 64) → Agree c t (66 + 25 * r + i)
+  rule-edge-agree : (r i : ℕ) (fs : List ℕ) → symbolCount c ≤ 64 → ((k : ℕ) → k < i → edgeLabel c r k < 64) → Agree c t (edgePlace r i)
       → judgeRuleEdge c r i fs ≡ judgeRuleEdge t r i fs
   unfolding judgeRuleEdge
   rule-edge-agree r i fs b before a =
@@ -250,22 +250,22 @@ module _ (c t : List ℕ) where
       (ap (λ (n : ℕ). leb 1 (length fs) && ltb (field fs 0) n) (a 0 0 (omega arith) (omega arith)))
       (λ h. ap (leb 1) (rank h)))
       (λ h. ask-cong 4 _ _ _ _ (ap (λ (n : ℕ). eqb (length fs) (1 + n)) (rank (and-fst _ _ h)))
-      (λ k. rw (a (65 + 25 * r) 2 (omega arith) (omega arith), a (65 + 25 * r) 3 (omega arith) (omega arith), nodes-agree r i before a)))
+      (λ k. rw (a (rulePlace r) 2 (omega arith) (omega arith), a (rulePlace r) 3 (omega arith) (omega arith), nodes-agree r i before a)))
     where
       rank : (leb 1 (length fs) && ltb (field fs 0) (symbolCount c)) ≡ true → rankAt c (field fs 0) ≡ rankAt t (field fs 0)
-      rank h = rank-agree (field fs 0) (66 + 25 * r + i) (omega (arith, ltb-true (field fs 0) (symbolCount c) (and-snd (leb 1 (length fs)) (ltb (field fs 0) (symbolCount c)) h))) (omega arith) a
+      rank h = rank-agree (field fs 0) (edgePlace r i) (omega (arith, ltb-true (field fs 0) (symbolCount c) (and-snd (leb 1 (length fs)) (ltb (field fs 0) (symbolCount c)) h))) (omega arith) a
 
-  plan-agree : (r q : ℕ) (fs : List ℕ) → Agree c t (74 + 25 * r + q) → judgePlan c r q fs ≡ judgePlan t r q fs
+  plan-agree : (r q : ℕ) (fs : List ℕ) → Agree c t (planPlace r q) → judgePlan c r q fs ≡ judgePlan t r q fs
   unfolding judgePlan
   plan-agree r q fs a =
       rw (
         children-agree r q a,
         introduced-agree r q a,
-        a (65 + 25 * r) 3 (omega arith) (omega arith),
-        a (65 + 25 * r) 4 (omega arith) (omega arith),
+        a (rulePlace r) 3 (omega arith) (omega arith),
+        a (rulePlace r) 4 (omega arith) (omega arith),
       )
 
-  graph-edge-agree : (g : List ℕ) (e : ℕ) (fs : List ℕ) → Agree c t (1 + e) → judgeGraphEdge g c e fs ≡ judgeGraphEdge g t e fs
+  graph-edge-agree : (g : List ℕ) (e : ℕ) (fs : List ℕ) → Agree c t (graphEdgePlace e) → judgeGraphEdge g c e fs ≡ judgeGraphEdge g t e fs
   unfolding judgeGraphEdge
   graph-edge-agree g e fs a =
       rw (a 0 0 (omega arith) (omega arith), a 0 1 (omega arith) (omega arith), nodes-on-graph-agree g e a)
@@ -286,41 +286,41 @@ module _ (c : List ℕ) (fs : List ℕ) where
   count-kept : (p : ℕ) → 1 ≤ p → symbolCount c ≤ 64 → symbolCount (stored c p fs) ≤ 64
   count-kept p l b = omega (arith, field-stored-other c p fs 0 0 (λ e. omega arith))
 
-  labels-kept : (r i : ℕ) → 66 + 25 * r + i < length c → Small fs → ((k : ℕ) → k < i → edgeLabel c r k < 64) → field fs 0 < 64
-      → (k : ℕ) → k < i + 1 → edgeLabel (stored c (66 + 25 * r + i) fs) r k < 64
+  labels-kept : (r i : ℕ) → edgePlace r i < length c → Small fs → ((k : ℕ) → k < i → edgeLabel c r k < 64) → field fs 0 < 64
+      → (k : ℕ) → k < i + 1 → edgeLabel (stored c (edgePlace r i) fs) r k < 64
   labels-kept r i h small b f k l = go (decLt k i)
     where
-      go : Dec (k < i) → edgeLabel (stored c (66 + 25 * r + i) fs) r k < 64
-      go (yes m) = omega (arith, b k m, field-stored-other c (66 + 25 * r + i) fs (66 + 25 * r + k) 0 (λ e. omega arith))
+      go : Dec (k < i) → edgeLabel (stored c (edgePlace r i) fs) r k < 64
+      go (yes m) = omega (arith, b k m, field-stored-other c (edgePlace r i) fs (edgePlace r k) 0 (λ e. omega arith))
       go (no m) =
           let same : k ≡ i = omega arith in
-          rw same (omega (arith, field-stored-same c (66 + 25 * r + i) fs h small 0 (omega arith)))
+          rw same (omega (arith, field-stored-same c (edgePlace r i) fs h small 0 (omega arith)))
 
 pub before-next : (g c : List ℕ) (d : Due) (fs : List ℕ) → Room (length c) d → Before c d → judge g c d fs ≡ 0
     → Before (stored c (placeOf d) fs) (next (stored c (placeOf d) fs) d)
 unfolding judge placeOf next
 before-next g c Grammar fs m b h = omega (arith, passes-grammar fs .sound h .symbols, field-stored-same c 0 fs (omega arith) (judge-small g c (length c) Grammar m fs h .0) 0 (omega arith))
 before-next g c (Symbol s) fs m b h =
-    let t = stored c (1 + s) fs in
-    let kept = count-kept c fs (1 + s) (omega arith) b in
+    let t = stored c (symbolPlace s) fs in
+    let kept = count-kept c fs (symbolPlace s) (omega arith) b in
     cond-by (Before t) (ltb (s + 1) (min 64 (symbolCount t))) (Symbol (s + 1)) (Rule 0) (λ e. kept) (λ e. kept)
-before-next g c (Rule r) fs m b h = (count-kept c fs (65 + 25 * r) (omega arith) b, λ k l. absurd (omega arith))
+before-next g c (Rule r) fs m b h = (count-kept c fs (rulePlace r) (omega arith) b, λ k l. absurd (omega arith))
 before-next g c (RuleEdge r i) fs m b h =
-    let t = stored c (66 + 25 * r + i) fs in
-    let kept = count-kept c fs (66 + 25 * r + i) (omega arith) (b .0) in
+    let t = stored c (edgePlace r i) fs in
+    let kept = count-kept c fs (edgePlace r i) (omega arith) (b .0) in
     let small : field fs 0 < 64 = omega (arith, passes-edge c r i fs .sound h .symbol) in
     cond-by (Before t) (ltb (i + 1) (min 8 (ruleEdges t r))) (RuleEdge r (i + 1)) (PlanLine r 0)
     (λ e. (kept, labels-kept c fs r i (omega arith) (judge-small g c (length c) (RuleEdge r i) m fs h .0) (b .1) small))
     (λ e. kept)
 before-next g c (PlanLine r q) fs m b h =
-    let t = stored c (74 + 25 * r + q) fs in
-    let kept = count-kept c fs (74 + 25 * r + q) (omega arith) b in
+    let t = stored c (planPlace r q) fs in
+    let kept = count-kept c fs (planPlace r q) (omega arith) b in
     cond-by (Before t) (ltb (q + 1) (min 16 (rulePlan t r))) (PlanLine r (q + 1)) (cond (ltb (r + 1) (min 64 (ruleCount t))) (Rule (r + 1)) Nothing)
     (λ e. kept)
     (λ e. cond-by (Before t) (ltb (r + 1) (min 64 (ruleCount t))) (Rule (r + 1)) Nothing (λ f. kept) (λ f. tt))
 before-next g c Graph fs m b h = tt
 before-next g c (GraphEdge e) fs m b h =
-    let t = stored c (1 + e) fs in
+    let t = stored c (graphEdgePlace e) fs in
     cond-by (Before t) (ltb (e + 1) (min 64 (graphEdges t))) (GraphEdge (e + 1)) Nothing (λ f. tt) (λ f. tt)
 before-next g c Nothing fs m b h = tt
 

@@ -47,14 +47,14 @@ abbrev pub filledBy : ℕ → List ℕ → Verdict → Bool
 filledBy size t (refused k) = false
 filledBy size t (accepted c) = leb size (length t) && sameList c (take size t)
 
--- a grammar has at most 1,665 lines, a graph 65
+-- a table has at most as many lines as words
 unfoldable pub checkGrammar : List ℕ → Bool
 unfolding checkLines sameList
-checkGrammar t = filledBy grammarWords t (checkLines 1666 [] t (replicate grammarWords 0) Grammar)
+checkGrammar t = filledBy grammarWords t (checkLines (suc grammarWords) [] t (replicate grammarWords 0) Grammar)
 
 unfoldable pub checkGraph : List ℕ → List ℕ → Bool
 unfolding checkLines sameList
-checkGraph g t = filledBy graphWords t (checkLines 66 g t (replicate graphWords 0) Graph)
+checkGraph g t = filledBy graphWords t (checkLines (suc graphWords) g t (replicate graphWords 0) Graph)
 
 -- the graph reader judges the grammar table before the text
 unfoldable pub readGraph : List ℕ → List ℕ → List ℕ → Outcome

@@ -10,15 +10,45 @@ use Rattle.format.specs.declared.Letter.the-variants.{G, S, R, E, P, H, D, A, O
 use Rattle.questions.specs.declared.Due.{Due}
 use Rattle.questions.specs.declared.Due.the-variants.{Grammar, Symbol, Rule, RuleEdge, PlanLine, Graph, GraphEdge, Nothing}
 
--- the places of a grammar's lines: G, 64 S lines, and for each of 64 rules an R line, 8 E lines and 16 P lines; of a graph's lines: H and 64 E lines
+-- ---- places: where a line stands is said here, and everything else goes by these names
+-- A grammar has G, 64 S lines, and for each of 64 rules a block: its R line, 8 E lines and 16 P lines. Lines that a
+-- rule gets later come behind its P lines: then the stride changes, and no name.
+abbrev pub symbolPlace : ℕ → ℕ
+symbolPlace s = 1 + s
+
+-- lines of a rule's block
+abbrev pub ruleStride : ℕ
+ruleStride = 25
+
+abbrev pub rulePlace : ℕ → ℕ
+rulePlace r = 65 + ruleStride * r
+
+-- where the E lines of a rule start
+abbrev pub edgesFrom : ℕ → ℕ
+edgesFrom r = 66 + ruleStride * r
+
+abbrev pub edgePlace : ℕ → ℕ → ℕ
+edgePlace r i = edgesFrom r + i
+
+-- and its P lines
+abbrev pub plansFrom : ℕ → ℕ
+plansFrom r = 74 + ruleStride * r
+
+abbrev pub planPlace : ℕ → ℕ → ℕ
+planPlace r q = plansFrom r + q
+
+-- a graph has H and 64 E lines
+abbrev pub graphEdgePlace : ℕ → ℕ
+graphEdgePlace e = 1 + e
+
 unfoldable pub placeOf : Due → ℕ
 placeOf Grammar = 0
-placeOf (Symbol s) = 1 + s
-placeOf (Rule r) = 65 + 25 * r
-placeOf (RuleEdge r i) = 66 + 25 * r + i
-placeOf (PlanLine r q) = 74 + 25 * r + q
+placeOf (Symbol s) = symbolPlace s
+placeOf (Rule r) = rulePlace r
+placeOf (RuleEdge r i) = edgePlace r i
+placeOf (PlanLine r q) = planPlace r q
 placeOf Graph = 0
-placeOf (GraphEdge e) = 1 + e
+placeOf (GraphEdge e) = graphEdgePlace e
 placeOf Nothing = 0
 
 -- the letter of the line
@@ -43,12 +73,12 @@ inTable Graph = true
 inTable (GraphEdge e) = ltb e 64
 inTable Nothing = true
 
--- words of the largest grammar and graph: one for each place
+-- words of the largest grammar and graph, 1,665 and 65: one for each place
 abbrev pub grammarWords : ℕ
-grammarWords = 1665
+grammarWords = rulePlace 64
 
 abbrev pub graphWords : ℕ
-graphWords = 65
+graphWords = graphEdgePlace 64
 
 -- field j of a word: its bits 7 * j to 7 * j + 6
 unfoldable pub wordField : ℕ → ℕ → ℕ
@@ -81,41 +111,41 @@ startSymbol g = lineField g 0 2
 
 -- 0 terminal, 1 nonterminal
 abbrev pub kindField : List ℕ → ℕ → ℕ
-kindField g s = lineField g (1 + s) 1
+kindField g s = lineField g (symbolPlace s) 1
 
 -- ranks are at most 4, whatever stands in a table that no reader filled
 abbrev pub rankAt : List ℕ → ℕ → ℕ
-rankAt g s = min 4 (lineField g (1 + s) 2)
+rankAt g s = min 4 (lineField g (symbolPlace s) 2)
 
 abbrev pub ruleSymbol : List ℕ → ℕ → ℕ
-ruleSymbol g r = lineField g (65 + 25 * r) 1
+ruleSymbol g r = lineField g (rulePlace r) 1
 
 abbrev pub ruleNodes : List ℕ → ℕ → ℕ
-ruleNodes g r = lineField g (65 + 25 * r) 2
+ruleNodes g r = lineField g (rulePlace r) 2
 
 abbrev pub ruleEdges : List ℕ → ℕ → ℕ
-ruleEdges g r = lineField g (65 + 25 * r) 3
+ruleEdges g r = lineField g (rulePlace r) 3
 
 abbrev pub rulePlan : List ℕ → ℕ → ℕ
-rulePlan g r = lineField g (65 + 25 * r) 4
+rulePlan g r = lineField g (rulePlace r) 4
 
 abbrev pub ruleExternal : List ℕ → ℕ → ℕ → ℕ
-ruleExternal g r k = lineField g (65 + 25 * r) (5 + k)
+ruleExternal g r k = lineField g (rulePlace r) (5 + k)
 
 abbrev pub edgeLabel : List ℕ → ℕ → ℕ → ℕ
-edgeLabel g r i = lineField g (66 + 25 * r + i) 0
+edgeLabel g r i = lineField g (edgePlace r i) 0
 
 abbrev pub edgeNode : List ℕ → ℕ → ℕ → ℕ → ℕ
-edgeNode g r i k = lineField g (66 + 25 * r + i) (1 + k)
+edgeNode g r i k = lineField g (edgePlace r i) (1 + k)
 
 abbrev pub planKind : List ℕ → ℕ → ℕ → ℕ
-planKind g r q = lineField g (74 + 25 * r + q) 0
+planKind g r q = lineField g (planPlace r q) 0
 
 abbrev pub planFirst : List ℕ → ℕ → ℕ → ℕ
-planFirst g r q = lineField g (74 + 25 * r + q) 1
+planFirst g r q = lineField g (planPlace r q) 1
 
 abbrev pub planSecond : List ℕ → ℕ → ℕ → ℕ
-planSecond g r q = lineField g (74 + 25 * r + q) 2
+planSecond g r q = lineField g (planPlace r q) 2
 
 -- ---- and of a graph table
 abbrev pub graphNodes : List ℕ → ℕ
@@ -128,7 +158,7 @@ abbrev pub graphExternal : List ℕ → ℕ → ℕ
 graphExternal h k = lineField h 0 (2 + k)
 
 abbrev pub graphLabel : List ℕ → ℕ → ℕ
-graphLabel h e = lineField h (1 + e) 0
+graphLabel h e = lineField h (graphEdgePlace e) 0
 
 abbrev pub graphNode : List ℕ → ℕ → ℕ → ℕ
-graphNode h e k = lineField h (1 + e) (1 + k)
+graphNode h e k = lineField h (graphEdgePlace e) (1 + k)

@@ -14,8 +14,8 @@ use Rattle.agenda.specs.declared.Found.the-variants.{At, Nowhere}
 use Rattle.agenda.specs.Records.{isHandled}
 use Rattle.agenda.specs.Consequences.{recordIn}
 use Rattle.agenda.specs.Steps.{lesser, leastWaiting}
-use Rattle.records.specs.Words.{itemCount, fieldAt, recordsAt, chartOf}
-use Rattle.records.proofs.WordLaws.{length-records, record-in, count-of}
+use Rattle.records.specs.Words.{capacity, itemCount, recordAt, recordsAt, chartOf}
+use Rattle.records.proofs.WordLaws.{length-records, record-in, item-inside}
 use Rattle.queues.specs.declared.Taken.{Taken}
 use Rattle.queues.specs.declared.Taken.the-variants.{Number, Nothing}
 use Rattle.queues.specs.Queues.{holds, Removed, Least, Left, Empty, LeastTaken}
@@ -51,20 +51,20 @@ module _ (rs : List Record) where
   unfolding lesser
   chosen-waits n Nowhere l m h (chosen-none a) =
       rw h (chosen-at n (omega arith) (λ q. omega (arith, order-waits rs n l h)) (one-more (λ k. Waits k → orderAt rs n ≤ orderAt rs k) n (λ k b d. absurd (d (a k b))) (λ d. omega arith)))
-  chosen-waits n (At j) l m h (chosen-at i a b c) = rw h (go (decLt (recordIn rs n .count) (recordIn rs j .count)))
+  chosen-waits n (At j) l m h (chosen-at i a b c) = rw h (go (decLt (recordIn rs n .item .count) (recordIn rs j .item .count)))
     where
-      own : orderAt rs n ≡ 4096 * recordIn rs n .count + n + 1
+      own : orderAt rs n ≡ 4096 * recordIn rs n .item .count + n + 1
       own = order-waits rs n l h
 
-      best : orderAt rs j ≡ 4096 * recordIn rs j .count + j + 1
+      best : orderAt rs j ≡ 4096 * recordIn rs j .item .count + j + 1
       best = order-some rs j b .1
 
-      go : Dec (recordIn rs n .count < recordIn rs j .count) → Chosen (suc n) (cond (leb (recordIn rs j .count) (recordIn rs n .count)) (At j) (At n))
+      go : Dec (recordIn rs n .item .count < recordIn rs j .item .count) → Chosen (suc n) (cond (leb (recordIn rs j .item .count) (recordIn rs n .item .count)) (At j) (At n))
       go (yes d) =
-          rw (lt-leb (recordIn rs j .count) (recordIn rs n .count) d)
+          rw (lt-leb (recordIn rs j .item .count) (recordIn rs n .item .count) d)
           (chosen-at n (omega arith) (λ q. omega (arith, own)) (one-more (λ k. Waits k → orderAt rs n ≤ orderAt rs k) n (λ k t w. omega (arith, c k t w, own, best)) (λ w. omega arith)))
       go (no d) =
-          rw (le-leb (recordIn rs j .count) (recordIn rs n .count) (omega arith))
+          rw (le-leb (recordIn rs j .item .count) (recordIn rs n .item .count) (omega arith))
           (chosen-at j (omega arith) b (one-more (λ k. Waits k → orderAt rs j ≤ orderAt rs k) n c (λ w. omega (arith, own, best))))
 
   chosen-next : (n : ℕ) (f : Found) → n < length rs → n < 4096 → Chosen n f → Chosen (suc n) (lesser rs n f)
@@ -112,8 +112,8 @@ module _ (rs : List Record) where
         let u = c (r % 4096) (s .0) (λ q. omega (arith, order-least)) in
         ap At (go (decLt (orderAt rs j) (orderAt rs (r % 4096))) t u (s .1))
       where
-        go : Dec (orderAt rs j < orderAt rs (r % 4096)) → orderAt rs j ≡ 4096 * recordIn rs j .count + j + 1 → orderAt rs j ≤ orderAt rs (r % 4096)
-            → orderAt rs (r % 4096) ≡ 4096 * recordIn rs (r % 4096) .count + r % 4096 + 1 → r % 4096 ≡ j
+        go : Dec (orderAt rs j < orderAt rs (r % 4096)) → orderAt rs j ≡ 4096 * recordIn rs j .item .count + j + 1 → orderAt rs j ≤ orderAt rs (r % 4096)
+            → orderAt rs (r % 4096) ≡ 4096 * recordIn rs (r % 4096) .item .count + r % 4096 + 1 → r % 4096 ≡ j
         go (yes d) t u s = absurd (none-below w r R z (omega (arith, L .within)) (L .none) j (omega arith) b (omega (arith, order-least)))
         go (no d) t u s = omega arith
 
@@ -124,7 +124,7 @@ module _ (rs : List Record) where
     taken-held : (new : List ℕ) → Removed (setOf w) r new → Ranked (put 2 4229 w new) (takenFrom rs (At (r % 4096)))
     taken-held new I =
         let j = r % 4096 in
-        let n = recordIn rs j .count in
+        let n = recordIn rs j .item .count in
         let s = order-some rs j (λ q. omega (arith, order-least)) in
         let e : r ≡ 4096 * (n - getD w 1 0) + j = omega (arith, order-least, s .1) in
         removed-set w j n (omega arith) rs (takenFrom rs (At j)) R (s .1 ∙ sym (order-positive j n)) (handled-order rs j (s .0)) new (omega (arith, order-least, s .1))
@@ -167,15 +167,20 @@ module _ (w : List ℕ) (j : ℕ) (m : length (chartOf w .records) ≤ 4096) (p 
   waits : (n : ℕ) → Chosen rs n (At j) → Waits rs j
   waits n (chosen-at i a b c) = b
 
-  order-told : (j < length rs) × (orderAt rs j ≡ 4096 * recordIn rs j .count + j + 1)
+  order-told : (j < length rs) × (orderAt rs j ≡ 4096 * recordIn rs j .item .count + j + 1)
   order-told = order-some rs j (waits (length rs) (subst (Chosen rs (length rs)) (sym p) (chosen rs (length rs) (omega arith) m)))
 
   pub told-small : j < 4096
   told-small = omega (arith, order-told .0)
 
-  count-told : (n : ℕ) → n ≡ fieldAt w j 4 → recordIn rs j .count ≡ n
+  -- it lies inside the words
+  pub told-inside : j < capacity w
   unfolding chartOf
-  count-told n e = ap (λ (x : Record). x .count) (record-in w (itemCount w) j (omega (arith, order-told .0, length-records w (itemCount w)))) ∙ count-of w j ∙ sym e
+  told-inside = item-inside w j (omega (arith, order-told .0, length-records w (itemCount w)))
 
-  pub taken-told : (n : ℕ) (new : List ℕ) → n ≡ fieldAt w j 4 → (orderAt rs j ≡ orderOf true j n → Replaces j 0 rs (takenFrom rs (At j)) → Ranked new (takenFrom rs (At j))) → Ranked new (takenFrom rs (At j))
-  taken-told n new e f = f (order-told .1 ∙ sym (order-positive j (recordIn rs j .count)) ∙ ap (orderOf true j) (count-told n e)) (handled-order rs j (order-told .0))
+  count-told : (n : ℕ) → n ≡ recordAt w j .item .count → recordIn rs j .item .count ≡ n
+  unfolding chartOf
+  count-told n e = ap (λ (x : Record). x .item .count) (record-in w (itemCount w) j (omega (arith, order-told .0, length-records w (itemCount w)))) ∙ sym e
+
+  pub taken-told : (n : ℕ) (new : List ℕ) → n ≡ recordAt w j .item .count → (orderAt rs j ≡ orderOf true j n → Replaces j 0 rs (takenFrom rs (At j)) → Ranked new (takenFrom rs (At j))) → Ranked new (takenFrom rs (At j))
+  taken-told n new e f = f (order-told .1 ∙ sym (order-positive j (recordIn rs j .item .count)) ∙ ap (orderOf true j) (count-told n e)) (handled-order rs j (order-told .0))

@@ -6,16 +6,16 @@ use mathlib.Core.List.{List, [], _∷_, _++_}
 use native.Mathlib.Omega.{arith}
 use native.Mathlib.Decide.{decLt}
 use native.Mathlib.Numerals.{add-one}
-use lib.Dec.{eqb, ltb}
-use lib.ListN.{length, getD, set, length-set, length-append, List·getD-append}
+use lib.Dec.{ltb}
+use lib.ListN.{length, set, length-set, length-append, List·getD-append}
 use lib.Seq.{getD-set-same, getD-set-other, getD-at}
-use borrow.Author.Tests.{lt-ltb, le-ltb, eq-eqb, ne-eqb}
+use borrow.Author.Tests.{lt-ltb, le-ltb}
 use Rattle.agenda.specs.declared.Record.{Record}
 use Rattle.agenda.specs.Records.{isHandled}
 use Rattle.agenda.specs.Consequences.{recordIn, noRecord}
 use Rattle.agenda.specs.Steps.{improved, handledNow}
-use Rattle.records.specs.Words.{itemCount, fieldAt, recordAt, recordsAt, chartOf}
-use Rattle.records.proofs.WordLaws.{count-of, handled-of, length-records}
+use Rattle.records.specs.Words.{itemCount, recordAt, recordsAt, chartOf}
+use Rattle.records.proofs.WordLaws.{length-records}
 use Rattle.ranking.specs.Ranking.{orderOf, waitsAt, orderAt, Ranked, Replaces}
 
 -- ---- what a order is
@@ -31,19 +31,19 @@ pub order-handled : (rs : List Record) (j : ℕ) → isHandled (recordIn rs j) �
 unfolding orderAt orderOf waitsAt
 order-handled rs j h = go (ltb j (length rs))
   where
-    go : (t : Bool) → orderOf (t && not (isHandled (recordIn rs j))) j (recordIn rs j .count) ≡ 0
+    go : (t : Bool) → orderOf (t && not (isHandled (recordIn rs j))) j (recordIn rs j .item .count) ≡ 0
     go true = rw h
     go false = refl
 
-pub order-waits : (rs : List Record) (j : ℕ) → j < length rs → isHandled (recordIn rs j) ≡ false → orderAt rs j ≡ 4096 * recordIn rs j .count + j + 1
+pub order-waits : (rs : List Record) (j : ℕ) → j < length rs → isHandled (recordIn rs j) ≡ false → orderAt rs j ≡ 4096 * recordIn rs j .item .count + j + 1
 unfolding orderAt orderOf waitsAt
 order-waits rs j l h = rw (lt-ltb j (length rs) l, h)
 
 -- a order that is not 0 is that of a waiting record
-pub order-some : (rs : List Record) (j : ℕ) → (orderAt rs j ≡ 0 → ⊥) → (j < length rs) × (orderAt rs j ≡ 4096 * recordIn rs j .count + j + 1)
+pub order-some : (rs : List Record) (j : ℕ) → (orderAt rs j ≡ 0 → ⊥) → (j < length rs) × (orderAt rs j ≡ 4096 * recordIn rs j .item .count + j + 1)
 order-some rs j n = go (decLt j (length rs)) (isHandled (recordIn rs j)) refl
   where
-    go : Dec (j < length rs) → (t : Bool) → isHandled (recordIn rs j) ≡ t → (j < length rs) × (orderAt rs j ≡ 4096 * recordIn rs j .count + j + 1)
+    go : Dec (j < length rs) → (t : Bool) → isHandled (recordIn rs j) ≡ t → (j < length rs) × (orderAt rs j ≡ 4096 * recordIn rs j .item .count + j + 1)
     go (yes l) true h = absurd (n (order-handled rs j h))
     go (yes l) false h = (l, order-waits rs j l h)
     go (no l) t h = absurd (n (order-past rs j (omega arith)))
@@ -51,13 +51,13 @@ order-some rs j n = go (decLt j (length rs)) (isHandled (recordIn rs j)) refl
 -- a order is told by whether its place is one of the records' and by the record there
 order-by : (rs rs′ : List Record) (k : ℕ) → ltb k (length rs′) ≡ ltb k (length rs) → recordIn rs′ k ≡ recordIn rs k → orderAt rs′ k ≡ orderAt rs k
 unfolding orderAt waitsAt
-order-by rs rs′ k e q = ap₂ (λ (t : Bool) (x : Record). orderOf (t && not (isHandled x)) k (x .count)) e q
+order-by rs rs′ k e q = ap₂ (λ (t : Bool) (x : Record). orderOf (t && not (isHandled x)) k (x .item .count)) e q
 
-pub order-in : (rs : List Record) (j : ℕ) (x : Record) → j < length rs → recordIn rs j ≡ x → orderAt rs j ≡ orderOf (not (isHandled x)) j (x .count)
+pub order-in : (rs : List Record) (j : ℕ) (x : Record) → j < length rs → recordIn rs j ≡ x → orderAt rs j ≡ orderOf (not (isHandled x)) j (x .item .count)
 unfolding orderAt waitsAt
-order-in rs j x h e = ap₂ (λ (t : Bool) (y : Record). orderOf (t && not (isHandled y)) j (y .count)) (lt-ltb j (length rs) h) e
+order-in rs j x h e = ap₂ (λ (t : Bool) (y : Record). orderOf (t && not (isHandled y)) j (y .item .count)) (lt-ltb j (length rs) h) e
 
-pub waiting-order : (rs : List Record) (j n : ℕ) → j < length rs → isHandled (recordIn rs j) ≡ false → n ≡ recordIn rs j .count → orderAt rs j ≡ orderOf true j n
+pub waiting-order : (rs : List Record) (j n : ℕ) → j < length rs → isHandled (recordIn rs j) ≡ false → n ≡ recordIn rs j .item .count → orderAt rs j ≡ orderOf true j n
 waiting-order rs j n l h e = order-in rs j (recordIn rs j) l refl ∙ ap₂ (λ (t : Bool) k. orderOf (not t) j k) h (sym e)
 
 pub order-out : (rs : List Record) (j n : ℕ) → length rs ≤ j → orderAt rs j ≡ orderOf false j n
@@ -65,7 +65,7 @@ unfolding orderAt waitsAt orderOf
 order-out rs j n h = rw (le-ltb j (length rs) h)
 
 -- ---- a record more
-pub appended-order : (rs : List Record) (x : Record) → Replaces (length rs) (orderOf (not (isHandled x)) (length rs) (x .count)) rs (rs ++ (x ∷ []))
+pub appended-order : (rs : List Record) (x : Record) → Replaces (length rs) (orderOf (not (isHandled x)) (length rs) (x .item .count)) rs (rs ++ (x ∷ []))
 appended-order rs x = record {
   given = order-in (rs ++ (x ∷ [])) (length rs) x (simp length-append (omega arith)) (getD-at rs x [] noRecord (length rs) refl);
   others = λ k n. go k n (decLt k (length rs));
@@ -80,7 +80,7 @@ appended-order rs x = record {
         order-out (rs ++ (x ∷ [])) k 0 l ∙ sym (order-out rs k 0 (omega arith))
 
 -- ---- a record in the place of another
-pub replaced-order : (rs : List Record) (j : ℕ) (x : Record) → j < length rs → Replaces j (orderOf (not (isHandled x)) j (x .count)) rs (set rs j x)
+pub replaced-order : (rs : List Record) (j : ℕ) (x : Record) → j < length rs → Replaces j (orderOf (not (isHandled x)) j (x .item .count)) rs (set rs j x)
 replaced-order rs j x h = record {
   given = order-in (set rs j x) j x (simp length-set h) (getD-set-same rs j x noRecord h);
   others = λ k n. order-by rs (set rs j x) k (ap (ltb k) (length-set rs j x)) (getD-set-other rs j k x noRecord n);
@@ -88,7 +88,7 @@ replaced-order rs j x h = record {
 
 -- an improved record waits as it did, with the count of x
 pub improved-order : (rs : List Record) (j : ℕ) (x : Record) → j < length rs → isHandled (recordIn rs j) ≡ false
-    → Replaces j (orderOf true j (x .count)) rs (set rs j (improved (recordIn rs j) x))
+    → Replaces j (orderOf true j (x .item .count)) rs (set rs j (improved (recordIn rs j) x))
 improved-order rs j x h e = rw e at (replaced-order rs j (improved (recordIn rs j) x) h)
 
 -- a handled record waits no more
@@ -96,31 +96,20 @@ pub handled-order : (rs : List Record) (j : ℕ) → j < length rs → Replaces 
 unfolding orderOf
 handled-order rs j h = replaced-order rs j (handledNow (recordIn rs j)) h
 
--- ---- the order of a record in words
-not-not : (t : Bool) → t ≡ not (not t)
-not-not true = refl
-not-not false = refl
-
--- the first records of words, one more of them
-next-order : (w : List ℕ) (j h n : ℕ) → h ≡ fieldAt w j 5 → n ≡ fieldAt w j 4 → Replaces j (orderOf (eqb h 0) j n) (recordsAt w j) (recordsAt w (j + 1))
+-- ---- the first records of words, one more of them
+next-order : (w : List ℕ) (j : ℕ) → Replaces j (orderOf (not (isHandled (recordAt w j))) j (recordAt w j .item .count)) (recordsAt w j) (recordsAt w (j + 1))
 unfolding recordsAt
-next-order w j h n p q =
-    let waits : not (isHandled (recordAt w j)) ≡ eqb h 0 = sym (not-not (eqb (recordAt w j .handled) 0)) ∙ ap (λ k. eqb k 0) (handled-of w j ∙ sym p) in
-    rw add-one (subst (λ k. Replaces k (orderOf (eqb h 0) k n) (recordsAt w j) (recordsAt w j ++ (recordAt w j ∷ []))) (length-records w j)
-    (subst (λ (t : Bool). Replaces (length (recordsAt w j)) (orderOf t (length (recordsAt w j)) n) (recordsAt w j) (recordsAt w j ++ (recordAt w j ∷ []))) waits
-    (subst (λ k. Replaces (length (recordsAt w j)) (orderOf (not (isHandled (recordAt w j))) (length (recordsAt w j)) k) (recordsAt w j) (recordsAt w j ++ (recordAt w j ∷ []))) (count-of w j ∙ sym q)
-    (appended-order (recordsAt w j) (recordAt w j)))))
+next-order w j =
+    let more = recordsAt w j ++ (recordAt w j ∷ []) in
+    rw add-one (subst (λ k. Replaces k (orderOf (not (isHandled (recordAt w j))) k (recordAt w j .item .count)) (recordsAt w j) more) (length-records w j)
+    (appended-order (recordsAt w j) (recordAt w j)))
 
--- .. by its own words in the chart
-pub next-waits : (w : List ℕ) (j : ℕ) → getD w (2 + 16 * j + 5) 0 ≡ 0 → Replaces j (orderOf true j (getD w (2 + 16 * j + 4) 0)) (recordsAt w j) (recordsAt w (j + 1))
-unfolding fieldAt
-next-waits w j e =
-    subst (λ (t : Bool). Replaces j (orderOf t j (fieldAt w j 4)) (recordsAt w j) (recordsAt w (j + 1))) (eq-eqb (fieldAt w j 5) 0 e) (next-order w j (fieldAt w j 5) (fieldAt w j 4) refl refl)
+pub next-waits : (w : List ℕ) (j n : ℕ) → isHandled (recordAt w j) ≡ false → n ≡ recordAt w j .item .count → Replaces j (orderOf true j n) (recordsAt w j) (recordsAt w (j + 1))
+next-waits w j n h e = rw e (rw h at (next-order w j))
 
-pub next-handled : (w : List ℕ) (j : ℕ) → (getD w (2 + 16 * j + 5) 0 ≡ 0 → ⊥) → Replaces j 0 (recordsAt w j) (recordsAt w (j + 1))
-unfolding fieldAt orderOf
-next-handled w j n =
-    subst (λ (t : Bool). Replaces j (orderOf t j (fieldAt w j 4)) (recordsAt w j) (recordsAt w (j + 1))) (ne-eqb (fieldAt w j 5) 0 n) (next-order w j (fieldAt w j 5) (fieldAt w j 4) refl refl)
+pub next-handled : (w : List ℕ) (j : ℕ) → isHandled (recordAt w j) ≡ true → Replaces j 0 (recordsAt w j) (recordsAt w (j + 1))
+unfolding orderOf
+next-handled w j h = rw h at (next-order w j)
 
 pub ranked-first : (w ranks : List ℕ) → Ranked ranks [] → Ranked ranks (recordsAt w 0)
 unfolding recordsAt

@@ -24,7 +24,7 @@ waitsAt rs j = ltb j (length rs) && not (isHandled (recordIn rs j))
 -- the order of the record at place j: 0 where there is no such record or it is handled
 unfoldable pub orderAt : List Record → ℕ → ℕ
 unfolding orderOf waitsAt
-orderAt rs j = orderOf (waitsAt rs j) j (recordIn rs j .count)
+orderAt rs j = orderOf (waitsAt rs j) j (recordIn rs j .item .count)
 
 -- ---- in words
 -- the words of the set

@@ -74,7 +74,7 @@ pub fn recount(ranks: &mut [u32], j: u64, old: u64, count: u64)
     insert(ranks, j, count);
 }
 
-// The records of a chart that wait, one after another: there is none before. Their words lie inside the chart and are read straight.
+// The records of a chart that wait, one after another: there is none before.
 fn fill(chart: &[u64], ranks: &mut [u32])
     requires { ⌜ Ranked (now ranks) [] × (itemCount (now chart) ≤ 4096) ⌝ }
     ensures { λ r. ⌜ Ranked (now (ranks .exit)) (chartOf (now (chart .entry)) .records) ⌝ }
@@ -82,8 +82,8 @@ fn fill(chart: &[u64], ranks: &mut [u32])
     let n = records::item_count(chart);
     let mut j = 0;
     while j < n {
-        if chart[(2 + 16 * j + 5) as usize] == 0 {
-            insert(ranks, j, chart[(2 + 16 * j + 4) as usize]);
+        if !records::is_handled(chart, j) {
+            insert(ranks, j, records::count_at(chart, j));
         }
         j += 1;
     }
@@ -113,7 +113,7 @@ fn again(chart: &[u64], ranks: &mut [u32]) -> Found
     match found {
         Found::Nowhere => Found::Nowhere,
         Found::At(j) => {
-            let count = records::field(chart, j, 4);
+            let count = records::count_at(chart, j);
             renew(chart, ranks, count);
             remove(ranks, j, count);
             Found::At(j)

@@ -176,7 +176,7 @@ pub fn read_grammar(text: &[u8], table: &mut [u64]) -> Answer
     ensures { λ r. ⌜ Gives (readGrammar (now (text .entry)) (now (table .entry))) r (now (table .exit)) ⌝ }
 {
     let none = [0u64; 0];
-    let mut t = [0u64; 1665];
+    let mut t = [0u64; layout::GRAMMAR_WORDS];
     let k = read_lines(&none, &mut t, Due::Grammar, text);
     deliver(k, &t, table)
 }
@@ -188,7 +188,7 @@ pub fn read_graph(grammar: &[u64], text: &[u8], table: &mut [u64]) -> Answer
     if !tables::checking::check_grammar(grammar) {
         return Answer::Refused(8);
     }
-    let mut t = [0u64; 65];
+    let mut t = [0u64; layout::GRAPH_WORDS];
     let k = read_lines(grammar, &mut t, Due::Graph, text);
     deliver(k, &t, table)
 }

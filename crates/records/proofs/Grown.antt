@@ -4,26 +4,24 @@ use mathlib.Core.Path.{_≡_, refl, sym, ap, _∙_, subst}
 use mathlib.Core.List.{List, [], _∷_, _++_, List·Memᴰ as In, List·Memᴰ·head as here, List·Memᴰ·tail as there, List·Memᴰ·not-nil as in-nil, map}
 use mathlib.Core.Bool.{Bool, true, false}
 use native.Mathlib.Omega.{arith}
-use lib.Dec.{eqb}
-use lib.ListN.{length, getD}
-use borrow.Author.Tests.{eqb-true, eqb-false}
+use lib.ListN.{length}
 use Rattle.agenda.specs.declared.Record.{Record}
 use Rattle.hrg.specs.Items.{Item}
 use Rattle.hrg.specs.ClosureRun.{guard, eachTo}
 use Rattle.agenda.specs.Records.{recordOf, isHandled}
 use Rattle.agenda.specs.Consequences.{gather, recordIn}
 use Rattle.agenda.specs.Steps.{Chart, added, addedAll}
-use Rattle.agenda.proofs.Records.{record-eight}
+use Rattle.agenda.proofs.Records.{item-eight}
 use Rattle.agenda.proofs.Growth.{Grew, all-grown}
 use Rattle.agenda.proofs.Adding.{all-append}
-use Rattle.records.specs.Words.{Fits, capacity, itemCount, recordAt, recordsAt, chartOf, written, addedTo, grownBy}
-use Rattle.records.proofs.WordLaws.{length-records, record-in}
-use Rattle.records.proofs.Written.{Eights, Holds, eight-nodes, chart-written, add-written, capacity-written, fits-written, chart-of-written, written-over}
+use Rattle.records.specs.Words.{Fits, capacity, itemCount, recordAt, chartOf, written, addedTo, grownBy}
+use Rattle.records.proofs.WordLaws.{length-records, record-in, count-fits}
+use Rattle.records.proofs.Written.{Holds, eight-nodes, chart-written, add-written, capacity-written, fits-written, chart-of-written, written-over}
 use Rattle.records.proofs.Rewritten.{Grown, grown-added}
 
 -- each record of a list has eight places
 abbrev pub Whole : List Record → Type 0
-Whole xs = (x : Record) → In x xs → length (x .nodes) ≡ 8
+Whole xs = (x : Record) → In x xs → length (x .item .nodes) ≡ 8
 
 pub whole-none : Whole []
 whole-none x m = absurd (in-nil m)
@@ -37,13 +35,13 @@ whole-append [] ys e f y m = f y m
 whole-append (x ∷ xs) ys e f y (here q) = e y (here q)
 whole-append (x ∷ xs) ys e f y (there m) = whole-append xs ys (λ z n. e z (there n)) f y m
 
-pub whole-map : {A : Type 0} (f : A → Record) → ((a : A) → length (f a .nodes) ≡ 8) → (l : List A) → Whole (map f l)
+pub whole-map : {A : Type 0} (f : A → Record) → ((a : A) → length (f a .item .nodes) ≡ 8) → (l : List A) → Whole (map f l)
 whole-map f e [] x m = absurd (in-nil m)
 whole-map f e (a ∷ l) x (here q) = rw q (e a)
 whole-map f e (a ∷ l) x (there m) = whole-map f e l x m
 
 pub whole-items : (is : List Item) (n a b : ℕ) → Whole (map (λ (i : Item). recordOf i n a b) is)
-whole-items is n a b = whole-map (λ (i : Item). recordOf i n a b) (λ i. record-eight i n a b) is
+whole-items is n a b = whole-map (λ (i : Item). recordOf i n a b) (λ i. item-eight i n) is
 
 pub whole-each : (n : ℕ) (f : ℕ → List Record) → ((k : ℕ) → Whole (f k)) → Whole (eachTo n f)
 whole-each zero f e x m = absurd (in-nil m)
@@ -55,16 +53,12 @@ whole-gather zero f e x m = absurd (in-nil m)
 whole-gather (suc n) f e x m = whole-append (gather n f) (f n) (whole-gather n f e) (e n) x m
 
 -- words that hold the chart that they stand for
-count-held : (w : List ℕ) → itemCount w ≤ capacity w
-unfolding itemCount
-count-held w = omega arith
-
 pub holds-own : (w : List ℕ) → Fits w → Holds w (chartOf w)
 unfolding chartOf
 holds-own w f = record {
   header = f .header;
-  number = omega (arith, count-held w, length-records w (itemCount w));
-  places = λ k l. ap (λ (x : Record). length (x .nodes)) (record-in w (itemCount w) k (omega (arith, length-records w (itemCount w)))) ∙ eight-nodes w k;
+  number = omega (arith, count-fits w, length-records w (itemCount w));
+  places = λ k l. ap (λ (x : Record). length (x .item .nodes)) (record-in w (itemCount w) k (omega (arith, length-records w (itemCount w)))) ∙ eight-nodes w k;
 }
 
 -- ---- several records more
@@ -81,7 +75,7 @@ module _ (w : List ℕ) (f : Fits w) where
   unfolding grownBy addedAll
   grown-none = sym (chart-written w f)
 
-  pub grown-one : (x : Record) → length (x .nodes) ≡ 8 → addedTo w x ≡ grownBy w (x ∷ [])
+  pub grown-one : (x : Record) → length (x .item .nodes) ≡ 8 → addedTo w x ≡ grownBy w (x ∷ [])
   unfolding grownBy addedAll
   grown-one x e = add-written w x f e
 

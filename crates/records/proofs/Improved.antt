@@ -2,6 +2,7 @@
 use Prim.Native.Nat.{ℕ, _+_, _-_, _*_, _≤_, _<_}
 use mathlib.Core.Path.{_≡_, refl, sym, ap, _∙_}
 use mathlib.Core.Logic.{_≢_}
+use mathlib.Core.Bool.{false}
 use mathlib.Core.List.{List}
 use native.Mathlib.Omega.{arith}
 use native.Mathlib.Decide.{decLt, ℕ-discrete}
@@ -9,9 +10,10 @@ use lib.ListN.{length, getD, set, length-set}
 use lib.Seq.{getD-set-same, getD-set-other, ext-getD}
 use Rattle.hrg.specs.Counts.{tabulate}
 use Rattle.agenda.specs.declared.Record.{Record}
+use Rattle.agenda.specs.Records.{isHandled}
 use Rattle.agenda.specs.Steps.{improved}
-use Rattle.records.specs.Words.{fieldAt, blockAt, ofWords, recordAt, wordsOf, pasted, saved, improvedAt}
-use Rattle.records.proofs.WordLaws.{block-word, length-block, fits-place, save-some, improve-handled, improve-less, improve-more}
+use Rattle.records.specs.Words.{capacity, blockAt, itemWords, ofWords, recordAt, wordsOf, pasted, saved, improvedAt}
+use Rattle.records.proofs.WordLaws.{block-word, length-block, fits-place, place-fits, save-some, improve-more}
 use Rattle.records.proofs.Written.{length-pasted, pasted-at, pasted-below, pasted-past}
 
 -- a word that is set in a list, and in words that have the list from the place at on
@@ -28,41 +30,41 @@ set-both l w at i a k h m p = go (ℕ-discrete k i)
 module _ (w : List ℕ) (j : ℕ) (x : Record) where
   -- its words
   abbrev fresh : List ℕ
-  fresh = set (set (set (blockAt w j) 4 (x .count)) 14 (x .first)) 15 (x .second)
+  fresh = set (set (set (blockAt w j) 4 (x .item .count)) 14 (x .first)) 15 (x .second)
 
   fresh-words : wordsOf (improved (recordAt w j) x) ≡ fresh
-  unfolding wordsOf recordAt ofWords blockAt tabulate
+  unfolding wordsOf recordAt ofWords itemWords blockAt tabulate
   fresh-words = refl
 
   -- the chart with these
   abbrev changed : List ℕ
-  changed = set (set (set w (2 + 16 * j + 4) (x .count)) (2 + 16 * j + 14) (x .first)) (2 + 16 * j + 15) (x .second)
+  changed = set (set (set w (2 + 16 * j + 4) (x .item .count)) (2 + 16 * j + 14) (x .first)) (2 + 16 * j + 15) (x .second)
 
   length-fresh : length fresh ≡ 16
   length-fresh = simp length-set (length-block w j)
 
   changed-else : (i : ℕ) → i ≢ 2 + 16 * j + 4 → i ≢ 2 + 16 * j + 14 → i ≢ 2 + 16 * j + 15 → getD changed i 0 ≡ getD w i 0
   changed-else i p q r =
-      getD-set-other (set (set w (2 + 16 * j + 4) (x .count)) (2 + 16 * j + 14) (x .first)) (2 + 16 * j + 15) i (x .second) 0 r
-      ∙ getD-set-other (set w (2 + 16 * j + 4) (x .count)) (2 + 16 * j + 14) i (x .first) 0 q
-      ∙ getD-set-other w (2 + 16 * j + 4) i (x .count) 0 p
+      getD-set-other (set (set w (2 + 16 * j + 4) (x .item .count)) (2 + 16 * j + 14) (x .first)) (2 + 16 * j + 15) i (x .second) 0 r
+      ∙ getD-set-other (set w (2 + 16 * j + 4) (x .item .count)) (2 + 16 * j + 14) i (x .first) 0 q
+      ∙ getD-set-other w (2 + 16 * j + 4) i (x .item .count) 0 p
 
   module _ (h : 2 + 16 * j + 16 ≤ length w) where
     changed-at : (k : ℕ) → k < 16 → getD changed (2 + 16 * j + k) 0 ≡ getD fresh k 0
     changed-at k l =
         let b : List ℕ = blockAt w j in
-        let b1 : List ℕ = set b 4 (x .count) in
+        let b1 : List ℕ = set b 4 (x .item .count) in
         let b2 : List ℕ = set b1 14 (x .first) in
-        let w1 : List ℕ = set w (2 + 16 * j + 4) (x .count) in
+        let w1 : List ℕ = set w (2 + 16 * j + 4) (x .item .count) in
         let w2 : List ℕ = set w1 (2 + 16 * j + 14) (x .first) in
         let n = length-block w j in
-        let n1 : length b1 ≡ 16 = length-set b 4 (x .count) ∙ n in
+        let n1 : length b1 ≡ 16 = length-set b 4 (x .item .count) ∙ n in
         let n2 : length b2 ≡ 16 = length-set b1 14 (x .first) ∙ n1 in
-        let m1 : length w1 ≡ length w = length-set w (2 + 16 * j + 4) (x .count) in
+        let m1 : length w1 ≡ length w = length-set w (2 + 16 * j + 4) (x .item .count) in
         let m2 : length w2 ≡ length w = length-set w1 (2 + 16 * j + 14) (x .first) ∙ m1 in
         set-both b2 w2 (2 + 16 * j) 15 (x .second) k (omega arith) (omega arith)
         (set-both b1 w1 (2 + 16 * j) 14 (x .first) k (omega arith) (omega arith)
-        (set-both b w (2 + 16 * j) 4 (x .count) k (omega arith) (omega arith) (sym (block-word w j k l))))
+        (set-both b w (2 + 16 * j) 4 (x .item .count) k (omega arith) (omega arith) (sym (block-word w j k l))))
 
     changed-pasted : changed ≡ pasted w (2 + 16 * j) fresh 16
     changed-pasted =
@@ -85,18 +87,8 @@ module _ (w : List ℕ) (j : ℕ) (x : Record) where
     changed-saved =
         save-some w changed j (improved (recordAt w j) x) (fits-place w j h) (changed-pasted ∙ ap (λ (l : List ℕ). pasted w (2 + 16 * j) l 16) (sym fresh-words))
 
--- ---- the ways of the code, by a record that is lent as sixteen words
-module _ (w xs : List ℕ) (j : ℕ) where
-  pub words-handled : (getD w (2 + 16 * j + 5) 0 ≡ 0 → ⊥) → w ≡ improvedAt w j (ofWords xs)
-  unfolding fieldAt
-  words-handled h = improve-handled w j (ofWords xs) _ refl h
-
-  module _ (z : getD w (2 + 16 * j + 5) 0 ≡ 0) where
-    pub words-less : getD w (2 + 16 * j + 4) 0 ≤ getD xs 4 0 → w ≡ improvedAt w j (ofWords xs)
-    unfolding fieldAt ofWords
-    words-less l = improve-less w j (ofWords xs) _ refl z _ refl l
-
-    pub words-more : 2 + 16 * j + 16 ≤ length w → getD xs 4 0 < getD w (2 + 16 * j + 4) 0
-        → set (set (set w (2 + 16 * j + 4) (getD xs 4 0)) (2 + 16 * j + 14) (getD xs 14 0)) (2 + 16 * j + 15) (getD xs 15 0) ≡ improvedAt w j (ofWords xs)
-    unfolding fieldAt ofWords
-    words-more h l = improve-more w j (ofWords xs) _ refl z _ refl _ _ l refl (changed-saved w j (ofWords xs) h)
+-- ---- the ways of the code
+module _ (w : List ℕ) (j : ℕ) (x : Record) where
+  pub improved-more : j < capacity w → isHandled (recordAt w j) ≡ false → x .item .count < recordAt w j .item .count
+      → set (set (set w (2 + 16 * j + 4) (x .item .count)) (2 + 16 * j + 14) (x .first)) (2 + 16 * j + 15) (x .second) ≡ improvedAt w j x
+  improved-more h z l = improve-more w j x z l (changed-saved w j x (place-fits w j h))

@@ -10,6 +10,7 @@ use lib.Dec.{eqb, ltb, leb}
 use lib.ListN.{length, length-append, getD, set, length-set, List·getD-append}
 use lib.Seq.{getD-set-same, getD-set-other, getD-at}
 use borrow.Author.Tests.{ltb-true}
+use Rattle.agenda.specs.declared.ChartItem.{ChartItem}
 use Rattle.agenda.specs.declared.Record.{Record}
 use Rattle.agenda.specs.declared.Found.{Found}
 use Rattle.agenda.specs.declared.Found.the-variants.{At, Nowhere}
@@ -22,28 +23,28 @@ use Rattle.records.proofs.WordLaws.{length-records}
 use Rattle.records.proofs.Written.{Eights, Holds, add-written, handle-written, capacity-written, fits-written, chart-of-written, written-over}
 
 -- ---- records keep their eight places
-set-eights : (rs : List Record) (j : ℕ) (y : Record) → Eights rs → (j < length rs → length (y .nodes) ≡ 8) → Eights (set rs j y)
+set-eights : (rs : List Record) (j : ℕ) (y : Record) → Eights rs → (j < length rs → length (y .item .nodes) ≡ 8) → Eights (set rs j y)
 set-eights rs j y e h k l = go (decLt k j) (decLt j k)
   where
-    else : k ≢ j → length (recordIn (set rs j y) k .nodes) ≡ 8
-    else d = ap (λ (z : Record). length (z .nodes)) (getD-set-other rs j k y noRecord d) ∙ e k (omega (arith, length-set rs j y))
+    else : k ≢ j → length (recordIn (set rs j y) k .item .nodes) ≡ 8
+    else d = ap (λ (z : Record). length (z .item .nodes)) (getD-set-other rs j k y noRecord d) ∙ e k (omega (arith, length-set rs j y))
 
-    go : Dec (k < j) → Dec (j < k) → length (recordIn (set rs j y) k .nodes) ≡ 8
+    go : Dec (k < j) → Dec (j < k) → length (recordIn (set rs j y) k .item .nodes) ≡ 8
     go (yes d) q = else (λ z. omega arith)
     go (no d) (yes q) = else (λ z. omega arith)
     go (no d) (no q) =
         let b : j < length rs = omega (arith, length-set rs j y) in
         let z : k ≡ j = omega arith in
-        subst (λ (i : ℕ). length (recordIn (set rs j y) i .nodes) ≡ 8) (sym z) (ap (λ (a : Record). length (a .nodes)) (getD-set-same rs j y noRecord b) ∙ h b)
+        subst (λ (i : ℕ). length (recordIn (set rs j y) i .item .nodes) ≡ 8) (sym z) (ap (λ (a : Record). length (a .item .nodes)) (getD-set-same rs j y noRecord b) ∙ h b)
 
-more-eights : (rs : List Record) (y : Record) → Eights rs → length (y .nodes) ≡ 8 → Eights (rs ++ (y ∷ []))
+more-eights : (rs : List Record) (y : Record) → Eights rs → length (y .item .nodes) ≡ 8 → Eights (rs ++ (y ∷ []))
 more-eights rs y e h k l = go (decLt k (length rs))
   where
-    go : Dec (k < length rs) → length (recordIn (rs ++ (y ∷ [])) k .nodes) ≡ 8
-    go (yes d) = ap (λ (z : Record). length (z .nodes)) (List·getD-append rs (y ∷ []) noRecord k d) ∙ e k d
+    go : Dec (k < length rs) → length (recordIn (rs ++ (y ∷ [])) k .item .nodes) ≡ 8
+    go (yes d) = ap (λ (z : Record). length (z .item .nodes)) (List·getD-append rs (y ∷ []) noRecord k d) ∙ e k d
     go (no d) =
         let z : length rs ≡ k = omega (arith, length-append rs (y ∷ [])) in
-        ap (λ (a : Record). length (a .nodes)) (getD-at rs y [] noRecord k z) ∙ h
+        ap (λ (a : Record). length (a .item .nodes)) (getD-at rs y [] noRecord k z) ∙ h
 
 -- ---- one record more
 -- the words hold the chart d, which has no fewer records than c
@@ -62,30 +63,30 @@ module _ (w : List ℕ) (c : Chart) (o : Holds w c) where
   marks : (m : ℕ) → Grown w c (record { mark = m; records = c .records })
   marks m = record { holds = record { header = o .header; number = o .number; places = o .places }; longer = omega arith }
 
-  sets : (j : ℕ) (y : Record) → (j < length (c .records) → length (y .nodes) ≡ 8) → Grown w c (record { mark = c .mark; records = set (c .records) j y })
+  sets : (j : ℕ) (y : Record) → (j < length (c .records) → length (y .item .nodes) ≡ 8) → Grown w c (record { mark = c .mark; records = set (c .records) j y })
   sets j y h =
       let l : length (set (c .records) j y) ≡ length (c .records) = length-set (c .records) j y in
       let n = o .number in
       record { holds = record { header = o .header; number = omega arith; places = set-eights (c .records) j y (o .places) h }; longer = omega arith }
 
-  appends : (y : Record) → length (c .records) < capacity w → length (y .nodes) ≡ 8 → Grown w c (record { mark = c .mark; records = c .records ++ (y ∷ []) })
+  appends : (y : Record) → length (c .records) < capacity w → length (y .item .nodes) ≡ 8 → Grown w c (record { mark = c .mark; records = c .records ++ (y ∷ []) })
   appends y h e =
       let l : length (c .records ++ (y ∷ [])) ≡ length (c .records) + 1 = length-append (c .records) (y ∷ []) in
       record { holds = record { header = o .header; number = omega arith; places = more-eights (c .records) y (o .places) e }; longer = omega arith }
 
-  grown-placed : (x : Record) → length (x .nodes) ≡ 8 → (f : Found) → Grown w c (placed (capacity w) x c f)
+  grown-placed : (x : Record) → length (x .item .nodes) ≡ 8 → (f : Found) → Grown w c (placed (capacity w) x c f)
   unfolding placed
   grown-placed x e Nowhere = cond-by (Grown w c) (ltb (length (c .records)) (capacity w)) (λ t. appends x (ltb-true _ _ t) e) (λ t. marks 1)
   grown-placed x e (At j) =
-      cond-by (Grown w c) (isHandled (recordIn (c .records) j) || leb (recordIn (c .records) j .count) (x .count)) (λ t. stays)
+      cond-by (Grown w c) (isHandled (recordIn (c .records) j) || leb (recordIn (c .records) j .item .count) (x .item .count)) (λ t. stays)
       (λ t. sets j (improved (recordIn (c .records) j) x) (λ l. o .places j l))
 
-  pub grown-added : (x : Record) → length (x .nodes) ≡ 8 → Grown w c (added (capacity w) x c)
+  pub grown-added : (x : Record) → length (x .item .nodes) ≡ 8 → Grown w c (added (capacity w) x c)
   unfolding added
-  grown-added x e = cond-by (Grown w c) (eqb (c .mark) 0) (λ t. grown-placed x e (lastSame x (c .records) (length (c .records)))) (λ t. stays)
+  grown-added x e = cond-by (Grown w c) (eqb (c .mark) 0) (λ t. grown-placed x e (lastSame (x .item) (c .records) (length (c .records)))) (λ t. stays)
 
   -- what `add` makes of words that stand for c
-  pub add-on : (v : List ℕ) (x : Record) → v ≡ written w c → length (x .nodes) ≡ 8 → addedTo v x ≡ written w (added (capacity w) x c)
+  pub add-on : (v : List ℕ) (x : Record) → v ≡ written w c → length (x .item .nodes) ≡ 8 → addedTo v x ≡ written w (added (capacity w) x c)
   add-on v x p e =
       ap (λ (u : List ℕ). addedTo u x) p
       ∙ add-written (written w c) x (fits-written w c o) e
@@ -127,7 +128,7 @@ module _ (w : List ℕ) (c : Chart) (o : Holds w c) (v : List ℕ) (p : v ≡ wr
   capacity-on = ap capacity p ∙ capacity-written w c o
 
   -- the searches of the code are those of the model
-  pub same-on : (x : Record) → lastSame x (recordsAt v (itemCount v)) (itemCount v) ≡ lastSame x (c .records) (length (c .records))
+  pub same-on : (x : ChartItem) → lastSame x (recordsAt v (itemCount v)) (itemCount v) ≡ lastSame x (c .records) (length (c .records))
   same-on x = ap (λ (rs : List Record). lastSame x rs (itemCount v)) records-on ∙ ap (lastSame x (c .records)) count-on
 
   pub least-on : leastWaiting (recordsAt v (itemCount v)) (itemCount v) ≡ leastWaiting (c .records) (length (c .records))

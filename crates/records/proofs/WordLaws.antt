@@ -2,23 +2,24 @@
 use Prim.Native.Nat.{ℕ, zero, suc, _+_, _-_, _*_, _≤_, _<_}
 use mathlib.Core.Path.{_≡_, refl, sym, ap, ap₂, _∙_}
 use mathlib.Core.List.{List, [], _∷_, _++_}
-use mathlib.Core.Bool.{Bool, true, false, cond, _&&_, _||_}
+use mathlib.Core.Bool.{Bool, true, false, cond, _&&_, _||_, not}
 use native.Mathlib.Omega.{arith}
 use native.Mathlib.Decide.{decLt}
 use native.Mathlib.Numerals.{add-one}
 use lib.Dec.{eqb, leb}
-use lib.ListN.{length, length-append, length-drop, length-take, getD, set, take, drop, List·getD-eq-default, List·getD-append}
-use lib.Seq.{getD-take, getD-drop, set-out, getD-at, paste-suc, paste-zero, getD-set-same, getD-set-other, ext-getD}
+use lib.ListN.{length, length-append, getD, set, List·getD-eq-default, List·getD-append}
+use lib.Seq.{set-out, getD-at, paste-suc, paste-zero, getD-set-same, getD-set-other, ext-getD}
 use borrow.Author.Tests.{lt-ltb, le-ltb, le-leb, lt-leb, eq-eqb, ne-eqb}
 use Rattle.hrg.specs.Counts.{tabulate, flag}
 use Rattle.hrg.specs.ClosureRun.{sameList}
+use Rattle.agenda.specs.declared.ChartItem.{ChartItem}
 use Rattle.agenda.specs.declared.Record.{Record}
 use Rattle.agenda.specs.declared.Found.{Found}
 use Rattle.agenda.specs.declared.Found.the-variants.{At, Nowhere}
-use Rattle.agenda.specs.Records.{sameRecord, isHandled}
+use Rattle.agenda.specs.Records.{sameChartItem, isHandled}
 use Rattle.agenda.specs.Consequences.{recordIn, noRecord}
 use Rattle.agenda.specs.Steps.{improved, lastSame, lesser, leastWaiting, handledCount}
-use Rattle.records.specs.Words.{itemCount, improvedAt, appendedTo, placedIn, addedTo, markedAt, recordsAt, lesserAt, capacity, fieldAt, blockAt, fourSame, ofWords, recordAt, wordsOf, pasted, saved}
+use Rattle.records.specs.Words.{itemCount, improvedAt, appendedTo, placedIn, addedTo, markedAt, recordsAt, lesserAt, capacity, fieldAt, blockAt, fourSame, itemWords, ofWords, recordAt, wordsOf, pasted, saved}
 
 -- ---- reading
 pub past-end : (w : List ℕ) (i : ℕ) → length w ≤ i → 0 ≡ getD w i 0
@@ -73,76 +74,6 @@ pub record-of-block : (w b : List ℕ) (j : ℕ) (r : Record) → b ≡ blockAt 
 unfolding recordAt
 record-of-block w b j r e p = p ∙ ap ofWords e
 
--- ---- a record as its sixteen words
-module _ (w : List ℕ) where
-  pub kind-words : ofWords w .kind ≡ getD w 0 0
-  unfolding ofWords
-  kind-words = refl
-
-  pub rule-words : ofWords w .of ≡ getD w 1 0
-  unfolding ofWords
-  rule-words = refl
-
-  pub plan-words : ofWords w .plan ≡ getD w 2 0
-  unfolding ofWords
-  plan-words = refl
-
-  pub edges-words : ofWords w .edges ≡ getD w 3 0
-  unfolding ofWords
-  edges-words = refl
-
-  pub count-words : ofWords w .count ≡ getD w 4 0
-  unfolding ofWords
-  count-words = refl
-
-  pub handled-words : ofWords w .handled ≡ getD w 5 0
-  unfolding ofWords
-  handled-words = refl
-
-  pub first-words : ofWords w .first ≡ getD w 14 0
-  unfolding ofWords
-  first-words = refl
-
-  pub second-words : ofWords w .second ≡ getD w 15 0
-  unfolding ofWords
-  second-words = refl
-
-  -- place k of its nodes
-  pub node-words : (k : ℕ) → k < 8 → getD (ofWords w .nodes) k 0 ≡ getD w (6 + k) 0
-  unfolding ofWords tabulate
-  node-words k h = getD-tabulate 8 (λ i. getD w (6 + i) 0) k h
-
-  pub eight-words : length (ofWords w .nodes) ≡ 8
-  unfolding ofWords
-  eight-words = refl
-
-  -- the record's words are those that it was made of
-  pub words-of-words : length w ≡ 16 → wordsOf (ofWords w) ≡ w
-  unfolding wordsOf ofWords tabulate
-  words-of-words e =
-      ext-getD 0 (tabulate 16 (λ k. getD w k 0)) w (sym e) (λ i l. getD-tabulate 16 (λ k. getD w k 0) i (omega arith))
-
-pub words-record : (w : List ℕ) (j : ℕ) → ofWords (blockAt w j) ≡ recordAt w j
-unfolding recordAt
-words-record w j = refl
-
--- a part of the chart that is a record's words, by its start and its length
-pub part-block : (w : List ℕ) (j at n : ℕ) → at ≡ 2 + 16 * j → n ≡ 16 → 2 + 16 * j + 16 ≤ length w → take n (drop at w) ≡ blockAt w j
-unfolding fieldAt
-part-block w j at n p q h =
-    ap (λ m. take m (drop at w)) q
-    ∙ ap (λ m. take 16 (drop m w)) p
-    ∙ (let rest : List ℕ = drop (2 + 16 * j) w in copied-all (take 16 rest) w j 16 (simp (length-take, length-drop) (omega arith)) (omega arith) (λ i l. getD-take 16 rest i 0 l ∙ getD-drop (2 + 16 * j) w i 0))
-
-pub part-length : (w : List ℕ) (j at n : ℕ) → at ≡ 2 + 16 * j → n ≡ 16 → 2 + 16 * j + 16 ≤ length w → length (take n (drop at w)) ≡ 16
-part-length w j at n p q h = ap length (part-block w j at n p q h) ∙ length-block w j
-
-pub part-record-at : (w : List ℕ) (j at n : ℕ) → at ≡ 2 + 16 * j → n ≡ 16 → 2 + 16 * j + 16 ≤ length w → ofWords (take n (drop at w)) ≡ recordAt w j
-part-record-at w j at n p q h = ap ofWords (part-block w j at n p q h) ∙ words-record w j
-
-pub part-record : (w : List ℕ) (j : ℕ) → 2 + 16 * j + 16 ≤ length w → ofWords (take 16 (drop (2 + 16 * j) w)) ≡ recordAt w j
-part-record w j h = part-record-at w j (2 + 16 * j) 16 refl refl h
-
 -- ---- writing
 -- a list of eight is its eight elements
 pub eight : (ns : List ℕ) → length ns ≡ 8
@@ -160,11 +91,11 @@ eight ns e = sym (ext-getD 0 ns _ e (λ k l. go k (omega arith)))
     go (suc (suc (suc (suc (suc (suc (suc zero))))))) h = refl
     go (suc (suc (suc (suc (suc (suc (suc (suc k)))))))) h = absurd (omega arith)
 
-pub words-by : (x : Record) → length (x .nodes) ≡ 8
-    → x .kind ∷ x .of ∷ x .plan ∷ x .edges ∷ x .count ∷ x .handled ∷ getD (x .nodes) 0 0 ∷ getD (x .nodes) 1 0 ∷ getD (x .nodes) 2 0 ∷ getD (x .nodes) 3 0
-    ∷ getD (x .nodes) 4 0 ∷ getD (x .nodes) 5 0 ∷ getD (x .nodes) 6 0 ∷ getD (x .nodes) 7 0 ∷ x .first ∷ x .second ∷ [] ≡ wordsOf x
+pub words-by : (x : Record) → length (x .item .nodes) ≡ 8
+    → x .item .kind ∷ x .item .of ∷ x .item .plan ∷ x .item .edges ∷ x .item .count ∷ x .handled ∷ getD (x .item .nodes) 0 0 ∷ getD (x .item .nodes) 1 0 ∷ getD (x .item .nodes) 2 0 ∷ getD (x .item .nodes) 3 0
+    ∷ getD (x .item .nodes) 4 0 ∷ getD (x .item .nodes) 5 0 ∷ getD (x .item .nodes) 6 0 ∷ getD (x .item .nodes) 7 0 ∷ x .first ∷ x .second ∷ [] ≡ wordsOf x
 unfolding wordsOf
-words-by x e = ap (λ (ns : List ℕ). x .kind ∷ x .of ∷ x .plan ∷ x .edges ∷ x .count ∷ x .handled ∷ (ns ++ (x .first ∷ x .second ∷ []))) (eight (x .nodes) e)
+words-by x e = ap (λ (ns : List ℕ). x .item .kind ∷ x .item .of ∷ x .item .plan ∷ x .item .edges ∷ x .item .count ∷ x .handled ∷ (ns ++ (x .first ∷ x .second ∷ []))) (eight (x .item .nodes) e)
 
 pub paste-start : (d s : List ℕ) (at : ℕ) → d ≡ pasted d at s 0
 unfolding pasted
@@ -204,15 +135,20 @@ pub item-fits : (w : List ℕ) (j : ℕ) → j < itemCount w → 2 + 16 * j + 16
 unfolding itemCount
 item-fits w j h = place-fits w j (omega arith)
 
+-- there are never more items than places
+pub count-fits : (w : List ℕ) → itemCount w ≤ capacity w
+unfolding itemCount
+count-fits w = omega arith
+
+pub item-inside : (w : List ℕ) (j : ℕ) → j < itemCount w → j < capacity w
+item-inside w j h = omega (arith, count-fits w)
+
 -- .. by the number of items that the code has read
 pub beyond : (w : List ℕ) (j n : ℕ) → n ≡ capacity w → n ≤ j → capacity w ≤ j
 beyond w j n e h = omega arith
 
 pub within : (w : List ℕ) (j n : ℕ) → n ≡ capacity w → j < n → j < capacity w
 within w j n e h = omega arith
-
-pub save-words : (w v xs : List ℕ) (j : ℕ) → length xs ≡ 16 → j < capacity w → v ≡ pasted w (2 + 16 * j) xs 16 → v ≡ saved w j (ofWords xs)
-save-words w v xs j e h p = save-some w v j (ofWords xs) h (p ∙ ap (λ (l : List ℕ). pasted w (2 + 16 * j) l 16) (sym (words-of-words xs e)))
 
 -- ---- comparing
 and-all : (a b c d : Bool) → a && b && c && d ≡ a && (b && (c && (d && true)))
@@ -239,84 +175,85 @@ same-places ms ns p q =
     ∙ ap (λ (l : List ℕ). sameList l (getD ns 0 0 ∷ getD ns 1 0 ∷ getD ns 2 0 ∷ getD ns 3 0 ∷ getD ns 4 0 ∷ getD ns 5 0 ∷ getD ns 6 0 ∷ getD ns 7 0 ∷ [])) (eight ms p)
     ∙ ap (λ (l : List ℕ). sameList ms l) (eight ns q)
 
-pub kind-of : (w : List ℕ) (j : ℕ) → recordAt w j .kind ≡ fieldAt w j 0
-unfolding recordAt ofWords blockAt fieldAt tabulate
+pub kind-of : (w : List ℕ) (j : ℕ) → recordAt w j .item .kind ≡ fieldAt w j 0
+unfolding recordAt ofWords itemWords blockAt fieldAt tabulate
 kind-of w j = refl
 
-pub rule-of : (w : List ℕ) (j : ℕ) → recordAt w j .of ≡ fieldAt w j 1
-unfolding recordAt ofWords blockAt fieldAt tabulate
+pub rule-of : (w : List ℕ) (j : ℕ) → recordAt w j .item .of ≡ fieldAt w j 1
+unfolding recordAt ofWords itemWords blockAt fieldAt tabulate
 rule-of w j = refl
 
-pub plan-of : (w : List ℕ) (j : ℕ) → recordAt w j .plan ≡ fieldAt w j 2
-unfolding recordAt ofWords blockAt
+pub plan-of : (w : List ℕ) (j : ℕ) → recordAt w j .item .plan ≡ fieldAt w j 2
+unfolding recordAt ofWords itemWords blockAt
 plan-of w j = refl
 
-pub edges-of : (w : List ℕ) (j : ℕ) → recordAt w j .edges ≡ fieldAt w j 3
-unfolding recordAt ofWords blockAt fieldAt tabulate
+pub edges-of : (w : List ℕ) (j : ℕ) → recordAt w j .item .edges ≡ fieldAt w j 3
+unfolding recordAt ofWords itemWords blockAt fieldAt tabulate
 edges-of w j = refl
 
-pub count-of : (w : List ℕ) (j : ℕ) → recordAt w j .count ≡ fieldAt w j 4
-unfolding recordAt ofWords blockAt fieldAt tabulate
+pub count-of : (w : List ℕ) (j : ℕ) → recordAt w j .item .count ≡ fieldAt w j 4
+unfolding recordAt ofWords itemWords blockAt fieldAt tabulate
 count-of w j = refl
 
 pub handled-of : (w : List ℕ) (j : ℕ) → recordAt w j .handled ≡ fieldAt w j 5
-unfolding recordAt ofWords blockAt fieldAt tabulate
+unfolding recordAt ofWords itemWords blockAt fieldAt tabulate
 handled-of w j = refl
 
 -- word by word, where the record lies inside
 pub same-inside : (ms w : List ℕ) (j : ℕ) → length ms ≡ 8
     → eqb (getD ms 0 0) (getD w (2 + 16 * j + 6) 0) && eqb (getD ms 1 0) (getD w (2 + 16 * j + 7) 0) && eqb (getD ms 2 0) (getD w (2 + 16 * j + 8) 0) && eqb (getD ms 3 0) (getD w (2 + 16 * j + 9) 0)
     && (eqb (getD ms 4 0) (getD w (2 + 16 * j + 10) 0) && eqb (getD ms 5 0) (getD w (2 + 16 * j + 11) 0) && eqb (getD ms 6 0) (getD w (2 + 16 * j + 12) 0) && eqb (getD ms 7 0) (getD w (2 + 16 * j + 13) 0))
-    ≡ sameList ms (recordAt w j .nodes)
-unfolding recordAt ofWords blockAt fieldAt tabulate
-same-inside ms w j e = same-places ms (recordAt w j .nodes) e refl
+    ≡ sameList ms (recordAt w j .item .nodes)
+unfolding recordAt ofWords itemWords blockAt fieldAt tabulate
+same-inside ms w j e = same-places ms (recordAt w j .item .nodes) e refl
 
-module _ (x : Record) (w : List ℕ) (j : ℕ) where
-  word-is : (k n m : ℕ) → n ≡ fieldAt w j k → (getD w (2 + 16 * j + k) 0 ≡ m → ⊥) → eqb m n ≡ false
+module _ (x : ChartItem) (w : List ℕ) (j : ℕ) where
+  word-is : (k n m : ℕ) → n ≡ fieldAt w j k → (fieldAt w j k ≡ m → ⊥) → eqb m n ≡ false
   unfolding fieldAt
   word-is k n m e h = ne-eqb m n (λ q. h (sym e ∙ sym q))
 
-  pub other-edges : (getD w (2 + 16 * j + 3) 0 ≡ x .edges → ⊥) → false ≡ sameRecord x (recordAt w j)
-  unfolding sameRecord
+  pub other-edges : (fieldAt w j 3 ≡ x .edges → ⊥) → false ≡ sameChartItem x (recordAt w j .item)
+  unfolding sameChartItem
   other-edges h = rw (word-is 3 _ (x .edges) (edges-of w j) h)
 
-  pub other-of : (getD w (2 + 16 * j + 1) 0 ≡ x .of → ⊥) → false ≡ sameRecord x (recordAt w j)
-  unfolding sameRecord
-  other-of h = rw (word-is 1 _ (x .of) (rule-of w j) h) (go (eqb (x .edges) (recordAt w j .edges)) (eqb (x .kind) (recordAt w j .kind)))
+  pub other-of : (fieldAt w j 1 ≡ x .of → ⊥) → false ≡ sameChartItem x (recordAt w j .item)
+  unfolding sameChartItem
+  other-of h = rw (word-is 1 _ (x .of) (rule-of w j) h) (go (eqb (x .edges) (recordAt w j .item .edges)) (eqb (x .kind) (recordAt w j .item .kind)))
     where
-      go : (a b : Bool) → false ≡ a && b && false && eqb (x .plan) (recordAt w j .plan) && sameList (x .nodes) (recordAt w j .nodes)
+      go : (a b : Bool) → false ≡ a && b && false && eqb (x .plan) (recordAt w j .item .plan) && sameList (x .nodes) (recordAt w j .item .nodes)
       go true true = refl
       go true false = refl
       go false b = refl
 
-  pub other-plan : (getD w (2 + 16 * j + 2) 0 ≡ x .plan → ⊥) → false ≡ sameRecord x (recordAt w j)
-  unfolding sameRecord
-  other-plan h = rw (word-is 2 _ (x .plan) (plan-of w j) h) (go (eqb (x .edges) (recordAt w j .edges)) (eqb (x .kind) (recordAt w j .kind)) (eqb (x .of) (recordAt w j .of)))
+  pub other-plan : (fieldAt w j 2 ≡ x .plan → ⊥) → false ≡ sameChartItem x (recordAt w j .item)
+  unfolding sameChartItem
+  other-plan h = rw (word-is 2 _ (x .plan) (plan-of w j) h) (go (eqb (x .edges) (recordAt w j .item .edges)) (eqb (x .kind) (recordAt w j .item .kind)) (eqb (x .of) (recordAt w j .item .of)))
     where
-      go : (a b d : Bool) → false ≡ a && b && d && false && sameList (x .nodes) (recordAt w j .nodes)
+      go : (a b d : Bool) → false ≡ a && b && d && false && sameList (x .nodes) (recordAt w j .item .nodes)
       go true true true = refl
       go true true false = refl
       go true false d = refl
       go false b d = refl
 
-  pub other-kind : (getD w (2 + 16 * j) 0 ≡ x .kind → ⊥) → false ≡ sameRecord x (recordAt w j)
-  unfolding sameRecord fieldAt
-  other-kind h = rw (word-is 0 _ (x .kind) (kind-of w j) (λ q. h (first-word w j ∙ q))) (go (eqb (x .edges) (recordAt w j .edges)))
+  pub other-kind : (fieldAt w j 0 ≡ x .kind → ⊥) → false ≡ sameChartItem x (recordAt w j .item)
+  unfolding sameChartItem fieldAt
+  other-kind h = rw (word-is 0 _ (x .kind) (kind-of w j) h) (go (eqb (x .edges) (recordAt w j .item .edges)))
     where
-      go : (a : Bool) → false ≡ a && false && eqb (x .of) (recordAt w j .of) && eqb (x .plan) (recordAt w j .plan) && sameList (x .nodes) (recordAt w j .nodes)
+      go : (a : Bool) → false ≡ a && false && eqb (x .of) (recordAt w j .item .of) && eqb (x .plan) (recordAt w j .item .plan) && sameList (x .nodes) (recordAt w j .item .nodes)
       go true = refl
       go false = refl
 
-  pub same-rest : getD w (2 + 16 * j + 3) 0 ≡ x .edges → getD w (2 + 16 * j + 1) 0 ≡ x .of → getD w (2 + 16 * j + 2) 0 ≡ x .plan → getD w (2 + 16 * j) 0 ≡ x .kind
-      → (t : Bool) → t ≡ sameList (x .nodes) (recordAt w j .nodes) → t ≡ sameRecord x (recordAt w j)
-  unfolding sameRecord fieldAt
+  pub same-rest : fieldAt w j 3 ≡ x .edges → fieldAt w j 1 ≡ x .of → fieldAt w j 2 ≡ x .plan → fieldAt w j 0 ≡ x .kind
+      → (t : Bool) → t ≡ sameList (x .nodes) (recordAt w j .item .nodes) → t ≡ sameChartItem x (recordAt w j .item)
+  unfolding sameChartItem fieldAt
   same-rest a b d e t p =
-      rw (eq-eqb (x .edges) (recordAt w j .edges) (sym (edges-of w j ∙ a)), eq-eqb (x .kind) (recordAt w j .kind) (sym (kind-of w j ∙ sym (first-word w j) ∙ e)), eq-eqb (x .of) (recordAt w j .of) (sym (rule-of w j ∙ b)), eq-eqb (x .plan) (recordAt w j .plan) (sym (plan-of w j ∙ d))) p
+      rw (eq-eqb (x .edges) (recordAt w j .item .edges) (sym (edges-of w j ∙ a)), eq-eqb (x .kind) (recordAt w j .item .kind) (sym (kind-of w j ∙ e)), eq-eqb (x .of) (recordAt w j .item .of) (sym (rule-of w j ∙ b)), eq-eqb (x .plan) (recordAt w j .item .plan) (sym (plan-of w j ∙ d))) p
 
--- the nodes of a record that is lent as sixteen words, in two halves
-pub same-lent : (xs w : List ℕ) (j : ℕ) (a b : Bool) → a ≡ fourSame xs w j 6 → b ≡ fourSame xs w j 10 → a && b ≡ sameList (ofWords xs .nodes) (recordAt w j .nodes)
-unfolding ofWords fourSame
-same-lent xs w j a b p q = ap₂ (λ (s t : Bool). s && t) p q ∙ same-inside (ofWords xs .nodes) w j refl
+-- its nodes in two halves
+pub same-halves : (ns w : List ℕ) (j : ℕ) (a b : Bool) → length ns ≡ 8 → a ≡ fourSame ns w j 0 → b ≡ fourSame ns w j 4
+    → a && b ≡ sameList ns (recordAt w j .item .nodes)
+unfolding fourSame
+same-halves ns w j a b e p q = ap₂ (λ (s t : Bool). s && t) p q ∙ same-inside ns w j e
 
 -- ---- records of the words
 pub length-records : (w : List ℕ) (n : ℕ) → length (recordsAt w n) ≡ n
@@ -336,7 +273,7 @@ record-in w (suc n) k h = go (λ d. record-in w n k d) (decLt k n)
         rw q (getD-at (recordsAt w n) (recordAt w n) [] noRecord n (length-records w n))
 
 -- ---- the search for an item
-module _ (w : List ℕ) (x : Record) (n i k : ℕ) (h : k < n) (e : i ≡ k + 1) (t : Bool) (s : t ≡ sameRecord x (recordAt w k)) where
+module _ (w : List ℕ) (x : ChartItem) (n i k : ℕ) (h : k < n) (e : i ≡ k + 1) (t : Bool) (s : t ≡ sameChartItem x (recordAt w k .item)) where
   find-turn : lastSame x (recordsAt w n) i ≡ cond t (At k) (lastSame x (recordsAt w n) k)
   unfolding lastSame
   find-turn = rw (e, add-one) (rw (record-in w n k h, ← s))
@@ -347,7 +284,7 @@ module _ (w : List ℕ) (x : Record) (n i k : ℕ) (h : k < n) (e : i ≡ k + 1)
   pub find-miss : t ≡ false → lastSame x (recordsAt w n) k ≡ lastSame x (recordsAt w n) i
   find-miss p = sym (find-turn ∙ rw p)
 
-pub find-end : (w : List ℕ) (x : Record) (n i : ℕ) → i ≤ 0 → Nowhere ≡ lastSame x (recordsAt w n) i
+pub find-end : (w : List ℕ) (x : ChartItem) (n i : ℕ) → i ≤ 0 → Nowhere ≡ lastSame x (recordsAt w n) i
 unfolding lastSame
 find-end w x n i h = rw (let p : i ≡ 0 = omega arith in p)
 
@@ -365,15 +302,15 @@ more : (n : ℕ) (f : Found) → Below n f → Below (suc n) f
 more n Nowhere none = none
 more n (At j) (one h) = one {j = j} (omega arith)
 
-pub last-below : (x : Record) (rs : List Record) (n : ℕ) → Below n (lastSame x rs n)
+pub last-below : (x : ChartItem) (rs : List Record) (n : ℕ) → Below n (lastSame x rs n)
 unfolding lastSame
 last-below x rs zero = none
-last-below x rs (suc n) = cond-below (suc n) (sameRecord x (recordIn rs n)) (At n) (lastSame x rs n) (one {j = n} (omega arith)) (more n (lastSame x rs n) (last-below x rs n))
+last-below x rs (suc n) = cond-below (suc n) (sameChartItem x (recordIn rs n .item)) (At n) (lastSame x rs n) (one {j = n} (omega arith)) (more n (lastSame x rs n) (last-below x rs n))
 
 lesser-below : (rs : List Record) (n : ℕ) (f : Found) → Below n f → Below (suc n) (lesser rs n f)
 unfolding lesser
 lesser-below rs n Nowhere b = cond-below (suc n) (isHandled (recordIn rs n)) Nowhere (At n) none (one {j = n} (omega arith))
-lesser-below rs n (At j) b = cond-below (suc n) (isHandled (recordIn rs n) || leb (recordIn rs j .count) (recordIn rs n .count)) (At j) (At n) (more n (At j) b) (one {j = n} (omega arith))
+lesser-below rs n (At j) b = cond-below (suc n) (isHandled (recordIn rs n) || leb (recordIn rs j .item .count) (recordIn rs n .item .count)) (At j) (At n) (more n (At j) b) (one {j = n} (omega arith))
 
 pub least-below : (rs : List Record) (n : ℕ) → Below n (leastWaiting rs n)
 unfolding leastWaiting
@@ -399,41 +336,31 @@ pub least-start : (rs : List Record) → Nowhere ≡ leastWaiting rs 0
 unfolding leastWaiting
 least-start rs = refl
 
-module _ (w : List ℕ) (i r : ℕ) (e : r ≡ fieldAt w i 5) where
-  pub handled-yes : (r ≡ 0 → ⊥) → isHandled (recordAt w i) ≡ true
-  handled-yes h = rw (ne-eqb (recordAt w i .handled) 0 (λ q. h (e ∙ sym (handled-of w i) ∙ q)))
+pub handled-at : (w : List ℕ) (i r : ℕ) → r ≡ fieldAt w i 5 → not (eqb r 0) ≡ isHandled (recordAt w i)
+handled-at w i r e = ap (λ n. not (eqb n 0)) (e ∙ sym (handled-of w i))
 
-  pub handled-no : r ≡ 0 → isHandled (recordAt w i) ≡ false
-  handled-no h = rw (eq-eqb (recordAt w i .handled) 0 (handled-of w i ∙ sym e ∙ h))
+pub lesser-handled : (w : List ℕ) (i j : ℕ) → isHandled (recordAt w i) ≡ true → At j ≡ lesserAt w i (At j)
+unfolding lesserAt
+lesser-handled w i j h = rw h
 
-  pub lesser-handled : (f : Found) → (r ≡ 0 → ⊥) → f ≡ lesserAt w i f
+module _ (w : List ℕ) (i j : ℕ) (h : isHandled (recordAt w i) ≡ false) where
+  pub lesser-stays : recordAt w j .item .count ≤ recordAt w i .item .count → At j ≡ lesserAt w i (At j)
   unfolding lesserAt
-  lesser-handled Nowhere h = rw (handled-yes h)
-  lesser-handled (At j) h = rw (handled-yes h)
+  lesser-stays l = rw (h, le-leb (recordAt w j .item .count) (recordAt w i .item .count) l)
 
-  pub lesser-first : (f : Found) → r ≡ 0 → f ≡ Nowhere → At i ≡ lesserAt w i f
+  pub lesser-moves : recordAt w i .item .count < recordAt w j .item .count → At i ≡ lesserAt w i (At j)
   unfolding lesserAt
-  lesser-first f h p = rw p (rw (handled-no h))
-
-  pub lesser-stays : (f : Found) (j a b : ℕ) → r ≡ 0 → f ≡ At j → a ≡ fieldAt w j 4 → b ≡ fieldAt w i 4 → a ≤ b → At j ≡ lesserAt w i f
-  unfolding lesserAt
-  lesser-stays f j a b h p x y l =
-      let q : recordAt w j .count ≤ recordAt w i .count = omega (arith, count-of w j, count-of w i) in
-      rw p (rw (handled-no h, le-leb (recordAt w j .count) (recordAt w i .count) q))
-
-  pub lesser-moves : (f : Found) (j a b : ℕ) → r ≡ 0 → f ≡ At j → a ≡ fieldAt w j 4 → b ≡ fieldAt w i 4 → b < a → At i ≡ lesserAt w i f
-  unfolding lesserAt
-  lesser-moves f j a b h p x y l =
-      let q : recordAt w i .count < recordAt w j .count = omega (arith, count-of w j, count-of w i) in
-      rw p (rw (handled-no h, lt-leb (recordAt w j .count) (recordAt w i .count) q))
+  lesser-moves l = rw (h, lt-leb (recordAt w j .item .count) (recordAt w i .item .count) l)
 
 -- no record waits before place i: the one there is handled, or it is the first that waits
 module _ (w : List ℕ) (n i : ℕ) (h : i < n) (e : Nowhere ≡ leastWaiting (recordsAt w n) i) where
-  pub least-none : (getD w (2 + 16 * i + 5) 0 ≡ 0 → ⊥) → Nowhere ≡ leastWaiting (recordsAt w n) (i + 1)
-  least-none p = least-next w n i Nowhere Nowhere h e (lesser-handled w i _ (field-at w i 5 _ refl) Nowhere p)
+  pub least-none : isHandled (recordAt w i) ≡ true → Nowhere ≡ leastWaiting (recordsAt w n) (i + 1)
+  unfolding lesserAt
+  least-none p = least-next w n i Nowhere Nowhere h e (rw p)
 
-  pub least-one : getD w (2 + 16 * i + 5) 0 ≡ 0 → At i ≡ leastWaiting (recordsAt w n) (i + 1)
-  least-one p = least-next w n i Nowhere (At i) h e (lesser-first w i _ (field-at w i 5 _ refl) Nowhere p refl)
+  pub least-one : isHandled (recordAt w i) ≡ false → At i ≡ leastWaiting (recordsAt w n) (i + 1)
+  unfolding lesserAt
+  least-one p = least-next w n i Nowhere (At i) h e (rw p)
 
 -- ---- handled records
 handled-append : (rs ss : List Record) → handledCount (rs ++ ss) ≡ handledCount rs + handledCount ss
@@ -449,26 +376,26 @@ pub handled-start : (w : List ℕ) → 0 ≡ handledCount (recordsAt w 0)
 unfolding recordsAt handledCount
 handled-start w = refl
 
-pub handled-more : (w : List ℕ) (i r d : ℕ) → r ≡ fieldAt w i 5 → (r ≡ 0 → ⊥) → d ≡ handledCount (recordsAt w i) → d + 1 ≡ handledCount (recordsAt w (i + 1))
-handled-more w i r d e h p = let q : flag (isHandled (recordAt w i)) ≡ 1 = rw (handled-yes w i r e h) in omega (arith, handled-turn w i)
+pub handled-more : (w : List ℕ) (i d : ℕ) → isHandled (recordAt w i) ≡ true → d ≡ handledCount (recordsAt w i) → d + 1 ≡ handledCount (recordsAt w (i + 1))
+handled-more w i d h p = omega (arith, handled-turn w i, ap flag h)
 
-pub handled-same : (w : List ℕ) (i r d : ℕ) → r ≡ fieldAt w i 5 → r ≡ 0 → d ≡ handledCount (recordsAt w i) → d ≡ handledCount (recordsAt w (i + 1))
-handled-same w i r d e h p = let q : flag (isHandled (recordAt w i)) ≡ 0 = rw (handled-no w i r e h) in omega (arith, handled-turn w i)
+pub handled-same : (w : List ℕ) (i d : ℕ) → isHandled (recordAt w i) ≡ false → d ≡ handledCount (recordsAt w i) → d ≡ handledCount (recordsAt w (i + 1))
+handled-same w i d h p = omega (arith, handled-turn w i, ap flag h)
 
 -- ---- one record more
-module _ (w : List ℕ) (j : ℕ) (x : Record) (r : ℕ) (e : r ≡ fieldAt w j 5) where
-  pub improve-handled : (r ≡ 0 → ⊥) → w ≡ improvedAt w j x
+module _ (w : List ℕ) (j : ℕ) (x : Record) where
+  pub improve-handled : isHandled (recordAt w j) ≡ true → w ≡ improvedAt w j x
   unfolding improvedAt
-  improve-handled h = rw (handled-yes w j r e h)
+  improve-handled h = rw h
 
-  module _ (z : r ≡ 0) (n : ℕ) (p : n ≡ fieldAt w j 4) where
-    pub improve-less : n ≤ x .count → w ≡ improvedAt w j x
+  module _ (z : isHandled (recordAt w j) ≡ false) where
+    pub improve-less : recordAt w j .item .count ≤ x .item .count → w ≡ improvedAt w j x
     unfolding improvedAt
-    improve-less l = rw (handled-no w j r e z, le-leb (recordAt w j .count) (x .count) (omega (arith, count-of w j)))
+    improve-less l = rw (z, le-leb (recordAt w j .item .count) (x .item .count) l)
 
-    pub improve-more : (v : List ℕ) (y : Record) → x .count < n → y ≡ recordAt w j → v ≡ saved w j (improved y x) → v ≡ improvedAt w j x
+    pub improve-more : {v : List ℕ} → x .item .count < recordAt w j .item .count → v ≡ saved w j (improved (recordAt w j) x) → v ≡ improvedAt w j x
     unfolding improvedAt
-    improve-more v y l q s = rw (handled-no w j r e z, lt-leb (recordAt w j .count) (x .count) (omega (arith, count-of w j))) (rw q at s)
+    improve-more l s = rw (z, lt-leb (recordAt w j .item .count) (x .item .count) l) s
 
 short-capacity : (w : List ℕ) → length w < 2 → capacity w ≡ 0
 unfolding capacity
@@ -491,7 +418,7 @@ pub add-marked : (w : List ℕ) (x : Record) (m : ℕ) → m ≡ getD w 1 0 → 
 unfolding addedTo
 add-marked w x m e h = rw (ne-eqb (getD w 1 0) 0 (λ q. h (e ∙ q)))
 
-module _ (w : List ℕ) (x : Record) (m n : ℕ) (f : Found) (me : m ≡ getD w 1 0) (z : m ≡ 0) (ne : n ≡ itemCount w) (fe : f ≡ lastSame x (recordsAt w n) n) (v : List ℕ) where
+module _ (w : List ℕ) (x : Record) (m n : ℕ) (f : Found) (me : m ≡ getD w 1 0) (z : m ≡ 0) (ne : n ≡ itemCount w) (fe : f ≡ lastSame (x .item) (recordsAt w n) n) (v : List ℕ) where
   add-placed : v ≡ placedIn w x f → v ≡ addedTo w x
   unfolding addedTo
   add-placed p = rw (eq-eqb (getD w 1 0) 0 (sym me ∙ z), ← ne, ← fe) p

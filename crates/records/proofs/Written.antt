@@ -1,6 +1,6 @@
 -- Records that are saved in a chart's words, and what adding and handling a record make of the chart that the words stand for.
-use Prim.Native.Nat.{ℕ, zero, suc, _+_, _-_, _*_, _/_, _≤_, _<_}
-use mathlib.Core.Path.{_≡_, refl, sym, ap, _∙_, subst}
+use Prim.Native.Nat.{ℕ, zero, suc, _+_, _-_, _*_, _/_, _≤_, _<_, min}
+use mathlib.Core.Path.{_≡_, refl, sym, ap, ap₂, _∙_, subst}
 use mathlib.Core.Logic.{_≢_}
 use mathlib.Core.List.{List, [], _∷_, _++_, append-assoc, append-nil}
 use mathlib.Core.Bool.{Bool, true, false, cond, _||_}
@@ -11,14 +11,15 @@ use lib.ListN.{length, length-append, getD, take, drop, set, length-set, length-
 use lib.Seq.{paste, length-paste, length-take-le, take-paste, drop-paste, getD-set-same, getD-set-other, getD-take, getD-drop, getD-append-add, getD-at, ext-getD, drop-drop}
 use borrow.Author.Tests.{lt-ltb, ltb-true}
 use Rattle.hrg.specs.Counts.{tabulate}
+use Rattle.agenda.specs.declared.ChartItem.{ChartItem}
 use Rattle.agenda.specs.declared.Record.{Record}
 use Rattle.agenda.specs.declared.Found.{Found}
 use Rattle.agenda.specs.declared.Found.the-variants.{At, Nowhere}
-use Rattle.agenda.specs.Records.{isHandled, sameRecord}
+use Rattle.agenda.specs.Records.{isHandled}
 use Rattle.agenda.specs.Consequences.{recordIn, noRecord}
 use Rattle.agenda.specs.Steps.{Chart, improved, handledNow, lastSame, placed, added}
-use Rattle.records.specs.Words.{Fits, capacity, itemCount, fieldAt, blockAt, ofWords, recordAt, recordsAt, chartOf, wordsOf, pasted, saved, allWords, written, improvedAt, appendedTo, placedIn, addedTo, markedAt}
-use Rattle.records.proofs.WordLaws.{eight, words-by, length-block, copied-all, length-records, record-in, place-fits, item-fits, Below, one, last-below}
+use Rattle.records.specs.Words.{Fits, capacity, itemCount, fieldAt, blockAt, itemWords, ofWords, recordAt, recordsAt, chartOf, wordsOf, pasted, saved, allWords, written, improvedAt, appendedTo, placedIn, addedTo, markedAt}
+use Rattle.records.proofs.WordLaws.{eight, words-by, copied-all, length-records, record-in, place-fits, item-inside, Below, one, last-below}
 
 -- ---- what was pasted, and what stays
 module _ (d s : List ℕ) (at n : ℕ) (hd : at + n ≤ length d) (hs : n ≤ length s) where
@@ -54,25 +55,28 @@ module _ (d s : List ℕ) (at n : ℕ) (hd : at + n ≤ length d) (hs : n ≤ le
       ∙ ap (λ m. getD d m 0) (sym e)
 
 -- ---- records and their words
-length-words : (x : Record) → length (x .nodes) ≡ 8 → length (wordsOf x) ≡ 16
+length-words : (x : Record) → length (x .item .nodes) ≡ 8 → length (wordsOf x) ≡ 16
 length-words x e = ap length (sym (words-by x e))
 
-of-words : (x : Record) → length (x .nodes) ≡ 8 → ofWords (wordsOf x) ≡ x
-unfolding ofWords
+of-words : (x : Record) → length (x .item .nodes) ≡ 8 → ofWords (wordsOf x) ≡ x
+unfolding ofWords itemWords
 of-words x e =
     sym (ap ofWords (words-by x e))
-    ∙ (λ i. record { kind = x .kind; of = x .of; plan = x .plan; edges = x .edges; count = x .count; handled = x .handled; nodes = eight (x .nodes) e i; first = x .first; second = x .second })
+    ∙ (λ i. record { item = withNodes (eight (x .item .nodes) e i); handled = x .handled; first = x .first; second = x .second })
+  where
+    withNodes : List ℕ → ChartItem
+    withNodes ns = record { kind = x .item .kind; of = x .item .of; plan = x .item .plan; edges = x .item .edges; count = x .item .count; nodes = ns }
 
-pub own-words : (x : Record) (ws : List ℕ) → length (x .nodes) ≡ 8 → ws ≡ wordsOf x → ofWords ws ≡ x
+pub own-words : (x : Record) (ws : List ℕ) → length (x .item .nodes) ≡ 8 → ws ≡ wordsOf x → ofWords ws ≡ x
 own-words x ws e p = ap ofWords p ∙ of-words x e
 
 words-again : (w : List ℕ) (j : ℕ) → wordsOf (recordAt w j) ≡ blockAt w j
-unfolding wordsOf recordAt ofWords blockAt tabulate
+unfolding wordsOf recordAt ofWords itemWords blockAt tabulate
 words-again w j = refl
 
 -- a record that is read has eight places
-pub eight-nodes : (w : List ℕ) (j : ℕ) → length (recordAt w j .nodes) ≡ 8
-unfolding recordAt ofWords
+pub eight-nodes : (w : List ℕ) (j : ℕ) → length (recordAt w j .item .nodes) ≡ 8
+unfolding recordAt ofWords itemWords
 eight-nodes w j = refl
 
 same-tabulate : (n : ℕ) (f g : ℕ → ℕ) → ((k : ℕ) → k < n → f k ≡ g k) → tabulate n f ≡ tabulate n g
@@ -86,7 +90,7 @@ unfolding recordAt blockAt
 record-by v w j p = ap ofWords (same-tabulate 16 (λ k. getD v (2 + 16 * j + k) 0) (λ k. getD w (2 + 16 * j + k) 0) p)
 
 -- ---- a record that is saved
-module _ (w : List ℕ) (j : ℕ) (x : Record) (h : j < capacity w) (e : length (x .nodes) ≡ 8) where
+module _ (w : List ℕ) (j : ℕ) (x : Record) (h : j < capacity w) (e : length (x .item .nodes) ≡ 8) where
   saved-is : saved w j x ≡ pasted w (2 + 16 * j) (wordsOf x) 16
   unfolding saved
   saved-is = rw (lt-ltb j (capacity w) h)
@@ -131,23 +135,11 @@ header-records w i a k h = record-by (set w i a) w k (λ m l. getD-set-other w i
 at-below : (n j : ℕ) → Below n (At j) → j < n
 at-below n j (one h) = h
 
-pub found-fits : (w : List ℕ) (x : Record) (n j : ℕ) (f : Found) → n ≡ itemCount w → f ≡ lastSame x (recordsAt w n) n → f ≡ At j → 2 + 16 * j + 16 ≤ length w
+pub found-fits : (w : List ℕ) (x : ChartItem) (n j : ℕ) (f : Found) → n ≡ itemCount w → f ≡ lastSame x (recordsAt w n) n → f ≡ At j → j < capacity w
+unfolding itemCount
 found-fits w x n j f e p q =
     let b : j < n = at-below n j (subst (λ (g : Found). Below n g) (sym p ∙ q) (last-below x (recordsAt w n) n)) in
-    item-fits w j (omega arith)
-
-pub improved-own : (w v : List ℕ) (j : ℕ) (x y : Record) → v ≡ improvedAt w j y → y ≡ x → v ≡ improvedAt w j x
-improved-own w v j x y p e = p ∙ ap (improvedAt w j) e
-
--- a record that is compared in words of its own
-pub same-alone : (x : Record) (w d b v : List ℕ) (j : ℕ) (t : Bool) → length d ≡ 18 → b ≡ blockAt w j → v ≡ pasted d 2 b 16 → t ≡ sameRecord x (recordAt v 0) → t ≡ sameRecord x (recordAt w j)
-unfolding fieldAt recordAt
-same-alone x w d b v j t l e p q =
-    let n : length b ≡ 16 = ap length e ∙ length-block w j in
-    let again : b ≡ blockAt v 0 =
-    copied-all b v 0 16 n (omega arith) (λ i h. sym (ap (λ (a : List ℕ). getD a (2 + i) 0) p ∙ pasted-at d b 2 16 (omega arith) (omega arith) i h))
-    in
-    q ∙ ap (λ (a : List ℕ). sameRecord x (ofWords a)) (sym again ∙ e)
+    omega arith
 
 -- ---- words and the chart that they stand for
 words-append : (xs ys : List Record) → allWords (xs ++ ys) ≡ allWords xs ++ allWords ys
@@ -216,10 +208,6 @@ written-by v w c n s =
 pub count-is : (w : List ℕ) → Fits w → itemCount w ≡ getD w 0 0
 unfolding itemCount
 count-is w f = let l = f .number in omega arith
-
-count-fits : (w : List ℕ) → itemCount w ≤ capacity w
-unfolding itemCount
-count-fits w = omega arith
 
 records-fit : (w : List ℕ) (n : ℕ) → 2 ≤ length w → n ≤ capacity w → 2 + 16 * n ≤ length w
 unfolding capacity
@@ -293,13 +281,13 @@ module _ (w : List ℕ) (n : ℕ) (f : Fits w) (ne : n ≡ getD w 0 0) where
           behind = λ i l. behind i (omega arith);
         })
 
-  pub saved-written : (j : ℕ) (y : Record) → j < n → length (y .nodes) ≡ 8 → saved w j y ≡ written w (record { mark = getD w 1 0; records = set (recordsAt w n) j y })
+  pub saved-written : (j : ℕ) (y : Record) → j < n → length (y .item .nodes) ≡ 8 → saved w j y ≡ written w (record { mark = getD w 1 0; records = set (recordsAt w n) j y })
   saved-written j y h e =
       let c : j < capacity w = omega (arith, within) in
       replaced j h (saved w j y) y (length-saved w j y c e) (saved-same w j y c e) (saved-before w j y c e) (saved-behind w j y c e)
 
   -- one record more behind the others
-  appended : (x : Record) → n < capacity w → length (x .nodes) ≡ 8
+  appended : (x : Record) → n < capacity w → length (x .item .nodes) ≡ 8
       → set (saved w n x) 0 (n + 1) ≡ written w (record { mark = getD w 1 0; records = recordsAt w n ++ (x ∷ []) })
   appended x h e =
       let s = saved w n x in
@@ -331,14 +319,14 @@ cond-both : (w : List ℕ) (t : Bool) (a b : List ℕ) (c d : Chart) → (t ≡ 
 cond-both w true a b c d p q = p refl
 cond-both w false a b c d p q = q refl
 
-module _ (w : List ℕ) (n : ℕ) (f : Fits w) (ne : n ≡ getD w 0 0) (e : n ≡ itemCount w) (x : Record) (ex : length (x .nodes) ≡ 8) where
+module _ (w : List ℕ) (n : ℕ) (f : Fits w) (ne : n ≡ getD w 0 0) (e : n ≡ itemCount w) (x : Record) (ex : length (x .item .nodes) ≡ 8) where
   found-again : (j : ℕ) → j < n → improvedAt w j x ≡ written w (placed (capacity w) x (chartIn w n) (At j))
   unfolding improvedAt placed
   found-again j h =
       subst
-      (λ (y : Record). improvedAt w j x ≡ written w (cond (isHandled y || leb (y .count) (x .count)) (chartIn w n) (record { mark = getD w 1 0; records = set (recordsAt w n) j (improved y x) })))
+      (λ (y : Record). improvedAt w j x ≡ written w (cond (isHandled y || leb (y .item .count) (x .item .count)) (chartIn w n) (record { mark = getD w 1 0; records = set (recordsAt w n) j (improved y x) })))
       (sym (record-in w n j h))
-      (cond-both w (isHandled (recordAt w j) || leb (recordAt w j .count) (x .count)) w (saved w j (improved (recordAt w j) x)) (chartIn w n) (record { mark = getD w 1 0; records = set (recordsAt w n) j (improved (recordAt w j) x) })
+      (cond-both w (isHandled (recordAt w j) || leb (recordAt w j .item .count) (x .item .count)) w (saved w j (improved (recordAt w j) x)) (chartIn w n) (record { mark = getD w 1 0; records = set (recordsAt w n) j (improved (recordAt w j) x) })
       (λ t. kept w n f ne) (λ t. saved-written w n f ne j (improved (recordAt w j) x) h (eight-nodes w j)))
 
   new-one : appendedTo w n x ≡ written w (placed (capacity w) x (chartIn w n) Nowhere)
@@ -358,15 +346,15 @@ module _ (w : List ℕ) (n : ℕ) (f : Fits w) (ne : n ≡ getD w 0 0) (e : n �
   added-written : addedTo w x ≡ written w (added (capacity w) x (chartIn w n))
   unfolding addedTo added
   added-written =
-      ap (λ m. cond (eqb (getD w 1 0) 0) (placedIn w x (lastSame x (recordsAt w m) m)) w) (sym e)
+      ap (λ m. cond (eqb (getD w 1 0) 0) (placedIn w x (lastSame (x .item) (recordsAt w m) m)) w) (sym e)
       ∙ subst
-      (λ m. cond (eqb (getD w 1 0) 0) (placedIn w x (lastSame x (recordsAt w n) n)) w ≡ written w (cond (eqb (getD w 1 0) 0) (placed (capacity w) x (chartIn w n) (lastSame x (recordsAt w n) m)) (chartIn w n)))
+      (λ m. cond (eqb (getD w 1 0) 0) (placedIn w x (lastSame (x .item) (recordsAt w n) n)) w ≡ written w (cond (eqb (getD w 1 0) 0) (placed (capacity w) x (chartIn w n) (lastSame (x .item) (recordsAt w n) m)) (chartIn w n)))
       (sym (length-records w n))
-      (cond-both w (eqb (getD w 1 0) 0) (placedIn w x (lastSame x (recordsAt w n) n)) w (placed (capacity w) x (chartIn w n) (lastSame x (recordsAt w n) n)) (chartIn w n)
-      (λ t. placed-written (lastSame x (recordsAt w n) n) (last-below x (recordsAt w n) n)) (λ t. kept w n f ne))
+      (cond-both w (eqb (getD w 1 0) 0) (placedIn w x (lastSame (x .item) (recordsAt w n) n)) w (placed (capacity w) x (chartIn w n) (lastSame (x .item) (recordsAt w n) n)) (chartIn w n)
+      (λ t. placed-written (lastSame (x .item) (recordsAt w n) n) (last-below (x .item) (recordsAt w n) n)) (λ t. kept w n f ne))
 
 -- `add` makes of words what `added` makes of the chart that they stand for
-pub add-written : (w : List ℕ) (x : Record) → Fits w → length (x .nodes) ≡ 8 → addedTo w x ≡ written w (added (capacity w) x (chartOf w))
+pub add-written : (w : List ℕ) (x : Record) → Fits w → length (x .item .nodes) ≡ 8 → addedTo w x ≡ written w (added (capacity w) x (chartOf w))
 unfolding chartOf
 add-written w x f ex = added-written w (itemCount w) f (count-is w f) refl x ex
 
@@ -384,20 +372,36 @@ module _ (w : List ℕ) (j : ℕ) (h : j < capacity w) where
   own-word k d = other-word (2 + 16 * j + k) (λ z. d (omega arith))
 
   handled-record : recordAt (set w (2 + 16 * j + 5) 1) j ≡ handledNow (recordAt w j)
-  unfolding recordAt ofWords blockAt tabulate
+  unfolding recordAt ofWords itemWords blockAt tabulate
   handled-record = λ i. record {
-    kind = own-word 0 (λ z. omega arith) i;
-    of = own-word 1 (λ z. omega arith) i;
-    plan = own-word 2 (λ z. omega arith) i;
-    edges = own-word 3 (λ z. omega arith) i;
-    count = own-word 4 (λ z. omega arith) i;
+    item = record {
+      kind = own-word 0 (λ z. omega arith) i;
+      of = own-word 1 (λ z. omega arith) i;
+      plan = own-word 2 (λ z. omega arith) i;
+      edges = own-word 3 (λ z. omega arith) i;
+      count = own-word 4 (λ z. omega arith) i;
+      nodes =
+          own-word 6 (λ z. omega arith) i ∷ own-word 7 (λ z. omega arith) i ∷ own-word 8 (λ z. omega arith) i ∷ own-word 9 (λ z. omega arith) i
+          ∷ own-word 10 (λ z. omega arith) i ∷ own-word 11 (λ z. omega arith) i ∷ own-word 12 (λ z. omega arith) i ∷ own-word 13 (λ z. omega arith) i ∷ [];
+    };
     handled = getD-set-same w (2 + 16 * j + 5) 1 0 (omega (arith, place-fits w j h)) i;
-    nodes =
-        own-word 6 (λ z. omega arith) i ∷ own-word 7 (λ z. omega arith) i ∷ own-word 8 (λ z. omega arith) i ∷ own-word 9 (λ z. omega arith) i
-        ∷ own-word 10 (λ z. omega arith) i ∷ own-word 11 (λ z. omega arith) i ∷ own-word 12 (λ z. omega arith) i ∷ own-word 13 (λ z. omega arith) i ∷ [];
     first = own-word 14 (λ z. omega arith) i;
     second = own-word 15 (λ z. omega arith) i;
   }
+
+-- the number of items stays, and the record is handled
+pub marked-count : (w : List ℕ) (j : ℕ) → j < itemCount w → itemCount (markedAt w j) ≡ itemCount w
+unfolding markedAt itemCount capacity
+marked-count w j l =
+    let h : j < (length w - 2) / 16 = omega arith in
+    rw (lt-ltb j ((length w - 2) / 16) h)
+    (ap₂ (λ a b. min a ((b - 2) / 16)) (getD-set-other w (2 + 16 * j + 5) 0 1 0 (λ e. omega arith)) (length-set w (2 + 16 * j + 5) 1))
+
+pub marked-handled : (w : List ℕ) (j : ℕ) → j < itemCount w → isHandled (recordAt (markedAt w j) j) ≡ true
+unfolding markedAt
+marked-handled w j l =
+    let h : j < capacity w = item-inside w j l in
+    ap (λ (b : Bool). isHandled (recordAt (cond b (set w (2 + 16 * j + 5) 1) w) j)) (lt-ltb j (capacity w) h) ∙ ap isHandled (handled-record w j h)
 
 handle-in : (w : List ℕ) (n j : ℕ) → Fits w → n ≡ getD w 0 0 → j < n
     → markedAt w j ≡ written w (record { mark = getD w 1 0; records = set (recordsAt w n) j (handledNow (recordIn (recordsAt w n) j)) })
@@ -419,7 +423,7 @@ handle-written w j f l = handle-in w (itemCount w) j f (count-is w f) l
 -- ---- a chart that is written is read again
 -- each record has eight places
 abbrev pub Eights : List Record → Type 0
-Eights rs = (k : ℕ) → k < length rs → length (recordIn rs k .nodes) ≡ 8
+Eights rs = (k : ℕ) → k < length rs → length (recordIn rs k .item .nodes) ≡ 8
 
 length-all : (rs : List Record) → Eights rs → length (allWords rs) ≡ 16 * length rs
 unfolding allWords

@@ -10,7 +10,19 @@ use Rattle.agenda.specs.Records.{isHandled}
 use Rattle.agenda.specs.Steps.{Chart, improved, lastSame, addedAll}
 use Rattle.agenda.specs.declared.Found.{Found}
 use Rattle.agenda.specs.declared.Found.the-variants.{At, Nowhere}
+use Rattle.agenda.specs.declared.ChartItem.{ChartItem}
 use Rattle.agenda.specs.declared.Record.{Record}
+
+-- how many words the header has, and a chart of so many items
+abbrev pub headerWords : ℕ
+headerWords = 2
+
+abbrev pub wordsFor : ℕ → ℕ
+wordsFor n = 2 + 16 * n
+
+-- words with no items and no mark
+abbrev pub cleared : List ℕ → List ℕ
+cleared w = set (set w 0 0) 1 0
 
 -- how many items the words hold
 unfoldable pub capacity : List ℕ → ℕ
@@ -30,27 +42,29 @@ unfoldable pub blockAt : List ℕ → ℕ → List ℕ
 unfolding tabulate fieldAt
 blockAt w j = tabulate 16 (λ k. fieldAt w j k)
 
--- whether the four words from k on are those of the record at place j
+-- whether the four nodes from k on are those of the record at place j
 unfoldable pub fourSame : List ℕ → List ℕ → ℕ → ℕ → Bool
-fourSame x w j k =
-    eqb (getD x k 0) (getD w (2 + 16 * j + k) 0)
-    && eqb (getD x (k + 1) 0) (getD w (2 + 16 * j + (k + 1)) 0)
-    && eqb (getD x (k + 2) 0) (getD w (2 + 16 * j + (k + 2)) 0)
-    && eqb (getD x (k + 3) 0) (getD w (2 + 16 * j + (k + 3)) 0)
+fourSame ns w j k =
+    eqb (getD ns k 0) (getD w (2 + 16 * j + (6 + k)) 0)
+    && eqb (getD ns (k + 1) 0) (getD w (2 + 16 * j + (6 + (k + 1))) 0)
+    && eqb (getD ns (k + 2) 0) (getD w (2 + 16 * j + (6 + (k + 2))) 0)
+    && eqb (getD ns (k + 3) 0) (getD w (2 + 16 * j + (6 + (k + 3))) 0)
 
--- the record of sixteen words
-unfoldable pub ofWords : List ℕ → Record
-ofWords w = record {
+-- the item of a record's sixteen words
+unfoldable pub itemWords : List ℕ → ChartItem
+itemWords w = record {
   kind = getD w 0 0;
   of = getD w 1 0;
   plan = getD w 2 0;
   edges = getD w 3 0;
   count = getD w 4 0;
-  handled = getD w 5 0;
   nodes = getD w 6 0 ∷ getD w 7 0 ∷ getD w 8 0 ∷ getD w 9 0 ∷ getD w 10 0 ∷ getD w 11 0 ∷ getD w 12 0 ∷ getD w 13 0 ∷ [];
-  first = getD w 14 0;
-  second = getD w 15 0;
 }
+
+-- the record of sixteen words
+unfoldable pub ofWords : List ℕ → Record
+unfolding itemWords
+ofWords w = record { item = itemWords w; handled = getD w 5 0; first = getD w 14 0; second = getD w 15 0 }
 
 -- the record at place j
 unfoldable pub recordAt : List ℕ → ℕ → Record
@@ -67,7 +81,7 @@ recordsAt w (suc n) = recordsAt w n ++ (recordAt w n ∷ [])
 unfoldable pub lesserAt : List ℕ → ℕ → Found → Found
 unfolding recordAt
 lesserAt w i Nowhere = cond (isHandled (recordAt w i)) Nowhere (At i)
-lesserAt w i (At j) = cond (isHandled (recordAt w i) || leb (recordAt w j .count) (recordAt w i .count)) (At j) (At i)
+lesserAt w i (At j) = cond (isHandled (recordAt w i) || leb (recordAt w j .item .count) (recordAt w i .item .count)) (At j) (At i)
 
 -- the chart that words stand for; no more items than they hold
 unfoldable pub chartOf : List ℕ → Chart
@@ -76,7 +90,9 @@ chartOf w = record { mark = getD w 1 0; records = recordsAt w (itemCount w) }
 
 -- the sixteen words of a record
 unfoldable pub wordsOf : Record → List ℕ
-wordsOf x = x .kind ∷ x .of ∷ x .plan ∷ x .edges ∷ x .count ∷ x .handled ∷ (x .nodes ++ (x .first ∷ x .second ∷ []))
+wordsOf x =
+    let i = x .item in
+    i .kind ∷ i .of ∷ i .plan ∷ i .edges ∷ i .count ∷ x .handled ∷ (i .nodes ++ (x .first ∷ x .second ∷ []))
 
 -- w with the first n words of ws from the place at on
 unfoldable pub pasted : List ℕ → ℕ → List ℕ → ℕ → List ℕ
@@ -105,7 +121,7 @@ pub record Fits (w : List ℕ) : Type 0 where
 -- ---- one record more, in words
 -- the record at place j with the count and the partners of x, unless it is handled or its count is no greater
 unfoldable pub improvedAt : List ℕ → ℕ → Record → List ℕ
-improvedAt w j x = cond (isHandled (recordAt w j) || leb (recordAt w j .count) (x .count)) w (saved w j (improved (recordAt w j) x))
+improvedAt w j x = cond (isHandled (recordAt w j) || leb (recordAt w j .item .count) (x .item .count)) w (saved w j (improved (recordAt w j) x))
 
 -- x behind the n records that there are, or the mark where no place is left
 unfoldable pub appendedTo : List ℕ → ℕ → Record → List ℕ
@@ -117,7 +133,7 @@ placedIn w x Nowhere = appendedTo w (itemCount w) x
 
 -- w with the record x; words of a marked chart stay as they are
 unfoldable pub addedTo : List ℕ → Record → List ℕ
-addedTo w x = cond (eqb (getD w 1 0) 0) (placedIn w x (lastSame x (recordsAt w (itemCount w)) (itemCount w))) w
+addedTo w x = cond (eqb (getD w 1 0) 0) (placedIn w x (lastSame (x .item) (recordsAt w (itemCount w)) (itemCount w))) w
 
 -- w with the record at place j handled, if it has that place
 unfoldable pub markedAt : List ℕ → ℕ → List ℕ

@@ -1,24 +1,50 @@
-// A chart's words: the header, and records of sixteen words that are read, compared and written.
+// A chart's words: two header words, then sixteen words for each record. Only this crate knows where a field stands: records are loaded and
+// stored by value, and what is looked at in place has a name.
 ghost use mathlib.Core.Path.{_≡_};
 ghost use mathlib.Core.List.{List};
 ghost use Prim.Native.Nat.{ℕ, _≤_, _<_, _+_, _*_};
 ghost use lib.ListN.{length, getD};
-ghost use Rattle.records.specs.Words.{capacity, itemCount, fieldAt, blockAt, ofWords, recordAt, recordsAt, wordsOf, pasted, fourSame, lesserAt, improvedAt, appendedTo, addedTo, markedAt};
-ghost use Rattle.agenda.specs.Records.{sameRecord};
+ghost use Rattle.records.specs.Words.{headerWords, wordsFor, cleared, capacity, itemCount, fieldAt, blockAt, ofWords, recordAt, recordsAt, wordsOf, pasted, saved, fourSame, lesserAt, improvedAt, appendedTo, addedTo, markedAt};
+ghost use Rattle.agenda.specs.Records.{newRecord, sameChartItem, isHandled};
 ghost use Rattle.agenda.specs.declared.Found.the-variants.{At};
 ghost use Rattle.agenda.specs.Steps.{lastSame, leastWaiting, handledCount};
+use agenda::ChartItem;
 use agenda::Found;
 use agenda::Record;
+
+// How many words the header and a record have.
+const HEADER: usize = 2;
+
+const WORDS: usize = 16;
+
+// Where the fields of a record stand among its words.
+const KIND: usize = 0;
+
+const OF: usize = 1;
+
+const PLAN: usize = 2;
+
+const EDGES: usize = 3;
+
+const COUNT: usize = 4;
+
+const HANDLED: usize = 5;
+
+const NODES: usize = 6;
+
+const FIRST: usize = 14;
+
+const SECOND: usize = 15;
 
 // How many items the chart holds.
 pub fn capacity_of(chart: &[u64]) -> u64
     ensures { λ r. ⌜ r ≡ capacity (now (chart .entry)) ⌝ }
 {
     let n = chart.len();
-    if n < 2 {
+    if n < HEADER {
         return 0;
     }
-    ((n - 2) / 16) as u64
+    ((n - HEADER) / WORDS) as u64
 }
 
 // A word of the chart, 0 past its end.
@@ -50,26 +76,91 @@ pub fn mark_of(chart: &[u64]) -> u64
     word(chart, 1)
 }
 
-// Word k of the record at place j, 0 past the end. No slice is so long that it has a place 2^59.
-pub fn field(chart: &[u64], j: u64, k: u64) -> u64
+// ---- one field of a record, where nothing else of it is needed
+// Where the words of the record at place j begin.
+fn place(chart: &[u64], j: u64) -> usize
+    requires { ⌜ j < capacity (now chart) ⌝ }
+    ensures { λ r. ⌜ (r ≡ 2 + 16 * j) × (r + 16 ≤ length (now (chart .entry))) ⌝ }
+{
+    HEADER + WORDS * j as usize
+}
+
+// Word k of the record at place j, which the chart has.
+fn field(chart: &[u64], j: u64, k: usize) -> u64
+    requires { ⌜ (j < capacity (now chart)) × (k < 16) ⌝ }
+    ensures { λ r. ⌜ r ≡ fieldAt (now (chart .entry)) j k ⌝ }
+{
+    let at = place(chart, j);
+    chart[at + k]
+}
+
+// The same of any place: 0 past the end.
+fn field_any(chart: &[u64], j: u64, k: usize) -> u64
     requires { ⌜ k < 16 ⌝ }
     ensures { λ r. ⌜ r ≡ fieldAt (now (chart .entry)) j k ⌝ }
 {
+    // No slice is so long that it has a place 2^59.
     if j >= 576460752303423488 {
         return 0;
     }
-    word(chart, 2 + 16 * j + k)
+    word(chart, HEADER as u64 + WORDS as u64 * j + k as u64)
 }
 
-// The sixteen words of the record at place j, which lies inside the chart: a plain copy, which takes few instructions.
-pub fn words_in(chart: &[u64], j: u64) -> [u64; 16]
-    requires { ⌜ 2 + 16 * j + 16 ≤ length (now chart) ⌝ }
+// The edges of the record at place j.
+pub fn edges_at(chart: &[u64], j: u64) -> u64
+    requires { ⌜ j < capacity (now chart) ⌝ }
+    ensures { λ r. ⌜ r ≡ recordAt (now (chart .entry)) j .item .edges ⌝ }
+{
+    field(chart, j, EDGES)
+}
+
+// Its count.
+pub fn count_at(chart: &[u64], j: u64) -> u64
+    requires { ⌜ j < capacity (now chart) ⌝ }
+    ensures { λ r. ⌜ r ≡ recordAt (now (chart .entry)) j .item .count ⌝ }
+{
+    field(chart, j, COUNT)
+}
+
+// Whether it is handled.
+pub fn is_handled(chart: &[u64], j: u64) -> bool
+    requires { ⌜ j < capacity (now chart) ⌝ }
+    ensures { λ r. ⌜ r ≡ isHandled (recordAt (now (chart .entry)) j) ⌝ }
+{
+    field(chart, j, HANDLED) != 0
+}
+
+// The rule or symbol of the record at any place; past the end its words are 0.
+pub fn of_at(chart: &[u64], j: u64) -> u64
+    ensures { λ r. ⌜ r ≡ recordAt (now (chart .entry)) j .item .of ⌝ }
+{
+    field_any(chart, j, OF)
+}
+
+// The first partner.
+pub fn first_at(chart: &[u64], j: u64) -> u64
+    ensures { λ r. ⌜ r ≡ recordAt (now (chart .entry)) j .first ⌝ }
+{
+    field_any(chart, j, FIRST)
+}
+
+// The second partner.
+pub fn second_at(chart: &[u64], j: u64) -> u64
+    ensures { λ r. ⌜ r ≡ recordAt (now (chart .entry)) j .second ⌝ }
+{
+    field_any(chart, j, SECOND)
+}
+
+// ---- records by value
+// The sixteen words of the record at place j, which the chart has: a plain copy, which takes few instructions.
+fn words_in(chart: &[u64], j: u64) -> [u64; WORDS]
+    requires { ⌜ j < capacity (now chart) ⌝ }
     ensures { λ r. ⌜ r ≡ blockAt (now (chart .entry)) j ⌝ }
 {
-    let at = (2 + 16 * j) as usize;
-    let mut ws = [0u64; 16];
+    let at = place(chart, j);
+    let mut ws = [0u64; WORDS];
     let mut k = 0;
-    while k < 16 {
+    while k < WORDS {
         ws[k] = chart[at + k];
         k += 1;
     }
@@ -77,75 +168,105 @@ pub fn words_in(chart: &[u64], j: u64) -> [u64; 16]
 }
 
 // The same where the chart may end before or inside the record.
-fn cut_block(chart: &[u64], j: u64) -> [u64; 16]
+fn words_any(chart: &[u64], j: u64) -> [u64; WORDS]
     ensures { λ r. ⌜ r ≡ blockAt (now (chart .entry)) j ⌝ }
 {
-    let mut ws = [0u64; 16];
+    let mut ws = [0u64; WORDS];
     let mut k = 0;
-    while k < 16 {
-        ws[k] = field(chart, j, k as u64);
+    while k < WORDS {
+        ws[k] = field_any(chart, j, k);
         k += 1;
     }
     ws
 }
 
-// The sixteen words of the record at place j.
-pub fn words_at(chart: &[u64], j: u64) -> [u64; 16]
-    ensures { λ r. ⌜ r ≡ blockAt (now (chart .entry)) j ⌝ }
-{
-    if j < capacity_of(chart) {
-        return words_in(chart, j);
-    }
-    cut_block(chart, j)
-}
-
-// A record of its words.
-fn record_of(w: [u64; 16]) -> Record
-    ensures { λ r. ⌜ r ≡ ofWords w ⌝ }
+// The item of a record's words.
+fn item_of(w: [u64; WORDS]) -> ChartItem
+    ensures { λ r. ⌜ r ≡ ofWords w .item ⌝ }
 {
     let nodes = [w[6], w[7], w[8], w[9], w[10], w[11], w[12], w[13]];
-    Record {
-        kind: w[0],
-        of: w[1],
-        plan: w[2],
-        edges: w[3],
-        count: w[4],
-        handled: w[5],
+    ChartItem {
+        kind: w[KIND],
+        of: w[OF],
+        plan: w[PLAN],
+        edges: w[EDGES],
+        count: w[COUNT],
         nodes,
-        first: w[14],
-        second: w[15],
+    }
+}
+
+// The record of its words.
+fn record_of(w: [u64; WORDS]) -> Record
+    ensures { λ r. ⌜ r ≡ ofWords w ⌝ }
+{
+    let item = item_of(w);
+    Record {
+        item,
+        handled: w[HANDLED],
+        first: w[FIRST],
+        second: w[SECOND],
+    }
+}
+
+// The record at place j.
+pub fn load(chart: &[u64], j: u64) -> Record
+    requires { ⌜ j < capacity (now chart) ⌝ }
+    ensures { λ r. ⌜ r ≡ recordAt (now (chart .entry)) j ⌝ }
+{
+    record_of(words_in(chart, j))
+}
+
+// The record at any place; past the end its words are 0.
+pub fn load_any(chart: &[u64], j: u64) -> Record
+    ensures { λ r. ⌜ r ≡ recordAt (now (chart .entry)) j ⌝ }
+{
+    record_of(words_any(chart, j))
+}
+
+// The item at place j.
+pub fn item_at(chart: &[u64], j: u64) -> ChartItem
+    requires { ⌜ j < capacity (now chart) ⌝ }
+    ensures { λ r. ⌜ r ≡ recordAt (now (chart .entry)) j .item ⌝ }
+{
+    item_of(words_in(chart, j))
+}
+
+// A new record of an item, made of these partners.
+pub fn new_record(x: ChartItem, first: u64, second: u64) -> Record
+    ensures { λ r. ⌜ r ≡ newRecord x first second ⌝ }
+{
+    Record {
+        item: x,
+        handled: 0,
+        first,
+        second,
     }
 }
 
 // The words of a record.
-fn words_of(x: Record) -> [u64; 16]
+fn words_of(x: Record) -> [u64; WORDS]
     ensures { λ r. ⌜ r ≡ wordsOf x ⌝ }
 {
+    let item = x.item;
+    let nodes = item.nodes;
     [
-        x.kind,
-        x.of,
-        x.plan,
-        x.edges,
-        x.count,
+        item.kind,
+        item.of,
+        item.plan,
+        item.edges,
+        item.count,
         x.handled,
-        x.nodes[0],
-        x.nodes[1],
-        x.nodes[2],
-        x.nodes[3],
-        x.nodes[4],
-        x.nodes[5],
-        x.nodes[6],
-        x.nodes[7],
+        nodes[0],
+        nodes[1],
+        nodes[2],
+        nodes[3],
+        nodes[4],
+        nodes[5],
+        nodes[6],
+        nodes[7],
         x.first,
         x.second,
     ]
-}
-
-// The record at place j; past the end its words are 0.
-pub fn load(chart: &[u64], j: u64) -> Record
-    ensures { λ r. ⌜ r ≡ recordAt (now (chart .entry)) j ⌝ }
-{
-    record_of(words_at(chart, j))
 }
 
 // Four words, the k-th and the next, copied to their places from at on: all are read before one is written, so that wide loads and stores can do it.
@@ -174,103 +295,75 @@ fn put_words(chart: &mut [u64], at: usize, x: &[u64])
     put_four(chart, at, x, 12);
 }
 
-// Whether the four words from k on are those of the record at place j, which lies inside the chart.
-fn same_four(chart: &[u64], j: u64, x: &[u64], k: usize) -> bool
-    requires { ⌜ (2 + 16 * j + 16 ≤ length (now chart)) × (length (now x) ≡ 16) × (k ≤ 12) ⌝ }
-    ensures { λ r. ⌜ r ≡ fourSame (now (x .entry)) (now (chart .entry)) j k ⌝ }
-{
-    let at = (2 + 16 * j) as usize;
-    (x[k] == chart[at + k])
-        & (x[k + 1] == chart[at + (k + 1)])
-        & (x[k + 2] == chart[at + (k + 2)])
-        & (x[k + 3] == chart[at + (k + 3)])
-}
-
-// Whether the record at place j, which lies inside the chart, is of the same item as the record of sixteen words.
-pub fn same_words(chart: &[u64], j: u64, x: &[u64]) -> bool
-    requires { ⌜ (2 + 16 * j + 16 ≤ length (now chart)) × (length (now x) ≡ 16) ⌝ }
-    ensures { λ r. ⌜ r ≡ sameRecord (ofWords (now (x .entry))) (recordAt (now (chart .entry)) j) ⌝ }
-{
-    let at = (2 + 16 * j) as usize;
-    if chart[at + 3] != x[3] {
-        return false;
-    }
-    if chart[at + 1] != x[1] {
-        return false;
-    }
-    if chart[at + 2] != x[2] {
-        return false;
-    }
-    if chart[at] != x[0] {
-        return false;
-    }
-    same_four(chart, j, x, 6) & same_four(chart, j, x, 10)
-}
-
-// The same of a place past the chart's end, whose words are 0 there: over a chart of that record alone.
-fn same_past(chart: &[u64], j: u64, x: &[u64]) -> bool
-    requires { ⌜ length (now x) ≡ 16 ⌝ }
-    ensures { λ r. ⌜ r ≡ sameRecord (ofWords (now (x .entry))) (recordAt (now (chart .entry)) j) ⌝ }
-{
-    let ws = cut_block(chart, j);
-    let mut alone = [0u64; 18];
-    put_words(&mut alone, 2, &ws);
-    same_words(&alone, 0, x)
-}
-
-// The same of any place.
-fn same_at(chart: &[u64], j: u64, x: &[u64]) -> bool
-    requires { ⌜ length (now x) ≡ 16 ⌝ }
-    ensures { λ r. ⌜ r ≡ sameRecord (ofWords (now (x .entry))) (recordAt (now (chart .entry)) j) ⌝ }
-{
-    if j < capacity_of(chart) {
-        return same_words(chart, j, x);
-    }
-    same_past(chart, j, x)
-}
-
-// The last of the first n records that is of the same item as x.
-pub fn find(chart: &[u64], x: Record, n: u64) -> Found
-    ensures { λ r. ⌜ r ≡ lastSame x (recordsAt (now (chart .entry)) n) n ⌝ }
+// The record x at place j, which the chart has.
+fn store(chart: &mut [u64], j: u64, x: Record)
+    requires { ⌜ j < capacity (now chart) ⌝ }
+    ensures { λ r. ⌜ now (chart .exit) ≡ saved (now (chart .entry)) j x ⌝ }
 {
     let ws = words_of(x);
+    let at = place(chart, j);
+    put_words(chart, at, &ws);
+}
+
+// ---- equal items
+// Whether the four nodes from k on are those of the record at place j.
+fn same_four(chart: &[u64], j: u64, nodes: [u64; 8], k: usize) -> bool
+    requires { ⌜ (j < capacity (now chart)) × (k ≤ 4) ⌝ }
+    ensures { λ r. ⌜ (r ≡ fourSame nodes (now (chart .entry)) j k) × (length nodes ≡ 8) ⌝ }
+{
+    let at = place(chart, j);
+    (nodes[k] == chart[at + (NODES + k)])
+        & (nodes[k + 1] == chart[at + (NODES + (k + 1))])
+        & (nodes[k + 2] == chart[at + (NODES + (k + 2))])
+        & (nodes[k + 3] == chart[at + (NODES + (k + 3))])
+}
+
+// Whether the record at place j is of the item x: what differs most is looked at first.
+pub fn same(chart: &[u64], j: u64, x: ChartItem) -> bool
+    requires { ⌜ j < capacity (now chart) ⌝ }
+    ensures { λ r. ⌜ r ≡ sameChartItem x (recordAt (now (chart .entry)) j .item) ⌝ }
+{
+    if field(chart, j, EDGES) != x.edges {
+        return false;
+    }
+    if field(chart, j, OF) != x.of {
+        return false;
+    }
+    if field(chart, j, PLAN) != x.plan {
+        return false;
+    }
+    if field(chart, j, KIND) != x.kind {
+        return false;
+    }
+    let nodes = x.nodes;
+    same_four(chart, j, nodes, 0) & same_four(chart, j, nodes, 4)
+}
+
+// The last of the first n records, which the chart has, that is of the item x.
+pub fn find(chart: &[u64], x: ChartItem, n: u64) -> Found
+    requires { ⌜ n ≤ capacity (now chart) ⌝ }
+    ensures { λ r. ⌜ r ≡ lastSame x (recordsAt (now (chart .entry)) n) n ⌝ }
+{
     let mut i = n;
     while 0 < i {
         i -= 1;
-        if same_at(chart, i, &ws) {
+        if same(chart, i, x) {
             return Found::At(i);
         }
     }
     Found::Nowhere
 }
 
-// The one found so far, or place i where its record waits and has a lesser count.
-fn lesser_of(chart: &[u64], i: u64, best: Found) -> Found
-    ensures { λ r. ⌜ r ≡ lesserAt (now (chart .entry)) i best ⌝ }
-{
-    if field(chart, i, 5) != 0 {
-        return best;
-    }
-    match best {
-        Found::Nowhere => Found::At(i),
-        Found::At(j) => {
-            if field(chart, j, 4) <= field(chart, i, 4) {
-                return Found::At(j);
-            }
-            Found::At(i)
-        }
-    }
-}
-
-// The same where both places lie inside the chart: a handled record takes one test.
-fn lesser_inside(chart: &[u64], i: u64, best: u64) -> u64
-    requires { ⌜ (2 + 16 * i + 16 ≤ length (now chart)) × (2 + 16 * best + 16 ≤ length (now chart)) ⌝ }
+// ---- the choice of a step
+// The one of two records that a step takes: the one at place best, or that at place i where it waits and has a lesser count.
+fn lesser_of(chart: &[u64], i: u64, best: u64) -> u64
+    requires { ⌜ (i < capacity (now chart)) × (best < capacity (now chart)) ⌝ }
     ensures { λ r. ⌜ At r ≡ lesserAt (now (chart .entry)) i (At best) ⌝ }
 {
-    if chart[(2 + 16 * i + 5) as usize] != 0 {
+    if is_handled(chart, i) {
         return best;
     }
-    if chart[(2 + 16 * best + 4) as usize] <= chart[(2 + 16 * i + 4) as usize] {
+    if count_at(chart, best) <= count_at(chart, i) {
         return best;
     }
     i
@@ -284,20 +377,20 @@ fn least_from(chart: &[u64], n: u64, first: u64) -> Found
     let mut best = first;
     let mut i = first + 1;
     while i < n {
-        best = lesser_inside(chart, i, best);
+        best = lesser_of(chart, i, best);
         i += 1;
     }
     Found::At(best)
 }
 
-// The first of least count among the first n records, which lie inside the chart: no word is tested for the chart's end.
-fn least_inside(chart: &[u64], n: u64) -> Found
+// The first of least count among the first n records, which the chart has, of those that wait.
+pub fn least(chart: &[u64], n: u64) -> Found
     requires { ⌜ n ≤ capacity (now chart) ⌝ }
     ensures { λ r. ⌜ r ≡ leastWaiting (recordsAt (now (chart .entry)) n) n ⌝ }
 {
     let mut i = 0;
     while i < n {
-        if chart[(2 + 16 * i + 5) as usize] == 0 {
+        if !is_handled(chart, i) {
             return least_from(chart, n, i);
         }
         i += 1;
@@ -305,38 +398,15 @@ fn least_inside(chart: &[u64], n: u64) -> Found
     Found::Nowhere
 }
 
-// The same where the chart may end before them.
-fn least_cut(chart: &[u64], n: u64) -> Found
-    ensures { λ r. ⌜ r ≡ leastWaiting (recordsAt (now (chart .entry)) n) n ⌝ }
-{
-    let mut best = Found::Nowhere;
-    let mut i = 0;
-    while i < n {
-        best = lesser_of(chart, i, best);
-        i += 1;
-    }
-    best
-}
-
-// The first of least count among the first n records, of those that wait.
-pub fn least(chart: &[u64], n: u64) -> Found
-    ensures { λ r. ⌜ r ≡ leastWaiting (recordsAt (now (chart .entry)) n) n ⌝ }
-{
-    if n <= capacity_of(chart) {
-        return least_inside(chart, n);
-    }
-    least_cut(chart, n)
-}
-
-// How many of the first n records, which lie inside the chart, are handled.
-fn handled_inside(chart: &[u64], n: u64) -> u64
+// How many of the first n records, which the chart has, are handled.
+pub fn handled_steps(chart: &[u64], n: u64) -> u64
     requires { ⌜ n ≤ capacity (now chart) ⌝ }
     ensures { λ r. ⌜ r ≡ handledCount (recordsAt (now (chart .entry)) n) ⌝ }
 {
     let mut done = 0;
     let mut i = 0;
     while i < n {
-        if chart[(2 + 16 * i + 5) as usize] != 0 {
+        if is_handled(chart, i) {
             done += 1;
         }
         i += 1;
@@ -344,62 +414,55 @@ fn handled_inside(chart: &[u64], n: u64) -> u64
     done
 }
 
-// The same where the chart may end before them.
-fn handled_cut(chart: &[u64], n: u64) -> u64
-    ensures { λ r. ⌜ r ≡ handledCount (recordsAt (now (chart .entry)) n) ⌝ }
+// ---- a chart made anew
+// A chart with no items.
+pub fn clear(chart: &mut [u64])
+    requires { ⌜ headerWords ≤ length (now chart) ⌝ }
+    ensures { λ r. ⌜ now (chart .exit) ≡ cleared (now (chart .entry)) ⌝ }
 {
-    let mut done = 0;
-    let mut i = 0;
-    while i < n {
-        if field(chart, i, 5) != 0 {
-            done += 1;
-        }
-        i += 1;
-    }
-    done
+    chart[0] = 0;
+    chart[1] = 0;
 }
 
-// How many of the first n records are handled.
-pub fn handled_steps(chart: &[u64], n: u64) -> u64
-    ensures { λ r. ⌜ r ≡ handledCount (recordsAt (now (chart .entry)) n) ⌝ }
+// How many words a chart of so many items has.
+pub fn words_for(items: u64) -> u64
+    requires { ⌜ items ≤ 4096 ⌝ }
+    ensures { λ r. ⌜ r ≡ wordsFor items ⌝ }
 {
-    if n <= capacity_of(chart) {
-        return handled_inside(chart, n);
-    }
-    handled_cut(chart, n)
+    HEADER as u64 + WORDS as u64 * items
 }
 
-// The record at place j, which lies inside the chart, takes the count and the partners of the record of sixteen words, unless it is handled or its count is no greater: only three words change.
-pub fn improve_words(chart: &mut [u64], j: u64, x: &[u64])
-    requires { ⌜ (2 + 16 * j + 16 ≤ length (now chart)) × (length (now x) ≡ 16) ⌝ }
-    ensures { λ r. ⌜ now (chart .exit) ≡ improvedAt (now (chart .entry)) j (ofWords (now (x .entry))) ⌝ }
+// ---- one record more
+// The record at place j takes the count and the partners of x, unless it is handled or its count is no greater: only these words change.
+pub fn improve(chart: &mut [u64], j: u64, x: Record)
+    requires { ⌜ j < capacity (now chart) ⌝ }
+    ensures { λ r. ⌜ now (chart .exit) ≡ improvedAt (now (chart .entry)) j x ⌝ }
 {
-    let at = (2 + 16 * j) as usize;
-    if chart[at + 5] != 0 {
+    if is_handled(chart, j) {
         return;
     }
-    if chart[at + 4] <= x[4] {
+    let item = x.item;
+    if count_at(chart, j) <= item.count {
         return;
     }
-    chart[at + 4] = x[4];
-    chart[at + 14] = x[14];
-    chart[at + 15] = x[15];
+    let at = place(chart, j);
+    chart[at + COUNT] = item.count;
+    chart[at + FIRST] = x.first;
+    chart[at + SECOND] = x.second;
 }
 
-// The record of sixteen words behind the n that there are; where no place is left the chart is marked.
-pub fn append_words(chart: &mut [u64], n: u64, x: &[u64])
-    requires { ⌜ length (now x) ≡ 16 ⌝ }
-    ensures { λ r. ⌜ now (chart .exit) ≡ appendedTo (now (chart .entry)) n (ofWords (now (x .entry))) ⌝ }
+// The record x behind the n that there are; where no place is left the chart is marked.
+pub fn append(chart: &mut [u64], n: u64, x: Record)
+    ensures { λ r. ⌜ now (chart .exit) ≡ appendedTo (now (chart .entry)) n x ⌝ }
 {
-    if chart.len() < 2 {
+    if chart.len() < HEADER {
         return;
     }
     if n >= capacity_of(chart) {
         chart[1] = 1;
         return;
     }
-    let at = (2 + 16 * n) as usize;
-    put_words(chart, at, x);
+    store(chart, n, x);
     chart[0] = n + 1;
 }
 
@@ -411,10 +474,10 @@ pub fn add(chart: &mut [u64], x: Record)
         return;
     }
     let n = item_count(chart);
-    let ws = words_of(x);
-    match find(chart, x, n) {
-        Found::At(j) => improve_words(chart, j, &ws),
-        Found::Nowhere => append_words(chart, n, &ws),
+    let item = x.item;
+    match find(chart, item, n) {
+        Found::At(j) => improve(chart, j, x),
+        Found::Nowhere => append(chart, n, x),
     }
 }
 
@@ -425,5 +488,6 @@ pub fn mark_handled(chart: &mut [u64], j: u64)
     if j >= capacity_of(chart) {
         return;
     }
-    chart[(2 + 16 * j + 5) as usize] = 1;
+    let at = place(chart, j);
+    chart[at + HANDLED] = 1;
 }

@@ -21,7 +21,7 @@ use Rattle.replayer.specs.declared.Part.the-variants.{End, GraphEdge, Ap
 use Rattle.replayer.specs.declared.Taken.{Taken}
 use Rattle.replayer.specs.declared.Taken.the-variants.{Not, With}
 use Rattle.replayer.specs.Fitting.{withAll, takenIf, rowPasses, edgePasses, SizedRow}
-use Rattle.replayer.specs.Following.{textRows, RowsAt, Progress, progressIn, Marks, Reaches, Stands, Applied, Followed, partOf}
+use Rattle.replayer.specs.Following.{textRows, RowsAt, Progress, progressIn, Marks, Reaches, Stands, leftAt, leftFrom, Applied, Followed, partOf}
 use Rattle.replayer.proofs.MaskTests.{held, marks-snoc, marks-append, row-test, edge-test, edge-known, row-sized, ruled, new-inside}
 use Rattle.replayer.proofs.PlacedRows.{text-few, place-none, place-row}
 use Rattle.replayer.proofs.RowParts.{of-end, of-edge, of-row}
@@ -76,22 +76,17 @@ used-rows text p m r o q = subst (λ (x : Progress). RowsAt text (x .next) (x .a
 
 -- ---- the definition, one step opened
 module _ (G : Grammar) (H : Graph) (R : List (List ℕ)) where
-  at-none : (k s : ℕ) (L : List ℕ) (st : State) → k ≡ 0 → replayAt k G H R s L st ≡ failed
+  at-past : (k s : ℕ) (L : List ℕ) (n : ℕ) (es vs : List ℕ) → length R ≤ n
+      → replayAt k G H R s L (reached n es vs) ≡ failed
   unfolding replayAt
-  at-none k s L st e = rw e
-
-  edges-none : (k : ℕ) (place : List ℕ) (rs : List Edge) (fs : List ℕ) (st : State) → k ≡ 0 → replayEdges k G H R place rs fs st ≡ failed
-  unfolding replayAt
-  edges-none k place rs fs st e = rw e
-
-  at-past : (k s : ℕ) (L : List ℕ) (n : ℕ) (es vs : List ℕ) → length R ≤ n → replayAt (suc k) G H R s L (reached n es vs) ≡ failed
-  unfolding replayAt
-  at-past k s L n es vs h = rw (le-ltb n (length R) h)
+  at-past zero s L n es vs h = refl
+  at-past (suc k) s L n es vs h = rw (le-ltb n (length R) h)
 
   at-refused : (k s : ℕ) (L : List ℕ) (n : ℕ) (es vs row : List ℕ) → n < length R → getD R n [] ≡ row → rowTest G H n s L vs row ≡ false
-      → replayAt (suc k) G H R s L (reached n es vs) ≡ failed
+      → replayAt k G H R s L (reached n es vs) ≡ failed
   unfolding replayAt
-  at-refused k s L n es vs row h e t = rw (lt-ltb n (length R) h, e, t)
+  at-refused zero s L n es vs row h e t = refl
+  at-refused (suc k) s L n es vs row h e t = rw (lt-ltb n (length R) h, e, t)
 
   at-passed : (k s : ℕ) (L : List ℕ) (n : ℕ) (es vs row : List ℕ) → n < length R → getD R n [] ≡ row → rowTest G H n s L vs row ≡ true
       → replayAt (suc k) G H R s L (reached n es vs)
@@ -129,17 +124,24 @@ module _ (text : List ℕ) (n place : ℕ) (r : RowsAt text n place) (h : place 
 
 -- ---- an application
 module _ (G : Grammar) (H : Graph) (text : List ℕ) (s : ℕ) (L : List ℕ) (p : Progress) where
-  applied-failed : (left : ℕ) (q : Progress) → q .ok ≡ false
-      → ((es vs : List ℕ) → Reaches H p (p .next) es vs → replayAt left G H (textRows text) s L (reached (p .next) es vs) ≡ failed) → Applied G H text s L left p q
-  applied-failed left q f e =
-      record { onward = λ o. absurd (passing-failed q f o); stands = λ es vs w. stands-as H q _ failed (e es vs w) f }
+  -- the definition with k calls, from what is used
+  abbrev atWith : ℕ → List ℕ → List ℕ → State
+  atWith k es vs = replayAt k G H (textRows text) s L (reached (p .next) es vs)
 
-  pub applied-none : (left : ℕ) (q : Progress) → left ≡ 0 → q .ok ≡ false → Applied G H text s L left p q
-  applied-none left q e f = applied-failed left q f (λ es vs w. at-none G H (textRows text) left s L _ e)
+  applied-failed : (q : Progress) → q .ok ≡ false
+      → ((k : ℕ) (es vs : List ℕ) → Reaches H p (p .next) es vs → atWith k es vs ≡ failed) → Applied G H text s L p q
+  applied-failed q f e =
+      record {
+        onward = λ o. absurd (passing-failed q f o);
+        further = λ o. absurd (passing-failed q f o);
+        stands = λ k l es vs w. stands-as H q _ failed (e k es vs w) f;
+      }
 
-  pub applied-past : (left : ℕ) (q : Progress) → (left ≡ 0 → ⊥) → RowsAt text (p .next) (p .at) → length text ≤ p .at → q .ok ≡ false → Applied G H text s L left p q
-  applied-past zero q o r h f = absurd (o refl)
-  applied-past (suc k) q o r h f = applied-failed (suc k) q f (λ es vs w. at-past G H (textRows text) k s L (p .next) es vs (place-none text (p .next) (p .at) r h))
+  pub applied-past : (q : Progress) → RowsAt text (p .next) (p .at) → length text ≤ p .at → q .ok ≡ false
+      → Applied G H text s L p q
+  applied-past q r h f =
+      let none = place-none text (p .next) (p .at) r h in
+      applied-failed q f (λ k es vs w. at-past G H (textRows text) k s L (p .next) es vs none)
 
   module _ (r : RowsAt text (p .next) (p .at)) (h : p .at < length text) (line : List ℕ) (e : line ≡ lineOf (drop (p .at) text)) (row : List ℕ) (f : row ≡ fieldsOf line) where
     abbrev passes : Bool
@@ -158,11 +160,11 @@ module _ (G : Grammar) (H : Graph) (text : List ℕ) (s : ℕ) (L : List ℕ) (p
     tested vs w = sym (row-test G H (p .next) s L (p .nodes) vs row (held (w .used-nodes)))
 
     module _ (t : Taken) (a : t ≡ takenIf passes (withAll (p .nodes) new)) where
-      pub applied-refused : (left : ℕ) (q : Progress) → (left ≡ 0 → ⊥) → t ≡ Not → q .ok ≡ false → Applied G H text s L left p q
-      applied-refused zero q o c d = absurd (o refl)
-      applied-refused (suc k) q o c d =
-          applied-failed (suc k) q d
-          (λ es vs w. at-refused G H (textRows text) k s L (p .next) es vs row row-known row-here (tested vs w ∙ of-not passes _ (sym a ∙ c)))
+      pub applied-refused : (q : Progress) → t ≡ Not → q .ok ≡ false → Applied G H text s L p q
+      applied-refused q c d =
+          let no = of-not passes _ (sym a ∙ c) in
+          applied-failed q d
+          (λ k es vs w. at-refused G H (textRows text) k s L (p .next) es vs row row-known row-here (tested vs w ∙ no))
 
       module _ (m : ℕ) (c : t ≡ With m) where
         passed : passes ≡ true
@@ -184,23 +186,38 @@ module _ (G : Grammar) (H : Graph) (text : List ℕ) (s : ℕ) (L : List ℕ) (p
                     (marks-append (H .nodes) (p .nodes) vs _ (new-inside G H row taken-sized) (w .used-nodes));
               })
 
-          pub applied-opened : (left : ℕ) → (left ≡ 0 → ⊥) → (u : Progress) → Followed G H text row 0 (left - 1) o u → Applied G H text s L left p u
-          applied-opened zero n u d = absurd (n refl)
-          applied-opened (suc k) n u d =
-              let less : suc k - 1 ≡ k = omega arith in
-              record {
-                onward = d .onward;
-                stands = λ es vs w.
+          module _ (few : length (rightOf G (ruleIn row) .edges) ≤ 8) where
+            -- the definition over the edges of the row's rule
+            abbrev edgesWith : ℕ → State → State
+            edgesWith k st =
+                let P = rightOf G (ruleIn row) in
+                replayEdges k G H (textRows text) (placeIn P row) (P .edges) (fieldsIn P row) st
+
+            opened-left : leftFrom G text row 0 (p .next + 1) < leftAt text (p .next)
+            opened-left = omega (arith, row-known)
+
+            -- an application is left behind, and its edges count less
+            pub opened-falls : leftFrom G text row 0 (o .next) < leftAt text (p .next)
+            opened-falls =
+                subst (λ (x : Progress). leftFrom G text row 0 (x .next) < leftAt text (p .next)) (sym q) opened-left
+
+            pub applied-opened : (u : Progress) → Followed G H text row 0 o u → Applied G H text s L p u
+            applied-opened u d =
+                let next : o .next ≡ p .next + 1 = ap (λ (x : Progress). x .next) q in
+                record { onward = d .onward; further = λ y. omega (arith, d .further y); stands = go }
+              where
+                go : (k : ℕ) → leftAt text (p .next) ≤ k
+                    → (es vs : List ℕ) → Reaches H p (p .next) es vs → Stands H u (atWith k es vs)
+                go zero l es vs w = absurd (omega (arith, row-known))
+                go (suc k) l es vs w =
                     stands-as H u _ _
                     (at-passed G H (textRows text) k s L (p .next) es vs row row-known row-here (tested vs w ∙ passed)
-                    ∙ ap₂
-                    (λ (j i : ℕ). replayEdges j G H (textRows text) (placeIn (rightOf G (ruleIn row)) row) (rightOf G (ruleIn row) .edges) (fieldsIn (rightOf G (ruleIn row)) row) (reached i es (vs ++ new)))
-                    (sym less) (sym (ap (λ (x : Progress). x .next) q)))
-                    (d .stands es (vs ++ new) (opened-reaches es vs w));
-              }
+                    ∙ ap (λ (j : ℕ). edgesWith k (reached j es (vs ++ new))) (sym (ap (λ (x : Progress). x .next) q)))
+                    (d .stands k (omega (arith, opened-falls)) es (vs ++ new) (opened-reaches es vs w))
 
-  pub applied-passing : (left : ℕ) (b : Bool) (st : List ℕ) → b ≡ true → Applied G H text s L left p (progressIn b st) → Applied G H text s L left p (progressIn true st)
-  applied-passing left b st e a = subst (λ (x : Bool). Applied G H text s L left p (progressIn x st)) e a
+  pub applied-passing : (b : Bool) (st : List ℕ) → b ≡ true
+      → Applied G H text s L p (progressIn b st) → Applied G H text s L p (progressIn true st)
+  applied-passing b st e a = subst (λ (x : Bool). Applied G H text s L p (progressIn x st)) e a
 
 -- ---- an edge list
 module _ (G : Grammar) (H : Graph) (text row : List ℕ) (z : SizedRow G H row) (i : ℕ) (p : Progress) where
@@ -223,21 +240,36 @@ module _ (G : Grammar) (H : Graph) (text row : List ℕ) (z : SizedRow G H row) 
   abbrev onFrom : ℕ → ℕ → State → State
   onFrom j k st = replayEdges k G H (textRows text) place (drop j (P .edges)) (drop j (fieldsIn P row)) st
 
-  followed-failed : (left : ℕ) (q : Progress) → q .ok ≡ false → ((es vs : List ℕ) → Reaches H p (p .next) es vs → onFrom i left (reached (p .next) es vs) ≡ failed)
-      → Followed G H text row i left p q
-  followed-failed left q f e =
-      record { onward = λ o. absurd (passing-failed q f o); stands = λ es vs w. stands-as H q _ failed (e es vs w) f }
+  -- what is asked of an answer q, with k calls
+  abbrev StandsWith : Progress → ℕ → Type 0
+  StandsWith q k =
+      leftFrom G text row i (p .next) ≤ k
+      → (es vs : List ℕ) → Reaches H p (p .next) es vs → Stands H q (onFrom i k (reached (p .next) es vs))
 
-  pub followed-none : (left : ℕ) (q : Progress) → left ≡ 0 → q .ok ≡ false → Followed G H text row i left p q
-  followed-none left q e f = followed-failed left q f (λ es vs w. edges-none G H (textRows text) left place _ _ _ e)
+  followed-failed : (q : Progress) → q .ok ≡ false
+      → ((k : ℕ) (es vs : List ℕ) → Reaches H p (p .next) es vs → onFrom i (suc k) (reached (p .next) es vs) ≡ failed)
+      → Followed G H text row i p q
+  followed-failed q f e =
+      record { onward = λ o. absurd (passing-failed q f o); further = λ o. absurd (passing-failed q f o); stands = go }
+    where
+      go : (k : ℕ) → StandsWith q k
+      go zero l es vs w = absurd (omega arith)
+      go (suc k) l es vs w = stands-as H q _ failed (e k es vs w) f
 
-  pub followed-end : (left : ℕ) → (left ≡ 0 → ⊥) → partOf G row i ≡ End → RowsAt text (p .next) (p .at) → Followed G H text row i left p p
-  followed-end zero n e r = absurd (n refl)
-  followed-end (suc k) n e r =
-      record {
-        onward = λ o. r;
-        stands = λ es vs w. stands-as H p _ (reached (p .next) es vs) (edges-end G H (textRows text) k place (P .edges) (fieldsIn P row) i (p .next) es vs (of-end G row i e) fields-length) w;
-      }
+  pub followed-end : partOf G row i ≡ End → RowsAt text (p .next) (p .at) → Followed G H text row i p p
+  followed-end e r = record { onward = λ o. r; further = λ o. omega arith; stands = go }
+    where
+      go : (k : ℕ) → StandsWith p k
+      go zero l es vs w = absurd (omega arith)
+      go (suc k) l es vs w =
+          let all = of-end G row i e in
+          stands-as H p _ (reached (p .next) es vs)
+          (edges-end G H (textRows text) k place (P .edges) (fieldsIn P row) i (p .next) es vs all fields-length) w
+
+  -- an edge is left behind, where no application comes back
+  falls-on : i < length (P .edges) → (n : ℕ) → p .next ≤ n
+      → leftFrom G text row (i + 1) n < leftFrom G text row i (p .next)
+  falls-on known n h = omega arith
 
   -- a graph edge
   module _ (f : ℕ) (e : partOf G row i ≡ GraphEdge f) where
@@ -255,10 +287,11 @@ module _ (G : Grammar) (H : Graph) (text row : List ℕ) (z : SizedRow G H row) 
           ∙ ap (λ (x : Bool). check x (onFrom (i + 1) k (reached (p .next) (es ++ f ∷ []) vs)))
           (sym (edge-test H label nodes (p .edges) es f (held (w .used-edges))) ∙ sym t)
 
-      pub followed-refused : (left : ℕ) (q : Progress) → (left ≡ 0 → ⊥) → b ≡ false → q .ok ≡ false → Followed G H text row i left p q
-      followed-refused zero q n c d = absurd (n refl)
-      followed-refused (suc k) q n c d =
-          followed-failed (suc k) q d (λ es vs w. edge-step k w ∙ ap (λ (x : Bool). check x (onFrom (i + 1) k (reached (p .next) (es ++ f ∷ []) vs))) c)
+      pub followed-refused : (q : Progress) → b ≡ false → q .ok ≡ false → Followed G H text row i p q
+      followed-refused q c d =
+          followed-failed q d
+          (λ k es vs w.
+          edge-step k w ∙ ap (λ (x : Bool). check x (onFrom (i + 1) k (reached (p .next) (es ++ f ∷ []) vs))) c)
 
       edge-listed : b ≡ true → f < length (H .edges)
       edge-listed c = edge-known H label nodes (p .edges) f (sym t ∙ c)
@@ -269,18 +302,24 @@ module _ (G : Grammar) (H : Graph) (text row : List ℕ) (z : SizedRow G H row) 
             subst (λ (x : Progress). Reaches H x (x .next) (es ++ f ∷ []) vs) (sym q)
             (record { passing = w .passing; row = refl; used-edges = marks-snoc (length (H .edges)) (p .edges) f es (edge-listed c) (w .used-edges); used-nodes = w .used-nodes })
 
-        pub followed-edge : (left : ℕ) → (left ≡ 0 → ⊥) → (u : Progress) → Followed G H text row (i + 1) (left - 1) o u → Followed G H text row i left p u
-        followed-edge zero n u g = absurd (n refl)
-        followed-edge (suc k) n u g =
-            let less : suc k - 1 ≡ k = omega arith in
-            record {
-              onward = g .onward;
-              stands = λ es vs w.
-                  stands-as H u _ _
-                  (edge-step k w ∙ ap (λ (x : Bool). check x (onFrom (i + 1) k (reached (p .next) (es ++ f ∷ []) vs))) c
-                  ∙ ap₂ (λ (j m : ℕ). onFrom (i + 1) j (reached m (es ++ f ∷ []) vs)) (sym less) (sym (ap (λ (x : Progress). x .next) q)))
-                  (g .stands (es ++ f ∷ []) vs (used-reaches es vs w));
-            }
+        used-next : o .next ≡ p .next
+        used-next = ap (λ (x : Progress). x .next) q
+
+        pub used-falls : leftFrom G text row (i + 1) (o .next) < leftFrom G text row i (p .next)
+        used-falls = falls-on (of-edge G row i f e .known) (o .next) (omega (arith, used-next))
+
+        pub followed-edge : (u : Progress) → Followed G H text row (i + 1) o u → Followed G H text row i p u
+        followed-edge u g =
+            record { onward = g .onward; further = λ y. omega (arith, g .further y, used-next); stands = go }
+          where
+            go : (k : ℕ) → StandsWith u k
+            go zero l es vs w = absurd (omega arith)
+            go (suc k) l es vs w =
+                stands-as H u _ _
+                (edge-step k w
+                ∙ ap (λ (x : Bool). check x (onFrom (i + 1) k (reached (p .next) (es ++ f ∷ []) vs))) c
+                ∙ ap (λ (m : ℕ). onFrom (i + 1) k (reached m (es ++ f ∷ []) vs)) (sym used-next))
+                (g .stands k (omega (arith, used-falls)) (es ++ f ∷ []) vs (used-reaches es vs w))
 
   -- an application
   module _ (s f : ℕ) (e : partOf G row i ≡ Application s f) where
@@ -295,11 +334,16 @@ module _ (G : Grammar) (H : Graph) (text row : List ℕ) (z : SizedRow G H row) 
         (check (partTest (p .next) field) (onFrom (i + 1) k (replayAt k G H (textRows text) label nodes (reached (p .next) es vs))))) (o .kind)
         ∙ ap₂ (λ (y m : ℕ). check (partTest (p .next) y) (onFrom (i + 1) k (replayAt k G H (textRows text) m nodes (reached (p .next) es vs)))) (sym (o .number)) (sym (o .symbol))
 
-    pub followed-unnumbered : (left : ℕ) (q : Progress) → (left ≡ 0 → ⊥) → (f ≡ p .next → ⊥) → q .ok ≡ false → Followed G H text row i left p q
-    followed-unnumbered zero q n c d = absurd (n refl)
-    followed-unnumbered (suc k) q n c d =
-        followed-failed (suc k) q d
-        (λ es vs w. under-step k es vs ∙ ap (λ (x : Bool). check x (onFrom (i + 1) k (replayAt k G H (textRows text) s nodes (reached (p .next) es vs)))) (ne-eqb f (p .next) c))
+    -- its edge counts one more
+    pub under-falls : leftAt text (p .next) < leftFrom G text row i (p .next)
+    under-falls = omega arith
+
+    pub followed-unnumbered : (q : Progress) → (f ≡ p .next → ⊥) → q .ok ≡ false → Followed G H text row i p q
+    followed-unnumbered q c d =
+        followed-failed q d
+        (λ k es vs w.
+        let st = replayAt k G H (textRows text) s nodes (reached (p .next) es vs) in
+        under-step k es vs ∙ ap (λ (x : Bool). check x (onFrom (i + 1) k st)) (ne-eqb f (p .next) c))
 
     module _ (c : f ≡ p .next) (L : List ℕ) (l : L ≡ nodes) (u : Progress) where
       numbered : (k : ℕ) (es vs : List ℕ) → onFrom i (suc k) (reached (p .next) es vs) ≡ onFrom (i + 1) k (replayAt k G H (textRows text) s L (reached (p .next) es vs))
@@ -307,37 +351,46 @@ module _ (G : Grammar) (H : Graph) (text row : List ℕ) (z : SizedRow G H row) 
           under-step k es vs ∙ ap (λ (x : Bool). check x (onFrom (i + 1) k (replayAt k G H (textRows text) s nodes (reached (p .next) es vs)))) (eq-eqb f (p .next) c)
           ∙ ap (λ (m : List ℕ). onFrom (i + 1) k (replayAt k G H (textRows text) s m (reached (p .next) es vs))) (sym l)
 
-      pub followed-under-failed : (left : ℕ) → (left ≡ 0 → ⊥) → Applied G H text s L (left - 1) p u → u .ok ≡ false → (q : Progress) → q .ok ≡ false → Followed G H text row i left p q
-      followed-under-failed zero n a d q f = absurd (n refl)
-      followed-under-failed (suc k) n a d q f =
-          followed-failed (suc k) q f
-          (λ es vs w. numbered k es vs ∙ go k (replayAt k G H (textRows text) s L (reached (p .next) es vs))
-          (subst (λ (j : ℕ). Stands H u (replayAt j G H (textRows text) s L (reached (p .next) es vs))) (less k) (a .stands es vs w)))
-        where
-          less : (k : ℕ) → suc k - 1 ≡ k
-          less k = omega arith
+      module _ (a : Applied G H text s L p u) where
+        pub followed-under-failed : u .ok ≡ false → (q : Progress) → q .ok ≡ false → Followed G H text row i p q
+        followed-under-failed d q f =
+            record {
+              onward = λ o. absurd (passing-failed q f o);
+              further = λ o. absurd (passing-failed q f o);
+              stands = stood;
+            }
+          where
+            go : (k : ℕ) (st : State) → Stands H u st → onFrom (i + 1) k st ≡ failed
+            go k failed q = stays-failed G H (textRows text) k place _ _
+            go k (reached n es vs) q = absurd (passing-failed u d (q .passing))
 
-          go : (k : ℕ) (st : State) → Stands H u st → onFrom (i + 1) k st ≡ failed
-          go k failed q = stays-failed G H (textRows text) k place _ _
-          go k (reached n es vs) q = absurd (passing-failed u d (q .passing))
+            stood : (k : ℕ) → StandsWith q k
+            stood zero l es vs w = absurd (omega arith)
+            stood (suc k) l es vs w =
+                let after = replayAt k G H (textRows text) s L (reached (p .next) es vs) in
+                stands-as H q _ failed
+                (numbered k es vs ∙ go k after (a .stands k (omega (arith, under-falls)) es vs w)) f
 
-      pub followed-under : (left : ℕ) → (left ≡ 0 → ⊥) → Applied G H text s L (left - 1) p u → u .ok ≡ true
-          → (v : Progress) → Followed G H text row (i + 1) (left - 1) u v → Followed G H text row i left p v
-      followed-under zero n a d v g = absurd (n refl)
-      followed-under (suc k) n a d v g =
-          record {
-            onward = g .onward;
-            stands = λ es vs w.
-                stands-as H v _ _ (numbered k es vs)
-                (go k (subst (λ (j : ℕ). Followed G H text row (i + 1) j u v) (less k) g) (replayAt k G H (textRows text) s L (reached (p .next) es vs))
-                (subst (λ (j : ℕ). Stands H u (replayAt j G H (textRows text) s L (reached (p .next) es vs))) (less k) (a .stands es vs w)));
-          }
-        where
-          less : (k : ℕ) → suc k - 1 ≡ k
-          less k = omega arith
+        module _ (d : u .ok ≡ true) where
+          pub after-falls : leftFrom G text row (i + 1) (u .next) < leftFrom G text row i (p .next)
+          after-falls = falls-on (of-row G row i s f e .known) (u .next) (a .further d)
 
-          go : (k : ℕ) → Followed G H text row (i + 1) k u v → (st : State) → Stands H u st → Stands H v (onFrom (i + 1) k st)
-          go k g failed q = absurd (passing-failed u q d)
-          go k g (reached m es vs) q =
-              stands-as H v _ (onFrom (i + 1) k (reached (u .next) es vs)) (ap (λ (y : ℕ). onFrom (i + 1) k (reached y es vs)) (sym (q .row)))
-              (g .stands es vs (record { passing = q .passing; row = refl; used-edges = q .used-edges; used-nodes = q .used-nodes }))
+          pub followed-under : (v : Progress) → Followed G H text row (i + 1) u v → Followed G H text row i p v
+          followed-under v g =
+              record { onward = g .onward; further = λ y. omega (arith, a .further d, g .further y); stands = stood }
+            where
+              go : (k : ℕ) → leftFrom G text row (i + 1) (u .next) ≤ k
+                  → (st : State) → Stands H u st → Stands H v (onFrom (i + 1) k st)
+              go k l failed q = absurd (passing-failed u q d)
+              go k l (reached m es vs) q =
+                  let same = ap (λ (y : ℕ). onFrom (i + 1) k (reached y es vs)) (sym (q .row)) in
+                  stands-as H v _ (onFrom (i + 1) k (reached (u .next) es vs)) same
+                  (g .stands k l es vs
+                  (record { passing = q .passing; row = refl; used-edges = q .used-edges; used-nodes = q .used-nodes }))
+
+              stood : (k : ℕ) → StandsWith v k
+              stood zero l es vs w = absurd (omega arith)
+              stood (suc k) l es vs w =
+                  let after = replayAt k G H (textRows text) s L (reached (p .next) es vs) in
+                  stands-as H v _ _ (numbered k es vs)
+                  (go k (omega (arith, after-falls)) after (a .stands k (omega (arith, under-falls)) es vs w))

@@ -1,37 +1,105 @@
 -- The lines of a derivation file by places: the first line, each row, and what stands behind them.
-use mathlib.Core.Path.{_≡_, refl, sym, ap, _∙_}
-use mathlib.Core.Bool.{Bool, true, false}
-use mathlib.Core.List.{List, []}
+use mathlib.Core.Path.{_≡_, refl, sym, ap, subst, _∙_}
+use mathlib.Core.Bool.{Bool, true, false, _&&_}
+use mathlib.Core.List.{List, [], _∷_}
 use Prim.Native.Nat.{ℕ, suc, _+_, _-_, _≤_, _<_}
 use native.Mathlib.Omega.{arith}
 use native.Mathlib.Decide.{decLt}
 use lib.ListN.{length, drop}
-use lib.Dec.{eqb}
 use borrow.Author.Tests.{eq-eqb, ne-eqb, le-leb, lt-leb, ltb-true}
-use Rattle.format.specs.Lines.{linesOf, lineOf, isEnded, afterLine, lineEnd}
+use types.Run.{OneOf, miss}
+use denote.Enum.Declared.{tagOf}
+use Rattle.format.specs.TestLaws.{both}
+use Rattle.format.specs.declared.Letter.{Letter}
+use Rattle.format.specs.declared.Letter.the-variants.{D, A, Other}
+use Rattle.format.proofs.Letter.{the-type}
+use Rattle.format.specs.Lines.{Line, linesOf, lineOf, isEnded, afterLine, lineEnd}
 use Rattle.format.specs.LineLaws.{end-in, after-le}
 use Rattle.format.specs.Fields.{fieldCount, numberOf, fieldsOf}
-use Rattle.format.specs.Shape.{letterOf, shapeOf}
+use Rattle.format.specs.Shape.{letterOf, letterKind, kindLetter, shapeOf}
+use Rattle.format.specs.ShapeLaws.{letter-kind, kind-letter}
 use Rattle.scripts.specs.Scripts.{Script, bad, rows, withRow, hasLetter, opens, rowsFrom, rowsIn}
 use Rattle.scripts.proofs.ScriptTests.{has-lettered, lettered-has, opens-opening}
 use Rattle.scripts.proofs.ScriptReading.{row-at, row-refused-at, row-missing-at, rows-read-at, line-behind-at, script-opened-at, script-refused-at, script-missing-at}
 use Rattle.replayer.specs.Fitting.{countIn}
-use Rattle.replayer.specs.RowParts.{lineFrom, saidCount}
+use Rattle.replayer.specs.RowParts.{lineFrom, letterIn, saidCount}
 
 -- ---- the letter of a line
-module _ (text : List ℕ) (from letter : ℕ) (ended : Bool) (feed : ended ≡ isEnded text from) where
-  pub letter-open : ended ≡ false → false ≡ hasLetter letter (lineFrom text from)
-  unfolding hasLetter
+module _ (text : List ℕ) (from : ℕ) (ended : Bool) (feed : ended ≡ isEnded text from) where
+  pub letter-open : ended ≡ false → Other ≡ letterIn (lineFrom text from)
+  unfolding letterIn
   letter-open h = rw (← feed, h)
 
   module _ (closed : ended ≡ true) (line : List ℕ) (part : line ≡ lineOf (drop from text)) (s : Bool) (shaped : s ≡ shapeOf line) where
-    pub letter-shape : s ≡ false → false ≡ hasLetter letter (lineFrom text from)
-    unfolding hasLetter
+    pub letter-shape : s ≡ false → Other ≡ letterIn (lineFrom text from)
+    unfolding letterIn
     letter-shape h = rw (← feed, closed, ← part, ← shaped, h)
 
-    pub letter-same : s ≡ true → (b : ℕ) → b ≡ letterOf line → eqb b letter ≡ hasLetter letter (lineFrom text from)
-    unfolding hasLetter
-    letter-same h b e = rw (← feed, closed, ← part, ← shaped, h, ← e)
+    pub letter-kept : s ≡ true → (x : Letter) → x ≡ letterKind (letterOf line)
+        → x ≡ letterIn (lineFrom text from)
+    unfolding letterIn
+    letter-kept h x e = rw (← feed, closed, ← part, ← shaped, h, ← e)
+
+-- a line has the letter that is found in it, and no other of the three files
+letter-has : (l : Line) (x : Letter) → letterIn l ≡ x → (x ≡ Other → ⊥) → hasLetter (kindLetter x) l ≡ true
+unfolding letterIn
+letter-has l x e known = go (l .ended && shapeOf (l .bytes)) refl
+  where
+    go : (b : Bool) → (l .ended && shapeOf (l .bytes)) ≡ b → hasLetter (kindLetter x) l ≡ true
+    go true h =
+        let t = both (l .ended) (shapeOf (l .bytes)) h in
+        let same = kind-letter (letterOf (l .bytes)) x (rw h at e) known in
+        lettered-has (kindLetter x) l (record { closed = t .0; shape = t .1; first = same })
+    go false h = absurd (known (sym (rw h at e)))
+
+has-letter : (l : Line) (x : Letter) → hasLetter (kindLetter x) l ≡ true → letterIn l ≡ x
+unfolding letterIn
+has-letter l x h =
+    let t = has-lettered (kindLetter x) l h in
+    rw (t .closed, t .shape, t .first) (letter-kind x)
+
+letter-has-not : (l : Line) (x : Letter) → (letterIn l ≡ x → ⊥) → false ≡ hasLetter (kindLetter x) l
+letter-has-not l x n = go (hasLetter (kindLetter x) l) refl
+  where
+    go : (b : Bool) → hasLetter (kindLetter x) l ≡ b → false ≡ b
+    go true h = absurd (n (has-letter l x h))
+    go false h = refl
+
+-- what the match on the letter found says of `D` and `A`, by the places of all other letters
+abbrev notD : List ℕ
+notD = 0 ∷ 1 ∷ 2 ∷ 3 ∷ 4 ∷ 5 ∷ 7 ∷ 8 ∷ []
+
+abbrev notA : List ℕ
+notA = 0 ∷ 1 ∷ 2 ∷ 3 ∷ 4 ∷ 5 ∷ 6 ∷ 8 ∷ []
+
+module _ (l : Line) (x : Letter) (e : x ≡ letterIn l) where
+  found : (y : Letter) → tagOf the-type y < 8 → x ≡ y → true ≡ hasLetter (kindLetter y) l
+  found y known is = sym (letter-has l y (sym e ∙ is) not-other)
+    where
+      not-other : y ≡ Other → ⊥
+      not-other o =
+          let last : tagOf the-type y ≡ 8 = ap (tagOf the-type) o in
+          omega arith
+
+  other : (y : Letter) (tags : List ℕ) → OneOf tags (tagOf the-type x) → (OneOf tags (tagOf the-type y) → ⊥)
+      → false ≡ hasLetter (kindLetter y) l
+  other y tags h n = letter-has-not l y (λ is. n (subst (λ (z : Letter). OneOf tags (tagOf the-type z)) (e ∙ is) h))
+
+  pub count-line : x ≡ D → true ≡ hasLetter 68 l
+  unfolding kindLetter
+  count-line = found D (omega arith)
+
+  pub no-count-line : OneOf notD (tagOf the-type x) → false ≡ hasLetter 68 l
+  unfolding kindLetter
+  no-count-line h = other D notD h (miss notD 6 tt)
+
+  pub row-line : x ≡ A → true ≡ hasLetter 65 l
+  unfolding kindLetter
+  row-line = found A (omega arith)
+
+  pub no-row-line : OneOf notA (tagOf the-type x) → false ≡ hasLetter 65 l
+  unfolding kindLetter
+  no-row-line h = other A notA h (miss notA 7 tt)
 
 -- a line feed ends no line at the end of the text
 ended-inside : (text : List ℕ) (from : ℕ) → from ≤ length text → isEnded text from ≡ true → from < length text

@@ -3,7 +3,7 @@ use mathlib.Core.Path.{_≡_, refl, sym, ap, ap₂, subst, _∙_}
 use mathlib.Core.Logic.{_↔_}
 use mathlib.Core.Bool.{Bool, true, false, true≢false, cond, _&&_}
 use mathlib.Core.List.{List, []}
-use Prim.Native.Nat.{ℕ, zero, suc, _*_, _≤_, _<_}
+use Prim.Native.Nat.{ℕ, zero, suc, _≤_, _<_}
 use native.Mathlib.Omega.{arith}
 use lib.ListN.{length, getD, set, take, replicate}
 use lib.Dec.{eqb}
@@ -30,7 +30,7 @@ use Rattle.derivation.proofs.Derivations.{replay-text, replay-bad, replay-rows}
 use Rattle.replayer.specs.declared.Verdict.{Verdict}
 use Rattle.replayer.specs.declared.Verdict.the-variants.{Unfit, Refused, Passed}
 use Rattle.replayer.specs.Fitting.{countIn, withAll}
-use Rattle.replayer.specs.Following.{textRows, RowsAt, Progress, progressIn, Marks, Stands, Applied}
+use Rattle.replayer.specs.Following.{textRows, RowsAt, Progress, progressIn, Marks, Reaches, Stands, Applied}
 use Rattle.replayer.specs.Verdicts.{numberOf, fitTables, replayOf, Exact}
 use Rattle.questions.proofs.StoredLaws.{take-tabulate}
 use Rattle.replayer.proofs.MaskTests.{marks-none, marks-append, marks-all}
@@ -77,25 +77,41 @@ module _ (g h : List ℕ) (ok : Accepted g h) (s : ℕ) (e : s ≡ startSymbol g
           graph-nodes-few g h ok,
         )
 
-    module _ (text : List ℕ) (n : ℕ) (c : n ≡ countIn (rowsIn text)) (place m : ℕ) (w : m ≡ withAll 0 (take x listed)) (p r : Progress)
+    module _ (text : List ℕ) (place m : ℕ) (w : m ≡ withAll 0 (take x listed)) (p r : Progress)
         (d : p ≡ record { ok = true; next = 0; at = place; edges = 0; nodes = m })
-        (a : Applied (grammarOf g) (graphOf g h) text s (take (rankOf (grammarOf g) s) listed) (10 * n) p r) where
+        (a : Applied (grammarOf g) (graphOf g h) text s (take (rankOf (grammarOf g) s) listed) p r) where
       start-nodes : Marks (graphOf g h .nodes) m (graphOf g h .externals)
       start-nodes =
           subst (λ (y : ℕ). Marks (graphOf g h .nodes) y (graphOf g h .externals)) (sym (w ∙ ap (withAll 0) externals-take))
           (marks-append (graphOf g h .nodes) 0 [] (graphOf g h .externals) externals-inside (marks-none (graphOf g h .nodes)))
 
+      start-reaches : Reaches (graphOf g h) p (p .next) [] (graphOf g h .externals)
+      start-reaches =
+          subst (λ (x : Progress). Reaches (graphOf g h) x (x .next) [] (graphOf g h .externals)) (sym d)
+          (record {
+            passing = refl;
+            row = refl;
+            used-edges = marks-none (length (graphOf g h .edges));
+            used-nodes = start-nodes;
+          })
+
+      -- the definition from a row on, for an edge y on the nodes L, with its number of calls
+      abbrev from : ℕ → List ℕ → ℕ → State
+      from y L k =
+          let R = textRows text in
+          let nodes = graphOf g h .externals in
+          replayAt (calls R) (grammarOf g) (graphOf g h) R y L (reached k [] nodes)
+
+      -- its number of calls is what is left at the start
       pub start-stands : Stands (graphOf g h) r (replayed (grammarOf g) (graphOf g h) (textRows text))
       unfolding replayed
       start-stands =
-          let R = textRows text in
-          let same : replayAt (10 * n) (grammarOf g) (graphOf g h) R s (take (rankOf (grammarOf g) s) listed) (reached 0 [] (graphOf g h .externals))
-          ≡ replayAt (calls R) (grammarOf g) (graphOf g h) R (grammarOf g .start) (graphOf g h .externals) (reached 0 [] (graphOf g h .externals)) =
-          ap (λ (k : ℕ). replayAt k (grammarOf g) (graphOf g h) R s (take (rankOf (grammarOf g) s) listed) (reached 0 [] (graphOf g h .externals))) (ap (λ (k : ℕ). 10 * k) (c ∙ text-count text))
-          ∙ ap₂ (λ (y : ℕ) (L : List ℕ). replayAt (calls R) (grammarOf g) (graphOf g h) R y L (reached 0 [] (graphOf g h .externals))) (e ∙ sym (start-is g)) (ap (λ (k : ℕ). take k listed) rank-read ∙ externals-take) in
-          subst (Stands (graphOf g h) r) same
-          (subst (λ (p : Progress). Applied (grammarOf g) (graphOf g h) text s (take (rankOf (grammarOf g) s) listed) (10 * n) p r) d a
-          .stands [] (graphOf g h .externals) (record { passing = refl; row = refl; used-edges = marks-none (length (graphOf g h .edges)); used-nodes = start-nodes }))
+          let begun : p .next ≡ 0 = ap (λ (x : Progress). x .next) d in
+          let listed-are = ap (λ (k : ℕ). take k listed) rank-read ∙ externals-take in
+          subst (Stands (graphOf g h) r)
+          (ap (λ (k : ℕ). from s (take (rankOf (grammarOf g) s) listed) k) begun
+          ∙ ap₂ (λ (y : ℕ) (L : List ℕ). from y L 0) (e ∙ sym (start-is g)) listed-are)
+          (a .stands (calls (textRows text)) (omega arith) [] (graphOf g h .externals) start-reaches)
 
 -- the four words at the start
 module _ (st : List ℕ) (none : st ≡ replicate 4 0) (place m : ℕ) where
@@ -105,14 +121,14 @@ module _ (st : List ℕ) (none : st ≡ replicate 4 0) (place m : ℕ) where
   pub start-progress : progressIn true (set (set st 1 place) 3 m) ≡ record { ok = true; next = 0; at = place; edges = 0; nodes = m }
   start-progress = ap (λ (l : List ℕ). progressIn true (set (set l 1 place) 3 m)) none
 
--- the first row, and the bound on the calls
-module _ (text : List ℕ) (n : ℕ) (c : n ≡ countIn (rowsIn text)) where
-  pub count-few : n ≤ 4096
-  count-few = omega (arith, c ∙ text-count text, text-few text)
-
-  pub start-rows : 0 < n → (place : ℕ) → place ≡ afterLine text 0 → (p : Progress) (m : ℕ) → p ≡ record { ok = true; next = 0; at = place; edges = 0; nodes = m } → RowsAt text (p .next) (p .at)
-  start-rows some place e p m d =
-      subst (λ (p : Progress). RowsAt text (p .next) (p .at)) (sym d) (subst (λ (y : ℕ). RowsAt text 0 y) (sym e) (place-start text (omega (arith, c ∙ text-count text))))
+-- the first row
+pub start-rows : (text : List ℕ) → 0 < countIn (rowsIn text) → (place : ℕ) → place ≡ afterLine text 0
+    → (p : Progress) (m : ℕ) → p ≡ record { ok = true; next = 0; at = place; edges = 0; nodes = m }
+    → RowsAt text (p .next) (p .at)
+start-rows text some place e p m d =
+    let first = place-start text (omega (arith, text-count text)) in
+    subst (λ (p : Progress). RowsAt text (p .next) (p .at)) (sym d)
+    (subst (λ (y : ℕ). RowsAt text 0 y) (sym e) first)
 
 -- ---- the end
 whole-stands : (H : Graph) (R : List (List ℕ)) (p : Progress) (st : State) → Stands H p st

@@ -2,7 +2,7 @@
 use mathlib.Core.Path.{_≡_}
 use mathlib.Core.Bool.{Bool, true, false, cond}
 use mathlib.Core.List.{List, []}
-use Prim.Native.Nat.{ℕ, _+_, _-_, _^_, _<_}
+use Prim.Native.Nat.{ℕ, _+_, _-_, _*_, _^_, _≤_, _<_}
 use lib.ListN.{length, getD, drop}
 use lib.Dec.{ltb}
 use Rattle.masks.specs.Masks.{member}
@@ -58,16 +58,32 @@ abbrev pub Stands : Graph → Progress → State → Type 0
 Stands H p (reached n es vs) = Reaches H p n es vs
 Stands H p failed = p .ok ≡ false
 
--- From p, the replay of the next row for an edge s on the nodes L, with so many calls left, came to q.
-pub record Applied (G : Grammar) (H : Graph) (text : List ℕ) (s : ℕ) (L : List ℕ) (left : ℕ) (p q : Progress) : Type 0 where
-  pub onward : q .ok ≡ true → RowsAt text (q .next) (q .at)
-  pub stands : (es vs : List ℕ) → Reaches H p (p .next) es vs → Stands H q (replayAt left G H (textRows text) s L (reached (p .next) es vs))
+-- ---- what is left
+-- The applications left, from row n on, where each counts ten: it has at most eight edges.
+abbrev pub leftAt : List ℕ → ℕ → ℕ
+leftAt text n = 10 * (length (textRows text) - n)
 
--- From p, the replay of the edges from i on of the row's rule came to q.
-pub record Followed (G : Grammar) (H : Graph) (text row : List ℕ) (i left : ℕ) (p q : Progress) : Type 0 where
+-- The edges left of the row's rule, from edge i on, and their end, with the applications left.
+abbrev pub leftFrom : Grammar → List ℕ → List ℕ → ℕ → ℕ → ℕ
+leftFrom G text row i n = leftAt text n + (length (rightOf G (ruleIn row) .edges) - i) + 1
+
+-- From p, the replay of the next row for an edge s on the nodes L came to q; the definition says so with as many calls
+-- as are left, or more.
+pub record Applied (G : Grammar) (H : Graph) (text : List ℕ) (s : ℕ) (L : List ℕ) (p q : Progress) : Type 0 where
   pub onward : q .ok ≡ true → RowsAt text (q .next) (q .at)
-  pub stands : (es vs : List ℕ) → Reaches H p (p .next) es vs
-      → Stands H q (replayEdges left G H (textRows text) (placeIn (rightOf G (ruleIn row)) row) (drop i (rightOf G (ruleIn row) .edges)) (drop i (fieldsIn (rightOf G (ruleIn row)) row)) (reached (p .next) es vs))
+  pub further : q .ok ≡ true → p .next ≤ q .next
+  pub stands : (calls : ℕ) → leftAt text (p .next) ≤ calls → (es vs : List ℕ) → Reaches H p (p .next) es vs
+      → Stands H q (replayAt calls G H (textRows text) s L (reached (p .next) es vs))
+
+-- From p, the replay of the edges from i on of the row's rule came to q; the definition says so with as many calls as
+-- are left, or more.
+pub record Followed (G : Grammar) (H : Graph) (text row : List ℕ) (i : ℕ) (p q : Progress) : Type 0 where
+  pub onward : q .ok ≡ true → RowsAt text (q .next) (q .at)
+  pub further : q .ok ≡ true → p .next ≤ q .next
+  pub stands : (calls : ℕ) → leftFrom G text row i (p .next) ≤ calls → (es vs : List ℕ) → Reaches H p (p .next) es vs
+      → Stands H q
+      (replayEdges calls G H (textRows text) (placeIn (rightOf G (ruleIn row)) row)
+      (drop i (rightOf G (ruleIn row) .edges)) (drop i (fieldsIn (rightOf G (ruleIn row)) row)) (reached (p .next) es vs))
 
 -- ---- the parts of a row
 -- the row names a rule, and has the fields that this needs

@@ -6,6 +6,9 @@ use lib.ListN.{length, drop}
 use lib.Dec.{eqb, ltb}
 use Rattle.format.specs.Lines.{Line, lineOf, isEnded}
 use Rattle.format.specs.Fields.{numberOf}
+use Rattle.format.specs.Shape.{letterOf, letterKind, shapeOf}
+use Rattle.format.specs.declared.Letter.{Letter}
+use Rattle.format.specs.declared.Letter.the-variants.{Other}
 use Rattle.hrg.specs.Grammars.{Grammar, lhsOf, rightOf}
 use Rattle.scripts.specs.Scripts.{opens}
 use Rattle.preorder.specs.Replay.{numberIn, ruleIn}
@@ -13,6 +16,10 @@ use Rattle.preorder.specs.Replay.{numberIn, ruleIn}
 -- the line at a place of a text
 abbrev pub lineFrom : List ℕ → ℕ → Line
 lineFrom text from = record { bytes = lineOf (drop from text); ended = isEnded text from }
+
+-- the letter of an ended line of the shape, `Other` of every other line
+unfoldable pub letterIn : Line → Letter
+letterIn l = cond (l .ended && shapeOf (l .bytes)) (letterKind (letterOf (l .bytes))) Other
 
 -- how many rows the first line says, 0 where it does not open the file
 unfoldable pub saidCount : List ℕ → ℕ

@@ -18,22 +18,47 @@ ghost use Rattle.questions.specs.Abstract.{grammarOf, graphOf};
 ghost use Rattle.joins.specs.Joins.{Accepted};
 ghost use Rattle.preorder.specs.Replay.{ruleIn, placeIn, newNodes};
 ghost use Rattle.replayer.specs.Fitting.{countIn, nodeIn, fourOf, newIn, withAll, takenIf, rowPasses, edgePasses, SizedRow};
-ghost use Rattle.replayer.specs.RowParts.{lineFrom, saidCount, headPasses};
+ghost use Rattle.replayer.specs.RowParts.{lineFrom, letterIn, saidCount, headPasses};
 use crate::Taken;
+use format::Letter;
 
 // ---- the lines of a derivation file
-// Whether the line that was found at `from` is an ended one of the shape, with this letter.
-fn has_letter(text: &[u8], from: usize, line: &[u8], letter: u8) -> bool
+// The letter of the line that was found at `from`, where that is an ended one of the shape.
+fn letter_at(text: &[u8], from: usize, line: &[u8]) -> Letter
     requires { ⌜ (from ≤ length (now text)) × (now line ≡ lineOf (drop from (now text))) ⌝ }
-    ensures { λ r. ⌜ r ≡ hasLetter letter (lineFrom (now (text .entry)) from) ⌝ }
+    ensures { λ r. ⌜ r ≡ letterIn (lineFrom (now (text .entry)) from) ⌝ }
 {
     if !lines::ends(text, from, line) {
-        return false;
+        return Letter::Other;
     }
     if !lines::shape(line) {
-        return false;
+        return Letter::Other;
     }
-    lines::letter_byte(line) == letter
+    lines::letter_kind(line)
+}
+
+// Whether the line that was found at `from` is one that says how many applications follow.
+fn is_count(text: &[u8], from: usize, line: &[u8]) -> bool
+    requires { ⌜ (from ≤ length (now text)) × (now line ≡ lineOf (drop from (now text))) ⌝ }
+    ensures { λ r. ⌜ r ≡ hasLetter 68 (lineFrom (now (text .entry)) from) ⌝ }
+{
+    let letter = letter_at(text, from, line);
+    match letter {
+        Letter::D => true,
+        _ => false,
+    }
+}
+
+// Whether the line that was found at `from` is the row of an application.
+fn is_row(text: &[u8], from: usize, line: &[u8]) -> bool
+    requires { ⌜ (from ≤ length (now text)) × (now line ≡ lineOf (drop from (now text))) ⌝ }
+    ensures { λ r. ⌜ r ≡ hasLetter 65 (lineFrom (now (text .entry)) from) ⌝ }
+{
+    let letter = letter_at(text, from, line);
+    match letter {
+        Letter::A => true,
+        _ => false,
+    }
 }
 
 // How many applications the first line says, 0 where it does not open the file.
@@ -41,7 +66,7 @@ fn said_count(text: &[u8]) -> u64
     ensures { λ r. ⌜ r ≡ saidCount (now (text .entry)) ⌝ }
 {
     let line = lines::next_line(text, 0);
-    if !has_letter(text, 0, line, 68) {
+    if !is_count(text, 0, line) {
         return 0;
     }
     if lines::field_count(line) != 1 {
@@ -69,7 +94,7 @@ pub(crate) fn row_count(text: &[u8]) -> u64
     let mut k: u64 = 0;
     while k < n {
         let line = lines::next_line(text, at);
-        if !has_letter(text, at, line, 65) {
+        if !is_row(text, at, line) {
             return 0;
         }
         at = lines::behind(text, at, line);

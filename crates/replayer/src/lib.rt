@@ -82,23 +82,20 @@ fn part_at(grammar: &[u64], row: &[u64], i: u64) -> Part
     }
 }
 
-// ---- the replay: `left` calls are left
-// The next row, for an edge s on the listed nodes. Its numbers are read once, for all that is asked of them.
+// ---- the replay: an application and its edge list call each other, and the applications and edges left fall
+// The next row, for an edge s on the listed nodes; where the file has none left, it is refused. Its numbers are read
+// once, for all that is asked of them.
 fn application(
     grammar: &[u64],
     graph: &[u64],
     text: &[u8],
     s: u64,
     listed: &[u64; 4],
-    left: u64,
     st: &mut [u64],
 ) -> bool
     requires { ⌜ Accepted (now grammar) (now graph) × RowsAt (now text) (getD (now st) 0 0) (getD (now st) 1 0) × (length (now listed) ≡ 4) × (length (now st) ≡ 4) ⌝ }
-    ensures { λ r. ⌜ Applied (grammarOf (now (grammar .entry))) (graphOf (now (grammar .entry)) (now (graph .entry))) (now (text .entry)) s (take (rankOf (grammarOf (now (grammar .entry))) s) (now (listed .entry))) left (progressIn true (now (st .entry))) (progressIn r (now (st .exit))) ⌝ }
+    ensures { λ r. ⌜ Applied (grammarOf (now (grammar .entry))) (graphOf (now (grammar .entry)) (now (graph .entry))) (now (text .entry)) s (take (rankOf (grammarOf (now (grammar .entry))) s) (now (listed .entry))) (progressIn true (now (st .entry))) (progressIn r (now (st .exit))) ⌝ }
 {
-    if left == 0 {
-        return false;
-    }
     let at = st[1] as usize;
     if text.len() <= at {
         return false;
@@ -112,7 +109,7 @@ fn application(
         Taken::Not => false,
         Taken::With(nodes) => {
             open_row(text, line, nodes, st);
-            edge_list(grammar, graph, text, row, 0, left - 1, st)
+            edge_list(grammar, graph, text, row, 0, st)
         }
     }
 }
@@ -124,15 +121,11 @@ fn edge_list(
     text: &[u8],
     row: &[u64],
     i: u64,
-    left: u64,
     st: &mut [u64],
 ) -> bool
     requires { ⌜ Accepted (now grammar) (now graph) × SizedRow (grammarOf (now grammar)) (graphOf (now grammar) (now graph)) (now row) × RowsAt (now text) (getD (now st) 0 0) (getD (now st) 1 0) × (length (now st) ≡ 4) ⌝ }
-    ensures { λ r. ⌜ Followed (grammarOf (now (grammar .entry))) (graphOf (now (grammar .entry)) (now (graph .entry))) (now (text .entry)) (now (row .entry)) i left (progressIn true (now (st .entry))) (progressIn r (now (st .exit))) ⌝ }
+    ensures { λ r. ⌜ Followed (grammarOf (now (grammar .entry))) (graphOf (now (grammar .entry)) (now (graph .entry))) (now (text .entry)) (now (row .entry)) i (progressIn true (now (st .entry))) (progressIn r (now (st .exit))) ⌝ }
 {
-    if left == 0 {
-        return false;
-    }
     let part = part_at(grammar, row, i);
     match part {
         Part::End => true,
@@ -141,7 +134,7 @@ fn edge_list(
                 return false;
             }
             use_edge(st, g);
-            edge_list(grammar, graph, text, row, i + 1, left - 1, st)
+            edge_list(grammar, graph, text, row, i + 1, st)
         }
         Part::Application(s, number) => {
             if number != st[0] {
@@ -149,10 +142,10 @@ fn edge_list(
             }
             let mut listed = [64u64; 4];
             fitting::list_nodes(grammar, graph, row, i, &mut listed);
-            if !application(grammar, graph, text, s, &listed, left - 1, st) {
+            if !application(grammar, graph, text, s, &listed, st) {
                 return false;
             }
-            edge_list(grammar, graph, text, row, i + 1, left - 1, st)
+            edge_list(grammar, graph, text, row, i + 1, st)
         }
     }
 }
@@ -184,16 +177,16 @@ fn mask_of(listed: [u64; 4], n: u64) -> u64
     mask
 }
 
-// The replay of the n rows of the text, from one edge with the start symbol on the external nodes. A row takes at most ten calls.
-fn from_start(grammar: &[u64], graph: &[u64], text: &[u8], n: u64, st: &mut [u64]) -> bool
-    requires { ⌜ Accepted (now grammar) (now graph) × (n ≡ countIn (rowsIn (now text))) × (0 < n) × (now st ≡ replicate 4 0) ⌝ }
+// The replay of the rows of the text, from one edge with the start symbol on the external nodes.
+fn from_start(grammar: &[u64], graph: &[u64], text: &[u8], st: &mut [u64]) -> bool
+    requires { ⌜ Accepted (now grammar) (now graph) × (0 < countIn (rowsIn (now text))) × (now st ≡ replicate 4 0) ⌝ }
     ensures { λ r. ⌜ Stands (graphOf (now (grammar .entry)) (now (graph .entry))) (progressIn r (now (st .exit))) (replayed (grammarOf (now (grammar .entry))) (graphOf (now (grammar .entry)) (now (graph .entry))) (textRows (now (text .entry)))) ⌝ }
 {
     let s = layout::start_symbol(grammar);
     let listed = externals(graph);
     st[1] = lines::after_line(text, 0) as u64;
     st[3] = mask_of(listed, layout::rank_at(grammar, s));
-    application(grammar, graph, text, s, &listed, 10 * n, st)
+    application(grammar, graph, text, s, &listed, st)
 }
 
 // Whether all n rows, graph edges and graph nodes are used.
@@ -216,7 +209,7 @@ pub fn passes(grammar: &[u64], graph: &[u64], text: &[u8]) -> bool
         return false;
     }
     let mut st = [0u64; 4];
-    if !from_start(grammar, graph, text, n, &mut st) {
+    if !from_start(grammar, graph, text, &mut st) {
         return false;
     }
     is_whole(graph, n, &st)

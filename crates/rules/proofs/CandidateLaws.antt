@@ -1,9 +1,10 @@
--- A graph edge that makes nothing with a record: of another label, in the record's set, or on another node than the map has at a place.
-use mathlib.Core.Path.{_≡_, refl, sym, ap, _∙_}
+-- A graph edge that makes nothing with an item: of another label, in the item's set, or on another node than the map has at a place.
+use mathlib.Core.Path.{_≡_, refl, sym, ap, _∙_, subst}
 use mathlib.Core.Bool.{Bool, true, false, _&&_, not, cond, false≢true, or-true}
 use mathlib.Core.List.{List, [], _∷_, _++_, map}
-use Prim.Native.Nat.{ℕ, _+_, _-_, _*_, _%_, _^_, _≤_, _<_}
+use Prim.Native.Nat.{ℕ, zero, suc, _+_, _-_, _*_, _%_, _^_, _≤_, _<_}
 use native.Mathlib.Omega.{arith}
+use native.Mathlib.Numerals.{add-one}
 use lib.ListN.{length, getD, take}
 use lib.Seq.{getD-take}
 use lib.Bits.{bitAnd}
@@ -20,7 +21,7 @@ use Rattle.hrg.proofs.Degrees.{test-T, and-true}
 use Rattle.hrg.proofs.Plans.{introduce-known}
 use Rattle.agenda.specs.Records.{recordOf, itemOf}
 use Rattle.agenda.specs.Consequences.{terminalAt, withTerminal}
-use Rattle.agenda.specs.declared.Record.{Record}
+use Rattle.agenda.specs.declared.ChartItem.{ChartItem}
 use Rattle.questions.specs.Layout.{rankAt, ruleNodes, ruleEdges, rulePlan, edgeLabel, edgeNode, planKind, planFirst, planSecond, graphEdges, graphLabel, graphNode}
 use Rattle.questions.specs.Abstract.{planFrom, grammarOf, graphOf}
 use Rattle.joins.specs.Joins.{Accepted, KnownEdge}
@@ -76,7 +77,7 @@ module _ (G : Grammar) (r p want : ℕ) (few : want < 64) where
       go false true e = omega arith
       go false false e = omega arith
 
-module _ (g h : List ℕ) (accepted : Accepted g h) (x : Record) where
+module _ (g h : List ℕ) (accepted : Accepted g h) (x : ChartItem) where
   abbrev G : Grammar
   G = grammarOf g
 
@@ -89,7 +90,7 @@ module _ (g h : List ℕ) (accepted : Accepted g h) (x : Record) where
   as-pair : (e : ℕ) → e < graphEdges h → items e ≡ binaryOf G H (itemOf G x) (passive (edgeAt (H .edges) e .label) (single e) (nodesOf g h e))
   as-pair e l = edge-pair G H e (graph-ok g h accepted .terminals e (omega (arith, graph-size g h))) (itemOf G x)
 
-  -- ---- an edge of the record's own set
+  -- ---- an edge of the item's own set
   own-none : (e : ℕ) → e < graphEdges h → member (x .edges) e ≡ true → items e ≡ []
   own-none e l m =
       as-pair e l ∙ binary-apart G H (itemOf G x) (passive (edgeAt (H .edges) e .label) (single e) (nodesOf g h e)) (ap (λ k. disjoint k (single e)) (item-edges G x) ∙ go (disjoint (x .edges) (single e)) refl)
@@ -104,7 +105,7 @@ module _ (g h : List ℕ) (accepted : Accepted g h) (x : Record) where
   pub candidates-passive : (x .kind ≡ 0 → ⊥) → Candidates g h x 0
   candidates-passive n = record { known = λ e l t. none-known e t; others = λ e l t. terminal-passive G H x e (ne-eqb (x .kind) 0 n) }
 
-  -- ---- what an active record wants
+  -- ---- what an active item wants
   module _ (isActive : x .kind ≡ 0) (want : ℕ) (is : want ≡ wantOf G (x .of) (x .plan)) where
     x-is : itemOf G x ≡ active (x .of) (x .plan) (x .edges) (take (rightOf G (x .of) .nodes) (x .nodes))
     x-is = item-active G x (eq-eqb (x .kind) 0 isActive)
@@ -147,7 +148,7 @@ module _ (g h : List ℕ) (accepted : Accepted g h) (x : Record) where
               label = ap (λ j. edgeAt (rightOf G (x .of) .edges) j .label) same ∙ label;
             }
 
-      -- the edges of the label that are not in the record's set
+      -- the edges of the label that are not in the item's set
       module _ (small : x .edges < 2 ^ 64) (t : List ℕ) (table : GraphTable g h t) where
         labelled : (e : ℕ) → e < 64 → member (getD t (257 + want) 0) e ≡ (ltb e (graphEdges h) && marks g h e (257 + want))
         labelled e l = table .marked (257 + want) e (omega arith) (omega arith) l
@@ -169,8 +170,18 @@ module _ (g h : List ℕ) (accepted : Accepted g h) (x : Record) where
             go e l true s m =
                 own-none e l (not-false (member (x .edges) e) (sym (ap (λ b. b && not (member (x .edges) e)) (marked e l (eqb-true (graphLabel h e) want s))) ∙ m))
 
+-- ---- the edges of m that have the image a k at each place k before n, where that is one
+unfoldable pub fitted : List ℕ → (ℕ → ℕ) → ℕ → ℕ → ℕ
+fitted t a zero m = m
+fitted t a (suc k) m = let rest = fitted t a k m in cond (ltb (a k) 64) (bitAnd rest (getD t (321 + 64 * k + a k) 0)) rest
+
+pub fitted-next : (t : List ℕ) (a : ℕ → ℕ) (k m v rest r : ℕ) → rest ≡ fitted t a k m → v ≡ a k → r ≡ cond (ltb v 64) (bitAnd rest (getD t (321 + 64 * k + v) 0)) rest
+    → r ≡ fitted t a (k + 1) m
+unfolding fitted
+fitted-next t a k m v rest r e d is = is ∙ rw (e, d, add-one k)
+
 -- ---- an edge on another node than the map has
-module _ (g h : List ℕ) (x : Record) (want i : ℕ) (up : Introduces g h x want i) (eight : length (x .nodes) ≡ 8) where
+module _ (g h : List ℕ) (x : ChartItem) (want i : ℕ) (up : Introduces g h x want i) (eight : length (x .nodes) ≡ 8) where
   abbrev 𝐆 : Grammar
   𝐆 = grammarOf g
 
@@ -286,15 +297,28 @@ module _ (g h : List ℕ) (x : Record) (want i : ℕ) (up : Introduces g h x wan
               other-node e l k y a place node image few
               (λ p r. false≢true (sym (sym (ap (λ b. b && member w e) s) ∙ q) ∙ marked-place e l p r))
 
-    pub candidates-next : (r : ℕ) → r ≡ cond (ltb a 64) (bitAnd m (getD t (321 + 64 * k + a) 0)) m → Candidates g h x r
+    candidates-next : (r : ℕ) → r ≡ cond (ltb a 64) (bitAnd m (getD t (321 + 64 * k + a) 0)) m → Candidates g h x r
     candidates-next r e = rw e (go (ltb a 64) refl)
       where
         go : (b : Bool) → ltb a 64 ≡ b → Candidates g h x (cond b (bitAnd m (getD t (321 + 64 * k + a) 0)) m)
         go true s = narrow (ltb-true a 64 s)
         go false s = c
 
+  -- all places before n
+  places-fitted : (t : List ℕ) → GraphTable g h t → (n m : ℕ) → n ≤ rankAt g want → Candidates g h x m
+      → Candidates g h x (fitted t (λ k. getD (x .nodes) (edgeNode g (x .of) i k) 0) n m)
+  unfolding fitted
+  places-fitted t table zero m l c = c
+  places-fitted t table (suc k) m l c =
+      candidates-next t table k (edgeNode g (x .of) i k) _ _ (place-known k (rankAt g want) refl (omega arith)) refl refl
+      (places-fitted t table k m (omega arith) c) _ refl
+
+  pub candidates-fitted : (t : List ℕ) → GraphTable g h t → (n m r : ℕ) → n ≤ rankAt g want → Candidates g h x m
+      → r ≡ fitted t (λ k. getD (x .nodes) (edgeNode g (x .of) i k) 0) n m → Candidates g h x r
+  candidates-fitted t table n m r l c e = subst (Candidates g h x) (sym e) (places-fitted t table n m l c)
+
 -- ---- what steps read off the answer
-pub no-terminal : (g h : List ℕ) (x : Record) (m : ℕ) → Candidates g h x m → (n j e : ℕ) → e < graphEdges h → member m e ≡ false
+pub no-terminal : (g h : List ℕ) (x : ChartItem) (m : ℕ) → Candidates g h x m → (n j e : ℕ) → e < graphEdges h → member m e ≡ false
     → withTerminal (grammarOf g) (graphOf g h) (itemOf (grammarOf g) x) n j e ≡ []
 no-terminal g h x m c n j e l t =
     with-terminal (grammarOf g) (graphOf g h) (itemOf (grammarOf g) x) n j e ∙ ap (map (λ (i : Item). recordOf i n j e)) (c .others e l t)

@@ -1,5 +1,5 @@
--- Which graph nodes the places of a map show, and that a record shows each open one.
-use mathlib.Core.Path.{_≡_, sym, ap, _∙_, subst}
+-- Which graph nodes the places of a map show, and that an item shows each open one.
+use mathlib.Core.Path.{_≡_, sym, ap, _∙_}
 use mathlib.Core.Bool.{Bool, true, _&&_, false≢true}
 use mathlib.Core.List.{List}
 use Prim.Native.Nat.{ℕ, zero, suc, _+_, _≤_, _<_}
@@ -16,7 +16,7 @@ use Rattle.hrg.proofs.Degrees.{and-true}
 use Rattle.questions.specs.Layout.{rankAt, ruleCount, ruleNodes, rulePlan}
 use Rattle.questions.specs.Checking.{checkGrammar}
 use Rattle.questions.specs.Abstract.{graphOf}
-use Rattle.records.specs.Words.{ofWords}
+use Rattle.agenda.specs.declared.ChartItem.{ChartItem}
 use Rattle.joins.specs.Joins.{KnownNode, OpenAt, OpenIn, Plain}
 use Rattle.joins.proofs.Known.{nodes-few}
 use Rattle.joins.proofs.PlanMasks.{member-none}
@@ -25,7 +25,6 @@ use Rattle.joins.proofs.Openness.{spans-none, either-way}
 use Rattle.joins.proofs.EdgeMaps.{at-past}
 use Rattle.joins.proofs.MapLaws.{getD-any}
 use Rattle.rules.specs.Coverage.{Shown, Covering}
-use Rattle.rules.proofs.RecordWords.{mapIn, map-words}
 
 -- ---- eight tests, for any place
 module _ (l : List ℕ) (size : length l ≡ 8) where
@@ -91,53 +90,41 @@ known-by g r p rules nodes checked a x b y = record { grammar = checked; rule = 
 pub known-few : (g : List ℕ) (r p n : ℕ) → KnownNode g r p → n ≡ ruleNodes g r → n ≤ 8
 known-few g r p n known e = omega (arith, e, nodes-few g r (known .grammar) (known .rule))
 
--- ---- what a record shows
-module _ (g w : List ℕ) (long : length w ≡ 16) where
-  -- a place of the map in the words
-  place-of : (i v : ℕ) → at (mapIn w) i ≡ v → at (ofWords w .nodes) i ≡ v
-  place-of i v e = ap (λ (l : List ℕ). at l i) (map-words w long) ∙ e
-
-  pub shown-passive : (chosen n set : ℕ) → (getD w 0 0 ≡ 0 → ⊥) → n ≡ rankAt g (getD w 1 0) → Imaged (mapIn w) chosen n set → (v : ℕ) → v < 64 → member set v ≡ true → Shown g (ofWords w) v
-  unfolding ofWords
+-- ---- what an item shows
+module _ (g : List ℕ) (x : ChartItem) where
+  pub shown-passive : (chosen n set : ℕ) → (x .kind ≡ 0 → ⊥) → n ≡ rankAt g (x .of) → Imaged (x .nodes) chosen n set
+      → (v : ℕ) → v < 64 → member set v ≡ true → Shown g x v
   shown-passive chosen n set other rank imaged v h p = record {
     active = λ e. absurd (other e);
-    passive = λ _. let (i, a, _, c) = imaged v h p in (i, omega (arith, a, rank), place-of i v c);
+    passive = λ _. let (i, a, _, c) = imaged v h p in (i, omega (arith, a, rank), c);
   }
 
-  pub shown-active : (o n set : ℕ) → getD w 0 0 ≡ 0 → KnownNode g (getD w 1 0) (getD w 2 0) → n ≡ ruleNodes g (getD w 1 0) → OpenAt g (getD w 1 0) (getD w 2 0) o → Imaged (mapIn w) o n set
-      → (v : ℕ) → v < 64 → member set v ≡ true → Shown g (ofWords w) v
-  unfolding ofWords
+  pub shown-active : (o n set : ℕ) → x .kind ≡ 0 → KnownNode g (x .of) (x .plan) → n ≡ ruleNodes g (x .of) → OpenAt g (x .of) (x .plan) o
+      → Imaged (x .nodes) o n set → (v : ℕ) → v < 64 → member set v ≡ true → Shown g x v
   shown-active o n set kind known size opened imaged v h p = record {
     active = λ _.
         let (i, a, b, c) = imaged v h p in
-        let inside : i < ruleNodes g (getD w 1 0) = omega (arith, a, size) in
-        (i, inside, sym (opened .members i (omega (arith, nodes-few g (getD w 1 0) (known .grammar) (known .rule)))) ∙ b, place-of i v c);
+        let inside : i < ruleNodes g (x .of) = omega (arith, a, size) in
+        (i, inside, sym (opened .members i (omega (arith, nodes-few g (x .of) (known .grammar) (known .rule)))) ∙ b, c);
     passive = λ other. absurd (other kind);
   }
 
   -- the empty set
-  pub shown-none : (v : ℕ) → v < 64 → member 0 v ≡ true → Shown g (ofWords w) v
+  pub shown-none : (v : ℕ) → v < 64 → member 0 v ≡ true → Shown g x v
   shown-none v h p = absurd (false≢true (sym (member-none v) ∙ p))
 
--- ---- a record that shows each
-module _ (g h w : List ℕ) (long : length w ≡ 16) (plain : Plain (mapIn w)) where
-  nodes-plain : Plain (ofWords w .nodes)
-  nodes-plain = subst Plain (sym (map-words w long)) plain
-
+-- ---- an item that shows each
+module _ (g h : List ℕ) (x : ChartItem) (plain : Plain (x .nodes)) where
   -- no edges have no open nodes
-  pub covering-none : getD w 3 0 ≡ 0 → Covering g h (ofWords w)
-  unfolding ofWords
+  pub covering-none : x .edges ≡ 0 → Covering g h x
   covering-none e = record {
-    plain = nodes-plain;
+    plain = plain;
     shown = λ v l p. absurd (false≢true (sym (member-none v) ∙ spans-none g h 0 .each v l (ap (λ m. isOpen (graphOf g h) m v) (sym e) ∙ p)));
   }
 
-  pub covering-all : (nodes set : ℕ) → OpenIn g h (getD w 3 0) nodes → ((v : ℕ) → v < 64 → member set v ≡ true → Shown g (ofWords w) v) → eqb (bitAnd nodes set) nodes ≡ true → Covering g h (ofWords w)
-  unfolding ofWords
-  covering-all nodes set opened each e = record {
-    plain = nodes-plain;
-    shown = λ v l p. each v l (there v (opened .members v l ∙ p));
-  }
+  pub covering-all : (nodes set : ℕ) → OpenIn g h (x .edges) nodes → ((v : ℕ) → v < 64 → member set v ≡ true → Shown g x v)
+      → eqb (bitAnd nodes set) nodes ≡ true → Covering g h x
+  covering-all nodes set opened each e = record { plain = plain; shown = λ v l p. each v l (there v (opened .members v l ∙ p)) }
     where
       there : (v : ℕ) → member nodes v ≡ true → member set v ≡ true
       there v p = and-true (member nodes v) (member set v) (sym (member-both nodes set v) ∙ ap (λ k. member k v) (eqb-true (bitAnd nodes set) nodes e) ∙ p) .1

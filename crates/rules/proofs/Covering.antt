@@ -1,4 +1,4 @@
--- What the rules make of records that show each open graph node of their edges does so too.
+-- What the rules make of items that show each open graph node of their edges does so too.
 use mathlib.Core.Path.{_≡_, refl, sym, ap, _∙_, subst}
 use mathlib.Core.Bool.{Bool, true, not, false≢true}
 use mathlib.Core.List.{List, [], _∷_}
@@ -18,7 +18,7 @@ use Rattle.hrg.proofs.Sums.{occurs-find}
 use Rattle.hrg.proofs.Degrees.{and-true}
 use Rattle.hrg.proofs.Plans.{below-root}
 use Rattle.hrg.proofs.ReplacementToTrees.{at-images}
-use Rattle.agenda.specs.declared.Record.{Record}
+use Rattle.agenda.specs.declared.ChartItem.{ChartItem}
 use Rattle.questions.specs.Layout.{rankAt, ruleCount, ruleSymbol, ruleNodes, rulePlan}
 use Rattle.questions.specs.Checking.{checkGrammar}
 use Rattle.questions.specs.Abstract.{grammarOf, graphOf}
@@ -32,23 +32,16 @@ use Rattle.rules.specs.Coverage.{Covering}
 use Rattle.rules.specs.Rules.{Second}
 use Rattle.rules.proofs.NodeLists.{externals-size}
 
--- ---- the maps of two records
-pub first-holds : (g h : List ℕ) (x : Record) (f : List ℕ) → x .kind ≡ 0 → x .nodes ≡ f → Covering g h x → Holds g h (x .edges) (ruleNodes g (x .of)) f × Plain f
-first-holds g h x f isActive e covering = (
-  record {
-    each = λ v l p.
-        let (i, inside, _, image) = covering .shown v l p .active isActive in
-        (i, inside, ap (λ (f : List ℕ). at f i) (sym e) ∙ image);
-  },
-  subst Plain e (covering .plain),
+-- ---- the maps of two items
+pub first-holds : (g h : List ℕ) (x : ChartItem) → x .kind ≡ 0 → Covering g h x → Holds g h (x .edges) (ruleNodes g (x .of)) (x .nodes) × Plain (x .nodes)
+first-holds g h x isActive covering = (
+  record { each = λ v l p. let (i, inside, _, image) = covering .shown v l p .active isActive in (i, inside, image) },
+  covering .plain,
 )
 
-pub second-holds : (g h : List ℕ) (r q : ℕ) (y : Record) (t : List ℕ) (b : Bool) (f : List ℕ) → f ≡ t → Second g r q y t b → b ≡ true → Covering g h y → Holds g h (y .edges) (ruleNodes g r) f
-second-holds g h r q y t b f e second is covering = record {
-  each = λ v l p.
-      let (i, inside, image) = second .held is v (covering .shown v l p) in
-      (i, inside, ap (λ (f : List ℕ). at f i) e ∙ image);
-}
+pub second-holds : (g h : List ℕ) (r q : ℕ) (y : ChartItem) (t : List ℕ) (b : Bool) → Second g r q y t b → b ≡ true → Covering g h y
+    → Holds g h (y .edges) (ruleNodes g r) t
+second-holds g h r q y t b second is covering = record { each = λ v l p. second .held is v (covering .shown v l p) }
 
 -- ---- the item that they make
 module _ (g h : List ℕ) (r q m₁ m₂ : ℕ) (f k t : List ℕ) (accepted : Accepted g h) (known : KnownNode g r q) (first : Plain f) (eight : length f ≡ 8) (second : Plain k) (eight′ : length k ≡ 8) where
@@ -59,8 +52,8 @@ module _ (g h : List ℕ) (r q m₁ m₂ : ℕ) (f k t : List ℕ) (accepted : A
   few = nodes-few g r (known .grammar) (known .rule)
 
   pub made-covering : (b : Bool) → Makes (combine (graphOf g h) (ruleOf (grammarOf g) r) r q m₁ m₂ (take n f) (take n k)) r q (m₁ ∪ m₂) t b → b ≡ true
-      → (count handled a c : ℕ) → Covering g h (record { kind = 0; of = r; plan = q; edges = m₁ ∪ m₂; count = count; handled = handled; nodes = t; first = a; second = c })
-  made-covering b makes is count handled a c =
+      → (count : ℕ) → Covering g h (record { kind = 0; of = r; plan = q; edges = m₁ ∪ m₂; count = count; nodes = t })
+  made-covering b makes is count =
       let made = subst (Makes (combine (graphOf g h) (ruleOf (grammarOf g) r) r q m₁ m₂ (take n f) (take n k)) r q (m₁ ∪ m₂) t) is makes in
       record {
         plain =
@@ -93,7 +86,7 @@ plain-images F [] plain i = omega arith
 plain-images F (x ∷ xs) plain zero = plain x
 plain-images F (x ∷ xs) plain (suc i) = plain-images F xs plain i
 
-module _ (g h : List ℕ) (x : Record) (checked : checkGrammar g ≡ true) (known : x .of < ruleCount g) (isActive : x .kind ≡ 0) (root : suc (x .plan) ≡ rulePlan g (x .of)) (eight : length (x .nodes) ≡ 8) (covering : Covering g h x) where
+module _ (g h : List ℕ) (x : ChartItem) (checked : checkGrammar g ≡ true) (known : x .of < ruleCount g) (isActive : x .kind ≡ 0) (root : suc (x .plan) ≡ rulePlan g (x .of)) (eight : length (x .nodes) ≡ 8) (covering : Covering g h x) where
   abbrev F : List ℕ
   F = take (ruleNodes g (x .of)) (x .nodes)
 
@@ -101,8 +94,8 @@ module _ (g h : List ℕ) (x : Record) (checked : checkGrammar g ≡ true) (know
   ext = rightOf (grammarOf g) (x .of) .externals
 
   pub root-covering : (s : ℕ) (l : List ℕ) → s ≡ ruleSymbol g (x .of) → l ≡ padded (images F ext)
-      → (count a : ℕ) → Covering g h (record { kind = 1; of = s; plan = 0; edges = x .edges; count = count; handled = 0; nodes = l; first = a; second = 0 })
-  root-covering s l qs ql count a = record {
+      → (count : ℕ) → Covering g h (record { kind = 1; of = s; plan = 0; edges = x .edges; count = count; nodes = l })
+  root-covering s l qs ql count = record {
     plain = subst Plain (sym ql) (plain-padded (images F ext) (plain-images F ext (plain-take (ruleNodes g (x .of)) (x .nodes) (omega (arith, eight, nodes-few g (x .of) checked known)) (covering .plain))));
     shown = λ v few p.
         let (i, inside, o, image) = covering .shown v few p .active isActive in

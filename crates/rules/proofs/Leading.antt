@@ -1,4 +1,4 @@
--- A record whose plan node is the first child of the one above it never comes second, and any other never first.
+-- An item whose plan node is the first child of the one above it never comes second, and any other never first.
 use mathlib.Core.Path.{_≡_, refl, sym, ap, ap₂, _∙_}
 use mathlib.Core.Bool.{Bool, true, false, _&&_, not, cond, false≢true}
 use mathlib.Core.List.{List, [], _∷_}
@@ -14,7 +14,7 @@ use Rattle.hrg.specs.WellFormed.{children, allChildren}
 use Rattle.hrg.specs.ClosureRun.{guard, eachTo, combine, nonterminalAt, joinAt, binaryOf}
 use Rattle.hrg.proofs.Sums.{hit-self, occurs-append}
 use Rattle.agenda.specs.Records.{itemOf}
-use Rattle.agenda.specs.declared.Record.{Record}
+use Rattle.agenda.specs.declared.ChartItem.{ChartItem}
 use Rattle.questions.specs.Layout.{planKind, planFirst, planSecond}
 use Rattle.questions.specs.Checking.{checkGrammar}
 use Rattle.questions.specs.Abstract.{grammarOf, planFrom}
@@ -104,8 +104,8 @@ child-some [] c q = omega arith
 child-some (n ∷ pl) c zero = omega (arith, occurs-append c (children n) (allChildren pl))
 child-some (n ∷ pl) c (suc q) = omega (arith, child-some pl c q, occurs-append c (children n) (allChildren pl))
 
--- ---- a record below a plan node
-module _ (g : List ℕ) (checked : checkGrammar g ≡ true) (x : Record) where
+-- ---- an item below a plan node
+module _ (g : List ℕ) (checked : checkGrammar g ≡ true) (x : ChartItem) where
   abbrev G : Grammar
   G = grammarOf g
 
@@ -155,7 +155,7 @@ module _ (g : List ℕ) (checked : checkGrammar g ≡ true) (x : Record) where
           let lower : x .plan < q = child-lower g (x .of) (x .plan) checked (known .rule) q (omega arith) (omega arith) in
           omega (arith, child-some pl (x .plan) q, plan-ok g (x .of) checked (known .rule) .child-once (x .plan) (omega arith))
 
-      second-none : c ≡ x .plan → (H : Graph) (y : Record) (t : Bool) → eqb (y .kind) 0 ≡ t → binaryOf G H (itemOf G y) (itemOf G x) ≡ []
+      second-none : c ≡ x .plan → (H : Graph) (y : ChartItem) (t : Bool) → eqb (y .kind) 0 ≡ t → binaryOf G H (itemOf G y) (itemOf G x) ≡ []
       second-none n H y true t = ap₂ (binaryOf G H) (item-active G y t) item ∙ binary-earlier G H _ _ _ _ (not-second n) _ _ _ _
       second-none n H y false t = pair-passive G H y x t
 

@@ -5,18 +5,18 @@ use mathlib.Core.List.{List, [], _∷_, _++_}
 use Prim.Native.Nat.{ℕ, _+_, _<_}
 use native.Mathlib.Omega.{arith}
 use native.Mathlib.Decide.{decLt}
-use lib.ListN.{length, getD, take, List·getD-eq-default}
+use lib.ListN.{length, getD, List·getD-eq-default}
 use lib.Dec.{eqb}
 use borrow.Author.Tests.{eq-eqb, eqb-true, lt-ltb}
-use Rattle.hrg.specs.Counts.{hit, occurs}
-use Rattle.hrg.specs.Grammars.{Rule, Graph, Grammar, noRule, PlanNode, leaf, introduce, join, ruleOf, rankOf, rightOf, planOf, planNode, edgeAt}
-use Rattle.hrg.specs.Items.{Item, active, passive, attach}
+use Rattle.hrg.specs.Counts.{occurs}
+use Rattle.hrg.specs.Grammars.{Rule, Graph, Grammar, noRule, PlanNode, leaf, introduce, join, ruleOf, rightOf, planOf, planNode, edgeAt}
+use Rattle.hrg.specs.Items.{active, passive}
 use Rattle.hrg.specs.WellFormed.{children}
-use Rattle.hrg.specs.ClosureRun.{guard, eachTo, combine, nonterminalAt, joinAt, binaryOf}
+use Rattle.hrg.specs.ClosureRun.{guard, nonterminalAt, joinAt, binaryOf}
 use Rattle.hrg.proofs.Sums.{hit-self, none-left}
 use Rattle.hrg.proofs.Plans.{introduce-known, join-lower}
 use Rattle.agenda.specs.Records.{itemOf}
-use Rattle.agenda.specs.declared.Record.{Record}
+use Rattle.agenda.specs.declared.ChartItem.{ChartItem}
 use Rattle.questions.specs.Layout.{ruleCount, ruleEdges, rulePlan}
 use Rattle.questions.specs.Checking.{checkGrammar}
 use Rattle.questions.specs.Abstract.{grammarOf}
@@ -143,8 +143,8 @@ module _ (g : List ℕ) (checked : checkGrammar g ≡ true) where
               (λ x y. let s : a ≡ p′ = eqb-true a p′ x in
               unwanted (omega (arith, s, few r′ q l a b e .0)) (ap₂ (λ r p. wantOf G r p) (sym t) (sym (eqb-true b p y)) ∙ want-first r′ q l a b e ∙ ap (λ n. 64 + n) s))
 
--- ---- two records
-module _ (g : List ℕ) (checked : checkGrammar g ≡ true) (H : Graph) (x y : Record) (want : ℕ) (is : want ≡ wantOf (grammarOf g) (x .of) (x .plan)) where
+-- ---- two items of a chart
+module _ (g : List ℕ) (checked : checkGrammar g ≡ true) (H : Graph) (x y : ChartItem) (want : ℕ) (is : want ≡ wantOf (grammarOf g) (x .of) (x .plan)) where
   abbrev 𝐆 : Grammar
   𝐆 = grammarOf g
 

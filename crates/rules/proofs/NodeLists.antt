@@ -1,10 +1,10 @@
 -- Lists of graph nodes in eight places: the first of another list, the images of a rule's external nodes, and the nodes of a graph edge.
-use mathlib.Core.Path.{_≡_, refl, sym, ap, _∙_, subst}
+use mathlib.Core.Path.{_≡_, refl, sym, ap, _∙_}
 use mathlib.Core.Bool.{true}
 use mathlib.Core.List.{List, _∷_, map}
 use Prim.Native.Nat.{ℕ, zero, suc, _+_, _≤_, _<_}
 use native.Mathlib.Omega.{arith}
-use lib.ListN.{length, getD, set, take, replicate}
+use lib.ListN.{length, getD, set, take}
 use lib.Seq.{getD-take, length-take-le}
 use Rattle.hrg.specs.Counts.{tabulate}
 use Rattle.hrg.specs.Grammars.{Edge, Rule, rightOf, edgeAt}
@@ -16,7 +16,7 @@ use Rattle.questions.specs.Abstract.{ruleFrom, grammarOf, graphOf}
 use Rattle.questions.proofs.WellFormedLists.{tabulate-list}
 use Rattle.questions.proofs.WellFormedAccepted.{rule-is}
 use Rattle.joins.proofs.Known.{rule-ok, right-nodes, nodes-few}
-use Rattle.joins.proofs.MapLaws.{getD-any, Placed, placed-none, placed-next, placed-all}
+use Rattle.joins.proofs.MapLaws.{getD-any, Placed, placed-next, placed-all}
 use Rattle.joins.proofs.GraphLaws.{graph-edge, edge-nodes}
 
 map-tabulate : (n : ℕ) (t f : ℕ → ℕ) → map t (tabulate n f) ≡ tabulate n (λ k. t (f k))
@@ -25,9 +25,6 @@ map-tabulate zero t f = refl
 map-tabulate (suc n) t f = ap (λ (l : List ℕ). t (f 0) ∷ l) (map-tabulate n t (λ k. f (suc k)))
 
 -- ---- the first places of a list
-pub copied-none : (l t : List ℕ) → t ≡ replicate 8 unplaced → Placed (λ x. at l x) 0 t
-copied-none l t e = subst (Placed (λ x. at l x) 0) (sym e) (placed-none (λ x. at l x))
-
 module _ (l : List ℕ) (eight : length l ≡ 8) where
   pub copied-next : (i : ℕ) (t : List ℕ) → i < 8 → Placed (λ x. at l x) i t → Placed (λ x. at l x) (i + 1) (set t i (getD l i 0))
   copied-next i t h before = placed-next (λ x. at l x) i (getD l i 0) t h (getD-any l i 0 unplaced (omega arith)) before
@@ -61,9 +58,6 @@ module _ (g : List ℕ) (r : ℕ) (checked : checkGrammar g ≡ true) (known : r
   module _ (f : List ℕ) (eight : length f ≡ 8) where
     abbrev pub image : ℕ → ℕ
     image k = at (take (ruleNodes g r) f) (ruleExternal g r k)
-
-    pub image-none : (l : List ℕ) → l ≡ replicate 8 unplaced → Placed image 0 l
-    image-none l e = subst (Placed image 0) (sym e) (placed-none image)
 
     pub image-next : (k x : ℕ) (l : List ℕ) → k < rank → rank ≤ 4 → x ≡ ruleExternal g r k → Placed image k l → Placed image (k + 1) (set l k (getD f x 0))
     image-next k x l h few e before =

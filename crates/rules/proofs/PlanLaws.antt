@@ -28,7 +28,7 @@ use Rattle.joins.proofs.Touching.{open-none}
 use Rattle.joins.proofs.EdgeMaps.{edge-label-few, nodes-word-few}
 use Rattle.rules.specs.declared.plans.Parent.{Parent}
 use Rattle.rules.specs.Rules.{ParentOf, Childless}
-use Rattle.rules.specs.Plans.{edgeWord, secondWord, joinWord, ParentAt, WordsAt, PlacedAt, PlanTable}
+use Rattle.rules.specs.Plans.{planTableWords, edgeWord, secondWord, joinWord, ParentAt, WordsAt, PlacedAt, PlanTable}
 use Rattle.rules.specs.Filling.{ChildOf, Placed, Put, ToldTo}
 use Rattle.rules.proofs.Parents.{child-leaf, child-introduce, child-join, child-lower, once, parent-found, above-unknown, above-past}
 use Rattle.rules.proofs.Leading.{child-some}
@@ -87,22 +87,24 @@ module _ (g : List ℕ) (r p q w o : ℕ) (known : KnownNode g r q) (child : Chi
   filled = record { none = λ z. absurd (omega (arith, word, word-some g r p q)); some = λ z. there }
 
 -- ---- what it asks for beside its first child
+pub edge-told : (g : List ℕ) (r i : ℕ) → KnownEdge g r i → (label n : ℕ) → label ≡ edgeLabel g r i → n ≡ nodesWord g r i
+    → (label + 64 * n ≡ edgeWord g r i) × (label + 64 * n < 16777216)
+unfolding edgeWord
+edge-told g r i known label n a b = (rw (a, b), omega (arith, edge-label-few g r i known, nodes-word-few g r i known))
+
 module _ (g : List ℕ) (r q : ℕ) (known : KnownNode g r q) (kind second : ℕ) (a : kind ≡ planKind g r q) (d : second ≡ planSecond g r q) where
   pub edge-there : kind ≡ 1 → KnownEdge g r second
   edge-there e = subst (KnownEdge g r) (sym d) (second-known g r q known (sym a ∙ e))
 
-  pub edge-asked : (e : kind ≡ 1) (label n : ℕ) → label ≡ edgeLabel g r second → n ≡ nodesWord g r second → (1 + 4 * (label + 64 * n) ≡ secondWord g r q) × (1 + 4 * (label + 64 * n) < 67108864)
-  unfolding secondWord edgeWord
-  edge-asked e label n b c = (
-    rw (eq-eqb (planKind g r q) 1 (sym a ∙ e), ← d, b, c) refl,
-    omega (arith, edge-label-few g r second (edge-there e), nodes-word-few g r second (edge-there e)),
-  )
+  pub edge-asked : kind ≡ 1 → (w : ℕ) → w ≡ edgeWord g r second → 1 + 4 * w ≡ secondWord g r q
+  unfolding secondWord
+  edge-asked e w is = rw (eq-eqb (planKind g r q) 1 (sym a ∙ e), ← d, is)
 
-  pub child-asked : (kind ≡ 0 → ⊥) → (kind ≡ 1 → ⊥) → (2 + 4 * second ≡ secondWord g r q) × (2 + 4 * second < 67108864)
+  pub child-asked : (planKind g r q ≡ 0 → ⊥) → (kind ≡ 1 → ⊥) → (2 + 4 * second ≡ secondWord g r q) × (2 + 4 * second < 67108864)
   unfolding secondWord
   child-asked x y = (
     rw (ne-eqb (planKind g r q) 1 (λ e. y (a ∙ e)), ← d) refl,
-    omega (arith, join-both g r q known kind (planFirst g r q) second a refl d x y, below-few g r q known),
+    omega (arith, join-both g r q known kind (planFirst g r q) second a refl d (λ e. x (sym a ∙ e)) y, below-few g r q known),
   )
 
 -- ---- its first child, where it has children
@@ -153,7 +155,7 @@ open-small g r q o known opened small = bits-lt 32 o (λ e l. far e l (decLt e 6
     far e l (no d) = lt-bits 64 o e small (omega arith)
 
 -- ---- one place
-pub placed : (t : List ℕ) (r p w o : ℕ) → length t ≡ 2048 → r < 64 → p < 16 → Placed t (set (set t (16 * r + p) w) (1024 + (16 * r + p)) o) (16 * r + p) w o
+pub placed : (t : List ℕ) (r p w o : ℕ) → length t ≡ planTableWords → r < 64 → p < 16 → Placed t (set (set t (16 * r + p) w) (1024 + (16 * r + p)) o) (16 * r + p) w o
 placed t r p w o size a b = record {
   size = length-set (set t i w) (1024 + i) o ∙ one;
   word = getD-set-other (set t i w) (1024 + i) i o 0 (λ e. omega arith) ∙ getD-set-same t i w 0 (omega (arith, size));
@@ -164,14 +166,14 @@ placed t r p w o size a b = record {
     i : ℕ
     i = 16 * r + p
 
-    one : length (set t i w) ≡ 2048
+    one : length (set t i w) ≡ planTableWords
     one = length-set t i w ∙ size
 
     apart : (k : ℕ) → (k ≡ 1024 + i → ⊥) → (k ≡ i → ⊥) → getD (set (set t i w) (1024 + i) o) k 0 ≡ getD t k 0
     apart k x y = getD-set-other (set t i w) (1024 + i) k o 0 x ∙ getD-set-other t i k w 0 y
 
 -- ---- the children of one plan node
-module _ (g : List ℕ) (r q o : ℕ) (t : List ℕ) (known : KnownNode g r q) (size : length t ≡ 2048) where
+module _ (g : List ℕ) (r q o : ℕ) (t : List ℕ) (known : KnownNode g r q) (size : length t ≡ planTableWords) where
   child-of : (p : ℕ) → ltb 0 (occurs p (children (planNode (planOf (grammarOf g) r) q))) ≡ true → ChildOf g r p q
   child-of p e = ltb-true 0 _ e
 
@@ -252,13 +254,13 @@ module _ (g : List ℕ) (r q o : ℕ) (t : List ℕ) (known : KnownNode g r q) (
               (x .0 ∙ y .0, x .1 ∙ y .1)
 
 -- ---- the table
-pub told-none : (g : List ℕ) → ToldTo g (replicate 2048 0) 0 0
+pub told-none : (g : List ℕ) → ToldTo g (replicate planTableWords 0) 0 0
 told-none g = record {
   size = refl;
   rules = λ r p l. absurd (omega arith);
   told = λ p q l. absurd (omega arith);
-  rest = λ p a l n. getD-replicate 2048 (16 * 0 + p) 0 0 (omega arith);
-  after = λ k l m. getD-replicate 2048 k 0 0 (omega arith);
+  rest = λ p a l n. getD-replicate planTableWords (16 * 0 + p) 0 0 (omega arith);
+  after = λ k l m. getD-replicate planTableWords k 0 0 (omega arith);
 }
 
 module _ (g t u : List ℕ) (r q o : ℕ) (known : KnownNode g r q) (opened : OpenAt g r q o) (before : ToldTo g t r q) (put : Put g r q o t u) where

@@ -7,9 +7,10 @@ use native.Mathlib.Omega.{arith}
 use native.Mathlib.Decide.{decLt}
 use lib.ListN.{length, take}
 use lib.Seq.{getD-take, length-take-le}
+use lib.Bits.{bitOr}
 use lib.Dec.{eqb}
 use borrow.Author.Tests.{eq-eqb, ne-eqb, ltb-true}
-use Rattle.masks.specs.Masks.{disjoint, single, Added}
+use Rattle.masks.specs.Masks.{_∪_, disjoint, single, Added}
 use Rattle.masks.specs.Laws.{bit-empty, union-of}
 use Rattle.hrg.specs.Counts.{occurs}
 use Rattle.hrg.specs.Grammars.{Edge, Graph, PlanNode, leaf, introduce, join, Rule, Grammar, rankOf, ruleOf, rightOf, planOf, planNode, edgeAt}
@@ -18,18 +19,19 @@ use Rattle.hrg.specs.Items.{Item, active, passive, isOpen, attach}
 use Rattle.hrg.specs.WellFormed.{children, EdgeOk}
 use Rattle.hrg.specs.ClosureRun.{guard, combine, nonterminalAt, joinAt, binaryOf}
 use Rattle.hrg.proofs.Sums.{none-left, occurs-at, occurs-find}
-use Rattle.agenda.specs.Records.{recordOf, itemOf, plus}
+use Rattle.agenda.specs.Records.{chartItem, recordOf, itemOf, plus}
 use Rattle.agenda.specs.Consequences.{withTerminal, pair}
+use Rattle.agenda.specs.declared.ChartItem.{ChartItem}
 use Rattle.agenda.specs.declared.Record.{Record}
-use Rattle.records.specs.Words.{ofWords}
 use Rattle.questions.specs.Layout.{rankAt, ruleNodes, edgeLabel, planKind, planFirst, planSecond, graphEdges, graphLabel}
 use Rattle.questions.specs.Abstract.{grammarOf, graphOf}
 use Rattle.questions.proofs.WellFormedLent.{checked-grammar-ok}
 use Rattle.rules.specs.declared.Place.{Place}
+use Rattle.rules.specs.declared.Made.{Made}
 use Rattle.joins.specs.Joins.{Accepted, KnownNode, KnownEdge, BareFrom, Plain, Makes, edgeNodes}
 use Rattle.rules.specs.Plans.{secondWord}
 use Rattle.rules.specs.Coverage.{Shown, Covering}
-use Rattle.rules.specs.Rules.{Rest, Into, Second, terminalItems, binaryAt, Above}
+use Rattle.rules.specs.Rules.{Gives, Second, terminalItems, binaryAt, madeOf, Above}
 use Rattle.joins.proofs.Known.{right-nodes, nodes-few, plan-size, graph-size, graph-nodes, graph-ok, graph-edges-few, graph-nodes-few}
 use Rattle.joins.proofs.PlanMasks.{node-is, joined-is}
 use Rattle.joins.proofs.EdgeMaps.{edge-ok, edge-label as rule-label, edge-rank, rank-cap, node-there, edge-node-known, at-padded, at-past, take-padded, padded-bare, length-attach, attach-place}
@@ -37,6 +39,7 @@ use Rattle.joins.proofs.Openness.{open-single}
 use Rattle.joins.proofs.Showing.{plain-padded, plain-take, plain-attach}
 use Rattle.rules.proofs.JoinWords.{introduced, second-edge, asked-known, asked-label, second-other}
 use Rattle.rules.proofs.NodeLists.{label-is, edge-ranked}
+use Rattle.rules.proofs.Covering.{made-covering}
 use Rattle.rules.proofs.RuleItems.{guard-none, binary-nowhere, binary-place, firstIs, first-none, item-active, item-passive, item-edges, with-terminal, binary-apart, pair-passive, edge-pair}
 
 -- ---- the one plan node above
@@ -55,7 +58,7 @@ module _ (g : List ℕ) (H : Graph) (r p m : ℕ) (f : List ℕ) (x : Place) (ab
   binary-missing : x .found ≡ false → (b : Item) → binaryOf (grammarOf g) H (active r p m f) b ≡ []
   binary-missing found b = binary-nowhere (grammarOf g) H r p m f (above .nowhere found .none) b
 
-pub terminal-passive : (G : Grammar) (H : Graph) (x : Record) (e : ℕ) → eqb (x .kind) 0 ≡ false → terminalItems G H (itemOf G x) e ≡ []
+pub terminal-passive : (G : Grammar) (H : Graph) (x : ChartItem) (e : ℕ) → eqb (x .kind) 0 ≡ false → terminalItems G H (itemOf G x) e ≡ []
 unfolding terminalItems
 terminal-passive G H x e h = ap (λ (i : Item). terminalItems G H i e) (item-passive G x h)
 
@@ -93,7 +96,7 @@ module _ (g : List ℕ) (r q : ℕ) (known : KnownNode g r q) where
       go false true = ne-eqb (planFirst g r q) p other
       go false false = ne-eqb (planFirst g r q) p other
 
-  module _ (y : Record) (t : List ℕ) where
+  module _ (y : ChartItem) (t : List ℕ) where
     second-none : ((H : Graph) (p m : ℕ) (f : List ℕ) → binaryAt G H (active r p m f) (itemOf G y) q ≡ []) → Second g r q y t false
     second-none h = record { none = λ _. h; some = λ e. absurd (false≢true e); bare = λ e. absurd (false≢true e); held = λ e. absurd (false≢true e); plain = λ e. absurd (false≢true e) }
 
@@ -155,8 +158,8 @@ module _ (g : List ℕ) (r q : ℕ) (known : KnownNode g r q) where
             filled-items isPassive H p m f
             ∙ ap (λ b. guard b (joint H m f)) (and-no (eqb (planFirst g r q) p) (eqb (y .of) (edge .label)) (ne-eqb (y .of) (edge .label) (λ s. e (label ∙ sym (s ∙ edge-label))))))
 
-        pub filled-made : w / 4 % 64 ≡ y .of → (places : List ℕ) → y .nodes ≡ places → length places ≡ 8 → t ≡ padded (attach n (edgeNodes g r i) (take (rankAt g (edgeLabel g r i)) places)) → Second g r q y t true
-        filled-made s places nodes eight t-is =
+        pub filled-made : w / 4 % 64 ≡ y .of → length (y .nodes) ≡ 8 → t ≡ padded (attach n (edgeNodes g r i) (take (rankAt g (edgeLabel g r i)) (y .nodes))) → Second g r q y t true
+        filled-made s eight t-is =
             second-some
             (λ H p m f d.
             filled-items isPassive H p m f
@@ -173,23 +176,22 @@ module _ (g : List ℕ) (r q : ℕ) (known : KnownNode g r q) where
               ap (λ (t : List ℕ). at t x) t-is
                   ∙ at-padded (attach n (edge .attachment) L) x (omega (arith, inside, nodes-few g r (known .grammar) (known .rule)))
                   ∙ attach-place n (edge .attachment) L k x (edge-ok g r i edge-known .listed .once) (omega (arith, there, edge-rank g r i edge-known)) (omega (arith, there, long)) refl inside
-                  ∙ getD-take rank places k unplaced there
-                  ∙ ap (λ (l : List ℕ). at l k) (sym nodes)
+                  ∙ getD-take rank (y .nodes) k unplaced there
                   ∙ e,
             ))
-            (λ plain. subst Plain (sym t-is) (plain-padded (attach n (edge .attachment) L) (plain-attach n (edge .attachment) L (plain-take rank places short (subst Plain nodes plain)))))
+            (λ plain. subst Plain (sym t-is) (plain-padded (attach n (edge .attachment) L) (plain-attach n (edge .attachment) L (plain-take rank (y .nodes) short plain))))
           where
             rank : ℕ
             rank = rankAt g (edgeLabel g r i)
 
             L : List ℕ
-            L = take rank places
+            L = take rank (y .nodes)
 
-            short : rank ≤ length places
+            short : rank ≤ length (y .nodes)
             short = omega (arith, eight, rank-cap g (edgeLabel g r i))
 
             long : length L ≡ rank
-            long = length-take-le rank places short
+            long = length-take-le rank (y .nodes) short
 
             same : y .of ≡ edge .label
             same = sym s ∙ label ∙ sym edge-label
@@ -200,8 +202,7 @@ module _ (g : List ℕ) (r q : ℕ) (known : KnownNode g r q) where
             map-is : attach (R .production .right .nodes) (edge .attachment) (take (rankOf G (y .of)) (y .nodes)) ≡ take n t
             map-is =
                 ap₂ (λ (s t : ℕ). attach s (edge .attachment) (take t (y .nodes))) size ranks
-                ∙ ap (λ (l : List ℕ). attach n (edge .attachment) (take (rankAt g (edgeLabel g r i)) l)) nodes
-                ∙ sym (ap (take n) t-is ∙ take-padded n (attach n (edge .attachment) (take (rankAt g (edgeLabel g r i)) places)) (length-attach n (edge .attachment) _)
+                ∙ sym (ap (take n) t-is ∙ take-padded n (attach n (edge .attachment) (take (rankAt g (edgeLabel g r i)) (y .nodes))) (length-attach n (edge .attachment) _)
                 (nodes-few g r (known .grammar) (known .rule)))
 
     -- the join rule
@@ -247,35 +248,32 @@ module _ (g : List ℕ) (r q : ℕ) (known : KnownNode g r q) where
             ∙ ap (λ b. guard (eqb r (y .of)) (guard b (both H m f (take (rightOf G (y .of) .nodes) (y .nodes))))) (and-no (eqb (planFirst g r q) p) (eqb d (y .plan)) (ne-eqb d (y .plan) e))
             ∙ guard-none (eqb r (y .of)))
 
-        pub joined-made : y .of ≡ r → d ≡ y .plan → (places : List ℕ) → y .nodes ≡ places → length places ≡ 8 → (size′ : ℕ) → size′ ≡ n → t ≡ padded (take size′ places) → Second g r q y t true
-        joined-made s e places nodes eight size′ is t-is′ =
+        pub joined-made : y .of ≡ r → d ≡ y .plan → length (y .nodes) ≡ 8 → (size′ : ℕ) → size′ ≡ n → t ≡ padded (take size′ (y .nodes)) → Second g r q y t true
+        joined-made s e eight size′ is t-is′ =
             second-some
             (λ H p m f c.
             joined-items H p m f
             ∙ ap (λ b. guard b (guard (eqb (planFirst g r q) p && eqb d (y .plan)) (both H m f (take (rightOf G (y .of) .nodes) (y .nodes))))) (eq-eqb r (y .of) (sym s))
             ∙ ap₂ (λ a b. guard (a && b) (both H m f (take (rightOf G (y .of) .nodes) (y .nodes)))) (eq-eqb (planFirst g r q) p c) (eq-eqb d (y .plan) e)
-            ∙ ap (both H m f) (ap (λ i. take (rightOf G i .nodes) (y .nodes)) s ∙ ap₂ (λ (i : ℕ) (l : List ℕ). take i l) size nodes ∙ sym (ap (take n) t-is ∙ take-padded n (take n places) long few)))
-            (subst (BareFrom n) (sym t-is) (padded-bare n (take n places) (omega (arith, long))))
+            ∙ ap (both H m f) (ap (λ i. take (rightOf G i .nodes) (y .nodes)) s ∙ ap (λ i. take i (y .nodes)) size ∙ sym (ap (take n) t-is ∙ take-padded n (take n (y .nodes)) long few)))
+            (subst (BareFrom n) (sym t-is) (padded-bare n (take n (y .nodes)) (omega (arith, long))))
             (λ v shown.
             let (i, l, _, e′) = shown .active isActive in
             let inside : i < n = omega (arith, l, ap (ruleNodes g) s) in (
               i,
               inside,
-              ap (λ (t : List ℕ). at t i) t-is ∙ at-padded (take n places) i (omega (arith, inside, few)) ∙ getD-take n places i unplaced inside ∙ ap (λ (l : List ℕ). at l i) (sym nodes) ∙ e′,
+              ap (λ (t : List ℕ). at t i) t-is ∙ at-padded (take n (y .nodes)) i (omega (arith, inside, few)) ∙ getD-take n (y .nodes) i unplaced inside ∙ e′,
             ))
-            (λ plain. subst Plain (sym t-is) (plain-padded (take n places) (plain-take n places (omega (arith, few, eight)) (subst Plain nodes plain))))
+            (λ plain. subst Plain (sym t-is) (plain-padded (take n (y .nodes)) (plain-take n (y .nodes) (omega (arith, few, eight)) plain)))
           where
             few : n ≤ 8
             few = nodes-few g r (known .grammar) (known .rule)
 
-            long : length (take n places) ≡ n
-            long = length-take-le n places (omega (arith, few))
+            long : length (take n (y .nodes)) ≡ n
+            long = length-take-le n (y .nodes) (omega (arith, few))
 
-            t-is : t ≡ padded (take n places)
-            t-is = t-is′ ∙ ap (λ i. padded (take i places)) is
-
-pub rest-same : (x : Record) → Rest x x
-rest-same x = record { kind = refl; count = refl; handled = refl; first = refl; second = refl }
+            t-is : t ≡ padded (take n (y .nodes))
+            t-is = t-is′ ∙ ap (λ i. padded (take i (y .nodes))) is
 
 -- ---- over accepted tables
 module _ (g h : List ℕ) where
@@ -286,19 +284,15 @@ module _ (g h : List ℕ) where
   H = graphOf g h
 
   -- ---- answers
-  pub into-none : (sure : Bool) (l : List Item) (w v : List ℕ) → l ≡ [] → Rest (ofWords w) (ofWords v) → Into g h sure l w false v
-  into-none sure l w v e rest = record { none = λ _. e; one = λ p. absurd (false≢true p); covering = λ _ p. absurd (false≢true p); rest = rest }
+  pub gives-none : (sure : Bool) (l : List Item) (n : ℕ) (x : ChartItem) → l ≡ [] → Gives g h sure l n (record { ok = false; item = x })
+  gives-none sure l n x e = record { none = λ _. e; one = λ p. absurd (false≢true p); covering = λ _ p. absurd (false≢true p) }
 
-  pub into-same : (sure : Bool) (l k : List Item) (w v : List ℕ) (z : Bool) → l ≡ k → Into g h sure l w z v → Into g h sure k w z v
-  into-same sure l k w v z e a = record {
-    none = λ p. sym e ∙ a .none p;
-    one = λ p. ap (map (λ (i : Item). recordOf i (ofWords w .count) (ofWords w .first) (ofWords w .second))) (sym e) ∙ a .one p;
-    covering = a .covering;
-    rest = a .rest;
-  }
+  pub gives-same : (sure : Bool) (l k : List Item) (n : ℕ) (m : Made) → l ≡ k → Gives g h sure l n m → Gives g h sure k n m
+  gives-same sure l k n m e a =
+      record { none = λ p. sym e ∙ a .none p; one = λ p. ap (map (λ (i : Item). chartItem i n)) (sym e) ∙ a .one p; covering = a .covering }
 
   -- ---- a pair
-  module _ (x y : Record) where
+  module _ (x y : ChartItem) where
     abbrev pairs : List Item
     pairs = binaryOf G′ H (itemOf G′ x) (itemOf G′ y)
 
@@ -323,32 +317,36 @@ module _ (g h : List ℕ) where
           pub pair-neither : b ≡ false → pairs ≡ []
           pair-neither e = pair-at ∙ second .none e H _ _ _
 
-          pub pair-both : b ≡ true → planFirst g (x .of) (p .node) ≡ x .plan → (places : List ℕ) → x .nodes ≡ places
-              → combine H (ruleOf G′ (x .of)) (x .of) (p .node) (x .edges) (y .edges) (take (ruleNodes g (x .of)) places) (take (ruleNodes g (x .of)) t) ≡ pairs
-          pair-both e first places nodes =
+          pair-both : b ≡ true → planFirst g (x .of) (p .node) ≡ x .plan
+              → combine H (ruleOf G′ (x .of)) (x .of) (p .node) (x .edges) (y .edges) (take (ruleNodes g (x .of)) (x .nodes)) (take (ruleNodes g (x .of)) t) ≡ pairs
+          pair-both e first =
               let known = above .known found in
               sym
               (pair-at ∙ second .some e H _ _ _ first
-              ∙ ap₂ (λ (i : ℕ) (l : List ℕ). combine H (ruleOf G′ (x .of)) (x .of) (p .node) (x .edges) (y .edges) (take i l) (take (ruleNodes g (x .of)) t))
-              (right-nodes g (x .of) (known .grammar) (known .rule)) nodes)
+              ∙ ap (λ i. combine H (ruleOf G′ (x .of)) (x .of) (p .node) (x .edges) (y .edges) (take i (x .nodes)) (take (ruleNodes g (x .of)) t))
+              (right-nodes g (x .of) (known .grammar) (known .rule)))
 
-  -- the one item as a record
-  pub into-made : (sure : Bool) (l k : List Item) (r q m : ℕ) (t : List ℕ) (j : Bool) (w v : List ℕ) → Makes l r q m t j → l ≡ k
-      → ofWords v ≡ record { kind = 0; of = r; plan = q; edges = m; count = ofWords w .count; handled = 0; nodes = t; first = ofWords w .first; second = ofWords w .second }
-      → (sure ≡ true → j ≡ true → Covering g h (ofWords v)) → Rest (ofWords w) (ofWords v) → Into g h sure k w j v
-  into-made sure l k r q m t j w v makes e is covering rest = record {
-    none = λ p. sym e ∙ makes .none p;
-    one = λ p.
-        let one = makes .one p in
-        ap (map (λ (i : Item). recordOf i (ofWords w .count) (ofWords w .first) (ofWords w .second))) (sym e ∙ one .item)
-        ∙ ap (λ (t : List ℕ). record { kind = 0; of = r; plan = q; edges = m; count = ofWords w .count; handled = 0; nodes = t; first = ofWords w .first; second = ofWords w .second } ∷ []) (sym (one .places))
-        ∙ ap (λ (z : Record). z ∷ []) (sym is);
-    covering = covering;
-    rest = rest;
-  }
+          -- the one item
+          pub pair-made : (sure : Bool) (made : List ℕ) (j : Bool) (n : ℕ) → b ≡ true → planFirst g (x .of) (p .node) ≡ x .plan → length (x .nodes) ≡ 8 → length t ≡ 8
+              → Makes (combine H (ruleOf G′ (x .of)) (x .of) (p .node) (x .edges) (y .edges) (take (ruleNodes g (x .of)) (x .nodes)) (take (ruleNodes g (x .of)) t)) (x .of) (p .node) (x .edges ∪ y .edges) made j
+              → (sure ≡ true → Covering g h x) → (sure ≡ true → Covering g h y) → Accepted g h
+              → Gives g h sure pairs n (record { ok = j; item = record { kind = 0; of = x .of; plan = p .node; edges = bitOr (x .edges) (y .edges); count = n; nodes = made } })
+          unfolding _∪_
+          pair-made sure made j n e first eight eight′ makes covers-x covers-y accepted = record {
+            none = λ f. sym (pair-both e first) ∙ makes .none f;
+            one = λ f.
+                let one = makes .one f in
+                ap (map (λ (i : Item). chartItem i n)) (sym (pair-both e first) ∙ one .item) ∙ ap (λ (l : List ℕ). item l ∷ []) (sym (one .places));
+            covering = λ s f.
+                made-covering g h (x .of) (p .node) (x .edges) (y .edges) (x .nodes) t made accepted (above .known found) (covers-x s .plain) eight
+                (second .plain e (covers-y s .plain)) eight′ j makes f n;
+          }
+            where
+              item : List ℕ → ChartItem
+              item l = record { kind = 0; of = x .of; plan = p .node; edges = bitOr (x .edges) (y .edges); count = n; nodes = l }
 
   -- ---- a graph edge
-  module _ (x : Record) (e : ℕ) (accepted : Accepted g h) (known : e < graphEdges h) where
+  module _ (x : ChartItem) (e : ℕ) (accepted : Accepted g h) (known : e < graphEdges h) where
     abbrev graph-edge : Edge
     graph-edge = edgeAt (H .edges) e
 
@@ -372,10 +370,10 @@ module _ (g h : List ℕ) where
       edge-apart b t f =
           as-pair ∙ binary-apart G′ H (itemOf G′ x) (passive (graph-edge .label) (single e) (graph-edge .attachment)) (ap₂ disjoint (item-edges G′ x) (sym set-is) ∙ sym t ∙ f)
 
-      -- the record of the edge stands for the passive item
+      -- the item of the edge
       module _ (s : ℕ) (l : List ℕ) (label : s ≡ graphLabel h e) (nodes : l ≡ padded (graph-edge .attachment)) where
-        abbrev edge-record : Record
-        edge-record = record { kind = 1; of = s; plan = 0; edges = m; count = 0; handled = 0; nodes = l; first = 0; second = 0 }
+        abbrev edge-item : ChartItem
+        edge-item = record { kind = 1; of = s; plan = 0; edges = m; count = 0; nodes = l }
 
         ok : EdgeOk G′ (H .nodes) graph-edge
         ok = graph-ok g h accepted .side .edge e edge-inside
@@ -388,14 +386,14 @@ module _ (g h : List ℕ) where
             ap₂ (λ (k : ℕ) (l : List ℕ). take (rankOf G′ k) l) (label ∙ sym (label-is g h e known)) nodes
             ∙ take-padded (rankOf G′ (graph-edge .label)) (graph-edge .attachment) (ok .listed .ranked) few
 
-        y-is : itemOf G′ edge-record ≡ passive (graph-edge .label) (single e) (graph-edge .attachment)
+        y-is : itemOf G′ edge-item ≡ passive (graph-edge .label) (single e) (graph-edge .attachment)
         y-is =
-            item-passive G′ edge-record refl
-            ∙ ap₂ (λ (s m : ℕ). passive s m (take (rankOf G′ (edge-record .of)) l)) (label ∙ sym (label-is g h e known)) set-is
+            item-passive G′ edge-item refl
+            ∙ ap₂ (λ (s m : ℕ). passive s m (take (rankOf G′ (edge-item .of)) l)) (label ∙ sym (label-is g h e known)) set-is
             ∙ ap (passive (graph-edge .label) (single e)) list-is
 
         -- its open nodes are those of the edge
-        edge-covering : Covering g h edge-record
+        pub edge-covering : Covering g h edge-item
         edge-covering = record {
           plain = subst Plain (sym nodes) (plain-padded (graph-edge .attachment) (λ i. place i (decLt i (length (graph-edge .attachment)))));
           shown = λ v l p.
@@ -411,35 +409,30 @@ module _ (g h : List ℕ) where
             place i (yes d) = omega (arith, ok .listed .inside (at (graph-edge .attachment) i) (occurs-at (graph-edge .attachment) i d), graph-nodes g h, graph-nodes-few g h accepted)
             place i (no d) = omega (arith, at-past (graph-edge .attachment) i (omega (arith, d)))
 
-        pub edge-covers : (y : Record) → y ≡ edge-record → Covering g h y
-        edge-covers y is = subst (Covering g h) (sym is) edge-covering
-
-        pub edge-pairs : (y : Record) → y ≡ edge-record → binaryOf G′ H (itemOf G′ x) (itemOf G′ y) ≡ edge-items
-        edge-pairs y is = ap (λ (y : Record). binaryOf G′ H (itemOf G′ x) (itemOf G′ y)) is ∙ ap (binaryOf G′ H (itemOf G′ x)) y-is ∙ sym as-pair
+        pub edge-pairs : binaryOf G′ H (itemOf G′ x) (itemOf G′ edge-item) ≡ edge-items
+        edge-pairs = ap (binaryOf G′ H (itemOf G′ x)) y-is ∙ sym as-pair
 
   -- ---- what callers read off an answer: the records that the rule makes
-  module _ (sure : Bool) (x : Record) (w v : List ℕ) (z : Bool) where
-    module _ (y : Record) (j k : ℕ) (answer : Into g h sure (binaryOf G′ H (itemOf G′ x) (itemOf G′ y)) w z v) where
-      pub pair-none : z ≡ false → pair G′ H x j y k ≡ []
-      unfolding pair
-      pair-none p = ap (map (λ (i : Item). recordOf i (plus (x .count) (y .count)) j k)) (answer .none p)
+  fresh-records : (l : List Item) (n a b : ℕ) → map (λ (i : Item). recordOf i n a b) l ≡ map (λ (x : ChartItem). madeOf x a b) (map (λ (i : Item). chartItem i n) l)
+  fresh-records [] n a b = refl
+  fresh-records (i ∷ l) n a b = ap (λ (rs : List Record). recordOf i n a b ∷ rs) (fresh-records l n a b)
 
-      pub pair-one : z ≡ true → ofWords w .count ≡ plus (x .count) (y .count) → ofWords w .first ≡ j → ofWords w .second ≡ k → pair G′ H x j y k ≡ ofWords v ∷ []
-      unfolding pair
-      pair-one p n a b =
-          sym
-          (ap (λ i. map (λ (c : Item). recordOf c i (ofWords w .first) (ofWords w .second)) (binaryOf G′ H (itemOf G′ x) (itemOf G′ y))) n
-          ∙ ap₂ (λ (a b : ℕ). map (λ (c : Item). recordOf c (plus (x .count) (y .count)) a b) (binaryOf G′ H (itemOf G′ x) (itemOf G′ y))) a b)
-          ∙ answer .one p
+  module _ (sure : Bool) (m : Made) where
+    one-record : (l : List Item) (n a b : ℕ) → Gives g h sure l n m → m .ok ≡ true → map (λ (i : Item). recordOf i n a b) l ≡ madeOf (m .item) a b ∷ []
+    one-record l n a b answer p = fresh-records l n a b ∙ ap (map (λ (x : ChartItem). madeOf x a b)) (answer .one p)
 
-    module _ (n j e : ℕ) (answer : Into g h sure (terminalItems G′ H (itemOf G′ x) e) w z v) where
-      pub terminal-none : z ≡ false → withTerminal G′ H (itemOf G′ x) n j e ≡ []
+    module _ (x y : Record) (j k : ℕ) (answer : Gives g h sure (binaryOf G′ H (itemOf G′ (x .item)) (itemOf G′ (y .item))) (plus (x .item .count) (y .item .count)) m) where
+      pub pair-none : m .ok ≡ false → pair G′ H x j y k ≡ []
+      unfolding pair
+      pair-none p = ap (map (λ (i : Item). recordOf i (plus (x .item .count) (y .item .count)) j k)) (answer .none p)
+
+      pub pair-one : m .ok ≡ true → pair G′ H x j y k ≡ madeOf (m .item) j k ∷ []
+      unfolding pair
+      pair-one p = one-record (binaryOf G′ H (itemOf G′ (x .item)) (itemOf G′ (y .item))) (plus (x .item .count) (y .item .count)) j k answer p
+
+    module _ (x : ChartItem) (n j e : ℕ) (answer : Gives g h sure (terminalItems G′ H (itemOf G′ x) e) n m) where
+      pub terminal-none : m .ok ≡ false → withTerminal G′ H (itemOf G′ x) n j e ≡ []
       terminal-none p = with-terminal G′ H (itemOf G′ x) n j e ∙ ap (map (λ (i : Item). recordOf i n j e)) (answer .none p)
 
-      pub terminal-one : z ≡ true → ofWords w .count ≡ n → ofWords w .first ≡ j → ofWords w .second ≡ e → withTerminal G′ H (itemOf G′ x) n j e ≡ ofWords v ∷ []
-      terminal-one p c a b =
-          with-terminal G′ H (itemOf G′ x) n j e
-          ∙ sym
-          (ap (λ i. map (λ (c : Item). recordOf c i (ofWords w .first) (ofWords w .second)) (terminalItems G′ H (itemOf G′ x) e)) c
-          ∙ ap₂ (λ (a b : ℕ). map (λ (c : Item). recordOf c n a b) (terminalItems G′ H (itemOf G′ x) e)) a b)
-          ∙ answer .one p
+      pub terminal-one : m .ok ≡ true → withTerminal G′ H (itemOf G′ x) n j e ≡ madeOf (m .item) j e ∷ []
+      terminal-one p = with-terminal G′ H (itemOf G′ x) n j e ∙ one-record (terminalItems G′ H (itemOf G′ x) e) n j e answer p

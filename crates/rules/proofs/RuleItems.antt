@@ -17,7 +17,7 @@ use Rattle.hrg.specs.ClosureRun.{guard, eachTo, combine, isTerminal, withEdge, 
 use Rattle.hrg.proofs.Sums.{hit-self}
 use Rattle.agenda.specs.Records.{recordOf, itemOf}
 use Rattle.agenda.specs.Consequences.{terminalAt, withTerminal}
-use Rattle.agenda.specs.declared.Record.{Record}
+use Rattle.agenda.specs.declared.ChartItem.{ChartItem}
 use Rattle.rules.specs.Rules.{terminalItems, binaryAt}
 
 -- ---- lists by tests
@@ -118,12 +118,12 @@ first-none G H r p m f (passive s m′ L) q h = nonterminal-first H (ruleOf G r)
 first-none G H r p m f (active r′ p′ m′ k) q h =
     ap (guard (eqb r r′)) (join-first H (ruleOf G r) r p m f p′ m′ k q (planNode (planOf G r) q) h) ∙ guard-none (eqb r r′)
 
--- ---- records and items
-pub item-active : (G : Grammar) (x : Record) → eqb (x .kind) 0 ≡ true → itemOf G x ≡ active (x .of) (x .plan) (x .edges) (take (rightOf G (x .of) .nodes) (x .nodes))
+-- ---- items in eight places
+pub item-active : (G : Grammar) (x : ChartItem) → eqb (x .kind) 0 ≡ true → itemOf G x ≡ active (x .of) (x .plan) (x .edges) (take (rightOf G (x .of) .nodes) (x .nodes))
 unfolding itemOf
 item-active G x e = rw e
 
-pub item-passive : (G : Grammar) (x : Record) → eqb (x .kind) 0 ≡ false → itemOf G x ≡ passive (x .of) (x .edges) (take (rankOf G (x .of)) (x .nodes))
+pub item-passive : (G : Grammar) (x : ChartItem) → eqb (x .kind) 0 ≡ false → itemOf G x ≡ passive (x .of) (x .edges) (take (rankOf G (x .of)) (x .nodes))
 unfolding itemOf
 item-passive G x e = rw e
 
@@ -170,7 +170,7 @@ binary-apart G H (active r p m f) (passive s m′ L) h =
 binary-apart G H (active r p m f) (active r′ p′ m′ k) h =
     ap (guard (eqb r r′)) (each-none (length (planOf G r)) _ (λ q l. join-apart H (ruleOf G r) r p m f p′ m′ k q (planNode (planOf G r) q) h)) ∙ guard-none (eqb r r′)
 
-pub item-edges : (G : Grammar) (x : Record) → edgesOf (itemOf G x) ≡ x .edges
+pub item-edges : (G : Grammar) (x : ChartItem) → edgesOf (itemOf G x) ≡ x .edges
 unfolding itemOf
 item-edges G x = go (eqb (x .kind) 0)
   where
@@ -178,7 +178,7 @@ item-edges G x = go (eqb (x .kind) 0)
     go true = refl
     go false = refl
 
-module _ (G : Grammar) (H : Graph) (x y : Record) where
+module _ (G : Grammar) (H : Graph) (x y : ChartItem) where
   pub pair-apart : disjoint (x .edges) (y .edges) ≡ false → binaryOf G H (itemOf G x) (itemOf G y) ≡ []
   pair-apart h = binary-apart G H (itemOf G x) (itemOf G y) (ap₂ disjoint (item-edges G x) (item-edges G y) ∙ h)
 

@@ -10,12 +10,16 @@ use Rattle.hrg.specs.Grammars.{Graph, planOf, planNode}
 use Rattle.hrg.specs.WellFormed.{children}
 use Rattle.hrg.specs.ClosureRun.{binaryOf}
 use Rattle.agenda.specs.Records.{itemOf}
-use Rattle.agenda.specs.declared.Record.{Record}
+use Rattle.agenda.specs.declared.ChartItem.{ChartItem}
 use Rattle.questions.specs.Layout.{planKind, planFirst, planSecond, edgeLabel}
 use Rattle.questions.specs.Abstract.{grammarOf}
 use Rattle.joins.specs.Joins.{OpenAt, nodesWord}
 use Rattle.rules.specs.declared.plans.Parent.{Parent}
 use Rattle.rules.specs.Rules.{Above}
+
+-- words of the table: one for each plan node of each rule, in two halves
+abbrev pub planTableWords : ℕ
+planTableWords = 2048
 
 -- ---- a plan node as one number
 -- the label of edge i of rule r, and its nodes
@@ -58,7 +62,7 @@ pub record PlanTable (g t : List ℕ) : Type 0 where
   pub each : (r p : ℕ) → r < 64 → p < 16 → PlacedAt g t r p
   pub small : (k : ℕ) → getD t k 0 < 4294967296
 
--- where two records make something in some graph, x is only the first of them or only the second
-pub record Leads (g : List ℕ) (x : Record) (first : Bool) : Type 0 where
-  pub not : first ≡ false → (H : Graph) (y : Record) → binaryOf (grammarOf g) H (itemOf (grammarOf g) x) (itemOf (grammarOf g) y) ≡ []
-  pub yes : first ≡ true → (H : Graph) (y : Record) → binaryOf (grammarOf g) H (itemOf (grammarOf g) y) (itemOf (grammarOf g) x) ≡ []
+-- where two items make something in some graph, x is only the first of them or only the second
+pub record Leads (g : List ℕ) (x : ChartItem) (first : Bool) : Type 0 where
+  pub not : first ≡ false → (H : Graph) (y : ChartItem) → binaryOf (grammarOf g) H (itemOf (grammarOf g) x) (itemOf (grammarOf g) y) ≡ []
+  pub yes : first ≡ true → (H : Graph) (y : ChartItem) → binaryOf (grammarOf g) H (itemOf (grammarOf g) y) (itemOf (grammarOf g) x) ≡ []

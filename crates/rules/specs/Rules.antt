@@ -1,4 +1,4 @@
--- What one rule of the closure makes of one or two records of a chart, over accepted tables: at most one new active item.
+-- What one rule of the closure makes of one or two items of a chart, over accepted tables: at most one new item.
 use mathlib.Core.Path.{_≡_}
 use mathlib.Core.Bool.{Bool, true, false}
 use mathlib.Core.List.{List, [], _∷_, map}
@@ -10,16 +10,18 @@ use Rattle.hrg.specs.Grammars.{Grammar, Graph, ruleOf, planOf, planNode}
 use Rattle.hrg.specs.Trees.{at}
 use Rattle.hrg.specs.Items.{Item, active, passive}
 use Rattle.hrg.specs.WellFormed.{children}
-use Rattle.hrg.specs.ClosureRun.{guard, eachTo, combine, nonterminalAt, joinAt}
-use Rattle.agenda.specs.Records.{recordOf, itemOf}
+use Rattle.hrg.specs.ClosureRun.{guard, eachTo, combine, rootAt, nonterminalAt, joinAt}
+use Rattle.hrg.specs.AgendaRun.{Conclusion}
+use Rattle.agenda.specs.Records.{chartItem, itemOf, plus}
 use Rattle.agenda.specs.Consequences.{terminalAt}
+use Rattle.agenda.specs.declared.ChartItem.{ChartItem}
 use Rattle.agenda.specs.declared.Record.{Record}
-use Rattle.records.specs.Words.{ofWords}
 use Rattle.questions.specs.Layout.{ruleNodes, rulePlan, planFirst}
 use Rattle.questions.specs.Abstract.{grammarOf}
 use Rattle.joins.specs.Joins.{Accepted, KnownNode, BareFrom, Plain}
 use Rattle.rules.specs.Coverage.{Shown, Covering}
 use Rattle.rules.specs.declared.Place.{Place}
+use Rattle.rules.specs.declared.Made.{Made}
 
 -- ---- the rules
 -- the terminal rule with graph edge e
@@ -28,6 +30,12 @@ unfolding terminalAt
 terminalItems G H (active r p m f) e = eachTo (length (planOf G r)) (λ q. terminalAt G H r p m f e q (planNode (planOf G r) q))
 terminalItems G H (passive s m L) e = []
 
+-- the root rule, of an item with the count n
+unfoldable pub rootItems : Grammar → Item → ℕ → List ChartItem
+unfolding rootAt
+rootItems G (active r p m f) n = map (λ (c : Conclusion Item). chartItem (c .item) (plus n (c .constant))) (rootAt (ruleOf G r) p m f)
+rootItems G (passive s m L) n = []
+
 -- the nonterminal rule and the join rule at plan node q
 unfoldable pub binaryAt : Grammar → Graph → Item → Item → ℕ → List Item
 unfolding nonterminalAt joinAt
@@ -35,8 +43,8 @@ binaryAt G H (active r p m f) (passive s m′ L) q = nonterminalAt H (ruleOf G r
 binaryAt G H (active r p m f) (active r′ p′ m′ k) q = guard (eqb r r′) (joinAt H (ruleOf G r) r p m f p′ m′ k q (planNode (planOf G r) q))
 binaryAt G H (passive s m L) b q = []
 
--- whether record y can be the second at plan node q of rule r, where t has its map: with an item at the first child it makes what two sets and maps make, else nothing
-pub record Second (g : List ℕ) (r q : ℕ) (y : Record) (t : List ℕ) (b : Bool) : Type 0 where
+-- whether item y can be the second at plan node q of rule r, where t has its map: with an item at the first child it makes what two sets and maps make, else nothing
+pub record Second (g : List ℕ) (r q : ℕ) (y : ChartItem) (t : List ℕ) (b : Bool) : Type 0 where
   pub none : b ≡ false → (H : Graph) (p m : ℕ) (f : List ℕ) → binaryAt (grammarOf g) H (active r p m f) (itemOf (grammarOf g) y) q ≡ []
   pub some : b ≡ true → (H : Graph) (p m : ℕ) (f : List ℕ) → planFirst g r q ≡ p
       → binaryAt (grammarOf g) H (active r p m f) (itemOf (grammarOf g) y) q ≡ combine H (ruleOf (grammarOf g) r) r q m (y .edges) f (take (ruleNodes g r) t)
@@ -44,21 +52,22 @@ pub record Second (g : List ℕ) (r q : ℕ) (y : Record) (t : List ℕ) (b : Bo
   pub held : b ≡ true → (v : ℕ) → Shown g y v → (i : ℕ) × (i < ruleNodes g r) × (at t i ≡ v)
   pub plain : b ≡ true → Plain (y .nodes) → Plain t
 
--- ---- the item that a rule makes, put into the sixteen words of a record
--- the words that stay
-pub record Rest (before after : Record) : Type 0 where
-  pub kind : after .kind ≡ before .kind
-  pub count : after .count ≡ before .count
-  pub handled : after .handled ≡ before .handled
-  pub first : after .first ≡ before .first
-  pub second : after .second ≡ before .second
+-- ---- the item that a rule makes
+-- whether a list of items has one, and that item with the count n. Where it is sure that what makes the item covers its open nodes, the item does
+pub record Gives (g h : List ℕ) (sure : Bool) (l : List Item) (n : ℕ) (m : Made) : Type 0 where
+  pub none : m .ok ≡ false → l ≡ []
+  pub one : m .ok ≡ true → map (λ (i : Item). chartItem i n) l ≡ m .item ∷ []
+  pub covering : sure ≡ true → m .ok ≡ true → Covering g h (m .item)
 
--- z says whether a list of items has one; the words are its record then, with the count and the partners that they had. Where it is sure that what makes the item covers its open nodes, the record does
-pub record Into (g h : List ℕ) (sure : Bool) (l : List Item) (before : List ℕ) (z : Bool) (after : List ℕ) : Type 0 where
-  pub none : z ≡ false → l ≡ []
-  pub one : z ≡ true → map (λ (i : Item). recordOf i (ofWords before .count) (ofWords before .first) (ofWords before .second)) l ≡ ofWords after ∷ []
-  pub covering : sure ≡ true → z ≡ true → Covering g h (ofWords after)
-  pub rest : Rest (ofWords before) (ofWords after)
+-- the same of the root rule, which adds what a rule costs to the count of x
+pub record GivesRoot (g : List ℕ) (x : ChartItem) (m : Made) : Type 0 where
+  pub none : m .ok ≡ false → rootItems (grammarOf g) (itemOf (grammarOf g) x) (x .count) ≡ []
+  pub one : m .ok ≡ true → rootItems (grammarOf g) (itemOf (grammarOf g) x) (x .count) ≡ m .item ∷ []
+  pub covering : (h : List ℕ) → Covering g h x → m .ok ≡ true → Covering g h (m .item)
+
+-- the record of an item that was just made of the partners a and b
+abbrev pub madeOf : ChartItem → ℕ → ℕ → Record
+madeOf x a b = record { item = x; handled = 0; first = a; second = b }
 
 -- ---- the plan
 -- plan node p is a child of q or of no plan node
@@ -75,8 +84,8 @@ pub record Above (g : List ℕ) (r p : ℕ) (x : Place) : Type 0 where
   pub parent : x .found ≡ true → ParentOf g r p (x .node)
   pub nowhere : x .found ≡ false → Childless g r p
 
--- ---- what is known of an active record below plan node q
-pub record ActiveAt (g h : List ℕ) (x : Record) (q : ℕ) : Type 0 where
+-- ---- what is known of an active item below plan node q
+pub record ActiveAt (g h : List ℕ) (x : ChartItem) (q : ℕ) : Type 0 where
   pub accepted : Accepted g h
   pub node : KnownNode g (x .of) q
   pub isActive : x .kind ≡ 0

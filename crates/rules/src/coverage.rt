@@ -1,22 +1,21 @@
-// Whether a record shows each open graph node of its edges, as all do that the rules make.
+// Whether an item shows each open graph node of its edges, as all do that the rules make.
 ghost use mathlib.Core.Path.{_≡_};
 ghost use mathlib.Core.Bool.{true};
 ghost use Prim.Native.Nat.{ℕ, _≤_, _<_};
-ghost use lib.ListN.{length};
 ghost use Rattle.masks.specs.Masks.{member};
 ghost use Rattle.hrg.specs.Trees.{at};
 ghost use Rattle.questions.specs.Checking.{checkGrammar};
-ghost use Rattle.records.specs.Words.{ofWords};
 ghost use Rattle.joins.specs.Joins.{Accepted, Plain};
 ghost use Rattle.joins.specs.Graphs.{GraphTable};
 ghost use Rattle.rules.specs.Plans.{PlanTable};
 ghost use Rattle.rules.specs.Coverage.{Shown, Covering};
 use crate::plans;
+use crate::plans::PLAN_TABLE_WORDS;
+use agenda::ChartItem;
 
 // Whether no place has a number above 64.
-fn plain(l: &[u64]) -> bool
-    requires { ⌜ length (now l) ≡ 8 ⌝ }
-    ensures { λ r. ⌜ (r ≡ true → Plain (now (l .entry))) ⌝ }
+fn plain(l: [u64; 8]) -> bool
+    ensures { λ r. ⌜ (r ≡ true → Plain l) ⌝ }
 {
     let low = (l[0] <= 64) & (l[1] <= 64) & (l[2] <= 64) & (l[3] <= 64);
     let high = (l[4] <= 64) & (l[5] <= 64) & (l[6] <= 64) & (l[7] <= 64);
@@ -24,9 +23,9 @@ fn plain(l: &[u64]) -> bool
 }
 
 // The graph nodes at those of the first n places that are in the set `chosen`.
-fn images(n: u64, chosen: u64, l: &[u64]) -> u64
-    requires { ⌜ (n ≤ 8) × (length (now l) ≡ 8) ⌝ }
-    ensures { λ r. ⌜ ((v : ℕ) → v < 64 → member r v ≡ true → (i : ℕ) × (i < n) × (member chosen i ≡ true) × (at (now (l .entry)) i ≡ v)) ⌝ }
+fn images(n: u64, chosen: u64, l: [u64; 8]) -> u64
+    requires { ⌜ n ≤ 8 ⌝ }
+    ensures { λ r. ⌜ ((v : ℕ) → v < 64 → member r v ≡ true → (i : ℕ) × (i < n) × (member chosen i ≡ true) × (at l i ≡ v)) ⌝ }
 {
     let mut set: u64 = 0;
     let mut i: u64 = 0;
@@ -39,43 +38,52 @@ fn images(n: u64, chosen: u64, l: &[u64]) -> u64
     set
 }
 
-// The graph nodes that an active or a passive record shows: none where its rule, plan node or symbol is unknown.
-fn shown(g: &[u64], plans: &[u32; 2048], x: &[u64]) -> u64
-    requires { ⌜ (checkGrammar (now g) ≡ true) × PlanTable (now g) (now plans) × (length (now x) ≡ 16) ⌝ }
-    ensures { λ r. ⌜ ((v : ℕ) → v < 64 → member r v ≡ true → Shown (now (g .entry)) (ofWords (now (x .entry))) v) ⌝ }
+// The graph nodes that an active or a passive item shows: none where its rule, plan node or symbol is unknown.
+fn shown(g: &[u64], plans: &[u32; PLAN_TABLE_WORDS], x: ChartItem) -> u64
+    requires { ⌜ (checkGrammar (now g) ≡ true) × PlanTable (now g) (now plans) ⌝ }
+    ensures { λ r. ⌜ ((v : ℕ) → v < 64 → member r v ≡ true → Shown (now (g .entry)) x v) ⌝ }
 {
-    let of = x[1];
+    let of = x.of;
+    let l = x.nodes;
     if of >= 64 {
         return 0;
     }
-    if x[0] != 0 {
-        return images(joins::rank_of(g, of), 255, &x[6..14]);
+    if x.kind != 0 {
+        return images(joins::rank_of(g, of), 255, l);
     }
     if of >= layout::rule_count(g) {
         return 0;
     }
-    let p = x[2];
+    let p = x.plan;
     if p >= layout::rule_plan(g, of) {
         return 0;
     }
     images(
         layout::rule_nodes(g, of),
         plans::open_at(g, plans, of, p),
-        &x[6..14],
+        l,
     )
 }
 
-// Whether record x shows each open graph node of its edges. A fresh chart has records without edges only, and those have none. A false where it does would cost time, not an answer.
-pub fn covers(g: &[u64], h: &[u64], plans: &[u32; 2048], graph: &[u64; 577], x: &[u64]) -> bool
-    requires { ⌜ Accepted (now g) (now h) × PlanTable (now g) (now plans) × GraphTable (now g) (now h) (now graph) × (length (now x) ≡ 16) ⌝ }
-    ensures { λ r. ⌜ (r ≡ true → Covering (now (g .entry)) (now (h .entry)) (ofWords (now (x .entry)))) ⌝ }
+// Whether x shows each open graph node of its edges. A fresh chart has items without edges only, and those have none.
+// A false where it does would cost time, not an answer.
+pub fn covers(
+    g: &[u64],
+    h: &[u64],
+    plans: &[u32; PLAN_TABLE_WORDS],
+    graph: &[u64; 577],
+    x: ChartItem,
+) -> bool
+    requires { ⌜ Accepted (now g) (now h) × PlanTable (now g) (now plans) × GraphTable (now g) (now h) (now graph) ⌝ }
+    ensures { λ r. ⌜ (r ≡ true → Covering (now (g .entry)) (now (h .entry)) x) ⌝ }
 {
-    if !plain(&x[6..14]) {
+    let l = x.nodes;
+    if !plain(l) {
         return false;
     }
-    if x[3] == 0 {
+    if x.edges == 0 {
         return true;
     }
-    let nodes = joins::open_in(g, h, graph, x[3]);
+    let nodes = joins::open_in(g, h, graph, x.edges);
     nodes & shown(g, plans, x) == nodes
 }

@@ -4,10 +4,10 @@ ghost use mathlib.Core.Bool.{true};
 ghost use Prim.Native.Nat.{_+_, _*_, _<_};
 ghost use lib.ListN.{length, replicate};
 ghost use Rattle.questions.specs.Checking.{checkGrammar};
-ghost use Rattle.questions.specs.Layout.{ruleCount, planKind, planFirst, planSecond, edgeLabel, edgeNode};
+ghost use Rattle.questions.specs.Layout.{ruleCount, planKind};
 ghost use Rattle.joins.specs.Joins.{KnownNode, KnownEdge, OpenAt};
 ghost use Rattle.rules.specs.Rules.{Above};
-ghost use Rattle.rules.specs.Plans.{secondWord, ParentAt, PlanTable};
+ghost use Rattle.rules.specs.Plans.{planTableWords, edgeWord, secondWord, ParentAt, PlanTable};
 ghost use Rattle.rules.specs.Filling.{Placed, Put, ToldTo};
 use crate::Place;
 
@@ -18,45 +18,55 @@ pub struct Parent {
 }
 
 // ---- the table
+// Words of the table: one for each plan node of each rule, in two halves.
+pub const PLAN_TABLE_WORDS: usize = 2048;
+
+// The label of edge i of rule r, and its nodes.
+fn edge_word(g: &[u64], r: u64, i: u64) -> u64
+    requires { ⌜ KnownEdge (now g) r i ⌝ }
+    ensures { λ w. ⌜ (w ≡ edgeWord (now (g .entry)) r i) × (w < 16777216) ⌝ }
+{
+    layout::edge_label_in(g, r, i) + 64 * joins::nodes_word(g, r, i)
+}
+
 // What plan node q asks for beside an item at its first child.
 fn second_word(g: &[u64], r: u64, q: u64) -> u64
     requires { ⌜ KnownNode (now g) r q × (planKind (now g) r q ≡ 0 → ⊥) ⌝ }
     ensures { λ w. ⌜ (w ≡ secondWord (now (g .entry)) r q) × (w < 67108864) ⌝ }
 {
-    let second = second_at(g, r, q);
-    if kind_at(g, r, q) == 1 {
-        let label = label_at(g, r, second);
-        return 1 + 4 * (label + 64 * joins::nodes_word(g, r, second));
+    let second = layout::plan_second_in(g, r, q);
+    match layout::plan_kind_in(g, r, q) {
+        1 => 1 + 4 * edge_word(g, r, second),
+        _ => 2 + 4 * second,
     }
-    2 + 4 * second
 }
 
-// The words of plan node p of rule r.
-fn put(t: &mut [u32], r: u64, p: u64, w: u64, o: u64)
-    requires { ⌜ (length (now t) ≡ 2048) × (r < 64) × (p < 16) × (w < 4294967296) × (o < 4294967296) ⌝ }
-    ensures { λ x. ⌜ Placed (now (t .entry)) (now (t .exit)) (16 * r + p) w o ⌝ }
+// The words of plan node p of rule r, which is below q: what q asks for beside an item there, and the rule nodes that
+// are open at q.
+fn put(t: &mut [u32], r: u64, p: u64, q: u64, w: u64, o: u64)
+    requires { ⌜ (length (now t) ≡ planTableWords) × (r < 64) × (p < 16) × (q < 16) × (w < 67108864) × (o < 4294967296) ⌝ }
+    ensures { λ x. ⌜ Placed (now (t .entry)) (now (t .exit)) (16 * r + p) (q + 32 * w) o ⌝ }
 {
     let i = (16 * r + p) as usize;
-    t[i] = w as u32;
+    t[i] = (q + 32 * w) as u32;
     t[1024 + i] = o as u32;
 }
 
 // The children of plan node q, at which the rule nodes o are open, are told of it.
 fn put_children(g: &[u64], r: u64, q: u64, o: u64, t: &mut [u32])
-    requires { ⌜ KnownNode (now g) r q × (length (now t) ≡ 2048) × (o < 4294967296) ⌝ }
+    requires { ⌜ KnownNode (now g) r q × (length (now t) ≡ planTableWords) × (o < 4294967296) ⌝ }
     ensures { λ x. ⌜ Put (now (g .entry)) r q o (now (t .entry)) (now (t .exit)) ⌝ }
 {
-    let kind = kind_at(g, r, q);
-    if kind == 0 {
-        return;
+    let first = layout::plan_first_in(g, r, q);
+    match layout::plan_kind_in(g, r, q) {
+        0 => {}
+        1 => put(t, r, first, q, second_word(g, r, q), o),
+        _ => {
+            put(t, r, first, q, second_word(g, r, q), o);
+            let second = layout::plan_second_in(g, r, q);
+            put(t, r, second, q, 3 + 4 * first, o);
+        }
     }
-    let first = first_at(g, r, q);
-    let w = second_word(g, r, q);
-    put(t, r, first, q + 32 * w, o);
-    if kind == 1 {
-        return;
-    }
-    put(t, r, second_at(g, r, q), q + 32 * (3 + 4 * first), o);
 }
 
 // The plan nodes of rule r, which have lower numbers than their parents.
@@ -78,7 +88,7 @@ fn fill_rule(g: &[u64], r: u64, t: &mut [u32])
 
 // The table for all rules and plan nodes, in two halves; where no plan node is above it stays as it was made, all zeros.
 pub fn fill(g: &[u64], t: &mut [u32])
-    requires { ⌜ (checkGrammar (now g) ≡ true) × (now t ≡ replicate 2048 0) ⌝ }
+    requires { ⌜ (checkGrammar (now g) ≡ true) × (now t ≡ replicate planTableWords 0) ⌝ }
     ensures { λ x. ⌜ PlanTable (now (g .entry)) (now (t .exit)) ⌝ }
 {
     let n = layout::rule_count(g);
@@ -91,7 +101,7 @@ pub fn fill(g: &[u64], t: &mut [u32])
 
 // ---- read off the table
 // The plan node above p in rule r and the rule nodes that are open there, for any r and p; a word 0 in the first half of the table says that there is none.
-pub fn parent_in(g: &[u64], t: &[u32; 2048], r: u64, p: u64) -> Parent
+pub fn parent_in(g: &[u64], t: &[u32; PLAN_TABLE_WORDS], r: u64, p: u64) -> Parent
     requires { ⌜ (checkGrammar (now g) ≡ true) × PlanTable (now g) (now t) ⌝ }
     ensures { λ x. ⌜ ParentAt (now (g .entry)) r p x ⌝ }
 {
@@ -114,7 +124,7 @@ pub fn parent_in(g: &[u64], t: &[u32; 2048], r: u64, p: u64) -> Parent
 }
 
 // The plan node above p in rule r: any rule and a plan node that may not be there.
-pub fn place_above(g: &[u64], t: &[u32; 2048], r: u64, p: u64) -> Place
+pub fn place_above(g: &[u64], t: &[u32; PLAN_TABLE_WORDS], r: u64, p: u64) -> Place
     requires { ⌜ (checkGrammar (now g) ≡ true) × PlanTable (now g) (now t) ⌝ }
     ensures { λ x. ⌜ Above (now (g .entry)) r p x ⌝ }
 {
@@ -126,48 +136,12 @@ pub fn place_above(g: &[u64], t: &[u32; 2048], r: u64, p: u64) -> Place
 }
 
 // The open rule nodes at plan node p: those that its first child is told of, and none at a leaf.
-pub fn open_at(g: &[u64], t: &[u32; 2048], r: u64, p: u64) -> u64
+pub fn open_at(g: &[u64], t: &[u32; PLAN_TABLE_WORDS], r: u64, p: u64) -> u64
     requires { ⌜ KnownNode (now g) r p × PlanTable (now g) (now t) ⌝ }
     ensures { λ o. ⌜ OpenAt (now (g .entry)) r p o ⌝ }
 {
-    if kind_at(g, r, p) == 0 {
-        return 0;
+    match layout::plan_kind_in(g, r, p) {
+        0 => 0,
+        _ => parent_in(g, t, r, layout::plan_first_in(g, r, p)).stays,
     }
-    parent_in(g, t, r, first_at(g, r, p)).stays
-}
-
-// ---- fields of a plan node and an edge that are there, read with no test of the table's end
-pub(crate) fn kind_at(g: &[u64], r: u64, q: u64) -> u64
-    requires { ⌜ KnownNode (now g) r q ⌝ }
-    ensures { λ x. ⌜ x ≡ planKind (now (g .entry)) r q ⌝ }
-{
-    layout::field_in(g, 74 + 25 * r + q, 0)
-}
-
-pub(crate) fn first_at(g: &[u64], r: u64, q: u64) -> u64
-    requires { ⌜ KnownNode (now g) r q ⌝ }
-    ensures { λ x. ⌜ x ≡ planFirst (now (g .entry)) r q ⌝ }
-{
-    layout::field_in(g, 74 + 25 * r + q, 1)
-}
-
-pub(crate) fn second_at(g: &[u64], r: u64, q: u64) -> u64
-    requires { ⌜ KnownNode (now g) r q ⌝ }
-    ensures { λ x. ⌜ x ≡ planSecond (now (g .entry)) r q ⌝ }
-{
-    layout::field_in(g, 74 + 25 * r + q, 2)
-}
-
-pub(crate) fn label_at(g: &[u64], r: u64, i: u64) -> u64
-    requires { ⌜ KnownEdge (now g) r i ⌝ }
-    ensures { λ x. ⌜ x ≡ edgeLabel (now (g .entry)) r i ⌝ }
-{
-    layout::field_in(g, 66 + 25 * r + i, 0)
-}
-
-pub(crate) fn node_at(g: &[u64], r: u64, i: u64, k: u64) -> u64
-    requires { ⌜ KnownEdge (now g) r i × (k < 4) ⌝ }
-    ensures { λ x. ⌜ x ≡ edgeNode (now (g .entry)) r i k ⌝ }
-{
-    layout::field_in(g, 66 + 25 * r + i, 1 + k)
 }

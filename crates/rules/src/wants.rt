@@ -6,6 +6,7 @@ ghost use Rattle.questions.specs.Abstract.{grammarOf};
 ghost use Rattle.rules.specs.Plans.{PlanTable};
 ghost use Rattle.rules.specs.Wants.{wantOf, wantBy};
 use crate::plans;
+use crate::plans::PLAN_TABLE_WORDS;
 
 // What the plan node of the word w wants.
 fn wanted(w: u64) -> u64
@@ -22,7 +23,7 @@ fn wanted(w: u64) -> u64
 }
 
 // What an item of rule r at plan node p wants: nothing where there is no such rule or plan node.
-pub fn want_of(g: &[u64], plans: &[u32; 2048], r: u64, p: u64) -> u64
+pub fn want_of(g: &[u64], plans: &[u32; PLAN_TABLE_WORDS], r: u64, p: u64) -> u64
     requires { ⌜ (checkGrammar (now g) ≡ true) × PlanTable (now g) (now plans) ⌝ }
     ensures { λ x. ⌜ x ≡ wantOf (grammarOf (now (g .entry))) r p ⌝ }
 {

@@ -11,8 +11,9 @@ use Rattle.hrg.specs.Grammars.{Grammar, PlanNode, leaf, introduce, join, planOf
 use Rattle.hrg.specs.Trees.{unplaced, at, padded}
 use Rattle.hrg.specs.Items.{Item}
 use Rattle.hrg.specs.ClosureRun.{eachTo, leafAt, leaves}
+use Rattle.agenda.specs.declared.ChartItem.{ChartItem}
 use Rattle.agenda.specs.declared.Record.{Record}
-use Rattle.agenda.specs.Records.{recordOf}
+use Rattle.agenda.specs.Records.{newRecord, recordOf}
 use Rattle.agenda.specs.Consequences.{leafRecords}
 use Rattle.questions.specs.Layout.{ruleCount, rulePlan, planKind, planFirst, planSecond}
 use Rattle.questions.specs.Checking.{checkGrammar}
@@ -23,7 +24,7 @@ use Rattle.joins.proofs.Known.{plan-size, plan-node}
 use Rattle.joins.proofs.EdgeMaps.{is-padded, at-none}
 use Rattle.records.specs.Words.{Fits, addedTo, grownBy}
 use Rattle.records.proofs.Grown.{Whole, whole-items, whole-each, grown-none, grown-one, grown-fits, grown-more}
-use Rattle.steps.specs.Leaves.{leafRecord, ruleLeaves}
+use Rattle.steps.specs.Leaves.{leafItem, leafRecord, ruleLeaves}
 
 -- ---- a loop from the last number on
 -- what is left to add to the words v gives the whole
@@ -58,9 +59,6 @@ at-unplaced (suc n) (suc k) = at-unplaced n k
 no-places : (n : ℕ) → replicate 8 unplaced ≡ padded (tabulate n (λ x. unplaced))
 no-places n = is-padded (replicate 8 unplaced) (tabulate n (λ x. unplaced)) (length-replicate 8 unplaced) (λ x h. at-none 8 x ∙ sym (at-unplaced n x))
 
-abbrev pub emptyRecord : ℕ → ℕ → Record
-emptyRecord r p = record { kind = 0; of = r; plan = p; edges = 0; count = 0; handled = 0; nodes = replicate 8 unplaced; first = 0; second = 0 }
-
 leaf-introduce : (G : Grammar) (r p c i : ℕ) → map (λ (i : Item). recordOf i 0 0 0) (leafAt G r p (introduce c i)) ≡ []
 unfolding leafAt
 leaf-introduce G r p c i = refl
@@ -77,14 +75,14 @@ module _ (g : List ℕ) (r p kind : ℕ) (known : KnownNode g r p) (is : kind �
   unfolding leafRecord
   made = ap (λ (x : PlanNode). map (λ (i : Item). recordOf i 0 0 0) (leafAt (grammarOf g) r p x)) node-is
 
-  leaf-one : kind ≡ 0 → emptyRecord r p ∷ [] ≡ leafRecord (grammarOf g) r p
+  leaf-one : kind ≡ 0 → newRecord (leafItem r p) 0 0 ∷ [] ≡ leafRecord (grammarOf g) r p
   unfolding leafAt
   leaf-one z =
       let n = rightOf (grammarOf g) r .nodes in
       sym
       (made
       ∙ ap (λ (b : Bool). map (λ (i : Item). recordOf i 0 0 0) (leafAt (grammarOf g) r p (cond b leaf (cond (eqb kind 1) (introduce (planFirst g r p) (planSecond g r p)) (join (planFirst g r p) (planSecond g r p))))))
-      (eq-eqb kind 0 z) ∙ (λ i. record { kind = 0; of = r; plan = p; edges = 0; count = 0; handled = 0; nodes = sym (no-places n) i; first = 0; second = 0 } ∷ []))
+      (eq-eqb kind 0 z) ∙ ap (λ (l : List ℕ). newRecord (record { kind = 0; of = r; plan = p; edges = 0; count = 0; nodes = l }) 0 0 ∷ []) (sym (no-places n)))
 
   leaf-none : (kind ≡ 0 → ⊥) → [] ≡ leafRecord (grammarOf g) r p
   leaf-none z = sym (made ∙ rw (ne-eqb kind 0 z) (arm (eqb kind 1)))
@@ -95,8 +93,13 @@ module _ (g : List ℕ) (r p kind : ℕ) (known : KnownNode g r p) (is : kind �
       arm false = leaf-join (grammarOf g) r p (planFirst g r p) (planSecond g r p)
 
   -- what the function does
-  pub leaf-added : (w v : List ℕ) → Fits w → kind ≡ 0 → v ≡ addedTo w (emptyRecord r p) → v ≡ grownBy w (leafRecord (grammarOf g) r p)
-  leaf-added w v o z q = q ∙ grown-one w o (emptyRecord r p) (length-replicate 8 unplaced) ∙ ap (grownBy w) (leaf-one z)
+  pub leaf-added : (w v : List ℕ) (y : ChartItem) (x : Record) → Fits w → kind ≡ 0 → y ≡ leafItem r p → x ≡ newRecord y 0 0 → v ≡ addedTo w x
+      → v ≡ grownBy w (leafRecord (grammarOf g) r p)
+  leaf-added w v y x o z e n q =
+      q
+      ∙ ap (addedTo w) (n ∙ ap (λ (i : ChartItem). newRecord i 0 0) e)
+      ∙ grown-one w o (newRecord (leafItem r p) 0 0) (length-replicate 8 unplaced)
+      ∙ ap (grownBy w) (leaf-one z)
 
   pub leaf-skipped : (w : List ℕ) → Fits w → (kind ≡ 0 → ⊥) → w ≡ grownBy w (leafRecord (grammarOf g) r p)
   leaf-skipped w o z = sym (grown-none w o) ∙ ap (grownBy w) (leaf-none z)

@@ -1,11 +1,9 @@
 -- The root of the laws.
 pub mod LeafLoops
-pub mod RootLaws
--- records as words
-pub mod RecordWords
 pub mod PartnerLaws
 pub mod ReadyLaws
 pub mod StepLaws
+pub mod MadeLaws
 pub mod CandidateSteps
 pub mod KindLaws
 pub mod ListedLaws

@@ -10,13 +10,14 @@ use borrow.Author.Tests.{leb-true, leb-false, le-leb, lt-leb}
 use Rattle.hrg.specs.Grammars.{Graph, Grammar}
 use Rattle.masks.specs.Masks.{disjoint}
 use Rattle.hrg.specs.ClosureRun.{guard}
+use Rattle.agenda.specs.declared.ChartItem.{ChartItem}
 use Rattle.agenda.specs.declared.Record.{Record}
 use Rattle.agenda.specs.Records.{isHandled}
 use Rattle.agenda.specs.Consequences.{gather, recordIn}
 use Rattle.questions.specs.Abstract.{grammarOf}
 use Rattle.questions.specs.Checking.{checkGrammar}
 use Rattle.records.specs.Words.{Fits, capacity, itemCount, recordAt, chartOf, grownBy}
-use Rattle.records.proofs.WordLaws.{field-at, length-records, edges-of, record-in}
+use Rattle.records.proofs.WordLaws.{length-records, record-in}
 use Rattle.records.proofs.Grown.{Whole, whole-gather, whole-guard, grown-none, grown-flag, grown-record}
 use Rattle.lists.specs.Lists.{Within}
 use Rattle.lists.specs.Cursors.{startsOf, leastOf, passedOf, leftAll, Ahead, SkimsAll}
@@ -47,29 +48,32 @@ unfolding itemCount
 few-items w n l h = omega arith
 
 -- ---- the keys that are asked for
-pub query-within : (keys : List ℕ) (x : Record) (q : List ℕ) → q ≡ queryOf keys x → Within 2048 q
+pub query-within : (keys : List ℕ) (x : ChartItem) (q : List ℕ) → q ≡ queryOf keys x → Within 2048 q
 query-within keys x q e i h = rw e (query-few keys x i)
 
 -- ---- records that make nothing, whatever their keys
-pub quiet-none : (G : Grammar) (H : Graph) (x : Record) (j : ℕ) (w : List ℕ) (k : ℕ) → quietIn w (x .edges) k ≡ true → withRecord G H x j (recordAt w k) k ≡ []
+pub quiet-none : (G : Grammar) (H : Graph) (x : Record) (j : ℕ) (w : List ℕ) (k : ℕ) → quietIn w (x .item .edges) k ≡ true → withRecord G H x j (recordAt w k) k ≡ []
 unfolding quietIn
-quiet-none G H x j w k = go (disjoint (x .edges) (recordAt w k .edges)) refl (isHandled (recordAt w k)) refl
+quiet-none G H x j w k = go (disjoint (x .item .edges) (recordAt w k .item .edges)) refl (isHandled (recordAt w k)) refl
   where
-    go : (d : Bool) → disjoint (x .edges) (recordAt w k .edges) ≡ d → (b : Bool) → isHandled (recordAt w k) ≡ b → cond d (cond b false true) true ≡ true → withRecord G H x j (recordAt w k) k ≡ []
+    go : (d : Bool) → disjoint (x .item .edges) (recordAt w k .item .edges) ≡ d → (b : Bool) → isHandled (recordAt w k) ≡ b → cond d (cond b false true) true ≡ true → withRecord G H x j (recordAt w k) k ≡ []
     go false p b q h = overlap-none G H x (recordAt w k) j k p
     go true p false q h = waiting-none G H x (recordAt w k) j k q
     go true p true q h = absurd (false≢true h)
 
--- .. by the words of the record that is tried with them
-pub quiet-added : (G : Grammar) (H : Graph) (j : ℕ) (w : List ℕ) (k e : ℕ) (b : Bool) → Fits w → e ≡ getD w (2 + 16 * j + 3) 0 → b ≡ quietIn w e k → b ≡ true → w ≡ grownBy w (withRecord G H (recordAt w j) j (recordAt w k) k)
-quiet-added G H j w k e b o p q t =
-    let own : e ≡ recordAt w j .edges = field-at w j 3 e p ∙ sym (edges-of w j) in
-    nothing-added w _ o (quiet-none G H (recordAt w j) j w k (ap (λ m. quietIn w m k) (sym own) ∙ sym q ∙ t))
+pub quiet-by : (w : List ℕ) (k e edges : ℕ) (b : Bool) → e ≡ edges → b ≡ quietIn w e k → b ≡ true → quietIn w edges k ≡ true
+quiet-by w k e edges b own q t = ap (λ m. quietIn w m k) (sym own) ∙ sym q ∙ t
+
+-- .. by the edges of the record that is tried with them
+pub quiet-added : (G : Grammar) (H : Graph) (j : ℕ) (w : List ℕ) (k e : ℕ) (b : Bool) → Fits w → e ≡ recordAt w j .item .edges → b ≡ quietIn w e k → b ≡ true
+    → w ≡ grownBy w (withRecord G H (recordAt w j) j (recordAt w k) k)
+quiet-added G H j w k e b o own q t =
+    nothing-added w _ o (quiet-none G H (recordAt w j) j w k (quiet-by w k e (recordAt w j .item .edges) b own q t))
 
 -- all others are handled
 pub loud-handled : (w : List ℕ) (k e : ℕ) (b : Bool) → b ≡ quietIn w e k → b ≡ false → isHandled (recordAt w k) ≡ true
 unfolding quietIn
-loud-handled w k e b q t = go (disjoint e (recordAt w k .edges)) (isHandled (recordAt w k)) (sym q ∙ t)
+loud-handled w k e b q t = go (disjoint e (recordAt w k .item .edges)) (isHandled (recordAt w k)) (sym q ∙ t)
   where
     go : (d s : Bool) → cond d (cond s false true) true ≡ false → s ≡ true
     go d true h = refl
@@ -86,8 +90,8 @@ quiet-grown w v xs edges k f e p l = ap (λ (u : List ℕ). quietIn u edges k) p
     waits false = refl
 
     go : (b : Bool) → isHandled (recordAt w k) ≡ b → quietIn (grownBy w xs) edges k ≡ quietIn w edges k
-    go true h = ap (λ (y : Record). cond (disjoint edges (y .edges)) (cond (isHandled y) false true) true) (grown-record w f xs e k l h)
-    go false h = rw (grown-flag w f xs e k l ∙ h, h) (waits (disjoint edges (recordAt (grownBy w xs) k .edges)) ∙ sym (waits (disjoint edges (recordAt w k .edges))))
+    go true h = ap (λ (y : Record). cond (disjoint edges (y .item .edges)) (cond (isHandled y) false true) true) (grown-record w f xs e k l h)
+    go false h = rw (grown-flag w f xs e k l ∙ h, h) (waits (disjoint edges (recordAt (grownBy w xs) k .item .edges)) ∙ sym (waits (disjoint edges (recordAt w k .item .edges))))
 
 -- ---- the record at place j is what it was while its partners are dealt with
 module _ (g h w : List ℕ) (H : Graph) (j : ℕ) (f : Fits w) (D : Handled w j) (v : List ℕ) (done : ℕ) (A : Gathered w (λ i. withRecord (grammarOf g) H (recordAt w j) j (recordAt w i) i) v done) where
@@ -106,16 +110,16 @@ module _ (g h w : List ℕ) (H : Graph) (j : ℕ) (f : Fits w) (D : Handled w j)
   pub dealt-handled : Handled v j
   dealt-handled = stays-handled w v j partners f partners-whole (A .is) D
 
-  pub dealt-lead : (lead : Bool) → Leads g (recordAt w j) lead → Leads g (recordAt v j) lead
-  dealt-lead lead L = subst (λ (y : Record). Leads g y lead) (sym dealt-record) L
+  pub dealt-lead : (lead : Bool) → Leads g (recordAt w j .item) lead → Leads g (recordAt v j .item) lead
+  dealt-lead lead L = subst (λ (y : Record). Leads g (y .item) lead) (sym dealt-record) L
 
   pub dealt-quiet : (edges k : ℕ) → k < itemCount w → quietIn v edges k ≡ quietIn w edges k
   dealt-quiet edges k l = quiet-grown w v partners edges k f partners-whole (A .is) l
 
 -- it is regular where none is irregular
-pub regular-own : (g h keys w ix ls : List ℕ) (j : ℕ) → Ready g h keys w ix ls → Handled w j → markOf ix ≡ 0 → regularOf keys (recordAt w j) ≡ true
+pub regular-own : (g h keys w ix ls : List ℕ) (j : ℕ) → Ready g h keys w ix ls → Handled w j → markOf ix ≡ 0 → regularOf keys (recordAt w j .item) ≡ true
 unfolding chartOf
-regular-own g h keys w ix ls j R D m = subst (λ (y : Record). regularOf keys y ≡ true) (record-in w (itemCount w) j (D .there)) (R .indexed .regular m j (omega (arith, D .there, length-records w (itemCount w))))
+regular-own g h keys w ix ls j R D m = subst (λ (y : Record). regularOf keys (y .item) ≡ true) (record-in w (itemCount w) j (D .there)) (R .indexed .regular m j (omega (arith, D .there, length-records w (itemCount w))))
 
 -- ---- the loop
 module _ (g h keys : List ℕ) (H : Graph) (w : List ℕ) (x : Record) (j n : ℕ) where
@@ -127,7 +131,7 @@ module _ (g h keys : List ℕ) (H : Graph) (w : List ℕ) (x : Record) (j n : �
 
   -- the records over which cursors skim
   abbrev quiet : ℕ → Bool
-  quiet = quietIn w (x .edges)
+  quiet = quietIn w (x .item .edges)
 
   abbrev keysIn : List ℕ → List ℕ
   keysIn v = keysFor keys (chartOf v .records)
@@ -136,7 +140,7 @@ module _ (g h keys : List ℕ) (H : Graph) (w : List ℕ) (x : Record) (j n : �
   pub record Going (v ix ls : List ℕ) (cs : List ℕ) (k done : ℕ) : Type 0 where
     pub ready : Ready g h keys v ix ls
     pub gathered : Gathered w partner v done
-    pub ahead : Ahead quiet (keysIn v) (queryOf keys x) n done cs
+    pub ahead : Ahead quiet (keysIn v) (queryOf keys (x .item)) n done cs
     pub at : k ≡ leastOf cs
     pub few : k ≤ 4096
     pub low : done ≤ n
@@ -153,14 +157,14 @@ module _ (g h keys : List ℕ) (H : Graph) (w : List ℕ) (x : Record) (j n : �
   partner-whole i = record-whole G H x j (recordAt w i) i
 
   module _ (f : Fits w) (all : n ≤ itemCount w) where
-    pub going-start : (ix ls bs cs : List ℕ) (k : ℕ) → Ready g h keys w ix ls → bs ≡ startsOf ls (queryOf keys x) → SkimsAll quiet ls n bs cs → k ≡ leastOf cs → k ≤ 4096 → Going w ix ls cs k 0
+    pub going-start : (ix ls bs cs : List ℕ) (k : ℕ) → Ready g h keys w ix ls → bs ≡ startsOf ls (queryOf keys (x .item)) → SkimsAll quiet ls n bs cs → k ≡ leastOf cs → k ≤ 4096 → Going w ix ls cs k 0
     going-start ix ls bs cs k R e s q l = record {
       ready = R;
       gathered = gathered-none w f partner partner-whole;
       ahead =
-          let first = ahead-start quiet ls (keysIn w) (queryOf keys x) n bs (R .indexed .listed) (λ i h. query-few keys x i)
+          let first = ahead-start quiet ls (keysIn w) (queryOf keys (x .item)) n bs (R .indexed .listed) (λ i h. query-few keys (x .item) i)
           (omega (arith, keys-length keys (chartOf w .records), counted w)) e in
-          ahead-skims quiet ls (keysIn w) (queryOf keys x) n 0 bs cs (R .indexed .listed) first s;
+          ahead-skims quiet ls (keysIn w) (queryOf keys (x .item)) n 0 bs cs (R .indexed .listed) first s;
       at = q;
       few = l;
       low = omega arith;
@@ -171,22 +175,22 @@ module _ (g h keys : List ℕ) (H : Graph) (w : List ℕ) (x : Record) (j n : �
       grown = S .gathered .is
 
       -- the key of a record of w is where it was
-      key-there : (i e : ℕ) → i < itemCount w → e < 5 → getD (keysIn v) (5 * i + e) 0 ≡ getD (keysOf keys (recordAt w i)) e 0
+      key-there : (i e : ℕ) → i < itemCount w → e < 5 → getD (keysIn v) (5 * i + e) 0 ≡ getD (keysOf keys (recordAt w i .item)) e 0
       key-there i e l h =
           let m = keys-grown keys w v (gather done partner) f (whole-gather done partner partner-whole) grown in
           let size = keys-length keys (chartOf w .records) in
           ap (λ (ks : List ℕ). getD ks (5 * i + e) 0) (m .is)
           ∙ List·getD-append (keysIn w) (m .more) 0 (5 * i + e) (omega (arith, size, counted w))
           ∙ keys-at keys (chartOf w .records) i e (omega (arith, counted w)) h
-          ∙ ap (λ (y : Record). getD (keysOf keys y) e 0) (in-chart w i l)
+          ∙ ap (λ (y : Record). getD (keysOf keys (y .item)) e 0) (in-chart w i l)
 
-      module _ (checked : checkGrammar g ≡ true) (keyed : KeyTable g keys) (own : regularOf keys x ≡ true) (others : Regular keys (chartOf w .records)) where
+      module _ (checked : checkGrammar g ≡ true) (keyed : KeyTable g keys) (own : regularOf keys (x .item) ≡ true) (others : Regular keys (chartOf w .records)) where
         -- the records that are passed over
         unkeyed : (i : ℕ) → done ≤ i → i < k → i < n → quiet i ≡ false → partner i ≡ []
         unkeyed i a b c s =
-            let u = keyless g keys checked keyed H x (recordAt w i) own
-            (subst (λ (y : Record). regularOf keys y ≡ true) (in-chart w i (omega arith)) (others i (omega (arith, counted w))))
-            (λ q e p r pos eq. least-none quiet (keysIn v) (queryOf keys x) n done cs (S .ahead) i a (omega (arith, S .at)) c s (5 * i + e) (omega arith) (omega arith) q p pos
+            let u = keyless g keys checked keyed H (x .item) (recordAt w i .item) own
+            (subst (λ (y : Record). regularOf keys (y .item) ≡ true) (in-chart w i (omega arith)) (others i (omega (arith, counted w))))
+            (λ q e p r pos eq. least-none quiet (keysIn v) (queryOf keys (x .item)) n done cs (S .ahead) i a (omega (arith, S .at)) c s (5 * i + e) (omega arith) (omega arith) q p pos
             (key-there i e (omega arith) r ∙ sym eq))
             in
             unjoined-none G H x (recordAt w i) j i (u .forth) (u .back)
@@ -208,28 +212,28 @@ module _ (g h keys : List ℕ) (H : Graph) (w : List ℕ) (x : Record) (j n : �
               let same : u ≡ v = h ∙ grown-none v (S .ready .fits) in
               subst (λ (t : List ℕ). Gathered w partner t later) (sym same) (subst (Gathered w partner v) (let o : done ≡ later = omega (arith, leb-false done k e) in o) (S .gathered))
 
-          grown-ahead : Ahead quiet (keysIn u) (queryOf keys x) n done cs
+          grown-ahead : Ahead quiet (keysIn u) (queryOf keys (x .item)) n done cs
           grown-ahead =
               let ys = guard (leb done k) (withRecord G H x j (recordAt v k) k) in
               let m = keys-grown keys v u ys (S .ready .fits) (whole-guard (leb done k) (withRecord G H x j (recordAt v k) k) (record-whole G H x j (recordAt v k) k)) p in
-              subst (λ (ks : List ℕ). Ahead quiet ks (queryOf keys x) n done cs) (sym (m .is)) (ahead-grown quiet (keysIn v) (m .more) (queryOf keys x) n done cs (S .ahead))
+              subst (λ (ks : List ℕ). Ahead quiet ks (queryOf keys (x .item)) n done cs) (sym (m .is)) (ahead-grown quiet (keysIn v) (m .more) (queryOf keys (x .item)) n done cs (S .ahead))
 
-          module _ (bs ds : List ℕ) (e : bs ≡ passedOf ms cs k) (s : SkimsAll (quietIn u (x .edges)) ms n bs ds) where
+          module _ (bs ds : List ℕ) (e : bs ≡ passedOf ms cs k) (s : SkimsAll (quietIn u (x .item .edges)) ms n bs ds) where
             -- the cursors that pass record k
-            gone : Ahead quiet (keysIn u) (queryOf keys x) n later bs
-            gone = ahead-passed quiet ms (keysIn u) (queryOf keys x) n done later k cs bs (R .indexed .listed) grown-ahead (omega arith) (omega arith) e
+            gone : Ahead quiet (keysIn u) (queryOf keys (x .item)) n later bs
+            gone = ahead-passed quiet ms (keysIn u) (queryOf keys (x .item)) n done later k cs bs (R .indexed .listed) grown-ahead (omega arith) (omega arith) e
 
             skims : SkimsAll quiet ms n bs ds
             skims i h =
                 let o = dealt (leb done k) refl p in
-                skims-by (quietIn u (x .edges)) quiet ms n (getD bs i 0) (getD ds i 0)
-                (λ m a. quiet-grown w u (gather later partner) (x .edges) m f (whole-gather later partner partner-whole) (o .is) (omega arith)) (s i h)
+                skims-by (quietIn u (x .item .edges)) quiet ms n (getD bs i 0) (getD ds i 0)
+                (λ m a. quiet-grown w u (gather later partner) (x .item .edges) m f (whole-gather later partner partner-whole) (o .is) (omega arith)) (s i h)
 
             pub going-next : (i : ℕ) → i ≡ leastOf ds → i ≤ 4096 → Going u jx ms ds i later
             going-next i a b = record {
               ready = R;
               gathered = dealt (leb done k) refl p;
-              ahead = ahead-skims quiet ms (keysIn u) (queryOf keys x) n later bs ds (R .indexed .listed) gone skims;
+              ahead = ahead-skims quiet ms (keysIn u) (queryOf keys (x .item)) n later bs ds (R .indexed .listed) gone skims;
               at = a;
               few = b;
               low = omega (arith, S .low);
@@ -239,12 +243,12 @@ module _ (g h keys : List ℕ) (H : Graph) (w : List ℕ) (x : Record) (j n : �
             going-less =
                 omega (
                   arith,
-                  left-skims quiet ms (keysIn u) (queryOf keys x) n later bs ds (R .indexed .listed) gone skims,
-                  left-falls quiet ms (keysIn u) (queryOf keys x) n done k cs bs (R .indexed .listed) grown-ahead (S .at) l e,
+                  left-skims quiet ms (keysIn u) (queryOf keys (x .item)) n later bs ds (R .indexed .listed) gone skims,
+                  left-falls quiet ms (keysIn u) (queryOf keys (x .item)) n done k cs bs (R .indexed .listed) grown-ahead (S .at) l e,
                 )
 
           pub next-within : Within 20480 cs
-          next-within = ahead-within quiet (keysIn u) (queryOf keys x) n done cs grown-ahead (R .indexed .listed .few)
+          next-within = ahead-within quiet (keysIn u) (queryOf keys (x .item)) n done cs grown-ahead (R .indexed .listed .few)
 
         pub going-end : n ≤ k → v ≡ grownBy w (gather n partner)
         going-end l =

@@ -1,24 +1,22 @@
 -- Words and index stay ready as records are added and handled.
-use Prim.Native.Nat.{ℕ, _+_, _-_, _*_, _/_, _≤_, _<_, min}
-use mathlib.Core.Path.{_≡_, sym, ap, ap₂, _∙_, subst}
+use Prim.Native.Nat.{ℕ, _-_, _≤_, _<_}
+use mathlib.Core.Path.{_≡_, sym, ap, _∙_, subst}
 use mathlib.Core.List.{List, [], _∷_, List·Memᴰ·head as here, List·Memᴰ·tail as there, List·Memᴰ·not-nil as in-nil}
 use native.Mathlib.Omega.{arith}
-use lib.ListN.{length, set, length-set}
-use lib.Seq.{getD-set-same, getD-set-other}
+use lib.ListN.{length}
 use mathlib.Core.Bool.{Bool, true}
 use lib.Dec.{eqb}
-use borrow.Author.Tests.{eq-eqb, eqb-true}
+use borrow.Author.Tests.{eqb-true}
 use Rattle.agenda.specs.Records.{isHandled}
-use Rattle.hrg.specs.Items.{Item}
-use Rattle.rules.specs.Rules.{Into}
 use Rattle.rules.specs.Coverage.{Covering}
+use Rattle.agenda.specs.declared.ChartItem.{ChartItem}
 use Rattle.agenda.specs.declared.Record.{Record}
 use Rattle.agenda.specs.declared.Found.{Found}
 use Rattle.agenda.specs.declared.Found.the-variants.{At, Nowhere}
 use Rattle.agenda.specs.Steps.{leastWaiting}
-use Rattle.records.specs.Words.{Fits, ofWords, capacity, itemCount, fieldAt, recordAt, chartOf, addedTo, markedAt, grownBy}
-use Rattle.records.proofs.WordLaws.{eight-words, length-records, record-in, mark-some, item-fits, handled-yes, Below, one, least-below}
-use Rattle.records.proofs.Written.{handle-written, capacity-written, fits-written}
+use Rattle.records.specs.Words.{Fits, capacity, itemCount, recordAt, chartOf, addedTo, markedAt, grownBy}
+use Rattle.records.proofs.WordLaws.{length-records, record-in, Below, one, least-below}
+use Rattle.records.proofs.Written.{handle-written, capacity-written, fits-written, marked-count as count-marked, marked-handled}
 use Rattle.records.proofs.Rewritten.{handledIn, grown-handled}
 use Rattle.records.proofs.Grown.{Whole, holds-own, grown-one, grown-fits, grown-capacity, grown-longer, grown-record}
 use Rattle.index.specs.Index.{Indexed, doubtOf, Covered, DoubtKept}
@@ -30,7 +28,7 @@ use Rattle.steps.specs.Ready.{Ready, Handled}
 
 module _ (g h keys w ix ls : List ℕ) (R : Ready g h keys w ix ls) (v jx ms : List ℕ) (I : Indexed keys jx ms (chartOf v .records)) (S : Covered g h jx (chartOf v .records)) where
   -- a record is added
-  added-ready : (x : Record) → length (x .nodes) ≡ 8 → v ≡ addedTo w x → Ready g h keys v jx ms
+  pub added-ready : (x : Record) → length (x .item .nodes) ≡ 8 → v ≡ addedTo w x → Ready g h keys v jx ms
   added-ready x e p = record {
     fits = subst Fits (sym is) (grown-fits w (R .fits) (x ∷ []) whole);
     small = omega (arith, ap capacity is, grown-capacity w (R .fits) (x ∷ []) whole, R .small);
@@ -44,13 +42,6 @@ module _ (g h keys w ix ls : List ℕ) (R : Ready g h keys w ix ls) (v jx ms : L
       whole : Whole (x ∷ [])
       whole y (here q) = rw q e
       whole y (there m) = absurd (in-nil m)
-
-  pub words-ready : (xs : List ℕ) → v ≡ addedTo w (ofWords xs) → Ready g h keys v jx ms
-  words-ready xs = added-ready (ofWords xs) (eight-words xs)
-
-  -- .. by the words that a rule put it into
-  pub into-ready : (sure : Bool) (l : List Item) (before after : List ℕ) (z : Bool) → Into g h sure l before z after → v ≡ addedTo w (ofWords after) → Ready g h keys v jx ms
-  into-ready sure l before after z answer = words-ready after
 
   -- a record is handled
   handled-ready : (j : ℕ) → j < itemCount w → v ≡ markedAt w j → Ready g h keys v jx ms
@@ -81,36 +72,24 @@ records-small w h = omega (arith, length-records w (itemCount w), count-small w 
 
 -- ---- records that cover their open nodes
 -- the record at place k, where there is no doubt
-pub covering-at : (g h w ix : List ℕ) (k : ℕ) → Covered g h ix (chartOf w .records) → k < itemCount w → doubtOf ix ≡ 0 → Covering g h (recordAt w k)
+pub covering-at : (g h w ix : List ℕ) (k : ℕ) → Covered g h ix (chartOf w .records) → k < itemCount w → doubtOf ix ≡ 0 → Covering g h (recordAt w k .item)
 unfolding chartOf
-covering-at g h w ix k S l d = subst (Covering g h) (record-in w (itemCount w) k l) (S .each d k (omega (arith, length-records w (itemCount w))))
+covering-at g h w ix k S l d = subst (λ (y : Record). Covering g h (y .item)) (record-in w (itemCount w) k l) (S .each d k (omega (arith, length-records w (itemCount w))))
 
--- .. by its words, where the index says so
-pub covering-of : (g h w ix : List ℕ) (k : ℕ) (x : Record) (sure : Bool) → Covered g h ix (chartOf w .records) → k < itemCount w → x ≡ recordAt w k → sure ≡ eqb (doubtOf ix) 0 → sure ≡ true → Covering g h x
+-- .. of its item, where the index says so
+pub covering-of : (g h w ix : List ℕ) (k : ℕ) (x : ChartItem) (sure : Bool) → Covered g h ix (chartOf w .records) → k < itemCount w → x ≡ recordAt w k .item → sure ≡ eqb (doubtOf ix) 0 → sure ≡ true → Covering g h x
 covering-of g h w ix k x sure S l e q s = subst (Covering g h) (sym e) (covering-at g h w ix k S l (eqb-true (doubtOf ix) 0 (sym q ∙ s)))
-
--- a record that a rule made
-pub covering-made : (g h ix : List ℕ) (sure : Bool) (l : List Item) (before after : List ℕ) (z : Bool) → Into g h sure l before z after → z ≡ true → sure ≡ eqb (doubtOf ix) 0 → doubtOf ix ≡ 0 → Covering g h (ofWords after)
-covering-made g h ix sure l before after z answer found q e = answer .covering (q ∙ eq-eqb (doubtOf ix) 0 e) found
 
 -- a handled record leaves the number of items
 pub marked-count : (w v : List ℕ) (j : ℕ) → j < itemCount w → v ≡ markedAt w j → itemCount v ≡ itemCount w
-unfolding itemCount capacity
-marked-count w v j l p =
-    let is : v ≡ set w (2 + 16 * j + 5) 1 = p ∙ sym (mark-some w j (omega arith)) in
-    rw is (ap₂ (λ a b. min a ((b - 2) / 16)) (getD-set-other w (2 + 16 * j + 5) 0 1 0 (λ e. omega arith)) (length-set w (2 + 16 * j + 5) 1))
+marked-count w v j l p = ap itemCount p ∙ count-marked w j l
 
 -- ---- the record that a step handles
 pub handled-now : (w v : List ℕ) (j : ℕ) → j < itemCount w → v ≡ markedAt w j → Handled v j
-unfolding fieldAt capacity itemCount
-handled-now w v j l p =
-    let is : v ≡ set w (2 + 16 * j + 5) 1 = p ∙ sym (mark-some w j (omega arith)) in
-    let inside : j < itemCount v = subst (λ n. j < n) (sym (marked-count w v j l p)) l in
-    let one : 1 ≡ fieldAt v j 5 = sym (ap (λ (u : List ℕ). fieldAt u j 5) is ∙ getD-set-same w (2 + 16 * j + 5) 1 0 (omega (arith, item-fits w j l))) in
-    record {
-      there = inside;
-      done = handled-yes v j 1 one (λ e. omega arith);
-    }
+handled-now w v j l p = record {
+  there = subst (λ n. j < n) (sym (marked-count w v j l p)) l;
+  done = ap (λ (u : List ℕ). isHandled (recordAt u j)) p ∙ marked-handled w j l;
+}
 
 -- it stays as it is while others are added
 module _ (w v : List ℕ) (j : ℕ) (xs : List Record) (f : Fits w) (e : Whole xs) (p : v ≡ grownBy w xs) (D : Handled w j) where

@@ -45,12 +45,12 @@ module _ (g h keys w : List ℕ) (j n : ℕ) where
 
   -- the record of the entry at c is quiet, or it is dealt with unless it was
   pub data Met (v ix ls : List ℕ) (c past : ℕ) (u jx ms : List ℕ) (later : ℕ) : Type 0 where
-    quiet : quietIn v (recordAt w j .edges) ((c - 1) / 5) ≡ true → u ≡ v → jx ≡ ix → ms ≡ ls → later ≡ past → Met v ix ls c past u jx ms later
+    quiet : quietIn v (recordAt w j .item .edges) ((c - 1) / 5) ≡ true → u ≡ v → jx ≡ ix → ms ≡ ls → later ≡ past → Met v ix ls c past u jx ms later
     loud : (t kx ns : List ℕ) (m : ℕ) → u ≡ t → jx ≡ kx → ms ≡ ns → later ≡ m
         → t ≡ grownBy v (guard (leb past ((c - 1) / 5)) (withRecord (grammarOf g) (graphOf g h) (recordAt v j) j (recordAt v ((c - 1) / 5)) ((c - 1) / 5))) → Ready g h keys t kx ns → m ≡ max past ((c - 1) / 5 + 1)
         → Met v ix ls c past u jx ms later
 
-module _ {g h plans keys graph w ix₀ ls₀ : List ℕ} {j n key : ℕ} {lead : Bool} (P : Tables g h plans keys graph × Ready g h keys w ix₀ ls₀ × Handled w j × Leads g (recordAt w j) lead × (n ≤ itemCount w) × Single keys w ix₀ j key) where
+module _ {g h plans keys graph w ix₀ ls₀ : List ℕ} {j n key : ℕ} {lead : Bool} (P : Tables g h plans keys graph × Ready g h keys w ix₀ ls₀ × Handled w j × Leads g (recordAt w j .item) lead × (n ≤ itemCount w) × Single keys w ix₀ j key) where
   abbrev H : Graph
   H = graphOf g h
 
@@ -58,7 +58,7 @@ module _ {g h plans keys graph w ix₀ ls₀ : List ℕ} {j n key : ℕ} {lead :
   x = recordAt w j
 
   pub single-key : key ≤ 2048
-  single-key = query-within keys x (alone key) (P .5 .only) 0 (omega arith)
+  single-key = query-within keys (x .item) (alone key) (P .5 .only) 0 (omega arith)
 
   pub single-few : n ≤ 4096
   single-few = few-items w n (P .4) (P .1 .small)
@@ -67,16 +67,16 @@ module _ {g h plans keys graph w ix₀ ls₀ : List ℕ} {j n key : ℕ} {lead :
   single-start c e =
       going-start g h keys H w x j n (P .1 .fits) (P .4) ix₀ ls₀ (alone c) (alone c) (leastOf (alone c)) (P .1)
       (start-alone ls₀ key c (P .1 .indexed .listed .none) e ∙ ap (startsOf ls₀) (P .5 .only))
-      (skims-none (quietIn w (x .edges)) ls₀ n (alone c)) refl (least-few (alone c))
+      (skims-none (quietIn w (x .item .edges)) ls₀ n (alone c)) refl (least-few (alone c))
 
   module _ {v ix ls : List ℕ} {c past : ℕ} (S : Along g h keys w j n v ix ls c past) where
     pub single-handled : Handled v j
     single-handled = dealt-handled g h w H j (P .1 .fits) (P .2) v past (S .gathered)
 
-    pub single-lead : Leads g (recordAt v j) lead
+    pub single-lead : Leads g (recordAt v j .item) lead
     single-lead = dealt-lead g h w H j (P .1 .fits) (P .2) v past (S .gathered) lead (P .3)
 
-    own : regularOf keys x ≡ true
+    own : regularOf keys (x .item) ≡ true
     own = regular-own g h keys w ix₀ ls₀ j (P .1) (P .2) (P .5 .regular)
 
     pub single-end : not (eqb c 0) && leb c (5 * n) ≡ false → v ≡ grownBy w (gather n (λ k. withRecord (grammarOf g) H x j (recordAt w k) k))
@@ -107,9 +107,9 @@ module _ {g h plans keys graph w ix₀ ls₀ : List ℕ} {j n key : ℕ} {lead :
       passed ws d e = alone-passed ws c k d (omega (arith, z, single-low)) (omega (arith, z, single-low)) e
 
       -- past a quiet record
-      module _ (s : quietIn v (x .edges) k ≡ true) (d : ℕ) (e : d ≡ getD ls (4097 + c) 0) where
-        hushed : quietIn w (x .edges) k ≡ true
-        hushed = sym (dealt-quiet g h w H j (P .1 .fits) (P .2) v past (S .gathered) (x .edges) k (omega (arith, z, single-low, P .4))) ∙ s
+      module _ (s : quietIn v (x .item .edges) k ≡ true) (d : ℕ) (e : d ≡ getD ls (4097 + c) 0) where
+        hushed : quietIn w (x .item .edges) k ≡ true
+        hushed = sym (dealt-quiet g h w H j (P .1 .fits) (P .2) v past (S .gathered) (x .item .edges) k (omega (arith, z, single-low, P .4))) ∙ s
 
         quiet-next : Along g h keys w j n v ix ls d past
         quiet-next = record {
@@ -132,12 +132,12 @@ module _ {g h plans keys graph w ix₀ ls₀ : List ℕ} {j n key : ℕ} {lead :
         loud-next : Along g h keys w j n u jx ms d later
         loud-next =
             going-next g h keys H w x j n (P .1 .fits) (P .4) v ix ls (alone c) k past here (P .0 .accepted .grammar) (P .0 .keyed) own (P .1 .indexed .regular (P .5 .regular)) u jx ms later (omega (arith, z, single-low)) made R q
-            (alone d) (alone d) (passed ms d e) (skims-none (quietIn u (x .edges)) ms n (alone d)) (leastOf (alone d)) refl (least-few (alone d))
+            (alone d) (alone d) (passed ms d e) (skims-none (quietIn u (x .item .edges)) ms n (alone d)) (leastOf (alone d)) refl (least-few (alone d))
 
         loud-less : leftAll (alone d) < leftAll (alone c)
         loud-less =
             going-less g h keys H w x j n (P .1 .fits) (P .4) v ix ls (alone c) k past here (P .0 .accepted .grammar) (P .0 .keyed) own (P .1 .indexed .regular (P .5 .regular)) u jx ms later (omega (arith, z, single-low)) made R q
-            (alone d) (alone d) (passed ms d e) (skims-none (quietIn u (x .edges)) ms n (alone d))
+            (alone d) (alone d) (passed ms d e) (skims-none (quietIn u (x .item .edges)) ms n (alone d))
 
       -- past either
       pub single-size : {u jx ms : List ℕ} {later : ℕ} → Met g h keys w j n v ix ls c past u jx ms later → length ms ≡ 24578

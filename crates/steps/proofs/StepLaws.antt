@@ -14,7 +14,7 @@ use Rattle.agenda.specs.declared.Record.{Record}
 use Rattle.agenda.specs.Records.{recordOf, itemOf, isHandled, plus}
 use Rattle.agenda.specs.Consequences.{gather, recordIn, atRoot, terminalAt, withTerminal, pair, withPartner, consequences}
 use Rattle.agenda.specs.Steps.{Chart, addedAll, handledAt}
-use Rattle.agenda.proofs.Records.{record-eight}
+use Rattle.agenda.proofs.Records.{item-eight}
 use Rattle.agenda.proofs.Consequences.{in-consequence}
 use Rattle.records.specs.Words.{Fits, capacity, itemCount, recordAt, recordsAt, chartOf, written, markedAt, grownBy}
 use Rattle.records.proofs.WordLaws.{length-records, record-in}
@@ -87,7 +87,7 @@ gather-empty f none (suc n) = ap₂ (λ (a b : List Record). a ++ b) (gather-emp
 module _ (G : Grammar) (H : Graph) where
   pub root-whole : (i : Item) (n j : ℕ) → Whole (atRoot G i n j)
   unfolding atRoot
-  root-whole (active r p m f) n j = whole-map (λ (c : Conclusion Item). recordOf (c .item) (plus n (c .constant)) j 0) (λ c. record-eight (c .item) (plus n (c .constant)) j 0) (rootAt (ruleOf G r) p m f)
+  root-whole (active r p m f) n j = whole-map (λ (c : Conclusion Item). recordOf (c .item) (plus n (c .constant)) j 0) (λ c. item-eight (c .item) (plus n (c .constant))) (rootAt (ruleOf G r) p m f)
   root-whole (passive s m L) n j = whole-none
 
   pub terminal-whole : (i : Item) (n j e : ℕ) → Whole (withTerminal G H i n j e)
@@ -97,14 +97,14 @@ module _ (G : Grammar) (H : Graph) where
 
   pub pair-whole : (x : Record) (j : ℕ) (y : Record) (k : ℕ) → Whole (pair G H x j y k)
   unfolding pair
-  pair-whole x j y k = whole-items (binaryOf G H (itemOf G x) (itemOf G y)) (plus (x .count) (y .count)) j k
+  pair-whole x j y k = whole-items (binaryOf G H (itemOf G (x .item)) (itemOf G (y .item))) (plus (x .item .count) (y .item .count)) j k
 
   pub record-whole : (x : Record) (j : ℕ) (y : Record) (k : ℕ) → Whole (withRecord G H x j y k)
   unfolding withRecord
   record-whole x j y k = whole-guard (isHandled y) (pair G H x j y k ++ pair G H y k x j) (whole-append (pair G H x j y k) (pair G H y k x j) (pair-whole x j y k) (pair-whole y k x j))
 
   pub consequences-whole : (rs : List Record) (j : ℕ) → Whole (consequences G H rs j)
-  consequences-whole rs j x m = let t = in-consequence G H rs j x m in rw (t .is) (record-eight (t .item) (t .count) (t .first) (t .second))
+  consequences-whole rs j x m = let t = in-consequence G H rs j x m in rw (t .is) (item-eight (t .item) (t .count))
 
   -- ---- a partner that is read again: handled records stay, and others make nothing
   record-same : (x : Record) (j : ℕ) (y z : Record) (k : ℕ) → isHandled y ≡ isHandled z → (isHandled z ≡ true → y ≡ z) → withRecord G H x j y k ≡ withRecord G H x j z k
@@ -143,19 +143,19 @@ module _ (G : Grammar) (H : Graph) where
 
   -- by the root rule and with graph edges
   abbrev pub byRoot : Record → ℕ → List Record
-  byRoot x j = atRoot G (itemOf G x) (x .count) j
+  byRoot x j = atRoot G (itemOf G (x .item)) (x .item .count) j
 
   abbrev pub withEdges : Record → ℕ → List Record
-  withEdges x j = gather (length (H .edges)) (λ e. withTerminal G H (itemOf G x) (x .count) j e)
+  withEdges x j = gather (length (H .edges)) (λ e. withTerminal G H (itemOf G (x .item)) (x .item .count) j e)
 
   edges-whole : (x : Record) (j : ℕ) → Whole (withEdges x j)
-  edges-whole x j = whole-gather (length (H .edges)) (λ e. withTerminal G H (itemOf G x) (x .count) j e) (λ e. terminal-whole (itemOf G x) (x .count) j e)
+  edges-whole x j = whole-gather (length (H .edges)) (λ e. withTerminal G H (itemOf G (x .item)) (x .item .count) j e) (λ e. terminal-whole (itemOf G (x .item)) (x .item .count) j e)
 
   pub alone-whole : (x : Record) (j : ℕ) → Whole (byRoot x j ++ withEdges x j)
-  alone-whole x j = whole-append (byRoot x j) (withEdges x j) (root-whole (itemOf G x) (x .count) j) (edges-whole x j)
+  alone-whole x j = whole-append (byRoot x j) (withEdges x j) (root-whole (itemOf G (x .item)) (x .item .count) j) (edges-whole x j)
 
   pub alone-added : (w v u : List ℕ) (x : Record) (j : ℕ) → Fits w → v ≡ grownBy w (byRoot x j) → u ≡ grownBy v (withEdges x j) → u ≡ grownBy w (byRoot x j ++ withEdges x j)
-  alone-added w v u x j o = added-then w v u (byRoot x j) (withEdges x j) o (root-whole (itemOf G x) (x .count) j) (edges-whole x j)
+  alone-added w v u x j o = added-then w v u (byRoot x j) (withEdges x j) o (root-whole (itemOf G (x .item)) (x .item .count) j) (edges-whole x j)
 
   -- .. and then with records, in words that have those
   module _ (w : List ℕ) (j : ℕ) (l : j < itemCount w) where

@@ -35,4 +35,4 @@ pub record Handled (w : List ℕ) (j : ℕ) : Type 0 where
 
 -- records whose keys tell what they can be joined with
 abbrev pub Regular : List ℕ → List Record → Type 0
-Regular keys rs = (j : ℕ) → j < length rs → regularOf keys (recordIn rs j) ≡ true
+Regular keys rs = (j : ℕ) → j < length rs → regularOf keys (recordIn rs j .item) ≡ true

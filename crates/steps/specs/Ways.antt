@@ -11,7 +11,7 @@ use Rattle.index.specs.Index.{markOf}
 -- no record is irregular, and the partners of the one at place j have one key
 pub record Single (keys w ix : List ℕ) (j key : ℕ) : Type 0 where
   pub regular : markOf ix ≡ 0
-  pub only : alone key ≡ queryOf keys (recordAt w j)
+  pub only : alone key ≡ queryOf keys (recordAt w j .item)
 
 -- record k is next, by the cursors cs where there are lists
 pub record Poised (listed : Bool) (k : ℕ) (cs : List ℕ) : Type 0 where

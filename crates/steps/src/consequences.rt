@@ -5,7 +5,7 @@ ghost use Prim.Native.Nat.{_+_, _≤_, _<_, max};
 ghost use lib.Dec.{leb};
 ghost use lib.ListN.{length};
 ghost use Rattle.hrg.specs.ClosureRun.{guard};
-ghost use Rattle.agenda.specs.Records.{itemOf, isHandled, plus};
+ghost use Rattle.agenda.specs.Records.{itemOf, isHandled};
 ghost use Rattle.agenda.specs.Consequences.{gather, atRoot, withTerminal, pair, consequences};
 ghost use Rattle.questions.specs.Layout.{graphEdges};
 ghost use Rattle.questions.specs.Checking.{checkGrammar};
@@ -21,16 +21,6 @@ ghost use Rattle.steps.specs.Ready.{Tables, Ready, Handled};
 ghost use Rattle.steps.specs.Ways.{Single, Poised, Opens, Goes};
 use rules::wants;
 
-// A sum that stays in a word.
-fn plus(a: u64, b: u64) -> u64
-    ensures { λ r. ⌜ r ≡ plus a b ⌝ }
-{
-    if a > 18446744073709551615 - b {
-        return 18446744073709551615;
-    }
-    a + b
-}
-
 // The passive item of a root item, made of the record at place j.
 fn add_root(
     g: &[u64],
@@ -42,44 +32,15 @@ fn add_root(
     j: u64,
 )
     requires { ⌜ (checkGrammar (now g) ≡ true) × Ready (now g) (now h) (now keys) (now chart) (now index) (now lists) × Handled (now chart) j ⌝ }
-    ensures { λ r. ⌜ (now (chart .exit) ≡ grownBy (now (chart .entry)) (atRoot (grammarOf (now (g .entry))) (itemOf (grammarOf (now (g .entry))) (recordAt (now (chart .entry)) j)) (recordAt (now (chart .entry)) j .count) j)) × Ready (now (g .entry)) (now (h .entry)) (now (keys .entry)) (now (chart .exit)) (now (index .exit)) (now (lists .exit)) ⌝ }
+    ensures { λ r. ⌜ (now (chart .exit) ≡ grownBy (now (chart .entry)) (atRoot (grammarOf (now (g .entry))) (itemOf (grammarOf (now (g .entry))) (recordAt (now (chart .entry)) j .item)) (recordAt (now (chart .entry)) j .item .count) j)) × Ready (now (g .entry)) (now (h .entry)) (now (keys .entry)) (now (chart .exit)) (now (index .exit)) (now (lists .exit)) ⌝ }
 {
-    let at = (2 + 16 * j) as usize;
-    if chart[at] != 0 {
+    let made = rules::root(g, records::item_at(chart, j));
+    if !made.ok {
         return;
     }
-    let of = chart[at + 1];
-    if of >= layout::rule_count(g) {
-        return;
-    }
-    let n = layout::rule_plan(g, of);
-    let p = chart[at + 2];
-    if p >= n {
-        return;
-    }
-    if p + 1 != n {
-        return;
-    }
-    let mut y = [
-        1,
-        layout::rule_symbol(g, of),
-        0,
-        chart[at + 3],
-        plus(chart[at + 4], 1),
-        0,
-        64,
-        64,
-        64,
-        64,
-        64,
-        64,
-        64,
-        64,
-        j,
-        0,
-    ];
-    rules::root_into(g, of, &chart[at + 6..at + 14], &mut y[6..14]);
-    index::add(keys, chart, lists, index, &y);
+    let item = made.item;
+    let x = records::new_record(item, j, 0);
+    index::add(keys, chart, lists, index, x);
 }
 
 // What it makes with graph edge e, if that is one of the candidates m.
@@ -96,37 +57,20 @@ fn add_candidate(
     m: u64,
     e: u64,
 )
-    requires { ⌜ Tables (now g) (now h) (now plans) (now keys) (now graph) × Ready (now g) (now h) (now keys) (now chart) (now index) (now lists) × Handled (now chart) j × Candidates (now g) (now h) (recordAt (now chart) j) m × (e < graphEdges (now h)) ⌝ }
-    ensures { λ r. ⌜ (now (chart .exit) ≡ grownBy (now (chart .entry)) (withTerminal (grammarOf (now (g .entry))) (graphOf (now (g .entry)) (now (h .entry))) (itemOf (grammarOf (now (g .entry))) (recordAt (now (chart .entry)) j)) (recordAt (now (chart .entry)) j .count) j e)) × Ready (now (g .entry)) (now (h .entry)) (now (keys .entry)) (now (chart .exit)) (now (index .exit)) (now (lists .exit)) ⌝ }
+    requires { ⌜ Tables (now g) (now h) (now plans) (now keys) (now graph) × Ready (now g) (now h) (now keys) (now chart) (now index) (now lists) × Handled (now chart) j × Candidates (now g) (now h) (recordAt (now chart) j .item) m × (e < graphEdges (now h)) ⌝ }
+    ensures { λ r. ⌜ (now (chart .exit) ≡ grownBy (now (chart .entry)) (withTerminal (grammarOf (now (g .entry))) (graphOf (now (g .entry)) (now (h .entry))) (itemOf (grammarOf (now (g .entry))) (recordAt (now (chart .entry)) j .item)) (recordAt (now (chart .entry)) j .item .count) j e)) × Ready (now (g .entry)) (now (h .entry)) (now (keys .entry)) (now (chart .exit)) (now (index .exit)) (now (lists .exit)) ⌝ }
 {
     if !masks::has(m, e) {
         return;
     }
-    let at = (2 + 16 * j) as usize;
-    // The map has no images yet, here and in add_pair: the rule puts those of the rule's nodes.
-    let mut out = [
-        0,
-        0,
-        0,
-        0,
-        chart[at + 4],
-        0,
-        64,
-        64,
-        64,
-        64,
-        64,
-        64,
-        64,
-        64,
-        j,
-        e,
-    ];
     let sure = index::sure(index);
-    if !rules::terminal_into(g, h, plans, graph, &chart[at..at + 16], e, sure, &mut out) {
+    let made = rules::terminal(g, h, plans, graph, records::item_at(chart, j), e, sure);
+    if !made.ok {
         return;
     }
-    index::add(keys, chart, lists, index, &out);
+    let item = made.item;
+    let x = records::new_record(item, j, e);
+    index::add(keys, chart, lists, index, x);
 }
 
 // What it makes with each graph edge: only those of the label that it wants, and that fit its map, are tried.
@@ -142,11 +86,11 @@ fn add_terminals(
     j: u64,
 )
     requires { ⌜ Tables (now g) (now h) (now plans) (now keys) (now graph) × Ready (now g) (now h) (now keys) (now chart) (now index) (now lists) × Handled (now chart) j ⌝ }
-    ensures { λ r. ⌜ (now (chart .exit) ≡ grownBy (now (chart .entry)) (gather (length (graphOf (now (g .entry)) (now (h .entry)) .edges)) (λ e. withTerminal (grammarOf (now (g .entry))) (graphOf (now (g .entry)) (now (h .entry))) (itemOf (grammarOf (now (g .entry))) (recordAt (now (chart .entry)) j)) (recordAt (now (chart .entry)) j .count) j e))) × Ready (now (g .entry)) (now (h .entry)) (now (keys .entry)) (now (chart .exit)) (now (index .exit)) (now (lists .exit)) ⌝ }
+    ensures { λ r. ⌜ (now (chart .exit) ≡ grownBy (now (chart .entry)) (gather (length (graphOf (now (g .entry)) (now (h .entry)) .edges)) (λ e. withTerminal (grammarOf (now (g .entry))) (graphOf (now (g .entry)) (now (h .entry))) (itemOf (grammarOf (now (g .entry))) (recordAt (now (chart .entry)) j .item)) (recordAt (now (chart .entry)) j .item .count) j e))) × Ready (now (g .entry)) (now (h .entry)) (now (keys .entry)) (now (chart .exit)) (now (index .exit)) (now (lists .exit)) ⌝ }
 {
-    let at = (2 + 16 * j) as usize;
-    let want = wants::want_of(g, plans, chart[at + 1], chart[at + 2]);
-    let m = rules::candidates(g, h, plans, graph, want, &chart[at..at + 16]);
+    let x = records::item_at(chart, j);
+    let want = wants::want_of(g, plans, x.of, x.plan);
+    let m = rules::candidates(g, h, plans, graph, want, x);
     if m == 0 {
         return;
     }
@@ -174,41 +118,16 @@ fn add_pair(
     requires { ⌜ Tables (now g) (now h) (now plans) (now keys) (now graph) × Ready (now g) (now h) (now keys) (now chart) (now index) (now lists) × (j < itemCount (now chart)) × (k < itemCount (now chart)) ⌝ }
     ensures { λ r. ⌜ (now (chart .exit) ≡ grownBy (now (chart .entry)) (pair (grammarOf (now (g .entry))) (graphOf (now (g .entry)) (now (h .entry))) (recordAt (now (chart .entry)) j) j (recordAt (now (chart .entry)) k) k)) × Ready (now (g .entry)) (now (h .entry)) (now (keys .entry)) (now (chart .exit)) (now (index .exit)) (now (lists .exit)) ⌝ }
 {
-    let a = (2 + 16 * j) as usize;
-    let b = (2 + 16 * k) as usize;
-    let mut out = [
-        0,
-        0,
-        0,
-        0,
-        plus(chart[a + 4], chart[b + 4]),
-        0,
-        64,
-        64,
-        64,
-        64,
-        64,
-        64,
-        64,
-        64,
-        j,
-        k,
-    ];
     let sure = index::sure(index);
-    let made = rules::pair_into(
-        g,
-        h,
-        plans,
-        graph,
-        &chart[a..a + 16],
-        &chart[b..b + 16],
-        sure,
-        &mut out,
-    );
-    if !made {
+    let x = records::item_at(chart, j);
+    let y = records::item_at(chart, k);
+    let made = rules::pair(g, h, plans, graph, x, y, sure);
+    if !made.ok {
         return;
     }
-    index::add(keys, chart, lists, index, &out);
+    let item = made.item;
+    let z = records::new_record(item, j, k);
+    index::add(keys, chart, lists, index, z);
 }
 
 // The one of two that comes first.
@@ -236,7 +155,7 @@ fn add_met(
     k: u64,
     past: u64,
 ) -> u64
-    requires { ⌜ Tables (now g) (now h) (now plans) (now keys) (now graph) × Ready (now g) (now h) (now keys) (now chart) (now index) (now lists) × Handled (now chart) j × Leads (now g) (recordAt (now chart) j) lead × (k < itemCount (now chart)) × (isHandled (recordAt (now chart) k) ≡ true) ⌝ }
+    requires { ⌜ Tables (now g) (now h) (now plans) (now keys) (now graph) × Ready (now g) (now h) (now keys) (now chart) (now index) (now lists) × Handled (now chart) j × Leads (now g) (recordAt (now chart) j .item) lead × (k < itemCount (now chart)) × (isHandled (recordAt (now chart) k) ≡ true) ⌝ }
     ensures { λ r. ⌜ (now (chart .exit) ≡ grownBy (now (chart .entry)) (guard (leb past k) (withRecord (grammarOf (now (g .entry))) (graphOf (now (g .entry)) (now (h .entry))) (recordAt (now (chart .entry)) j) j (recordAt (now (chart .entry)) k) k))) × Ready (now (g .entry)) (now (h .entry)) (now (keys .entry)) (now (chart .exit)) (now (index .exit)) (now (lists .exit)) × (r ≡ max past (k + 1)) ⌝ }
 {
     if k < past {
@@ -263,14 +182,13 @@ fn add_next(
     k: u64,
     past: u64,
 ) -> u64
-    requires { ⌜ Tables (now g) (now h) (now plans) (now keys) (now graph) × Ready (now g) (now h) (now keys) (now chart) (now index) (now lists) × Handled (now chart) j × Leads (now g) (recordAt (now chart) j) lead × (k < itemCount (now chart)) ⌝ }
+    requires { ⌜ Tables (now g) (now h) (now plans) (now keys) (now graph) × Ready (now g) (now h) (now keys) (now chart) (now index) (now lists) × Handled (now chart) j × Leads (now g) (recordAt (now chart) j .item) lead × (k < itemCount (now chart)) ⌝ }
     ensures { λ r. ⌜ (now (chart .exit) ≡ grownBy (now (chart .entry)) (guard (leb past k) (withRecord (grammarOf (now (g .entry))) (graphOf (now (g .entry)) (now (h .entry))) (recordAt (now (chart .entry)) j) j (recordAt (now (chart .entry)) k) k))) × Ready (now (g .entry)) (now (h .entry)) (now (keys .entry)) (now (chart .exit)) (now (index .exit)) (now (lists .exit)) × (r ≡ max past (k + 1)) ⌝ }
 {
     if k < past {
         return past;
     }
-    let own = (2 + 16 * j) as usize;
-    if index::quiet(chart, chart[own + 3], k) {
+    if index::quiet(chart, records::edges_at(chart, j), k) {
         return k + 1;
     }
     add_met(
@@ -304,11 +222,10 @@ fn add_listed(
     n: u64,
     key: u64,
 )
-    requires { ⌜ Tables (now g) (now h) (now plans) (now keys) (now graph) × Ready (now g) (now h) (now keys) (now chart) (now index) (now lists) × Handled (now chart) j × Leads (now g) (recordAt (now chart) j) lead × (n ≤ itemCount (now chart)) × Single (now keys) (now chart) (now index) j key ⌝ }
+    requires { ⌜ Tables (now g) (now h) (now plans) (now keys) (now graph) × Ready (now g) (now h) (now keys) (now chart) (now index) (now lists) × Handled (now chart) j × Leads (now g) (recordAt (now chart) j .item) lead × (n ≤ itemCount (now chart)) × Single (now keys) (now chart) (now index) j key ⌝ }
     ensures { λ r. ⌜ (now (chart .exit) ≡ grownBy (now (chart .entry)) (gather n (λ k. withRecord (grammarOf (now (g .entry))) (graphOf (now (g .entry)) (now (h .entry))) (recordAt (now (chart .entry)) j) j (recordAt (now (chart .entry)) k) k))) × Ready (now (g .entry)) (now (h .entry)) (now (keys .entry)) (now (chart .exit)) (now (index .exit)) (now (lists .exit)) ⌝ }
 {
-    let own = (2 + 16 * j) as usize;
-    let edges = chart[own + 3];
+    let edges = records::edges_at(chart, j);
     let end = 5 * n;
     let mut c = lists::first(lists, key);
     let mut past: u64 = 0;
@@ -397,12 +314,12 @@ fn add_many(
     j: u64,
     n: u64,
 )
-    requires { ⌜ Tables (now g) (now h) (now plans) (now keys) (now graph) × Ready (now g) (now h) (now keys) (now chart) (now index) (now lists) × Handled (now chart) j × Leads (now g) (recordAt (now chart) j) lead × (n ≤ itemCount (now chart)) ⌝ }
+    requires { ⌜ Tables (now g) (now h) (now plans) (now keys) (now graph) × Ready (now g) (now h) (now keys) (now chart) (now index) (now lists) × Handled (now chart) j × Leads (now g) (recordAt (now chart) j .item) lead × (n ≤ itemCount (now chart)) ⌝ }
     ensures { λ r. ⌜ (now (chart .exit) ≡ grownBy (now (chart .entry)) (gather n (λ k. withRecord (grammarOf (now (g .entry))) (graphOf (now (g .entry)) (now (h .entry))) (recordAt (now (chart .entry)) j) j (recordAt (now (chart .entry)) k) k))) × Ready (now (g .entry)) (now (h .entry)) (now (keys .entry)) (now (chart .exit)) (now (index .exit)) (now (lists .exit)) ⌝ }
 {
-    let own = (2 + 16 * j) as usize;
-    let edges = chart[own + 3];
-    let query = pivots::query(keys, &chart[own..own + 16]);
+    let x = records::item_at(chart, j);
+    let edges = x.edges;
+    let query = pivots::query(keys, x);
     let listed = index::regular(index);
     let mut at = opening(chart, lists, edges, n, listed, query);
     let mut past: u64 = 0;
@@ -439,11 +356,10 @@ fn add_each(
     j: u64,
     n: u64,
 )
-    requires { ⌜ Tables (now g) (now h) (now plans) (now keys) (now graph) × Ready (now g) (now h) (now keys) (now chart) (now index) (now lists) × Handled (now chart) j × Leads (now g) (recordAt (now chart) j) lead × (n ≤ itemCount (now chart)) ⌝ }
+    requires { ⌜ Tables (now g) (now h) (now plans) (now keys) (now graph) × Ready (now g) (now h) (now keys) (now chart) (now index) (now lists) × Handled (now chart) j × Leads (now g) (recordAt (now chart) j .item) lead × (n ≤ itemCount (now chart)) ⌝ }
     ensures { λ r. ⌜ (now (chart .exit) ≡ grownBy (now (chart .entry)) (gather n (λ k. withRecord (grammarOf (now (g .entry))) (graphOf (now (g .entry)) (now (h .entry))) (recordAt (now (chart .entry)) j) j (recordAt (now (chart .entry)) k) k))) × Ready (now (g .entry)) (now (h .entry)) (now (keys .entry)) (now (chart .exit)) (now (index .exit)) (now (lists .exit)) ⌝ }
 {
-    let own = (2 + 16 * j) as usize;
-    let asked = pivots::asked(keys, &chart[own..own + 16]);
+    let asked = pivots::asked(keys, records::item_at(chart, j));
     if asked.single & index::regular(index) {
         add_listed(
             g,
@@ -480,10 +396,10 @@ pub(crate) fn add_all(
     ensures { λ r. ⌜ (now (chart .exit) ≡ grownBy (now (chart .entry)) (consequences (grammarOf (now (g .entry))) (graphOf (now (g .entry)) (now (h .entry))) (chartOf (now (chart .entry)) .records) j)) × Ready (now (g .entry)) (now (h .entry)) (now (keys .entry)) (now (chart .exit)) (now (index .exit)) (now (lists .exit)) ⌝ }
 {
     let n = records::item_count(chart);
-    let at = (2 + 16 * j) as usize;
+    let x = records::item_at(chart, j);
     let mut lead = false;
-    if chart[at] == 0 {
-        let w = rules::plans::parent_in(g, plans, chart[at + 1], chart[at + 2]).word;
+    if x.kind == 0 {
+        let w = rules::plans::parent_in(g, plans, x.of, x.plan).word;
         if w % 32 >= 16 {
             add_root(g, h, keys, chart, lists, index, j);
             return;

@@ -9,8 +9,22 @@ ghost use Rattle.questions.specs.Checking.{checkGrammar};
 ghost use Rattle.questions.specs.Abstract.{grammarOf};
 ghost use Rattle.joins.specs.Joins.{KnownNode};
 ghost use Rattle.records.specs.Words.{Fits, grownBy};
-ghost use Rattle.steps.specs.Leaves.{leafRecord, ruleLeaves};
-use agenda::Record;
+ghost use Rattle.steps.specs.Leaves.{leafItem, leafRecord, ruleLeaves};
+use agenda::ChartItem;
+
+// The item of a leaf.
+fn leaf(r: u64, p: u64) -> ChartItem
+    ensures { λ x. ⌜ x ≡ leafItem r p ⌝ }
+{
+    ChartItem {
+        kind: 0,
+        of: r,
+        plan: p,
+        edges: 0,
+        count: 0,
+        nodes: [64u64; 8],
+    }
+}
 
 // The item of plan node p of rule r, if that is a leaf.
 fn add_leaf(g: &[u64], chart: &mut [u64], r: u64, p: u64)
@@ -18,20 +32,7 @@ fn add_leaf(g: &[u64], chart: &mut [u64], r: u64, p: u64)
     ensures { λ x. ⌜ now (chart .exit) ≡ grownBy (now (chart .entry)) (leafRecord (grammarOf (now (g .entry))) r p) ⌝ }
 {
     match layout::plan_kind(g, r, p) {
-        0 => records::add(
-            chart,
-            Record {
-                kind: 0,
-                of: r,
-                plan: p,
-                edges: 0,
-                count: 0,
-                handled: 0,
-                nodes: [64u64; 8],
-                first: 0,
-                second: 0,
-            },
-        ),
+        0 => records::add(chart, records::new_record(leaf(r, p), 0, 0)),
         _ => (),
     }
 }

@@ -9,7 +9,7 @@ ghost use Rattle.agenda.specs.Steps.{startChart, stepWith, runChart};
 ghost use Rattle.questions.specs.Checking.{checkGrammar};
 ghost use Rattle.questions.specs.Abstract.{grammarOf, graphOf};
 ghost use Rattle.joins.specs.Joins.{Accepted};
-ghost use Rattle.records.specs.Words.{Fits, capacity, chartOf, written};
+ghost use Rattle.records.specs.Words.{headerWords, Fits, capacity, chartOf, written};
 ghost use Rattle.steps.specs.Runs.{nextIn, isSome, markedBy};
 ghost use Rattle.ranking.specs.Ranking.{Ranked};
 ghost use Rattle.index.specs.Index.{indexWords, ranksOf};
@@ -21,11 +21,10 @@ mod leaves;
 
 // The chart made anew: only the leaf items are present.
 pub fn restart(g: &[u64], chart: &mut [u64])
-    requires { ⌜ (checkGrammar (now g) ≡ true) × (2 ≤ length (now chart)) ⌝ }
+    requires { ⌜ (checkGrammar (now g) ≡ true) × (headerWords ≤ length (now chart)) ⌝ }
     ensures { λ r. ⌜ now (chart .exit) ≡ written (now (chart .entry)) (startChart (grammarOf (now (g .entry))) (capacity (now (chart .entry)))) ⌝ }
 {
-    chart[0] = 0;
-    chart[1] = 0;
+    records::clear(chart);
     leaves::add_leaves(g, chart);
 }
 

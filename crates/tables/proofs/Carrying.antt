@@ -1,5 +1,5 @@
 -- A plan line judged by the sets of the lines before it: what they do not have is named by none of these lines.
-use Prim.Native.Nat.{ℕ, zero, suc, _+_, _-_, _*_, _≤_, _<_, min}
+use Prim.Native.Nat.{ℕ, zero, suc, _+_, _-_, _≤_, _<_, min}
 use native.Mathlib.Omega.{arith}
 use native.Mathlib.Numerals.{add-one}
 use native.Mathlib.Decide.{ℕ-discrete}
@@ -13,7 +13,7 @@ use Rattle.masks.specs.Laws.{bit-empty, member-true, member-false}
 use Rattle.hrg.specs.Counts.{hit, occurs, tabulate}
 use Rattle.hrg.proofs.Sums.{occurs-append, hit-self, hit-ne}
 use Rattle.questions.specs.declared.Due.the-variants.{PlanLine}
-use Rattle.questions.specs.Layout.{grammarWords, placeOf, planKind, planFirst, planSecond, ruleEdges, rulePlan}
+use Rattle.questions.specs.Layout.{plansFrom, planPlace, grammarWords, placeOf, planKind, planFirst, planSecond, ruleEdges, rulePlan}
 use Rattle.questions.specs.Questions.{ask, childrenOf, childrenBefore, introducedBefore, planSoFar, planWhole, judgePlan, judge}
 use Rattle.questions.specs.Checking.{fieldsDue, storedFields}
 use Rattle.tables.specs.Marks.{marked, marks}
@@ -188,35 +188,35 @@ module _ (t : List ℕ) (r q : ℕ) where
     pub line-not-kept : not b ≡ true → Stands [] t (PlanLine r q) false
     line-not-kept e = record { yes = λ y. absurd (false≢true y); no = λ y s. false≢true (sym (not-true b e) ∙ so ∙ standing-kept s .0) }
 
-    module _ (z : Bool) (zs : z ≡ eqb (behind t (74 + 25 * r + q) 3) 0) where
+    module _ (z : Bool) (zs : z ≡ eqb (behind t (planPlace r q) 3) 0) where
       pub line-not-zero : not z ≡ true → Stands [] t (PlanLine r q) false
       unfolding placeOf fieldsDue
-      line-not-zero e = record { yes = λ y. absurd (false≢true y); no = λ y s. ends-no t (74 + 25 * r + q) 3 z zs (not-true z e) (s .rest) }
+      line-not-zero e = record { yes = λ y. absurd (false≢true y); no = λ y s. ends-no t (planPlace r q) 3 z zs (not-true z e) (s .rest) }
 
       pub line-stands : not b ≡ false → not z ≡ false → (w : Bool) → w ≡ closes → Stands [] t (PlanLine r q) w
       unfolding placeOf fieldsDue lineKept
       line-stands kept clear w e = record {
         yes = λ y. record {
           passed = plan-answer ∙ passing (leb (planKind t r q) 2) (planSoFar t r q (planKind t r q) (planFirst t r q) (planSecond t r q)) closes (sym so ∙ not-false b kept) (sym e ∙ y);
-          rest = ends-yes t (74 + 25 * r + q) 3 z zs (not-false z clear);
+          rest = ends-yes t (planPlace r q) 3 z zs (not-false z clear);
         };
         no = λ y s. false≢true (sym y ∙ e ∙ standing-kept s .1);
       }
 
 -- ---- line after line: q lines are passed, all but the last of the plan for good, and that one if the plan is whole
 pub record Passed (t : List ℕ) (r n q : ℕ) : Type 0 where
-  pub before : q < n → Leads grammarWords [] t (PlanLine r 0) (74 + 25 * r) (cond (ltb q n) (PlanLine r q) (ruleAfter t r)) (74 + 25 * r + q)
-  pub last : n ≤ q → (b : Bool) → b ≡ lineWhole t r (n - 1) → Reaches grammarWords [] t (PlanLine r 0) (74 + 25 * r) (ruleAfter t r) (74 + 25 * r + n) b
+  pub before : q < n → Leads grammarWords [] t (PlanLine r 0) (plansFrom r) (cond (ltb q n) (PlanLine r q) (ruleAfter t r)) (planPlace r q)
+  pub last : n ≤ q → (b : Bool) → b ≡ lineWhole t r (n - 1) → Reaches grammarWords [] t (PlanLine r 0) (plansFrom r) (ruleAfter t r) (planPlace r n) b
 
 pub passed-start : (t : List ℕ) (r n : ℕ) → 1 ≤ n → Passed t r n 0
 passed-start t r n some = record { before = λ h. lines-start grammarWords [] t (PlanLine r) (ruleAfter t r) n _ _ (omega arith) some; last = λ h. absurd (omega arith) }
 
 module _ (t : List ℕ) (r n q : ℕ) (P : Passed t r n q) (h : q < n) where
-  pub passed-no : Stands [] t (PlanLine r q) false → Reaches grammarWords [] t (PlanLine r 0) (74 + 25 * r) (ruleAfter t r) (74 + 25 * r + n) false
+  pub passed-no : Stands [] t (PlanLine r q) false → Reaches grammarWords [] t (PlanLine r 0) (plansFrom r) (ruleAfter t r) (planPlace r n) false
   passed-no s = reaches-no grammarWords [] t (PlanLine r 0) (ruleAfter t r) _ _ (lines-no grammarWords [] t (PlanLine r 0) _ (PlanLine r) (ruleAfter t r) n q _ (P .before h) h tt false s refl)
 
   module _ (c : Count n (rulePlan t r) 16) (stands : (w : Bool) → w ≡ closes t r q → Stands [] t (PlanLine r q) w) where
-    over : Stands [] t (PlanLine r q) true → Leads grammarWords [] t (PlanLine r 0) (74 + 25 * r) (cond (ltb (q + 1) n) (PlanLine r (q + 1)) (ruleAfter t r)) (74 + 25 * r + (q + 1))
+    over : Stands [] t (PlanLine r q) true → Leads grammarWords [] t (PlanLine r 0) (plansFrom r) (cond (ltb (q + 1) n) (PlanLine r (q + 1)) (ruleAfter t r)) (planPlace r (q + 1))
     unfolding placeOf
     over s =
         lines-next grammarWords [] t (PlanLine r 0) _ (PlanLine r) (ruleAfter t r) n q _ (P .before h) h tt true s refl refl (next-plan t n r q c) _ (omega arith)
@@ -232,6 +232,6 @@ module _ (t : List ℕ) (r n q : ℕ) (P : Passed t r n q) (h : q < n) where
     pub passed-next : Passed t r n (q + 1)
     passed-next = record { before = λ l. over (stands true (more l)); last = λ l b e. go l b (stands b (final l b e)) }
       where
-        go : n ≤ q + 1 → (b : Bool) → Stands [] t (PlanLine r q) b → Reaches grammarWords [] t (PlanLine r 0) (74 + 25 * r) (ruleAfter t r) (74 + 25 * r + n) b
+        go : n ≤ q + 1 → (b : Bool) → Stands [] t (PlanLine r q) b → Reaches grammarWords [] t (PlanLine r 0) (plansFrom r) (ruleAfter t r) (planPlace r n) b
         go l true s = reaches-yes grammarWords [] t (PlanLine r 0) (ruleAfter t r) _ _ (lines-end grammarWords [] t (PlanLine r 0) _ (PlanLine r) (ruleAfter t r) n (q + 1) _ (over s) l _ (omega arith))
         go l false s = passed-no s

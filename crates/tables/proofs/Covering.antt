@@ -17,7 +17,7 @@ use Rattle.hrg.specs.Counts.{hit, occurs, tabulate}
 use Rattle.hrg.specs.WellFormedTest.{Decides, every}
 use Rattle.hrg.proofs.Sums.{hit-ne, length-tabulate}
 use Rattle.hrg.proofs.WellFormedTest.{_and_, decides-le, decides-eq, decides-map, decides-every}
-use Rattle.questions.specs.Layout.{lineField, rankAt, edgeLabel, graphLabel}
+use Rattle.questions.specs.Layout.{graphEdgePlace, edgePlace, lineField, rankAt, edgeLabel, graphLabel}
 use Rattle.questions.proofs.StoredLaws.{getD-tabulate}
 use Rattle.tables.specs.Marks.{marked, marks, nodesAt, Distinct}
 use Rattle.questions.specs.Questions.{listed, covered, nodesOnEdges, nodesOnGraph}
@@ -102,10 +102,10 @@ pub edges-none : (g : List ℕ) (r : ℕ) → 0 ≡ marks 0 (nodesOnEdges g r 0)
 unfolding marks nodesOnEdges
 edges-none g r = refl
 
-pub edges-next : (g : List ℕ) (r i label rank m x : ℕ) → label ≡ edgeLabel g r i → rank ≡ rankAt g label → m ≡ marks 0 (nodesOnEdges g r i)
-    → x ≡ marks m (tabulate rank (λ k. lineField g (66 + 25 * r + i) (1 + k))) → x ≡ marks 0 (nodesOnEdges g r (i + 1))
+pub edges-next : (g : List ℕ) (r i label rank p m x : ℕ) → label ≡ edgeLabel g r i → rank ≡ rankAt g label → p ≡ edgePlace r i → m ≡ marks 0 (nodesOnEdges g r i)
+    → x ≡ marks m (tabulate rank (λ k. lineField g p (1 + k))) → x ≡ marks 0 (nodesOnEdges g r (i + 1))
 unfolding nodesOnEdges
-edges-next g r i label rank m x a b c d = d ∙ rw (b, a, c, add-one) (sym (marks-append 0 (nodesOnEdges g r i) (tabulate (rankAt g (edgeLabel g r i)) (λ k. lineField g (66 + 25 * r + i) (1 + k)))))
+edges-next g r i label rank p m x a b e c d = d ∙ rw (b, a, e, c, add-one) (sym (marks-append 0 (nodesOnEdges g r i) (tabulate (rankAt g (edgeLabel g r i)) (λ k. lineField g (edgePlace r i) (1 + k)))))
 
 pub edges-done : (g : List ℕ) (r n i x : ℕ) → i ≤ n → n ≤ i → x ≡ marks 0 (nodesOnEdges g r i) → x ≡ marks 0 (nodesOnEdges g r n)
 edges-done g r n i x a b p = p ∙ ap (λ k. marks 0 (nodesOnEdges g r k)) (let e : i ≡ n = omega arith in e)
@@ -114,10 +114,10 @@ pub graph-none : (g h : List ℕ) → 0 ≡ marks 0 (nodesOnGraph g h 0)
 unfolding marks nodesOnGraph
 graph-none g h = refl
 
-pub graph-next : (g h : List ℕ) (e label rank m x : ℕ) → label ≡ graphLabel h e → rank ≡ rankAt g label → m ≡ marks 0 (nodesOnGraph g h e)
-    → x ≡ marks m (tabulate rank (λ k. lineField h (1 + e) (1 + k))) → x ≡ marks 0 (nodesOnGraph g h (e + 1))
+pub graph-next : (g h : List ℕ) (e label rank p m x : ℕ) → label ≡ graphLabel h e → rank ≡ rankAt g label → p ≡ graphEdgePlace e → m ≡ marks 0 (nodesOnGraph g h e)
+    → x ≡ marks m (tabulate rank (λ k. lineField h p (1 + k))) → x ≡ marks 0 (nodesOnGraph g h (e + 1))
 unfolding nodesOnGraph
-graph-next g h e label rank m x a b c d = d ∙ rw (b, a, c, add-one) (sym (marks-append 0 (nodesOnGraph g h e) (tabulate (rankAt g (graphLabel h e)) (λ k. lineField h (1 + e) (1 + k)))))
+graph-next g h e label rank p m x a b q c d = d ∙ rw (b, a, q, c, add-one) (sym (marks-append 0 (nodesOnGraph g h e) (tabulate (rankAt g (graphLabel h e)) (λ k. lineField h (graphEdgePlace e) (1 + k)))))
 
 pub graph-done : (g h : List ℕ) (n i x : ℕ) → i ≤ n → n ≤ i → x ≡ marks 0 (nodesOnGraph g h i) → x ≡ marks 0 (nodesOnGraph g h n)
 graph-done g h n i x a b p = p ∙ ap (λ k. marks 0 (nodesOnGraph g h k)) (let e : i ≡ n = omega arith in e)

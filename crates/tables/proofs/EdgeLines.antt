@@ -1,5 +1,5 @@
 -- The lines of edges, one after the other: each stands but for question 6, which the set of the nodes on all of them answers for the last.
-use Prim.Native.Nat.{ℕ, zero, suc, _+_, _-_, _*_, _≤_, _<_, min}
+use Prim.Native.Nat.{ℕ, zero, suc, _+_, _-_, _≤_, _<_, min}
 use native.Mathlib.Omega.{arith}
 use native.Mathlib.Numerals.{add-one}
 use native.Mathlib.Decide.{decLt}
@@ -15,7 +15,7 @@ use Rattle.masks.specs.Masks.{_∪_, full}
 use Rattle.hrg.proofs.Sums.{length-tabulate}
 use Rattle.questions.specs.declared.Due.{Due}
 use Rattle.questions.specs.declared.Due.the-variants.{RuleEdge, PlanLine, GraphEdge, Nothing}
-use Rattle.questions.specs.Layout.{placeOf, lineField, symbolCount, kindField, rankAt, ruleNodes, ruleEdges, graphNodes, graphEdges, edgeLabel, graphLabel}
+use Rattle.questions.specs.Layout.{edgesFrom, placeOf, lineField, symbolCount, kindField, rankAt, ruleNodes, ruleEdges, graphNodes, graphEdges, edgeLabel, graphLabel}
 use Rattle.questions.specs.Questions.{ask, listed, covered, nodesOnEdges, nodesOnGraph, judge}
 use Rattle.questions.specs.Reading.{next}
 use Rattle.questions.specs.Checking.{fieldsDue, storedFields}
@@ -222,7 +222,7 @@ graph-lines g t n c = record {
   place = λ e. omega arith;
 }
 
-pub rule-lines : (t : List ℕ) (r n : ℕ) → Count n (ruleEdges t r) 8 → EdgeLines [] t (RuleEdge r) (PlanLine r 0) (66 + 25 * r) n (ruleNodes t r) (nodesOnEdges t r)
+pub rule-lines : (t : List ℕ) (r n : ℕ) → Count n (ruleEdges t r) 8 → EdgeLines [] t (RuleEdge r) (PlanLine r 0) (edgesFrom r) n (ruleNodes t r) (nodesOnEdges t r)
 unfolding nodesOnEdges placeOf
 rule-lines t r n c = record {
   fixed = λ i. ltb (edgeLabel t r i) (symbolCount t) && leb 1 (rankAt t (edgeLabel t r i));

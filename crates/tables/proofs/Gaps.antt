@@ -21,6 +21,9 @@ module _ (t : List ℕ) (a : ℕ) where
       go (yes d) = z k b d
       go (no d) = let same : k ≡ i = omega arith in rw same e
 
+  pub zeros-at : (b c d : ℕ) (z : Bool) → a ≡ c → b ≡ d → Zeros t a b z → Zeros t c d z
+  zeros-at b c d z e f zs = rw (← e, ← f) zs
+
   pub zeros-no : (b i : ℕ) → a ≤ i → i < b → (getD t i 0 ≡ 0 → ⊥) → Zeros t a b false
   zeros-no b i l h n = record { yes = λ y. absurd (false≢true y); no = λ e z. n (z i l h) }
 

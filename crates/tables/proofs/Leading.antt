@@ -1,5 +1,5 @@
 -- From line to line: where those between stand in their order, what is left to check before them is what is left behind them.
-use Prim.Native.Nat.{ℕ, suc, _+_, _*_, _≤_, _<_, min}
+use Prim.Native.Nat.{ℕ, suc, _+_, _≤_, _<_, min}
 use native.Mathlib.Omega.{arith}
 use mathlib.Core.Path.{_≡_, refl, sym, ap, subst}
 use mathlib.Core.Bool.{Bool, true, false, not, cond, false≢true}
@@ -10,7 +10,7 @@ use borrow.Author.Tests.{lt-ltb, le-ltb, not-true, not-false}
 use Rattle.hrg.specs.WellFormed.{Between}
 use Rattle.questions.specs.declared.Due.{Due}
 use Rattle.questions.specs.declared.Due.the-variants.{Grammar, Symbol, Rule, RuleEdge, PlanLine, Graph, GraphEdge, Nothing}
-use Rattle.questions.specs.Layout.{placeOf, lineField, symbolCount, ruleCount, ruleEdges, rulePlan, graphEdges}
+use Rattle.questions.specs.Layout.{symbolPlace, graphEdgePlace, rulePlace, edgesFrom, edgePlace, plansFrom, placeOf, lineField, symbolCount, ruleCount, ruleEdges, rulePlan, graphEdges}
 use Rattle.questions.specs.Questions.{judge}
 use Rattle.questions.specs.Reading.{next}
 use Rattle.questions.specs.Checking.{fieldsDue, storedFields}
@@ -63,6 +63,9 @@ module _ (size : ℕ) (g t : List ℕ) where
 
   pub concludes-no : (due : Due) (from : ℕ) → (Rest size g t due from → ⊥) → Concludes size g t due from false
   concludes-no due from n = record { yes = λ y. absurd (false≢true y); no = λ y. n }
+
+  pub concludes-at : (due : Due) (from to : ℕ) (b : Bool) → from ≡ to → Concludes size g t due from b → Concludes size g t due to b
+  concludes-at due from to b e q = subst (λ (k : ℕ). Concludes size g t due k b) e q
 
   module _ (due then : Due) (from to : ℕ) (p : Leads size g t due from then to) (b : Bool) where
     reaches-on : (after : Due) (end : ℕ) → Reaches size g t then to after end b → Reaches size g t due from after end b
@@ -168,43 +171,43 @@ module _ (t : List ℕ) (n : ℕ) where
 
 -- ---- the lines of a rule
 module _ (size : ℕ) (t : List ℕ) (r : ℕ) (b : Bool) (s : Stands [] t (Rule r) b) (then : Due) (end : ℕ) where
-  pub rule-no : not b ≡ true → Reaches size [] t (Rule r) (65 + 25 * r) then end false
+  pub rule-no : not b ≡ true → Reaches size [] t (Rule r) (rulePlace r) then end false
   rule-no e = reaches-no size [] t (Rule r) then _ end (line-no size [] t (Rule r) _ tt (s .no (not-true b e)))
 
-  module _ (ok : not b ≡ false) (n : ℕ) (e : Bool) (E : Reaches size [] t (RuleEdge r 0) (66 + 25 * r) (PlanLine r 0) (66 + 25 * r + n) e) where
-    to-edges : Leads size [] t (Rule r) (65 + 25 * r) (RuleEdge r 0) (66 + 25 * r)
+  module _ (ok : not b ≡ false) (n : ℕ) (e : Bool) (E : Reaches size [] t (RuleEdge r 0) (edgesFrom r) (PlanLine r 0) (edgePlace r n) e) where
+    to-edges : Leads size [] t (Rule r) (rulePlace r) (RuleEdge r 0) (edgesFrom r)
     unfolding next placeOf
     to-edges =
-        subst (Leads size [] t (Rule r) (65 + 25 * r) (RuleEdge r 0)) (let x : 65 + 25 * r + 1 ≡ 66 + 25 * r = omega arith in x)
-        (leads-line size [] t (Rule r) (65 + 25 * r) tt refl (s .yes (not-false b ok)))
+        subst (Leads size [] t (Rule r) (rulePlace r) (RuleEdge r 0)) (let x : rulePlace r + 1 ≡ edgesFrom r = omega arith in x)
+        (leads-line size [] t (Rule r) (rulePlace r) tt refl (s .yes (not-false b ok)))
 
-    pub rule-edges-no : not e ≡ true → Reaches size [] t (Rule r) (65 + 25 * r) then end false
+    pub rule-edges-no : not e ≡ true → Reaches size [] t (Rule r) (rulePlace r) then end false
     rule-edges-no h = reaches-no size [] t (Rule r) then _ end (through-no size [] t (Rule r) (RuleEdge r 0) _ _ to-edges e _ _ E h)
 
-    module _ (passed : not e ≡ false) (z : Bool) (zs : Zeros t (66 + 25 * r + n) (74 + 25 * r) z) where
-      to-gap : Leads size [] t (Rule r) (65 + 25 * r) (PlanLine r 0) (66 + 25 * r + n)
+    module _ (passed : not e ≡ false) (z : Bool) (zs : Zeros t (edgePlace r n) (plansFrom r) z) where
+      to-gap : Leads size [] t (Rule r) (rulePlace r) (PlanLine r 0) (edgePlace r n)
       to-gap = through size [] t (Rule r) (RuleEdge r 0) _ _ to-edges e _ _ E passed
 
-      here : 74 + 25 * r ≡ placeOf (PlanLine r 0)
+      here : plansFrom r ≡ placeOf (PlanLine r 0)
       unfolding placeOf
       here = omega arith
 
-      pub rule-gap-no : not z ≡ true → Reaches size [] t (Rule r) (65 + 25 * r) then end false
+      pub rule-gap-no : not z ≡ true → Reaches size [] t (Rule r) (rulePlace r) then end false
       rule-gap-no h =
           reaches-no size [] t (Rule r) then _ end
-          (λ x. gap-no size [] t (PlanLine r 0) _ tt (λ q. zs .no (not-true z h) (subst (Zero t (66 + 25 * r + n)) (sym here) q)) (to-gap .onward x))
+          (λ x. gap-no size [] t (PlanLine r 0) _ tt (λ q. zs .no (not-true z h) (subst (Zero t (edgePlace r n)) (sym here) q)) (to-gap .onward x))
 
-      pub rule-plan : not z ≡ false → (to : ℕ) → to ≡ end → (p : Bool) → Reaches size [] t (PlanLine r 0) (74 + 25 * r) then to p
-          → Reaches size [] t (Rule r) (65 + 25 * r) then end p
+      pub rule-plan : not z ≡ false → (to : ℕ) → to ≡ end → (p : Bool) → Reaches size [] t (PlanLine r 0) (plansFrom r) then to p
+          → Reaches size [] t (Rule r) (rulePlace r) then end p
       rule-plan h to x p plan =
-          let over = leads-gap size [] t (PlanLine r 0) (66 + 25 * r + n) tt (subst (Zero t (66 + 25 * r + n)) here (zs .yes (not-false z h))) in
-          reaches-on size [] t (Rule r) (PlanLine r 0) _ (74 + 25 * r)
-          (leads-on size [] t (Rule r) (PlanLine r 0) (PlanLine r 0) _ _ _ to-gap (subst (Leads size [] t (PlanLine r 0) (66 + 25 * r + n) (PlanLine r 0)) (sym here) over))
-          p then end (subst (λ (k : ℕ). Reaches size [] t (PlanLine r 0) (74 + 25 * r) then k p) x plan)
+          let over = leads-gap size [] t (PlanLine r 0) (edgePlace r n) tt (subst (Zero t (edgePlace r n)) here (zs .yes (not-false z h))) in
+          reaches-on size [] t (Rule r) (PlanLine r 0) _ (plansFrom r)
+          (leads-on size [] t (Rule r) (PlanLine r 0) (PlanLine r 0) _ _ _ to-gap (subst (Leads size [] t (PlanLine r 0) (edgePlace r n) (PlanLine r 0)) (sym here) over))
+          p then end (subst (λ (k : ℕ). Reaches size [] t (PlanLine r 0) (plansFrom r) then k p) x plan)
 
 -- ---- rule after rule
 module _ (size : ℕ) (t : List ℕ) (first : Due) (f n r from : ℕ) (p : Leads size [] t first f (cond (ltb r n) (Rule r) Nothing) from) (h : r < n)
-    (z : Bool) (zs : Zeros t from (65 + 25 * r) z) where
+    (z : Bool) (zs : Zeros t from (rulePlace r) z) where
   before : Leads size [] t first f (Rule r) from
   before = lines-at size [] t first f Rule Nothing n r from p h
 
@@ -212,8 +215,8 @@ module _ (size : ℕ) (t : List ℕ) (first : Due) (f n r from : ℕ) (p : Leads
   unfolding placeOf
   rules-gap-no e = concludes-no size [] t first f (λ x. gap-no size [] t (Rule r) from tt (zs .no (not-true z e)) (before .onward x))
 
-  module _ (ok : not z ≡ false) (b : Bool) (end : ℕ) (R : Reaches size [] t (Rule r) (65 + 25 * r) (ruleAfter t r) end b) where
-    here-rule : Leads size [] t first f (Rule r) (65 + 25 * r)
+  module _ (ok : not z ≡ false) (b : Bool) (end : ℕ) (R : Reaches size [] t (Rule r) (rulePlace r) (ruleAfter t r) end b) where
+    here-rule : Leads size [] t first f (Rule r) (rulePlace r)
     unfolding placeOf
     here-rule = leads-on size [] t first (Rule r) (Rule r) f from _ before (leads-gap size [] t (Rule r) from tt (zs .yes (not-false z ok)))
 
@@ -230,13 +233,13 @@ module _ (size : ℕ) (g t : List ℕ) (b : Bool) where
   pub grammar-no : Stands g t Grammar b → not b ≡ true → Concludes size g t Grammar 0 false
   grammar-no s e = concludes-no size g t Grammar 0 (line-no size g t Grammar 0 tt (s .no (not-true b e)))
 
-  pub grammar-line : Stands g t Grammar b → not b ≡ false → Leads size g t Grammar 0 (Symbol 0) 1
+  pub grammar-line : Stands g t Grammar b → not b ≡ false → Leads size g t Grammar 0 (Symbol 0) (symbolPlace 0)
   unfolding next placeOf
   grammar-line s e = leads-line size g t Grammar 0 tt refl (s .yes (not-false b e))
 
   pub graph-no : Stands g t Graph b → not b ≡ true → Concludes size g t Graph 0 false
   graph-no s e = concludes-no size g t Graph 0 (line-no size g t Graph 0 tt (s .no (not-true b e)))
 
-  pub graph-line : Stands g t Graph b → not b ≡ false → Leads size g t Graph 0 (GraphEdge 0) 1
+  pub graph-line : Stands g t Graph b → not b ≡ false → Leads size g t Graph 0 (GraphEdge 0) (graphEdgePlace 0)
   unfolding next placeOf
   graph-line s e = leads-line size g t Graph 0 tt refl (s .yes (not-false b e))

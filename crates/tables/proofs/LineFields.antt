@@ -26,6 +26,10 @@ module _ (t : List ℕ) (p n : ℕ) (z : Bool) (e : z ≡ eqb (behind t p n) 0) 
   pub ends-no : z ≡ false → behind t p n ≡ 0 → ⊥
   ends-no y = eqb-false (behind t p n) 0 (sym e ∙ y)
 
+-- at the place that is called so
+pub ends-at : (t : List ℕ) (p q n : ℕ) (z : Bool) → p ≡ q → z ≡ eqb (behind t p n) 0 → z ≡ eqb (behind t q n) 0
+ends-at t p q n z same e = e ∙ ap (λ i. eqb (behind t i n) 0) same
+
 -- ---- its fields, put into f one by one
 abbrev pub Copied : List ℕ → ℕ → List ℕ → ℕ → Type 0
 Copied t p f k = (j : ℕ) → j < k → getD f j 0 ≡ lineField t p j

@@ -13,7 +13,7 @@ use Rattle.hrg.specs.Counts.{tabulate}
 use Rattle.hrg.proofs.Sums.{length-tabulate}
 use Rattle.questions.specs.declared.Due.{Due}
 use Rattle.questions.specs.declared.Due.the-variants.{Grammar, Symbol, Rule, RuleEdge, PlanLine, Graph, GraphEdge, Nothing}
-use Rattle.questions.specs.Layout.{placeOf, lineField, packed, stored, grammarWords, graphWords, symbolCount, rankAt}
+use Rattle.questions.specs.Layout.{symbolPlace, rulePlace, edgePlace, placeOf, lineField, packed, stored, grammarWords, graphWords, symbolCount, rankAt}
 use Rattle.questions.specs.Questions.{judgeRule, judgeRuleEdge, judge}
 use Rattle.questions.specs.Reading.{Verdict, refused, accepted, whenDone, goOn, next}
 use Rattle.questions.specs.Checking.{fieldsDue, storedFields, checkLines, filledBy, checkGrammar, checkGraph}
@@ -111,33 +111,33 @@ module _ (g c t : List ℕ) where
   abbrev Alike : Due → Type 0
   Alike d = (storedFields g c t d ≡ storedFields g t t d) ⊎ ((judge g c d (storedFields g c t d) ≡ 0 → ⊥) × (judge g t d (storedFields g t t d) ≡ 0 → ⊥))
 
-  rank-alike : (x p : ℕ) → x < 64 → 65 ≤ p → Agree c t p → rankAt c x ≡ rankAt t x
-  rank-alike x p l h a = rw (a (1 + x) 2 (omega arith) (omega arith))
+  rank-alike : (x p : ℕ) → x < 64 → rulePlace 0 ≤ p → Agree c t p → rankAt c x ≡ rankAt t x
+  rank-alike x p l h a = rw (a (symbolPlace x) 2 (omega arith) (omega arith))
 
-  rule-alike : (r : ℕ) → symbolCount c ≤ 64 → Agree c t (65 + 25 * r) → Dec (lineField t (65 + 25 * r) 1 < 64) → Alike (Rule r)
+  rule-alike : (r : ℕ) → symbolCount c ≤ 64 → Agree c t (rulePlace r) → Dec (lineField t (rulePlace r) 1 < 64) → Alike (Rule r)
   unfolding storedFields fieldsDue placeOf judge
-  rule-alike r b a (yes l) = inl (ap (λ n. tabulate (5 + n) (λ j. lineField t (65 + 25 * r) j)) (rank-alike (lineField t (65 + 25 * r) 1) (65 + 25 * r) l (omega arith) a))
+  rule-alike r b a (yes l) = inl (ap (λ n. tabulate (5 + n) (λ j. lineField t (rulePlace r) j)) (rank-alike (lineField t (rulePlace r) 1) (rulePlace r) l (omega arith) a))
   rule-alike r b a (no l) =
       inr (
-        rule-far c r (rankAt c (lineField t (65 + 25 * r) 1)) (λ j. lineField t (65 + 25 * r) j) b (omega arith),
-        rule-far t r (rankAt t (lineField t (65 + 25 * r) 1)) (λ j. lineField t (65 + 25 * r) j) (omega (arith, a 0 0 (omega arith) (omega arith))) (omega arith),
+        rule-far c r (rankAt c (lineField t (rulePlace r) 1)) (λ j. lineField t (rulePlace r) j) b (omega arith),
+        rule-far t r (rankAt t (lineField t (rulePlace r) 1)) (λ j. lineField t (rulePlace r) j) (omega (arith, a 0 0 (omega arith) (omega arith))) (omega arith),
       )
 
-  edge-alike : (r i : ℕ) → symbolCount c ≤ 64 → Agree c t (66 + 25 * r + i) → Dec (lineField t (66 + 25 * r + i) 0 < 64) → Alike (RuleEdge r i)
+  edge-alike : (r i : ℕ) → symbolCount c ≤ 64 → Agree c t (edgePlace r i) → Dec (lineField t (edgePlace r i) 0 < 64) → Alike (RuleEdge r i)
   unfolding storedFields fieldsDue placeOf judge
-  edge-alike r i b a (yes l) = inl (ap (λ n. tabulate (1 + n) (λ j. lineField t (66 + 25 * r + i) j)) (rank-alike (lineField t (66 + 25 * r + i) 0) (66 + 25 * r + i) l (omega arith) a))
+  edge-alike r i b a (yes l) = inl (ap (λ n. tabulate (1 + n) (λ j. lineField t (edgePlace r i) j)) (rank-alike (lineField t (edgePlace r i) 0) (edgePlace r i) l (omega arith) a))
   edge-alike r i b a (no l) =
       inr (
-        edge-far c r i (rankAt c (lineField t (66 + 25 * r + i) 0)) (λ j. lineField t (66 + 25 * r + i) j) b (omega arith),
-        edge-far t r i (rankAt t (lineField t (66 + 25 * r + i) 0)) (λ j. lineField t (66 + 25 * r + i) j) (omega (arith, a 0 0 (omega arith) (omega arith))) (omega arith),
+        edge-far c r i (rankAt c (lineField t (edgePlace r i) 0)) (λ j. lineField t (edgePlace r i) j) b (omega arith),
+        edge-far t r i (rankAt t (lineField t (edgePlace r i) 0)) (λ j. lineField t (edgePlace r i) j) (omega (arith, a 0 0 (omega arith) (omega arith))) (omega arith),
       )
 
   fields-alike : (d : Due) → Before c d → Agree c t (placeOf d) → Alike d
   unfolding storedFields fieldsDue placeOf
   fields-alike Grammar b a = inl refl
   fields-alike (Symbol s) b a = inl refl
-  fields-alike (Rule r) b a = rule-alike r b a (decLt (lineField t (65 + 25 * r) 1) 64)
-  fields-alike (RuleEdge r i) b a = edge-alike r i (b .0) a (decLt (lineField t (66 + 25 * r + i) 0) 64)
+  fields-alike (Rule r) b a = rule-alike r b a (decLt (lineField t (rulePlace r) 1) 64)
+  fields-alike (RuleEdge r i) b a = edge-alike r i (b .0) a (decLt (lineField t (edgePlace r i) 0) 64)
   fields-alike (PlanLine r q) b a = inl refl
   fields-alike Graph b a = inl refl
   fields-alike (GraphEdge e) b a = inl refl
@@ -354,16 +354,16 @@ verdict-is size g t left first fits room before e false C =
 -- ---- the two tables
 pub grammar-short : (t : List ℕ) → length t < grammarWords → false ≡ checkGrammar t
 unfolding checkGrammar
-grammar-short t h = short-filled grammarWords t (checkLines 1666 [] t (replicate grammarWords 0) Grammar) h
+grammar-short t h = short-filled grammarWords t (checkLines (suc grammarWords) [] t (replicate grammarWords 0) Grammar) h
 
 pub grammar-is : (t : List ℕ) → grammarWords ≤ length t → (b : Bool) → Concludes grammarWords [] t Grammar 0 b → b ≡ checkGrammar t
 unfolding checkGrammar
-grammar-is t fits b C = verdict-is grammarWords [] t 1666 Grammar fits (omega arith) tt (omega arith) b C
+grammar-is t fits b C = verdict-is grammarWords [] t (suc grammarWords) Grammar fits (omega arith) tt (omega arith) b C
 
 pub graph-short : (g t : List ℕ) → length t < graphWords → false ≡ checkGraph g t
 unfolding checkGraph
-graph-short g t h = short-filled graphWords t (checkLines 66 g t (replicate graphWords 0) Graph) h
+graph-short g t h = short-filled graphWords t (checkLines (suc graphWords) g t (replicate graphWords 0) Graph) h
 
 pub graph-is : (g t : List ℕ) → graphWords ≤ length t → (b : Bool) → Concludes graphWords g t Graph 0 b → b ≡ checkGraph g t
 unfolding checkGraph
-graph-is g t fits b C = verdict-is graphWords g t 66 Graph fits (omega arith) tt (omega arith) b C
+graph-is g t fits b C = verdict-is graphWords g t (suc graphWords) Graph fits (omega arith) tt (omega arith) b C

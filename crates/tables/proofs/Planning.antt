@@ -1,11 +1,10 @@
 -- Question 7's counts: children and introduced edges, line by line.
-use Prim.Native.Nat.{ℕ, _+_, _*_, _≤_, _<_, min}
+use Prim.Native.Nat.{ℕ, _+_, _≤_, min}
 use native.Mathlib.Omega.{arith}
 use native.Mathlib.Numerals.{add-one}
 use mathlib.Core.Path.{_≡_, refl, sym, ap, _∙_, subst}
 use mathlib.Core.Bool.{Bool, true, false, _&&_}
 use mathlib.Core.List.{List, _++_}
-use lib.ListN.{length}
 use lib.Dec.{ltb, leb, eqb}
 use borrow.Author.Tests.{ne-eqb, le-leb}
 use Rattle.masks.specs.Masks.{_∪_, full, Added}
@@ -18,15 +17,12 @@ use Rattle.questions.specs.Walk.{Room}
 use Rattle.questions.specs.declared.Due.{Due}
 use Rattle.questions.specs.declared.Due.the-variants.{PlanLine}
 use Rattle.tables.specs.Marks.{marked, marks}
-use Rattle.tables.specs.Plans.{PlanRoom, Marked}
+use Rattle.tables.specs.Plans.{Marked}
 use Rattle.tables.proofs.Covering.{marked-by, marks-append, marks-covered, covered-by}
 
 -- ---- the places of plan lines
 pub room-lines : (n : ℕ) (due : Due) (r q : ℕ) → Room n due → due ≡ PlanLine r q → Room n (PlanLine r q)
 room-lines n due r q h e = subst (Room n) e h
-
-pub plan-inside : (g : List ℕ) (r n q k : ℕ) → PlanRoom g r n → q < n → k < 9 → (74 + 25 * r + q < length g) × (k ≤ 8)
-plan-inside g r n q k p h l = (omega (arith, p .long, p .rule, p .lines), omega arith)
 
 pub hit-yes : (a b : ℕ) → a ≡ b → 1 ≡ hit a b
 hit-yes a b e = rw e (sym (hit-self b))

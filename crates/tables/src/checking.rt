@@ -7,7 +7,7 @@ ghost use lib.ListN.{length, take};
 ghost use lib.Dec.{eqb};
 ghost use Rattle.hrg.specs.Counts.{tabulate};
 ghost use Rattle.questions.specs.declared.Due.the-variants.{Grammar, Symbol, Rule, RuleEdge, PlanLine, Graph, GraphEdge};
-ghost use Rattle.questions.specs.Layout.{grammarWords, graphWords, lineField, symbolCount, ruleCount, ruleNodes, ruleEdges, rulePlan, graphNodes, graphEdges};
+ghost use Rattle.questions.specs.Layout.{symbolPlace, rulePlace, edgesFrom, edgePlace, plansFrom, planPlace, graphEdgePlace, grammarWords, graphWords, lineField, symbolCount, ruleCount, ruleNodes, ruleEdges, rulePlan, graphNodes, graphEdges};
 ghost use Rattle.questions.specs.Walk.{Room};
 ghost use Rattle.questions.specs.Checking.{checkGrammar, checkGraph};
 ghost use Rattle.tables.specs.Concluding.{Zeros, Gathered, eightFrom, behind, Stands, Attached, NearlyStands, Count, ruleAfter, Reaches, Concludes};
@@ -112,20 +112,21 @@ fn symbol_stands(t: &[u64], s: u64) -> bool
     requires { ⌜ Room (length (now t)) (Symbol s) ⌝ }
     ensures { λ x. ⌜ Stands [] (now (t .entry)) (Symbol s) x ⌝ }
 {
+    let p = layout::symbol_place(s);
     let mut f = [0u64; 9];
-    fields_into(t, 1 + s, 3, &mut f);
+    fields_into(t, p, 3, &mut f);
     if judging::judge_symbol(t, s, &f[0..3]) != 0 {
         return false;
     }
-    ends(t, 1 + s, 3)
+    ends(t, p, 3)
 }
 
 fn rule_stands(t: &[u64], r: u64) -> bool
     requires { ⌜ Room (length (now t)) (Rule r) ⌝ }
     ensures { λ x. ⌜ Stands [] (now (t .entry)) (Rule r) x ⌝ }
 {
-    let p = 65 + 25 * r;
-    let n = 5 + layout::rank_at(t, layout::field_in(t, p, 1));
+    let p = layout::rule_place(r);
+    let n = 5 + layout::rank_at(t, layout::rule_symbol_in(t, r));
     let mut f = [0u64; 9];
     fields_into(t, p, n, &mut f);
     if judging::judge_rule(t, r, &f[0..n as usize]) != 0 {
@@ -167,8 +168,8 @@ fn graph_edge_stands(g: &[u64], t: &[u64], e: u64, symbols: u64, nodes: u64) -> 
     requires { ⌜ Room (length (now t)) (GraphEdge e) × (symbols ≡ symbolCount (now g)) × (nodes ≡ min 64 (graphNodes (now t))) ⌝ }
     ensures { λ x. ⌜ NearlyStands (now (g .entry)) (now (t .entry)) (GraphEdge e) (x .ok) (x .seen) ⌝ }
 {
-    let p = 1 + e;
-    let label = layout::field_in(t, p, 0);
+    let p = layout::graph_edge_place(e);
+    let label = layout::graph_label_in(t, e);
     let kind = layout::kind_of(g, label);
     let fixed = (label < symbols) & (kind == 0);
     if !fixed {
@@ -182,8 +183,8 @@ fn rule_edge_stands(t: &[u64], r: u64, i: u64, symbols: u64, nodes: u64) -> Node
     requires { ⌜ Room (length (now t)) (RuleEdge r i) × (symbols ≡ symbolCount (now t)) × (nodes ≡ min 64 (ruleNodes (now t) r)) ⌝ }
     ensures { λ x. ⌜ NearlyStands [] (now (t .entry)) (RuleEdge r i) (x .ok) (x .seen) ⌝ }
 {
-    let p = 66 + 25 * r + i;
-    let label = layout::field_in(t, p, 0);
+    let p = layout::edge_place(r, i);
+    let label = layout::edge_label_in(t, r, i);
     let rank = layout::rank_at(t, label);
     let fixed = (label < symbols) & (1 <= rank);
     if !fixed {
@@ -196,7 +197,7 @@ fn rule_edge_stands(t: &[u64], r: u64, i: u64, symbols: u64, nodes: u64) -> Node
 // The lines of the n symbols.
 fn check_symbols(t: &[u64], n: u64) -> bool
     requires { ⌜ Room (length (now t)) Grammar × Count n (symbolCount (now t)) 64 ⌝ }
-    ensures { λ x. ⌜ Reaches grammarWords [] (now (t .entry)) (Symbol 0) 1 (Rule 0) (1 + n) x ⌝ }
+    ensures { λ x. ⌜ Reaches grammarWords [] (now (t .entry)) (Symbol 0) (symbolPlace 0) (Rule 0) (symbolPlace n) x ⌝ }
 {
     let mut s: u64 = 0;
     while s < n {
@@ -211,10 +212,10 @@ fn check_symbols(t: &[u64], n: u64) -> bool
 // The lines of the n edges of rule r; `mask` has the nodes on those passed.
 fn check_edges(t: &[u64], r: u64, n: u64) -> bool
     requires { ⌜ Room (length (now t)) (Rule r) × Count n (ruleEdges (now t) r) 8 ⌝ }
-    ensures { λ x. ⌜ Reaches grammarWords [] (now (t .entry)) (RuleEdge r 0) (66 + 25 * r) (PlanLine r 0) (66 + 25 * r + n) x ⌝ }
+    ensures { λ x. ⌜ Reaches grammarWords [] (now (t .entry)) (RuleEdge r 0) (edgesFrom r) (PlanLine r 0) (edgePlace r n) x ⌝ }
 {
-    let symbols = layout::field_in(t, 0, 0);
-    let nodes = layout::field_in(t, 65 + 25 * r, 2);
+    let symbols = layout::symbol_count_in(t);
+    let nodes = layout::rule_nodes_in(t, r);
     let top = layout::at_most(64, nodes);
     let mut mask: u64 = 0;
     let mut i: u64 = 0;
@@ -232,7 +233,7 @@ fn check_edges(t: &[u64], r: u64, n: u64) -> bool
 // The n plan lines of rule r, which has this many edges: what they name so far is carried as two sets, which must be whole at the end.
 fn check_plan(t: &[u64], r: u64, n: u64, edges: u64) -> bool
     requires { ⌜ Room (length (now t)) (Rule r) × Count n (rulePlan (now t) r) 16 × Count edges (ruleEdges (now t) r) 8 ⌝ }
-    ensures { λ x. ⌜ Reaches grammarWords [] (now (t .entry)) (PlanLine r 0) (74 + 25 * r) (ruleAfter (now (t .entry)) r) (74 + 25 * r + n) x ⌝ }
+    ensures { λ x. ⌜ Reaches grammarWords [] (now (t .entry)) (PlanLine r 0) (plansFrom r) (ruleAfter (now (t .entry)) r) (planPlace r n) x ⌝ }
 {
     let mut children: u64 = 0;
     let mut introduced: u64 = 0;
@@ -242,7 +243,7 @@ fn check_plan(t: &[u64], r: u64, n: u64, edges: u64) -> bool
         if !line.kept {
             return false;
         }
-        if !ends(t, 74 + 25 * r + q, 3) {
+        if !ends(t, layout::plan_place(r, q), 3) {
             return false;
         }
         children = line.children;
@@ -255,65 +256,65 @@ fn check_plan(t: &[u64], r: u64, n: u64, edges: u64) -> bool
 // The lines of rule r, and the words between its edges and its plan.
 fn check_rule(t: &[u64], r: u64) -> bool
     requires { ⌜ Room (length (now t)) (Rule r) ⌝ }
-    ensures { λ x. ⌜ (x ≡ true → rulePlan (now (t .entry)) r ≤ 16) × Reaches grammarWords [] (now (t .entry)) (Rule r) (65 + 25 * r) (ruleAfter (now (t .entry)) r) (74 + 25 * r + rulePlan (now (t .entry)) r) x ⌝ }
+    ensures { λ x. ⌜ (x ≡ true → rulePlan (now (t .entry)) r ≤ 16) × Reaches grammarWords [] (now (t .entry)) (Rule r) (rulePlace r) (ruleAfter (now (t .entry)) r) (planPlace r (rulePlan (now (t .entry)) r)) x ⌝ }
 {
     if !rule_stands(t, r) {
         return false;
     }
-    let edges = layout::field_in(t, 65 + 25 * r, 3);
+    let edges = layout::rule_edges_in(t, r);
     if !check_edges(t, r, edges) {
         return false;
     }
-    if !zeros(t, 66 + 25 * r + edges, 74 + 25 * r) {
+    if !zeros(t, layout::edge_place(r, edges), layout::plans_from(r)) {
         return false;
     }
-    check_plan(t, r, layout::field_in(t, 65 + 25 * r, 4), edges)
+    check_plan(t, r, layout::rule_plan_in(t, r), edges)
 }
 
 // The n rules, the words before each from `first` on, and those behind the last.
 fn check_rules(t: &[u64], first: u64, n: u64) -> bool
-    requires { ⌜ Room (length (now t)) Grammar × Count n (ruleCount (now t)) 64 × (first ≤ 65) ⌝ }
+    requires { ⌜ Room (length (now t)) Grammar × Count n (ruleCount (now t)) 64 × (first ≤ rulePlace 0) ⌝ }
     ensures { λ x. ⌜ Concludes grammarWords [] (now (t .entry)) (Rule 0) first x ⌝ }
 {
     let mut from = first;
     let mut r: u64 = 0;
     while r < n {
-        if !zeros(t, from, 65 + 25 * r) {
+        if !zeros(t, from, layout::rule_place(r)) {
             return false;
         }
         if !check_rule(t, r) {
             return false;
         }
-        from = 74 + 25 * r + layout::field_in(t, 65 + 25 * r, 4);
+        from = layout::plan_place(r, layout::rule_plan_in(t, r));
         r += 1;
     }
-    zeros(t, from, 1665)
+    zeros(t, from, layout::GRAMMAR_WORDS as u64)
 }
 
 // Could a grammar text have filled this table?
 pub fn check_grammar(t: &[u64]) -> bool
     ensures { λ x. ⌜ x ≡ checkGrammar (now (t .entry)) ⌝ }
 {
-    if t.len() < 1665 {
+    if t.len() < layout::GRAMMAR_WORDS {
         return false;
     }
     if !grammar_stands(t) {
         return false;
     }
-    let symbols = layout::field_in(t, 0, 0);
+    let symbols = layout::symbol_count_in(t);
     if !check_symbols(t, symbols) {
         return false;
     }
-    check_rules(t, 1 + symbols, layout::field_in(t, 0, 1))
+    check_rules(t, layout::symbol_place(symbols), layout::rule_count_in(t))
 }
 
 // The lines of the n edges of a graph, and the words behind them; `mask` has the nodes on those passed.
 fn check_graph_edges(g: &[u64], t: &[u64], n: u64) -> bool
     requires { ⌜ Room (length (now t)) Graph × Count n (graphEdges (now t)) 64 ⌝ }
-    ensures { λ x. ⌜ Concludes graphWords (now (g .entry)) (now (t .entry)) (GraphEdge 0) 1 x ⌝ }
+    ensures { λ x. ⌜ Concludes graphWords (now (g .entry)) (now (t .entry)) (GraphEdge 0) (graphEdgePlace 0) x ⌝ }
 {
     let symbols = layout::symbol_count(g);
-    let nodes = layout::field_in(t, 0, 0);
+    let nodes = layout::graph_nodes_in(t);
     let top = layout::at_most(64, nodes);
     let mut mask: u64 = 0;
     let mut e: u64 = 0;
@@ -328,18 +329,18 @@ fn check_graph_edges(g: &[u64], t: &[u64], n: u64) -> bool
     if !marks::has_all(mask, nodes) {
         return false;
     }
-    zeros(t, 1 + n, 65)
+    zeros(t, layout::graph_edge_place(n), layout::GRAPH_WORDS as u64)
 }
 
 // Could a graph text read with the grammar table g have filled this table?
 pub fn check_graph(g: &[u64], t: &[u64]) -> bool
     ensures { λ x. ⌜ x ≡ checkGraph (now (g .entry)) (now (t .entry)) ⌝ }
 {
-    if t.len() < 65 {
+    if t.len() < layout::GRAPH_WORDS {
         return false;
     }
     if !graph_stands(g, t) {
         return false;
     }
-    check_graph_edges(g, t, layout::field_in(t, 0, 1))
+    check_graph_edges(g, t, layout::graph_edges_in(t))
 }

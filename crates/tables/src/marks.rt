@@ -97,7 +97,7 @@ fn mark_edges(g: &[u64], r: u64, n: u64) -> u64
     let mut i: u64 = 0;
     while i < n {
         let rank = layout::rank_at(g, layout::edge_label(g, r, i));
-        mask = mark_line(mask, g, 66 + 25 * r + i, rank);
+        mask = mark_line(mask, g, layout::edge_place(r, i), rank);
         i += 1;
     }
     mask
@@ -112,7 +112,7 @@ fn mark_graph(g: &[u64], h: &[u64], n: u64) -> u64
     let mut e: u64 = 0;
     while e < n {
         let rank = layout::rank_at(g, layout::graph_label(h, e));
-        mask = mark_line(mask, h, 1 + e, rank);
+        mask = mark_line(mask, h, layout::graph_edge_place(e), rank);
         e += 1;
     }
     mask

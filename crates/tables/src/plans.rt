@@ -56,10 +56,9 @@ fn child_before(g: &[u64], r: u64, n: u64, c: u64) -> u64
     let mut sum: u64 = 0;
     let mut q: u64 = 0;
     while q < n {
-        let p = 74 + 25 * r + q;
-        let kind = layout::field_in(g, p, 0);
-        let first = layout::field_in(g, p, 1);
-        let second = layout::field_in(g, p, 2);
+        let kind = layout::plan_kind_in(g, r, q);
+        let first = layout::plan_first_in(g, r, q);
+        let second = layout::plan_second_in(g, r, q);
         sum += child_in(kind, first, second, c);
         q += 1;
     }
@@ -74,10 +73,9 @@ fn introduced_before(g: &[u64], r: u64, n: u64, i: u64) -> u64
     let mut sum: u64 = 0;
     let mut q: u64 = 0;
     while q < n {
-        let p = 74 + 25 * r + q;
-        let kind = layout::field_in(g, p, 0);
-        let first = layout::field_in(g, p, 1);
-        let second = layout::field_in(g, p, 2);
+        let kind = layout::plan_kind_in(g, r, q);
+        let first = layout::plan_first_in(g, r, q);
+        let second = layout::plan_second_in(g, r, q);
         sum += introduced_in(kind, first, second, i);
         q += 1;
     }
@@ -143,10 +141,9 @@ fn marks_before(g: &[u64], r: u64, n: u64) -> PlanMarks
     let mut introduced: u64 = 0;
     let mut q: u64 = 0;
     while q < n {
-        let p = 74 + 25 * r + q;
-        let kind = layout::field_in(g, p, 0);
-        let first = layout::field_in(g, p, 1);
-        let second = layout::field_in(g, p, 2);
+        let kind = layout::plan_kind_in(g, r, q);
+        let first = layout::plan_first_in(g, r, q);
+        let second = layout::plan_second_in(g, r, q);
         children = mark_children(children, kind, first, second);
         introduced = mark_introduced(introduced, kind, first, second);
         q += 1;
@@ -256,10 +253,9 @@ pub(crate) fn with_line(
     requires { ⌜ PlanRoom (now t) r (q + 1) × Count edges (ruleEdges (now t) r) 8 × Marked (now t) r q children introduced ⌝ }
     ensures { λ x. ⌜ Keeps (now (t .entry)) r q (x .kept) (x .children) (x .introduced) ⌝ }
 {
-    let p = 74 + 25 * r + q;
-    let kind = layout::field_in(t, p, 0);
-    let first = layout::field_in(t, p, 1);
-    let second = layout::field_in(t, p, 2);
+    let kind = layout::plan_kind_in(t, r, q);
+    let first = layout::plan_first_in(t, r, q);
+    let second = layout::plan_second_in(t, r, q);
     match kind {
         0 => LineMarks {
             kept: (first == 0) & (second == 0),

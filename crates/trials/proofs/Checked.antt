@@ -1,22 +1,20 @@
 -- What the calls answer where question 8 of the tables is known to hold: by the grammar and the graph that the tables stand for. Computing it anew at each
 -- call, over some 1,700 words, is what an example costs.
-use mathlib.Core.Path.{_≡_, refl, sym, ap, _∙_}
-use mathlib.Core.Bool.{Bool, true, false, _&&_, cond}
+use mathlib.Core.Path.{_≡_, refl, ap, _∙_}
+use mathlib.Core.Bool.{true, _&&_, cond}
 use mathlib.Core.List.{List, [], _∷_}
-use Prim.Native.Nat.{ℕ, _+_, _*_}
+use Prim.Native.Nat.{ℕ}
 use lib.ListN.{take, replicate}
 use Rattle.hrg.specs.Grammars.{Grammar, Graph}
 use Rattle.hrg.specs.ClosureRun.{sameList}
 use Rattle.questions.specs.Layout.{grammarWords, graphWords}
-use Rattle.questions.specs.Reading.{Outcome, Verdict, delivered, graphVerdict, readGrammar}
-use Rattle.questions.specs.Checking.{checkGrammar, checkGraph, readGraph, FilledGrammar, FilledGraph}
+use Rattle.questions.specs.Reading.{Outcome, readGrammar}
+use Rattle.questions.specs.Checking.{checkGrammar, checkGraph, readGraph}
 use Rattle.questions.specs.Abstract.{grammarOf, graphOf}
 use Rattle.questions.specs.declared.Answer.{Answer}
-use Rattle.questions.specs.declared.Answer.the-variants.{Done, Refused}
-use Rattle.questions.proofs.Refusals.{grammar-passed-first}
-use Rattle.questions.proofs.Filled.{grammar-filled-check, graph-filled-check}
+use Rattle.questions.specs.declared.Answer.the-variants.{Done}
 use Rattle.agenda.specs.Steps.{runChart, startChart}
-use Rattle.records.specs.Words.{capacity, recordAt, chartOf, written}
+use Rattle.records.specs.Words.{wordsFor, capacity, recordAt, chartOf, written}
 use Rattle.validity.specs.Checking.{holds, knownChart}
 use Rattle.charting.specs.Calls.{Called, numberOf, stepsOf, refused, fit, fitChart, answerOf, startAnswer, startOf, runOf, standingOf, runsOf}
 use Rattle.charting.specs.declared.Outcome.{Outcome as Standing}
@@ -130,14 +128,14 @@ told-on g h chart out runs p q = simp (start-by g h p q, runs-by g h p q, answer
 
 told-whole : (t : Trial) → told t
     ≡ (let a = readGrammar (t .grammar) (replicate grammarWords 0) in
-    toldOn a (readGraph (a .table) (t .graph) (replicate graphWords 0)) (replicate (2 + 16 * t .items) 0) (replicate (t .room) 0) (t .runs))
+    toldOn a (readGraph (a .table) (t .graph) (replicate graphWords 0)) (replicate (wordsFor (t .items)) 0) (replicate (t .room) 0) (t .runs))
 unfolding told toldOn
 told-whole t = refl
 
 pub told-by : (t : Trial) (G : Grammar) (H : Graph) → Reading (t .grammar) (t .graph) G H
-    → told t ≡ toldBy G H (replicate (2 + 16 * t .items) 0) (replicate (t .room) 0) (t .runs)
+    → told t ≡ toldBy G H (replicate (wordsFor (t .items)) 0) (replicate (t .room) 0) (t .runs)
 told-by t G H r =
-    let chart : List ℕ = replicate (2 + 16 * t .items) 0 in
+    let chart : List ℕ = replicate (wordsFor (t .items)) 0 in
     let out : List ℕ = replicate (t .room) 0 in
     told-whole t
     ∙ ap (λ (a : Outcome). toldOn a (readGraph (a .table) (t .graph) (replicate graphWords 0)) chart out (t .runs)) (r .reads)

@@ -1,16 +1,17 @@
 -- A trial: texts are read, a chart is started and run, and a derivation is written. What it tells is given by the definitions that the functions' contracts cite.
 use mathlib.Core.Bool.{Bool}
 use mathlib.Core.List.{List, [], _∷_}
-use Prim.Native.Nat.{ℕ, _+_, _*_}
-use lib.ListN.{length, take, replicate}
+use Prim.Native.Nat.{ℕ}
+use lib.ListN.{take, replicate}
+use Rattle.records.specs.Words.{wordsFor}
 use Rattle.hrg.specs.ClosureRun.{sameList}
 use Rattle.questions.specs.Layout.{grammarWords, graphWords}
-use Rattle.questions.specs.Reading.{Outcome, readGrammar}
+use Rattle.questions.specs.Reading.{readGrammar}
 use Rattle.questions.specs.Checking.{readGraph}
 use Rattle.questions.specs.declared.Answer.{Answer}
 use Rattle.questions.specs.declared.Answer.the-variants.{Done, Refused}
-use Rattle.charting.specs.Calls.{Called, numberOf, stepsOf, startOf, runOf, runsOf}
-use Rattle.writing.specs.Writing.{Wrote, numberOf as writingNumber, writeOf}
+use Rattle.charting.specs.Calls.{numberOf, stepsOf, startOf, runOf, runsOf}
+use Rattle.writing.specs.Writing.{numberOf as writingNumber, writeOf}
 use Rattle.writing.specs.declared.Answer.{Answer as Writing}
 use Rattle.writing.specs.declared.Answer.the-variants.{Unfit, TooSmall, Unfinished, Underivable, NoRoom, Written}
 
@@ -55,7 +56,7 @@ unfolding readGrammar readGraph startOf runsOf answers writeOf sameList
 told t =
     let a = readGrammar (t .grammar) (replicate grammarWords 0) in
     let b = readGraph (a .table) (t .graph) (replicate graphWords 0) in
-    let s = startOf (a .table) (b .table) (replicate (2 + 16 * t .items) 0) in
+    let s = startOf (a .table) (b .table) (replicate (wordsFor (t .items)) 0) in
     let w = runsOf (a .table) (b .table) (s .words) (t .runs) in
     let x = writeOf (a .table) (b .table) w (replicate (t .room) 0) in
     record {

@@ -1,17 +1,17 @@
--- Question 8's tests on words, one law per way that a function can go: each is the definition's test on the grammar and the graph of accepted tables.
+-- Question 8's tests on records, one law per way that a function can go: each is the definition's test on the grammar and the graph of accepted tables.
 use mathlib.Core.Path.{_≡_, refl, sym, ap, ap₂, _∙_}
-use mathlib.Core.Bool.{Bool, true, false, _&&_, _||_, not, cond}
+use mathlib.Core.Bool.{Bool, true, false, _&&_, not, cond}
 use mathlib.Core.List.{List, [], _∷_}
-use Prim.Native.Nat.{ℕ, _+_, _*_, _%_, _≤_, _<_, min}
+use Prim.Native.Nat.{ℕ, _+_, _≤_, _<_, min}
 use native.Mathlib.Omega.{arith}
 use native.Mathlib.Decide.{decLt}
 use lib.ListN.{length, getD}
 use lib.Dec.{eqb, ltb, leb}
-use lib.Bits.{bitAnd, bitOr, or-mod, or-add-and, and-le-l, and-le-r}
+use lib.Bits.{bitAnd}
 use borrow.Author.Tests.{eq-eqb, ne-eqb, lt-ltb, le-ltb, le-leb, lt-leb}
-use Rattle.masks.specs.Masks.{full, within, Filled}
-use Rattle.hrg.specs.Counts.{occurs, tabulate}
-use Rattle.hrg.specs.Grammars.{terminal, nonterminal, Grammar, Graph, Edge, Rule, PlanNode, leaf, introduce, join, kindOf, rightOf, planOf, planNode, edgeAt}
+use Rattle.masks.specs.Masks.{member, full, within, Filled, Found}
+use Rattle.hrg.specs.Counts.{occurs}
+use Rattle.hrg.specs.Grammars.{terminal, nonterminal, Edge, Rule, PlanNode, leaf, introduce, join, kindOf, rankOf, rightOf, planOf, planNode, edgeAt}
 use Rattle.hrg.specs.Trees.{unplaced, at}
 use Rattle.hrg.specs.Items.{below}
 use Rattle.hrg.specs.ClosureRun.{isTerminal}
@@ -19,20 +19,24 @@ use Rattle.hrg.specs.WellFormedTest.{every}
 use Rattle.hrg.proofs.Sums.{occurs-append}
 use Rattle.hrg.proofs.Plans.{below-introduce, below-known}
 use Rattle.hrg.proofs.WellFormedTest.{every-false}
-use Rattle.questions.specs.Layout.{symbolCount, ruleCount, kindField, ruleEdges, rulePlan, edgeLabel, planKind, planFirst, planSecond, graphNodes, graphEdges}
+use Rattle.questions.specs.Layout.{symbolPlace, rulePlace, symbolCount, kindField, rankAt, ruleEdges, rulePlan, edgeLabel, planKind, planFirst, planSecond, graphEdges}
 use Rattle.questions.specs.Abstract.{planFrom, grammarOf, graphOf}
 use Rattle.questions.specs.Checking.{checkGrammar}
 use Rattle.questions.proofs.WellFormedLent.{checked-grammar-ok}
-use Rattle.questions.proofs.WellFormedAccepted.{symbols-length, rules-length, kind-is, rule-is, edge-is}
-use Rattle.layout.proofs.Sizes.{grammar-length}
-use Rattle.joins.specs.Joins.{KnownNode, KnownEdge, Accepted}
-use Rattle.joins.proofs.Known.{rule-ok, rule-few, right-edges, plan-size, plan-ok, edges-few, plan-few, plan-node, graph-ok, graph-size, graph-nodes, graph-edges-few}
+use Rattle.questions.proofs.WellFormedAccepted.{symbols-length, rules-length, kind-is, rank-is, rule-is, edge-is}
+use Rattle.joins.specs.Joins.{KnownNode, KnownEdge, Accepted, OpenAt}
+use Rattle.joins.proofs.Known.{rule-ok, right-edges, plan-size, plan-ok, plan-node, graph-size, graph-nodes, graph-edges-few, symbol-there, rule-there}
 use Rattle.joins.proofs.PlanMasks.{alone}
-use Rattle.joins.proofs.MapLaws.{getD-any, every-true}
+use Rattle.joins.proofs.MapLaws.{getD-any, every-true, every-same}
 use Rattle.agenda.specs.declared.Record.{Record}
+use Rattle.agenda.specs.Records.{isHandled}
 use Rattle.agenda.specs.Steps.{handledCount}
-use Rattle.records.specs.Words.{capacity, itemCount, fieldAt, blockAt, ofWords, recordAt, recordsAt}
-use Rattle.validity.specs.Checking.{knownEdges, knownNode, fourIn, knownNodes, inGraph, knownSecond, knownPartners, knownActive, knownPassive, knownRecord, knownChart}
+use Rattle.records.specs.Words.{capacity, itemCount, recordAt, recordsAt}
+use Rattle.records.proofs.WordLaws.{handled-more, handled-same}
+use Rattle.validity.specs.Checking.{knownEdges, knownPlace, knownPlaces, inGraph, knownSecond, knownPartners, knownActive, knownPassive, knownRecord, knownChart}
+use Rattle.validity.specs.Existing.{openPlace, listedPlace}
+use Rattle.validator.specs.Sizes.{Sized}
+use Rattle.validator.specs.declared.Sizes.{Sizes}
 
 pub getD-past : (w : List ℕ) → length w ≡ 0 → 0 ≡ getD w 0 0
 getD-past [] e = refl
@@ -45,7 +49,7 @@ below-equal x a b e l = omega arith
 pub below-capacity : (w : List ℕ) (j n cap : ℕ) → cap ≡ capacity w → n ≤ cap → j < n → j < capacity w
 below-capacity w j n cap e l i = omega arith
 
--- ---- edges and nodes
+-- ---- tests one after another
 -- the first i tests pass
 pub record Passed (t : ℕ → Bool) (i : ℕ) : Type 0 where
   pub each : (k : ℕ) → k < i → t k ≡ true
@@ -63,44 +67,6 @@ passed-next t i e p = record { each = λ k l. go k l (decLt k i) }
 pub passed-all : (n i : ℕ) (t : ℕ → Bool) → n ≤ i → Passed t i → true ≡ every n t
 passed-all n i t h p = sym (every-true n t (λ k l. p .each k (omega arith)))
 
-pub four-by : (n a b c d : ℕ) {p q r s : Bool} → p ≡ knownNode n a → q ≡ knownNode n b → r ≡ knownNode n c → s ≡ knownNode n d
-    → p && q && r && s ≡ knownNode n a && knownNode n b && knownNode n c && knownNode n d
-four-by n a b c d e f g h = cc
-
-fours : (a b c d e f g h : Bool) → (a && b && c && d) && (e && f && g && h) ≡ a && (b && (c && (d && (e && (f && (g && (h && true)))))))
-fours false b c d e f g h = refl
-fours true false c d e f g h = refl
-fours true true false d e f g h = refl
-fours true true true false e f g h = refl
-fours true true true true false f g h = refl
-fours true true true true true false g h = refl
-fours true true true true true true false h = refl
-fours true true true true true true true false = refl
-fours true true true true true true true true = refl
-
--- four nodes of a list, from the place at on
-abbrev fourAt : ℕ → List ℕ → ℕ → Bool
-fourAt n ns at = knownNode n (getD ns at 0) && knownNode n (getD ns (at + 1) 0) && knownNode n (getD ns (at + 2) 0) && knownNode n (getD ns (at + 3) 0)
-
-pub nodes-by : (n : ℕ) (ns : List ℕ) (a b : Bool) → length ns ≡ 8 → a ≡ fourAt n ns 0 → b ≡ fourAt n ns 4 → a && b ≡ knownNodes n ns
-unfolding knownNodes every
-nodes-by n ns a b size p q =
-    let node : ℕ → Bool = λ k. knownNode n (getD ns k 0) in
-    ap₂ _&&_ p q ∙ fours (node 0) (node 1) (node 2) (node 3) (node 4) (node 5) (node 6) (node 7)
-    ∙ simp (
-      getD-any ns 0 0 unplaced (omega arith),
-      getD-any ns 1 0 unplaced (omega arith),
-      getD-any ns 2 0 unplaced (omega arith),
-      getD-any ns 3 0 unplaced (omega arith),
-      getD-any ns 4 0 unplaced (omega arith),
-      getD-any ns 5 0 unplaced (omega arith),
-      getD-any ns 6 0 unplaced (omega arith),
-      getD-any ns 7 0 unplaced (omega arith),
-    )
-
-and-last : (a b c d : Bool) → a ≡ true → b ≡ true → c ≡ true → a && b && c && d ≡ d
-and-last a b c d x y z = rw (x, y, z)
-
 and-no : (a b : Bool) → a ≡ false → a && b ≡ false
 and-no a b e = rw e
 
@@ -111,141 +77,57 @@ and-so a b e = rw e
 pub all-graph-edges : (g h : List ℕ) → Accepted g h → (n all : ℕ) → n ≡ graphEdges h → Filled n all → all ≡ full (graphEdges h)
 all-graph-edges g h ok n all e f = f .value ∙ ap full (let whole : min n 64 ≡ graphEdges h = omega (arith, graph-edges-few g h ok) in whole)
 
-or-true : (a : Bool) → a || true ≡ true
-or-true true = refl
-or-true false = refl
+-- ---- edges and places
+pub place-used : (n v : ℕ) (used : Bool) → used ≡ true → ltb v n ≡ knownPlace n used v
+unfolding knownPlace
+place-used n v used e = rw e
 
--- no node counts as node 0
-pub placed-none : (v : ℕ) → v ≡ 64 → 0 ≡ cond (eqb v 64) 0 v
-placed-none v e = rw (eq-eqb v 64 e)
+pub place-unused : (n v : ℕ) (used : Bool) → used ≡ false → eqb v 64 ≡ knownPlace n used v
+unfolding knownPlace
+place-unused n v used e = rw e
 
-pub placed-some : (v : ℕ) → (v ≡ 64 → ⊥) → v ≡ cond (eqb v 64) 0 v
-placed-some v h = sym (ap (λ (t : Bool). cond t 0 v) (ne-eqb v 64 h))
+-- the test of place k of a map, of which the places in a set are used
+abbrev pub placeTest : ℕ → ℕ → List ℕ → ℕ → Bool
+placeTest n used ns k = knownPlace n (member used k) (at ns k)
 
-pub node-by : (n v p : ℕ) → 1 ≤ n → p ≡ cond (eqb v 64) 0 v → ltb p n ≡ knownNode n v
-unfolding knownNode
-node-by n v p l e = ap (λ m. ltb m n) e ∙ go (eqb v 64)
-  where
-    go : (t : Bool) → ltb (cond t 0 v) n ≡ t || ltb v n
-    go true = lt-ltb 0 n (omega arith)
-    go false = refl
+module _ (n used : ℕ) (ns : List ℕ) (size : length ns ≡ 8) (k : ℕ) (l : k < 8) (here b : Bool) (f : Found used k here) (t : b ≡ knownPlace n here (getD ns k 0)) where
+  place-by : placeTest n used ns k ≡ b
+  place-by = ap₂ (knownPlace n) (sym (f .value)) (sym (getD-any ns k 0 unplaced (omega arith))) ∙ sym t
 
--- numbers that make 64 together are 64 or 0
-module _ (a b : ℕ) (h : bitOr a b ≤ 64) (e : bitOr a b % 64 ≡ 0) where
-  rest : bitOr (a % 64) (b % 64) ≡ 0
-  rest = let m : bitOr a b % 64 ≡ bitOr (a % 64) (b % 64) = or-mod a b 6 in sym m ∙ e
+  pub places-not : b ≡ false → false ≡ knownPlaces n (λ i. member used i) ns
+  unfolding knownPlaces
+  places-not e = every-false 8 (placeTest n used ns) k l (place-by ∙ e)
 
-  left-few : a ≤ 64
-  left-few = omega (arith, or-add-and a b, and-le-r a b)
+  pub places-next : b ≡ true → Passed (placeTest n used ns) k → Passed (placeTest n used ns) (k + 1)
+  places-next e p = passed-next (placeTest n used ns) k (place-by ∙ e) p
 
-  left-rest : a % 64 ≡ 0
-  left-rest = omega (arith, rest, or-add-and (a % 64) (b % 64), and-le-r (a % 64) (b % 64))
+pub places-all : (n used : ℕ) (ns : List ℕ) (k : ℕ) → 8 ≤ k → Passed (placeTest n used ns) k → true ≡ knownPlaces n (λ i. member used i) ns
+unfolding knownPlaces
+places-all n used ns k l p = passed-all 8 k (placeTest n used ns) l p
 
-  right-few : b ≤ 64
-  right-few = omega (arith, or-add-and a b, and-le-l a b)
+-- only the eight places are asked
+places-same : (n : ℕ) (a b : ℕ → Bool) (ns : List ℕ) → ((k : ℕ) → k < 8 → a k ≡ b k) → knownPlaces n a ns ≡ knownPlaces n b ns
+unfolding knownPlaces
+places-same n a b ns h = every-same 8 (λ k. knownPlace n (a k) (at ns k)) (λ k. knownPlace n (b k) (at ns k)) (λ k l. ap (λ (t : Bool). knownPlace n t (at ns k)) (h k l))
 
-  right-rest : b % 64 ≡ 0
-  right-rest = omega (arith, rest, or-add-and (a % 64) (b % 64), and-le-l (a % 64) (b % 64))
+module _ (nodes edges all used : ℕ) (x : Record) (e : all ≡ full edges) where
+  abbrev inside : Bool
+  inside = inGraph nodes edges (λ k. member used k) x
 
-none-known : (n v : ℕ) → 1 ≤ n → v ≤ 64 → v % 64 ≡ 0 → knownNode n v ≡ true
-unfolding knownNode
-none-known n v l h e = go (decLt v 64)
-  where
-    go : Dec (v < 64) → eqb v unplaced || ltb v n ≡ true
-    go (yes d) = let z : v < n = omega arith in rw (lt-ltb v n z) (or-true (eqb v unplaced))
-    go (no d) = let z : v ≡ 64 = omega arith in rw (eq-eqb v 64 z)
+  graph-test : (t b : Bool) → t ≡ eqb (bitAnd (x .item .edges) all) (x .item .edges) → b ≡ knownPlaces nodes (λ k. member used k) (x .item .nodes) → t && b ≡ inside
+  unfolding inGraph knownEdges within
+  graph-test t b p q = ap₂ _&&_ (p ∙ ap (λ m. eqb (bitAnd (x .item .edges) m) (x .item .edges)) e) q
 
-and-all : (a b c d : Bool) → a ≡ true → b ≡ true → c ≡ true → d ≡ true → true ≡ a && b && c && d
-and-all a b c d p q r s = rw (p, q, r, s)
+  pub graph-not : (bitAnd (x .item .edges) all ≡ x .item .edges → ⊥) → false ≡ inside
+  graph-not f = graph-test false (knownPlaces nodes (λ k. member used k) (x .item .nodes)) (sym (ne-eqb (bitAnd (x .item .edges) all) (x .item .edges) f)) refl
 
--- ---- words of the record at a place
-module _ (n : ℕ) (w : List ℕ) (j : ℕ) where
-  abbrev nodeIn : ℕ → Bool
-  nodeIn k = knownNode n (getD w (2 + 16 * j + k) 0)
+  pub graph-by : (b : Bool) → bitAnd (x .item .edges) all ≡ x .item .edges → b ≡ knownPlaces nodes (λ k. member used k) (x .item .nodes) → b ≡ inside
+  graph-by b y q = graph-test true b (sym (eq-eqb (bitAnd (x .item .edges) all) (x .item .edges) y)) q
 
-  pub low-by : (b : Bool) → b ≡ (nodeIn 6 && nodeIn 7 && nodeIn 8 && nodeIn 9) → b ≡ fourIn n w j 6
-  unfolding fourIn
-  low-by b e = e
-
-  pub high-none : 1 ≤ n → bitOr (bitOr (bitOr (getD w (2 + 16 * j + 10) 0) (getD w (2 + 16 * j + 11) 0)) (getD w (2 + 16 * j + 12) 0)) (getD w (2 + 16 * j + 13) 0) ≡ 64 → true ≡ fourIn n w j 10
-  unfolding fourIn
-  high-none l e =
-      let a : ℕ = getD w (2 + 16 * j + 10) 0 in
-      let b : ℕ = getD w (2 + 16 * j + 11) 0 in
-      let c : ℕ = getD w (2 + 16 * j + 12) 0 in
-      let d : ℕ = getD w (2 + 16 * j + 13) 0 in
-      let two : ℕ = bitOr a b in
-      let three : ℕ = bitOr two c in
-      let h : bitOr three d ≤ 64 = omega arith in
-      let z : bitOr three d % 64 ≡ 0 = omega arith in
-      let h3 : three ≤ 64 = left-few three d h z in
-      let z3 : three % 64 ≡ 0 = left-rest three d h z in
-      let h2 : two ≤ 64 = left-few two c h3 z3 in
-      let z2 : two % 64 ≡ 0 = left-rest two c h3 z3 in
-      and-all (nodeIn 10) (nodeIn 11) (nodeIn 12) (nodeIn 13)
-      (none-known n a l (left-few a b h2 z2) (left-rest a b h2 z2))
-      (none-known n b l (right-few a b h2 z2) (right-rest a b h2 z2))
-      (none-known n c l (right-few two c h3 z3) (right-rest two c h3 z3))
-      (none-known n d l (right-few three d h z) (right-rest three d h z))
-
-  pub high-by : (b : Bool) → b ≡ (nodeIn 10 && nodeIn 11 && nodeIn 12 && nodeIn 13) → b ≡ fourIn n w j 10
-  unfolding fourIn
-  high-by b e = e
-
-  both-halves : (a b : Bool) → a ≡ fourIn n w j 6 → b ≡ fourIn n w j 10 → a && b ≡ knownNodes n (recordAt w j .nodes)
-  unfolding fourIn recordAt ofWords blockAt fieldAt tabulate
-  both-halves a b p q = nodes-by n (recordAt w j .nodes) a b refl p q
-
-module _ (h w : List ℕ) (j nodes all : ℕ) (n : nodes ≡ graphNodes h) (e : all ≡ full (graphEdges h)) where
-  abbrev edgesIn : ℕ
-  edgesIn = getD w (2 + 16 * j + 3) 0
-
-  graph-test : (t b : Bool) → t ≡ eqb (bitAnd edgesIn all) edgesIn → b ≡ knownNodes nodes (recordAt w j .nodes) → t && b ≡ inGraph (graphNodes h) (graphEdges h) (recordAt w j)
-  unfolding inGraph knownEdges within recordAt ofWords blockAt fieldAt tabulate
-  graph-test t b p q = ap₂ _&&_ (p ∙ ap (λ m. eqb (bitAnd edgesIn m) edgesIn) e) (q ∙ ap (λ m. knownNodes m (recordAt w j .nodes)) n)
-
-  pub graph-edges-not : (bitAnd edgesIn all ≡ edgesIn → ⊥) → false ≡ inGraph (graphNodes h) (graphEdges h) (recordAt w j)
-  graph-edges-not f = graph-test false (knownNodes nodes (recordAt w j .nodes)) (sym (ne-eqb (bitAnd edgesIn all) edgesIn f)) refl
-
-  module _ (y : bitAnd edgesIn all ≡ edgesIn) (t : Bool) (p : t ≡ fourIn nodes w j 6) where
-    graph-nodes-by : (b : Bool) → b ≡ fourIn nodes w j 10 → t && b ≡ inGraph (graphNodes h) (graphEdges h) (recordAt w j)
-    graph-nodes-by b q = graph-test true (t && b) (sym (eq-eqb (bitAnd edgesIn all) edgesIn y)) (both-halves nodes w j t b p q)
-
-    pub graph-nodes-not : t ≡ false → false ≡ inGraph (graphNodes h) (graphEdges h) (recordAt w j)
-    graph-nodes-not f = sym (and-no t (fourIn nodes w j 10) f) ∙ graph-nodes-by (fourIn nodes w j 10) refl
-
-    pub graph-by : (b : Bool) → t ≡ true → b ≡ fourIn nodes w j 10 → b ≡ inGraph (graphNodes h) (graphEdges h) (recordAt w j)
-    graph-by b f q = sym (and-so t b f) ∙ graph-nodes-by b q
-
--- a graph has a node
-pub some-node : (g h : List ℕ) → Accepted g h → (n : ℕ) → n ≡ graphNodes h → 1 ≤ n
-some-node g h ok n e = omega (arith, graph-ok g h ok .side .node-count .lower, graph-nodes g h)
-
-pub inside-of : (nodes edges : ℕ) (x y : Record) (t : Bool) → x ≡ y → t ≡ inGraph nodes edges y → t ≡ true → inGraph nodes edges x ≡ true
-inside-of nodes edges x y t e p q = ap (inGraph nodes edges) e ∙ sym p ∙ q
-
-pub record-same : (G : Grammar) (H : Graph) (n : ℕ) (x y : Record) (b : Bool) → x ≡ y → b ≡ knownRecord G H n x → b ≡ knownRecord G H n y
-record-same G H n x y b e p = p ∙ ap (knownRecord G H n) e
-
--- ---- a record of its words
-abbrev recordFrom : List ℕ → ℕ → ℕ → List ℕ → Record
-recordFrom w at first ns = record {
-  kind = getD w first 0;
-  of = getD w (at + 1) 0;
-  plan = getD w (at + 2) 0;
-  edges = getD w (at + 3) 0;
-  count = getD w (at + 4) 0;
-  handled = getD w (at + 5) 0;
-  nodes = ns;
-  first = getD w (at + 14) 0;
-  second = getD w (at + 15) 0;
-}
-
-pub record-by : (w : List ℕ) (j : ℕ) (ns : List ℕ) → ns ≡ tabulate 8 (λ k. getD w (2 + 16 * j + (6 + k)) 0) → recordFrom w (2 + 16 * j) (2 + 16 * j) ns ≡ recordAt w j
-unfolding recordAt ofWords blockAt fieldAt tabulate
-record-by w j ns e =
-    let zeroth : 2 + 16 * j ≡ 2 + 16 * j + 0 = omega arith in
-    ap₂ (λ (i : ℕ) (l : List ℕ). recordFrom w (2 + 16 * j) i l) zeroth e
+graph-same : (nodes edges n m : ℕ) (a b : ℕ → Bool) (x : Record) → nodes ≡ n → edges ≡ m → ((k : ℕ) → k < 8 → a k ≡ b k) → inGraph nodes edges a x ≡ inGraph n m b x
+unfolding inGraph
+graph-same nodes edges n m a b x p q h =
+    ap₂ (λ (i j : ℕ). knownEdges j (x .item .edges) && knownPlaces i a (x .item .nodes)) p q ∙ ap (λ (t : Bool). knownEdges m (x .item .edges) && t) (places-same n a b (x .item .nodes) h)
 
 -- ---- kinds of symbols
 terminal-if : (b : Bool) → isTerminal (cond b terminal nonterminal) ≡ b
@@ -276,19 +158,8 @@ module _ (g : List ℕ) (r i : ℕ) (known : KnownEdge g r i) where
       ap (λ s. isTerminal (kindOf (grammarOf g) s)) label-is ∙ kind-test g (edgeLabel g r i) label-known ∙ ap (λ w. eqb w 0) (sym (b ∙ ap (kindField g) a))
 
 -- ---- lines that an accepted grammar table has
-module _ (g : List ℕ) (checked : checkGrammar g ≡ true) where
-  pub symbol-inside : (s : ℕ) → s < symbolCount g → 1 + s < length g
-  symbol-inside s h = omega (arith, grammar-length g checked, checked-grammar-ok g checked .symbol-count .upper, symbols-length g)
-
-  module _ (r : ℕ) (known : r < ruleCount g) where
-    pub rule-inside : 65 + 25 * r < length g
-    rule-inside = omega (arith, grammar-length g checked, rule-few g r checked known)
-
-    pub edge-inside : (i : ℕ) → i < ruleEdges g r → 66 + 25 * r + i < length g
-    edge-inside i h = omega (arith, grammar-length g checked, rule-few g r checked known, edges-few g r checked known)
-
-    pub plan-inside : (q : ℕ) → q < rulePlan g r → 74 + 25 * r + q < length g
-    plan-inside q h = omega (arith, grammar-length g checked, rule-few g r checked known, plan-few g r checked known)
+pub symbol-inside : (g : List ℕ) → checkGrammar g ≡ true → (s : ℕ) → s < symbolCount g → symbolPlace s < length g
+symbol-inside g checked s h = symbol-there g s checked (omega (arith, checked-grammar-ok g checked .symbol-count .upper, symbols-length g))
 
 -- ---- plan nodes
 module _ (g : List ℕ) (r q : ℕ) (known : KnownNode g r q) (kind : ℕ) (a : kind ≡ planKind g r q) where
@@ -322,10 +193,10 @@ module _ (g : List ℕ) (r q : ℕ) (known : KnownNode g r q) (kind : ℕ) (a : 
 
 -- ---- partners
 module _ (g h : List ℕ) (n : ℕ) (x : Record) where
-  module _ (i : ℕ) (known : KnownEdge g (x .of) i) (label kind : ℕ) (a : label ≡ edgeLabel g (x .of) i) (b : kind ≡ kindField g label) where
+  module _ (i : ℕ) (known : KnownEdge g (x .item .of) i) (label kind : ℕ) (a : label ≡ edgeLabel g (x .item .of) i) (b : kind ≡ kindField g label) where
     second-by : knownSecond (grammarOf g) (graphOf g h) n x i ≡ cond (eqb kind 0) (ltb (x .second) (graphEdges h)) (ltb (x .second) n)
     unfolding knownSecond
-    second-by = ap₂ (λ (t : Bool) (m : ℕ). cond t (ltb (x .second) m) (ltb (x .second) n)) (label-kind g (x .of) i known label kind a b) (graph-size g h)
+    second-by = ap₂ (λ (t : Bool) (m : ℕ). cond t (ltb (x .second) m) (ltb (x .second) n)) (label-kind g (x .item .of) i known label kind a b) (graph-size g h)
 
     pub second-edge : (m : ℕ) → kind ≡ 0 → m ≡ graphEdges h → ltb (x .second) m ≡ knownSecond (grammarOf g) (graphOf g h) n x i
     second-edge m e q = sym (second-by ∙ rw (e, ← q))
@@ -333,114 +204,140 @@ module _ (g h : List ℕ) (n : ℕ) (x : Record) where
     pub second-item : (kind ≡ 0 → ⊥) → ltb (x .second) n ≡ knownSecond (grammarOf g) (graphOf g h) n x i
     second-item e = sym (second-by ∙ rw (ne-eqb kind 0 e))
 
-  module _ (known : KnownNode g (x .of) (x .plan)) (kind : ℕ) (a : kind ≡ planKind g (x .of) (x .plan)) where
+  module _ (known : KnownNode g (x .item .of) (x .item .plan)) (kind : ℕ) (a : kind ≡ planKind g (x .item .of) (x .item .plan)) where
     abbrev partners : PlanNode → Bool
     partners p = knownPartners (grammarOf g) (graphOf g h) n x p
 
     abbrev own : PlanNode
-    own = planNode (planOf (grammarOf g) (x .of)) (x .plan)
+    own = planNode (planOf (grammarOf g) (x .item .of)) (x .item .plan)
 
-    pub partners-leaf : kind ≡ 0 → true ≡ partners own
+    pub partners-leaf : kind ≡ 0 → eqb (x .first) 0 && eqb (x .second) 0 ≡ partners own
     unfolding knownPartners
-    partners-leaf e = sym (ap partners (leaf-is g (x .of) (x .plan) known kind a e))
+    partners-leaf e = sym (ap partners (leaf-is g (x .item .of) (x .item .plan) known kind a e))
 
-    pub partners-introduce : (i : ℕ) (b : Bool) → kind ≡ 1 → i ≡ planSecond g (x .of) (x .plan) → b ≡ knownSecond (grammarOf g) (graphOf g h) n x i → ltb (x .first) n && b ≡ partners own
+    pub partners-introduce : (i : ℕ) (b : Bool) → kind ≡ 1 → i ≡ planSecond g (x .item .of) (x .item .plan) → b ≡ knownSecond (grammarOf g) (graphOf g h) n x i
+        → ltb (x .first) n && b ≡ partners own
     unfolding knownPartners
-    partners-introduce i b e c s = ap (λ (t : Bool). ltb (x .first) n && t) s ∙ sym (ap partners (introduced-is g (x .of) (x .plan) known kind a i e c))
+    partners-introduce i b e c s = ap (λ (t : Bool). ltb (x .first) n && t) s ∙ sym (ap partners (introduced-is g (x .item .of) (x .item .plan) known kind a i e c))
 
     pub partners-join : (kind ≡ 0 → ⊥) → (kind ≡ 1 → ⊥) → ltb (x .first) n && ltb (x .second) n ≡ partners own
     unfolding knownPartners
-    partners-join u v = sym (ap partners (joined-is g (x .of) (x .plan) known kind a u v))
+    partners-join u v = sym (ap partners (joined-is g (x .item .of) (x .item .plan) known kind a u v))
 
 -- ---- records
-and-third : (a b d : Bool) → false ≡ a && b && false && d
-and-third true true d = refl
-and-third true false d = refl
-and-third false b d = refl
+and-third : (a b c d : Bool) → a ≡ true → b ≡ true → c ≡ false → a && b && c && d ≡ false
+and-third a b c d x y z = rw (x, y, z)
 
-outside : (s t a b d e f i : Bool) → false ≡ cond s (a && b && false && d) (cond t (e && f && false && i) false)
-outside true t a b d e f i = and-third a b d
-outside false true a b d e f i = and-third e f i
-outside false false a b d e f i = refl
+and-last : (a b c d : Bool) → a ≡ true → b ≡ true → c ≡ true → a && b && c && d ≡ d
+and-last a b c d x y z = rw (x, y, z)
 
-module _ (g h : List ℕ) (ok : Accepted g h) (n : ℕ) (x : Record) where
-  in-tables : inGraph (graphOf g h .nodes) (length (graphOf g h .edges)) x ≡ inGraph (graphNodes h) (graphEdges h) x
-  in-tables = ap₂ (λ (a b : ℕ). inGraph a b x) (graph-nodes g h) (graph-size g h)
+and-rest : (a b c d e f : Bool) → a ≡ true → b ≡ true → c ≡ true → d && e && f ≡ a && b && c && d && e && f
+and-rest a b c d e f x y z = rw (x, y, z)
 
-  module _ (rules : ℕ) (a : rules ≡ ruleCount g) where
-    abbrev active : Bool
-    active = knownActive (grammarOf g) (graphOf g h) n x
+-- what the numbers of the tables say of a rule, a plan node and a symbol
+module _ (g h : List ℕ) (s : Sizes) (sized : Sized g h s) where
+  pub rule-inside : (r : ℕ) → r < s .rules → rulePlace r < length g
+  rule-inside r l = rule-there g r (sized .tables .grammar) (omega (arith, sized .rules))
 
-    pub active-no-rule : rules ≤ x .of → false ≡ active
+  pub node-known : (r p size : ℕ) → r < s .rules → size ≡ rulePlan g r → p < size → KnownNode g r p
+  node-known r p size l e i = record { grammar = sized .tables .grammar; rule = omega (arith, sized .rules); node = omega arith }
+
+  pub symbol-known : (i : ℕ) → i < s .symbols → symbolPlace i < length g
+  symbol-known i l = symbol-inside g (sized .tables .grammar) i (omega (arith, sized .symbols))
+
+  pub all-edges : s .all ≡ full (s .edges)
+  all-edges = sized .all ∙ ap full (sym (sized .edges))
+
+module _ (g h : List ℕ) (s : Sizes) (sized : Sized g h s) (n : ℕ) (x : Record) where
+  -- a set of places, and the places that the item uses
+  module _ (used : ℕ) (place : ℕ → Bool) (same : (k : ℕ) → k < 64 → member used k ≡ place k) (t : Bool) (c : t ≡ inGraph (s .nodes) (s .edges) (λ k. member used k) x) where
+    in-tables : inGraph (graphOf g h .nodes) (length (graphOf g h .edges)) place x ≡ t
+    in-tables =
+        graph-same (graphOf g h .nodes) (length (graphOf g h .edges)) (s .nodes) (s .edges) place (λ k. member used k) x
+        (graph-nodes g h ∙ sym (sized .nodes)) (graph-size g h ∙ sym (sized .edges)) (λ k l. sym (same k (omega arith))) ∙ sym c
+
+  abbrev active : Bool
+  active = knownActive (grammarOf g) (graphOf g h) n x
+
+  pub active-no-rule : s .rules ≤ x .item .of → false ≡ active
+  unfolding knownActive
+  active-no-rule l = simp (le-ltb (x .item .of) (length (grammarOf g .rules)) (omega (arith, rules-length g, sized .rules)))
+
+  module _ (rule : x .item .of < s .rules) (size : ℕ) (b : size ≡ rulePlan g (x .item .of)) where
+    has-rule : ltb (x .item .of) (length (grammarOf g .rules)) ≡ true
+    has-rule = lt-ltb (x .item .of) (length (grammarOf g .rules)) (omega (arith, rules-length g, sized .rules))
+
+    plan-is : length (planOf (grammarOf g) (x .item .of)) ≡ size
+    plan-is = plan-size g (x .item .of) (sized .tables .grammar) (omega (arith, sized .rules)) ∙ sym b
+
+    pub active-no-node : size ≤ x .item .plan → false ≡ active
     unfolding knownActive
-    active-no-rule l = simp (le-ltb (x .of) (length (grammarOf g .rules)) (omega (arith, rules-length g)))
+    active-no-node l = simp (has-rule, le-ltb (x .item .plan) (length (planOf (grammarOf g) (x .item .of))) (omega (arith, plan-is)))
 
-    module _ (rule : x .of < rules) (size : ℕ) (b : size ≡ rulePlan g (x .of)) where
-      has-rule : ltb (x .of) (length (grammarOf g .rules)) ≡ true
-      has-rule = lt-ltb (x .of) (length (grammarOf g .rules)) (omega (arith, rules-length g))
+    module _ (node : x .item .plan < size) where
+      has-node : ltb (x .item .plan) (length (planOf (grammarOf g) (x .item .of))) ≡ true
+      has-node = lt-ltb (x .item .plan) (length (planOf (grammarOf g) (x .item .of))) (omega (arith, plan-is))
 
-      plan-is : length (planOf (grammarOf g) (x .of)) ≡ size
-      plan-is = plan-size g (x .of) (ok .grammar) (omega arith) ∙ sym b
+      module _ (o : ℕ) (opened : OpenAt g (x .item .of) (x .item .plan) o) (t : Bool) (c : t ≡ inGraph (s .nodes) (s .edges) (λ k. member o k) x) where
+        pub active-outside : t ≡ false → false ≡ active
+        unfolding knownActive
+        active-outside f = sym (and-third _ _ _ _ has-rule has-node (in-tables o (openPlace (grammarOf g) (x .item)) (opened .members) t c ∙ f))
 
-      pub active-no-node : size ≤ x .plan → false ≡ active
-      unfolding knownActive
-      active-no-node l = simp (has-rule, le-ltb (x .plan) (length (planOf (grammarOf g) (x .of))) (omega (arith, plan-is)))
+        pub active-by : (p : Bool) → t ≡ true → p ≡ knownPartners (grammarOf g) (graphOf g h) n x (planNode (planOf (grammarOf g) (x .item .of)) (x .item .plan)) → p ≡ active
+        unfolding knownActive
+        active-by p f e = e ∙ sym (and-last _ _ _ _ has-rule has-node (in-tables o (openPlace (grammarOf g) (x .item)) (opened .members) t c ∙ f))
 
-      module _ (node : x .plan < size) where
-        has-node : ltb (x .plan) (length (planOf (grammarOf g) (x .of))) ≡ true
-        has-node = lt-ltb (x .plan) (length (planOf (grammarOf g) (x .of))) (omega (arith, plan-is))
+  abbrev passive : Bool
+  passive = knownPassive (grammarOf g) (graphOf g h) n x
 
-        module _ (t : Bool) (c : t ≡ inGraph (graphNodes h) (graphEdges h) x) where
-          pub active-by : (p : Bool) → t ≡ true → p ≡ knownPartners (grammarOf g) (graphOf g h) n x (planNode (planOf (grammarOf g) (x .of)) (x .plan)) → p ≡ active
-          unfolding knownActive
-          active-by p f e = e ∙ sym (and-last _ _ _ _ has-rule has-node (in-tables ∙ sym c ∙ f))
+  pub passive-no-symbol : s .symbols ≤ x .item .of → false ≡ passive
+  unfolding knownPassive
+  passive-no-symbol l = simp (le-ltb (x .item .of) (length (grammarOf g .symbols)) (omega (arith, symbols-length g, sized .symbols)))
 
-  module _ (symbols : ℕ) (a : symbols ≡ symbolCount g) where
-    abbrev passive : Bool
-    passive = knownPassive (grammarOf g) (graphOf g h) n x
+  module _ (symbol : x .item .of < s .symbols) (kind : ℕ) (b : kind ≡ kindField g (x .item .of)) where
+    has-symbol : ltb (x .item .of) (length (grammarOf g .symbols)) ≡ true
+    has-symbol = lt-ltb (x .item .of) (length (grammarOf g .symbols)) (omega (arith, symbols-length g, sized .symbols))
 
-    pub passive-no-symbol : symbols ≤ x .of → false ≡ passive
+    kind-by : not (isTerminal (kindOf (grammarOf g) (x .item .of))) ≡ not (eqb kind 0)
+    kind-by = ap not (kind-test g (x .item .of) (omega (arith, sized .symbols)) ∙ ap (λ w. eqb w 0) (sym b))
+
+    pub passive-terminal : kind ≡ 0 → false ≡ passive
     unfolding knownPassive
-    passive-no-symbol l = simp (le-ltb (x .of) (length (grammarOf g .symbols)) (omega (arith, symbols-length g)))
+    passive-terminal e = simp (has-symbol, kind-by ∙ ap not (eq-eqb kind 0 e))
 
-    module _ (symbol : x .of < symbols) (kind : ℕ) (b : kind ≡ kindField g (x .of)) where
-      has-symbol : ltb (x .of) (length (grammarOf g .symbols)) ≡ true
-      has-symbol = lt-ltb (x .of) (length (grammarOf g .symbols)) (omega (arith, symbols-length g))
+    module _ (other : kind ≡ 0 → ⊥) (rank listed : ℕ) (r : rank ≡ rankAt g (x .item .of)) (l : Filled rank listed) (t : Bool) (c : t ≡ inGraph (s .nodes) (s .edges) (λ k. member listed k) x) where
+      has-kind : not (isTerminal (kindOf (grammarOf g) (x .item .of))) ≡ true
+      has-kind = kind-by ∙ ap not (ne-eqb kind 0 other)
 
-      kind-by : not (isTerminal (kindOf (grammarOf g) (x .of))) ≡ not (eqb kind 0)
-      kind-by = ap not (kind-test g (x .of) (omega arith) ∙ ap (λ w. eqb w 0) (sym b))
+      rank-of : rankOf (grammarOf g) (x .item .of) ≡ rank
+      rank-of = rank-is g (x .item .of) (omega (arith, sized .symbols)) ∙ sym r
 
-      pub passive-terminal : kind ≡ 0 → false ≡ passive
+      listed-in : inGraph (graphOf g h .nodes) (length (graphOf g h .edges)) (listedPlace (grammarOf g) (x .item)) x ≡ t
+      listed-in = in-tables listed (listedPlace (grammarOf g) (x .item)) (λ k d. l .members k d ∙ ap (ltb k) (sym rank-of)) t c
+
+      pub passive-outside : t ≡ false → false ≡ passive
       unfolding knownPassive
-      passive-terminal e = simp (has-symbol, kind-by ∙ ap not (eq-eqb kind 0 e))
+      passive-outside f = simp (and-third _ _ _ (ltb (x .first) n) has-symbol has-kind (listed-in ∙ f))
 
-      module _ (other : kind ≡ 0 → ⊥) (t : Bool) (c : t ≡ inGraph (graphNodes h) (graphEdges h) x) where
-        pub passive-by : t ≡ true → ltb (x .first) n ≡ passive
-        unfolding knownPassive
-        passive-by f = sym (and-last _ _ _ _ has-symbol (kind-by ∙ ap not (ne-eqb kind 0 other)) (in-tables ∙ sym c ∙ f))
+      pub passive-by : t ≡ true → ltb (x .first) n && eqb (x .item .plan) 0 && eqb (x .second) 0 ≡ passive
+      unfolding knownPassive
+      passive-by f = and-rest _ _ _ (ltb (x .first) n) (eqb (x .item .plan) 0) (eqb (x .second) 0) has-symbol has-kind (listed-in ∙ f)
 
+module _ (g h : List ℕ) (n : ℕ) (x : Record) where
   abbrev tested : Bool
   tested = knownRecord (grammarOf g) (graphOf g h) n x
 
-  pub record-active : (b : Bool) → x .kind ≡ 0 → b ≡ knownActive (grammarOf g) (graphOf g h) n x → b ≡ tested
+  pub record-active : (b : Bool) → x .item .kind ≡ 0 → b ≡ knownActive (grammarOf g) (graphOf g h) n x → b ≡ tested
   unfolding knownRecord
-  record-active b e t = t ∙ sym (rw (eq-eqb (x .kind) 0 e))
+  record-active b e t = t ∙ sym (rw (eq-eqb (x .item .kind) 0 e))
 
-  pub record-passive : (b : Bool) → x .kind ≡ 1 → b ≡ knownPassive (grammarOf g) (graphOf g h) n x → b ≡ tested
+  pub record-passive : (b : Bool) → x .item .kind ≡ 1 → b ≡ knownPassive (grammarOf g) (graphOf g h) n x → b ≡ tested
   unfolding knownRecord
-  record-passive b e t = t ∙ sym (rw (ne-eqb (x .kind) 0 (omega arith), eq-eqb (x .kind) 1 e))
+  record-passive b e t = t ∙ sym (rw (ne-eqb (x .item .kind) 0 (omega arith), eq-eqb (x .item .kind) 1 e))
 
-  pub record-other : (x .kind ≡ 0 → ⊥) → (x .kind ≡ 1 → ⊥) → false ≡ tested
+  pub record-other : (x .item .kind ≡ 0 → ⊥) → (x .item .kind ≡ 1 → ⊥) → false ≡ tested
   unfolding knownRecord
-  record-other u v = sym (rw (ne-eqb (x .kind) 0 u, ne-eqb (x .kind) 1 v))
-
-  pub record-outside : (t : Bool) → t ≡ inGraph (graphNodes h) (graphEdges h) x → t ≡ false → false ≡ tested
-  unfolding knownRecord knownActive knownPassive
-  record-outside t c f =
-      rw (in-tables ∙ sym c ∙ f)
-      (outside (eqb (x .kind) 0) (eqb (x .kind) 1)
-      (ltb (x .of) (length (grammarOf g .rules))) (ltb (x .plan) (length (planOf (grammarOf g) (x .of)))) (knownPartners (grammarOf g) (graphOf g h) n x (planNode (planOf (grammarOf g) (x .of)) (x .plan)))
-      (ltb (x .of) (length (grammarOf g .symbols))) (not (isTerminal (kindOf (grammarOf g) (x .of)))) (ltb (x .first) n))
+  record-other u v = sym (rw (ne-eqb (x .item .kind) 0 u, ne-eqb (x .item .kind) 1 v))
 
 -- ---- the chart
 -- the test of the record at a place
@@ -469,6 +366,14 @@ module _ (g h w : List ℕ) (n : ℕ) (e : n ≡ getD w 0 0) where
 
     pub chart-all : (j : ℕ) → n ≤ j → Passed (recordTest g h n w) j → true ≡ knownChart (grammarOf g) (graphOf g h) w
     chart-all j i p = passed-all n j (recordTest g h n w) i p ∙ sym chart-rest
+
+-- one record more, handled or not
+module _ (w : List ℕ) (j d : ℕ) (x : Record) (e : x ≡ recordAt w j) where
+  pub count-more : (x .handled ≡ 0 → ⊥) → d ≡ handledCount (recordsAt w j) → d + 1 ≡ handledCount (recordsAt w (j + 1))
+  count-more h = handled-more w j d (ap (λ (y : Record). isHandled y) (sym e) ∙ ap not (ne-eqb (x .handled) 0 h))
+
+  pub count-same : x .handled ≡ 0 → d ≡ handledCount (recordsAt w j) → d ≡ handledCount (recordsAt w (j + 1))
+  count-same h = handled-same w j d (ap (λ (y : Record). isHandled y) (sym e) ∙ ap not (eq-eqb (x .handled) 0 h))
 
 -- the records passed in the end are all items that a chart has which holds as many as it names
 module _ (w : List ℕ) (n cap j : ℕ) (e : n ≡ getD w 0 0) (c : cap ≡ capacity w) (l : n ≤ cap) (few : j ≤ n) (all : n ≤ j) where

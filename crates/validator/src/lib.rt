@@ -1,17 +1,15 @@
-// Question 8 for a lent chart: how many items it holds, and whether each of its items names what exists.
+// Question 8 for a lent chart: how many items it holds, and whether each of its records is the image of an item that names what exists.
 ghost use mathlib.Core.Path.{_≡_};
-ghost use mathlib.Core.Bool.{true, false, _&&_, cond};
-ghost use Prim.Native.Nat.{_+_, _*_, _≤_};
-ghost use lib.ListN.{length, getD};
-ghost use lib.Dec.{eqb};
-ghost use Rattle.hrg.specs.Counts.{tabulate};
+ghost use mathlib.Core.Bool.{true, false};
+ghost use lib.ListN.{getD};
+ghost use Rattle.masks.specs.Masks.{member, full};
 ghost use Rattle.hrg.specs.Grammars.{planOf, planNode};
-ghost use Rattle.questions.specs.Layout.{graphNodes, graphEdges};
 ghost use Rattle.questions.specs.Abstract.{grammarOf, graphOf};
 ghost use Rattle.joins.specs.Joins.{KnownNode, KnownEdge, Accepted};
+ghost use Rattle.rules.specs.Plans.{PlanTable};
 ghost use Rattle.agenda.specs.Steps.{handledCount};
-ghost use Rattle.records.specs.Words.{recordAt, recordsAt, itemCount};
-ghost use Rattle.validity.specs.Checking.{holds, knownNode, fourIn, inGraph, knownSecond, knownPartners, knownActive, knownPassive, knownRecord, knownChart};
+ghost use Rattle.records.specs.Words.{recordsAt, itemCount};
+ghost use Rattle.validity.specs.Checking.{holds, knownPlace, knownPlaces, inGraph, knownSecond, knownPartners, knownActive, knownPassive, knownRecord, knownChart};
 ghost use Rattle.validator.specs.Sizes.{Sized};
 use agenda::Record;
 
@@ -52,194 +50,128 @@ fn sizes_of(g: &[u64], h: &[u64]) -> Sizes
     }
 }
 
-// ---- edges and nodes
-// Node 0 in the place of no node: a number below n is then all that is left to ask, which takes fewer instructions than two tests.
-fn placed(v: u64) -> u64
-    ensures { λ r. ⌜ r ≡ cond (eqb v 64) 0 v ⌝ }
+// ---- edges and places
+// Whether a place has what it should: a node below n where it is used, and none elsewhere.
+fn known_place(n: u64, used: bool, v: u64) -> bool
+    ensures { λ r. ⌜ r ≡ knownPlace n used v ⌝ }
 {
-    if v == 64 {
-        return 0;
+    if used {
+        return v < n;
     }
-    v
+    v == 64
 }
 
-// Whether v is no node or one below n, where there is a node.
-fn known_node(n: u64, v: u64) -> bool
-    requires { ⌜ 1 ≤ n ⌝ }
-    ensures { λ r. ⌜ r ≡ knownNode n v ⌝ }
+// Whether that holds of all eight places, of which those in a set are used.
+fn known_places(n: u64, used: u64, ns: [u64; 8]) -> bool
+    ensures { λ r. ⌜ r ≡ knownPlaces n (λ k. member used k) ns ⌝ }
 {
-    placed(v) < n
-}
-
-// Whether that holds of each of four.
-fn known_four(n: u64, a: u64, b: u64, c: u64, d: u64) -> bool
-    requires { ⌜ 1 ≤ n ⌝ }
-    ensures { λ r. ⌜ r ≡ (knownNode n a && knownNode n b && knownNode n c && knownNode n d) ⌝ }
-{
-    known_node(n, a) & known_node(n, b) & known_node(n, c) & known_node(n, d)
-}
-
-// Whether the first four places of the record at place j, which lies inside the chart, are known.
-fn known_low(chart: &[u64], j: u64, n: u64) -> bool
-    requires { ⌜ (2 + 16 * j + 16 ≤ length (now chart)) × (1 ≤ n) ⌝ }
-    ensures { λ r. ⌜ r ≡ fourIn n (now (chart .entry)) j 6 ⌝ }
-{
-    let at = (2 + 16 * j) as usize;
-    known_four(
-        n,
-        chart[at + 6],
-        chart[at + 7],
-        chart[at + 8],
-        chart[at + 9],
-    )
-}
-
-// The same of the other four. Few items have nodes there: of four numbers that make 64 together each is 64 or 0, and a graph has a node 0.
-fn known_high(chart: &[u64], j: u64, n: u64) -> bool
-    requires { ⌜ (2 + 16 * j + 16 ≤ length (now chart)) × (1 ≤ n) ⌝ }
-    ensures { λ r. ⌜ r ≡ fourIn n (now (chart .entry)) j 10 ⌝ }
-{
-    let at = (2 + 16 * j) as usize;
-    let a = chart[at + 10];
-    let b = chart[at + 11];
-    let c = chart[at + 12];
-    let d = chart[at + 13];
-    if a | b | c | d == 64 {
-        return true;
+    let mut k: u64 = 0;
+    while k < 8 {
+        if !known_place(n, masks::has(used, k), ns[k as usize]) {
+            return false;
+        }
+        k += 1;
     }
-    known_four(n, a, b, c, d)
+    true
 }
 
-// Whether the graph has the edges and the nodes that the record at place j names, which lies inside the chart. The words are read where they are asked.
-fn in_graph(g: &[u64], h: &[u64], s: Sizes, chart: &[u64], j: u64) -> bool
-    requires { ⌜ Sized (now g) (now h) s × (2 + 16 * j + 16 ≤ length (now chart)) ⌝ }
-    ensures { λ r. ⌜ r ≡ inGraph (graphNodes (now (h .entry))) (graphEdges (now (h .entry))) (recordAt (now (chart .entry)) j) ⌝ }
+// Whether the graph has the edges and the nodes that a record names, by the set of places that its item uses.
+fn in_graph(s: Sizes, used: u64, x: Record) -> bool
+    requires { ⌜ s .all ≡ full (s .edges) ⌝ }
+    ensures { λ r. ⌜ r ≡ inGraph (s .nodes) (s .edges) (λ k. member used k) x ⌝ }
 {
-    let edges = chart[(2 + 16 * j + 3) as usize];
+    let item = x.item;
+    let edges = item.edges;
     if edges & s.all != edges {
         return false;
     }
-    if !known_low(chart, j, s.nodes) {
-        return false;
-    }
-    known_high(chart, j, s.nodes)
+    let nodes = item.nodes;
+    known_places(s.nodes, used, nodes)
 }
 
 // ---- partners, among n items
 // Whether what edge i of the rule was matched with exists: a graph edge, or an item.
 fn known_second(g: &[u64], h: &[u64], s: Sizes, n: u64, x: Record, i: u64) -> bool
-    requires { ⌜ Sized (now g) (now h) s × KnownEdge (now g) (x .of) i ⌝ }
+    requires { ⌜ Sized (now g) (now h) s × KnownEdge (now g) (x .item .of) i ⌝ }
     ensures { λ r. ⌜ r ≡ knownSecond (grammarOf (now (g .entry))) (graphOf (now (g .entry)) (now (h .entry))) n x i ⌝ }
 {
-    let label = layout::field_in(g, 66 + 25 * x.of + i, 0);
-    let kind = layout::field_in(g, 1 + label, 1);
-    if kind == 0 {
-        return x.second < s.edges;
+    let item = x.item;
+    let label = layout::edge_label_in(g, item.of, i);
+    let kind = layout::symbol_kind_in(g, label);
+    match kind {
+        0 => x.second < s.edges,
+        _ => x.second < n,
     }
-    x.second < n
 }
 
-// Whether the partners exist that the plan node of the record asks for.
+// Whether the partners exist that the plan node of the record asks for; a leaf asks for none.
 fn known_partners(g: &[u64], h: &[u64], s: Sizes, n: u64, x: Record) -> bool
-    requires { ⌜ Sized (now g) (now h) s × KnownNode (now g) (x .of) (x .plan) ⌝ }
-    ensures { λ r. ⌜ r ≡ knownPartners (grammarOf (now (g .entry))) (graphOf (now (g .entry)) (now (h .entry))) n x (planNode (planOf (grammarOf (now (g .entry))) (x .of)) (x .plan)) ⌝ }
+    requires { ⌜ Sized (now g) (now h) s × KnownNode (now g) (x .item .of) (x .item .plan) ⌝ }
+    ensures { λ r. ⌜ r ≡ knownPartners (grammarOf (now (g .entry))) (graphOf (now (g .entry)) (now (h .entry))) n x (planNode (planOf (grammarOf (now (g .entry))) (x .item .of)) (x .item .plan)) ⌝ }
 {
-    let p = 74 + 25 * x.of + x.plan;
-    let kind = layout::field_in(g, p, 0);
+    let item = x.item;
+    let kind = layout::plan_kind_in(g, item.of, item.plan);
     match kind {
-        0 => true,
-        1 => (x.first < n) & known_second(g, h, s, n, x, layout::field_in(g, p, 2)),
+        0 => (x.first == 0) & (x.second == 0),
+        1 => (x.first < n)
+            & known_second(g, h, s, n, x, layout::plan_second_in(g, item.of, item.plan)),
         _ => (x.first < n) & (x.second < n),
     }
 }
 
-// ---- records, whose edges and nodes the graph has
-fn known_active(g: &[u64], h: &[u64], s: Sizes, n: u64, x: Record) -> bool
-    requires { ⌜ Sized (now g) (now h) s × (inGraph (graphNodes (now h)) (graphEdges (now h)) x ≡ true) ⌝ }
+// ---- records
+// The places of an active item are the open rule nodes at its plan node.
+fn known_active(g: &[u64], h: &[u64], plans: &[u32; 2048], s: Sizes, n: u64, x: Record) -> bool
+    requires { ⌜ Sized (now g) (now h) s × PlanTable (now g) (now plans) ⌝ }
     ensures { λ r. ⌜ r ≡ knownActive (grammarOf (now (g .entry))) (graphOf (now (g .entry)) (now (h .entry))) n x ⌝ }
 {
-    if s.rules <= x.of {
+    let item = x.item;
+    if s.rules <= item.of {
         return false;
     }
-    if layout::field_in(g, 65 + 25 * x.of, 4) <= x.plan {
+    if layout::rule_plan_in(g, item.of) <= item.plan {
+        return false;
+    }
+    let open = rules::plans::open_at(g, plans, item.of, item.plan);
+    if !in_graph(s, open, x) {
         return false;
     }
     known_partners(g, h, s, n, x)
 }
 
+// Those of a passive item are as many as its symbol's rank; it has neither a plan node nor a second partner.
 fn known_passive(g: &[u64], h: &[u64], s: Sizes, n: u64, x: Record) -> bool
-    requires { ⌜ Sized (now g) (now h) s × (inGraph (graphNodes (now h)) (graphEdges (now h)) x ≡ true) ⌝ }
+    requires { ⌜ Sized (now g) (now h) s ⌝ }
     ensures { λ r. ⌜ r ≡ knownPassive (grammarOf (now (g .entry))) (graphOf (now (g .entry)) (now (h .entry))) n x ⌝ }
 {
-    if s.symbols <= x.of {
+    let item = x.item;
+    if s.symbols <= item.of {
         return false;
     }
-    if layout::field_in(g, 1 + x.of, 1) == 0 {
+    if layout::symbol_kind_in(g, item.of) == 0 {
         return false;
     }
-    x.first < n
+    let listed = masks::full(layout::symbol_rank_in(g, item.of));
+    if !in_graph(s, listed, x) {
+        return false;
+    }
+    (x.first < n) & (item.plan == 0) & (x.second == 0)
 }
 
-fn known_record(g: &[u64], h: &[u64], s: Sizes, n: u64, x: Record) -> bool
-    requires { ⌜ Sized (now g) (now h) s × (inGraph (graphNodes (now h)) (graphEdges (now h)) x ≡ true) ⌝ }
+fn known_record(g: &[u64], h: &[u64], plans: &[u32; 2048], s: Sizes, n: u64, x: Record) -> bool
+    requires { ⌜ Sized (now g) (now h) s × PlanTable (now g) (now plans) ⌝ }
     ensures { λ r. ⌜ r ≡ knownRecord (grammarOf (now (g .entry))) (graphOf (now (g .entry)) (now (h .entry))) n x ⌝ }
 {
-    let kind = x.kind;
+    let item = x.item;
+    let kind = item.kind;
     match kind {
-        0 => known_active(g, h, s, n, x),
+        0 => known_active(g, h, plans, s, n, x),
         1 => known_passive(g, h, s, n, x),
         _ => false,
     }
 }
 
-// The nodes of the record whose words start at `at`.
-fn nodes_in(chart: &[u64], at: usize) -> [u64; 8]
-    requires { ⌜ at + 16 ≤ length (now chart) ⌝ }
-    ensures { λ r. ⌜ r ≡ tabulate 8 (λ k. getD (now (chart .entry)) (at + (6 + k)) 0) ⌝ }
-{
-    [
-        chart[at + 6],
-        chart[at + 7],
-        chart[at + 8],
-        chart[at + 9],
-        chart[at + 10],
-        chart[at + 11],
-        chart[at + 12],
-        chart[at + 13],
-    ]
-}
-
-// The record at a place that the chart has.
-fn record_in(chart: &[u64], j: u64) -> Record
-    requires { ⌜ 2 + 16 * j + 16 ≤ length (now chart) ⌝ }
-    ensures { λ r. ⌜ r ≡ recordAt (now (chart .entry)) j ⌝ }
-{
-    let at = (2 + 16 * j) as usize;
-    let nodes = nodes_in(chart, at);
-    Record {
-        kind: chart[at],
-        of: chart[at + 1],
-        plan: chart[at + 2],
-        edges: chart[at + 3],
-        count: chart[at + 4],
-        handled: chart[at + 5],
-        nodes,
-        first: chart[at + 14],
-        second: chart[at + 15],
-    }
-}
-
-// Whether the item at a place that the chart has is known.
-fn known_item(g: &[u64], h: &[u64], s: Sizes, n: u64, chart: &[u64], j: u64) -> bool
-    requires { ⌜ Sized (now g) (now h) s × (2 + 16 * j + 16 ≤ length (now chart)) ⌝ }
-    ensures { λ r. ⌜ r ≡ knownRecord (grammarOf (now (g .entry))) (graphOf (now (g .entry)) (now (h .entry))) n (recordAt (now (chart .entry)) j) ⌝ }
-{
-    if !in_graph(g, h, s, chart, j) {
-        return false;
-    }
-    known_record(g, h, s, n, record_in(chart, j))
-}
-
+// ---- the chart
 // The number of items that a chart's header names, which may be more than it holds.
 fn number_of(chart: &[u64]) -> u64
     ensures { λ r. ⌜ r ≡ getD (now (chart .entry)) 0 0 ⌝ }
@@ -250,10 +182,11 @@ fn number_of(chart: &[u64]) -> u64
     chart[0]
 }
 
-// Does each item name a rule, plan node, symbol, graph nodes, edges and partner items that exist, with no more items than the chart holds?
-// The handled ones are counted in the same walk, so that whoever asks how the chart stands needs no other.
-pub fn known(g: &[u64], h: &[u64], chart: &[u64]) -> Tested
-    requires { ⌜ Accepted (now g) (now h) ⌝ }
+// Is each record the image of an item that names a rule, plan node, symbol, graph nodes, edges and partner items that exist, with no more items
+// than the chart holds? The plan table is that of the grammar (`rules::plans::fill`). The handled ones are counted in the same walk, so that
+// whoever asks how the chart stands needs no other.
+pub fn known(g: &[u64], h: &[u64], plans: &[u32; 2048], chart: &[u64]) -> Tested
+    requires { ⌜ Accepted (now g) (now h) × PlanTable (now g) (now plans) ⌝ }
     ensures { λ t. ⌜ (t .known ≡ knownChart (grammarOf (now (g .entry))) (graphOf (now (g .entry)) (now (h .entry))) (now (chart .entry))) × (t .known ≡ true → t .handled ≡ handledCount (recordsAt (now (chart .entry)) (itemCount (now (chart .entry))))) × (t .known ≡ false → t .handled ≡ 0) ⌝ }
 {
     let n = number_of(chart);
@@ -267,13 +200,14 @@ pub fn known(g: &[u64], h: &[u64], chart: &[u64]) -> Tested
     let mut handled: u64 = 0;
     let mut j: u64 = 0;
     while j < n {
-        if !known_item(g, h, s, n, chart, j) {
+        let x = records::load(chart, j);
+        if !known_record(g, h, plans, s, n, x) {
             return Tested {
                 known: false,
                 handled: 0,
             };
         }
-        if chart[(2 + 16 * j + 5) as usize] != 0 {
+        if x.handled != 0 {
             handled += 1;
         }
         j += 1;

@@ -6,6 +6,7 @@ use native.Mathlib.Omega.{arith}
 use lib.ListN.{getD, set, length-set}
 use lib.Seq.{getD-set-other}
 use Rattle.hrg.specs.Grammars.{Graph, PlanNode, leaf, introduce, join, Grammar, planOf, planNode}
+use Rattle.agenda.specs.Steps.{withCount}
 use Rattle.agenda.specs.declared.Record.{Record}
 use Rattle.records.specs.Words.{capacity, recordAt}
 use Rattle.records.proofs.Written.{header-records}
@@ -13,7 +14,7 @@ use Rattle.validity.specs.Checking.{knownPartners, knownActive, knownRec
 
 -- x with another count and handled word
 abbrev pub counted : Record → ℕ → ℕ → Record
-counted x n d = record { kind = x .kind; of = x .of; plan = x .plan; edges = x .edges; count = n; handled = d; nodes = x .nodes; first = x .first; second = x .second }
+counted x n d = record { item = withCount (x .item) n; handled = d; first = x .first; second = x .second }
 
 module _ (G : Grammar) (H : Graph) (n : ℕ) (x : Record) (c d : ℕ) where
   partners-free : (p : PlanNode) → knownPartners G H n (counted x c d) p ≡ knownPartners G H n x p
@@ -25,7 +26,7 @@ module _ (G : Grammar) (H : Graph) (n : ℕ) (x : Record) (c d : ℕ) where
   -- the count and the handled word
   pub count-free : knownRecord G H n (counted x c d) ≡ knownRecord G H n x
   unfolding knownRecord knownActive
-  count-free = rw (partners-free (planNode (planOf G (x .of)) (x .plan)))
+  count-free = rw (partners-free (planNode (planOf G (x .item .of)) (x .item .plan)))
 
 -- the mark
 pub mark-free : (G : Grammar) (H : Graph) (w : List ℕ) (v : ℕ) → knownChart G H (set w 1 v) ≡ knownChart G H w

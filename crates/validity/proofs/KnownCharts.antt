@@ -17,8 +17,8 @@ use Rattle.records.specs.Words.{capacity, itemCount, recordAt, recordsAt, chart
 use Rattle.records.proofs.WordLaws.{length-records, record-in}
 use Rattle.records.proofs.Written.{Holds, count-is, fits-written, chart-of-written}
 use Rattle.validity.specs.Checking.{holds, knownRecord, knownChart}
-use Rattle.validity.specs.Existing.{ExistingRecord, ExistingChart}
-use Rattle.validity.proofs.ExistingTest.{T-test, known-existing, existing-known, chart-decides}
+use Rattle.validity.specs.Existing.{ExistingChart}
+use Rattle.validity.proofs.ExistingTest.{T-test, known-image, known-existing, existing-known, chart-decides}
 
 -- ---- a chart that holds an item has a header, and one that is known no more items than it holds
 pub holds-header : (w : List ℕ) → holds w ≡ true → 2 ≤ length w
@@ -32,6 +32,13 @@ holds-most w e = leb-true (capacity w) 4096 (T-test _ (of-and (leb 1 (capacity w
 module _ (G : Grammar) (H : Graph) where
   known-chart : (w : List ℕ) → knownChart G H w ≡ true → ExistingChart G H w
   known-chart w e = chart-decides G H w .sound (test-T (knownChart G H w) e)
+
+  -- each of its items is known
+  pub known-each : (w : List ℕ) → knownChart G H w ≡ true → (k : ℕ) → k < itemCount w → knownRecord G H (getD w 0 0) (recordAt w k) ≡ true
+  unfolding itemCount
+  known-each w e k l =
+      let c = known-chart w e in
+      existing-known G H (getD w 0 0) (recordAt w k) (c .image k (omega arith)) (c .each k (omega arith))
 
   pub known-fits : (w : List ℕ) → 2 ≤ length w → knownChart G H w ≡ true → Fits w
   known-fits w l e = record { header = l; number = known-chart w e .number }
@@ -51,19 +58,25 @@ module _ (G : Grammar) (H : Graph) where
         let b : k < itemCount w = omega (arith, length-records w (itemCount w)) in
         ap (λ n. knownRecord G H n (recordIn (recordsAt w (itemCount w)) k)) size-is
         ∙ ap (knownRecord G H (getD w 0 0)) (record-in w (itemCount w) k b)
-        ∙ existing-known G H (getD w 0 0) (recordAt w k) (known-chart w e .each k (omega (arith, count-is w f)))
+        ∙ existing-known G H (getD w 0 0) (recordAt w k) (known-chart w e .image k (omega (arith, count-is w f))) (known-chart w e .each k (omega (arith, count-is w f)))
 
     pub records-known : AllKnown (chartOf w .records) → knownChart G H w ≡ true
     unfolding chartOf
-    records-known all = T-test (knownChart G H w) (chart-decides G H w .complete (record { number = f .number; each = each }))
+    records-known all =
+        T-test (knownChart G H w)
+        (chart-decides G H w .complete
+        (record {
+          number = f .number;
+          image = λ j l. known-image G H (getD w 0 0) (recordAt w j) (known j l);
+          each = λ j l. known-existing G H (getD w 0 0) (recordAt w j) (known j l);
+        }))
       where
-        each : (j : ℕ) → j < getD w 0 0 → ExistingRecord G H (getD w 0 0) (recordAt w j)
-        each j l =
+        known : (j : ℕ) → j < getD w 0 0 → knownRecord G H (getD w 0 0) (recordAt w j) ≡ true
+        known j l =
             let b : j < itemCount w = omega (arith, count-is w f) in
-            known-existing G H (getD w 0 0) (recordAt w j)
-            (ap (knownRecord G H (getD w 0 0)) (sym (record-in w (itemCount w) j b))
+            ap (knownRecord G H (getD w 0 0)) (sym (record-in w (itemCount w) j b))
             ∙ ap (λ n. knownRecord G H n (recordIn (recordsAt w (itemCount w)) j)) (sym size-is)
-            ∙ all j (omega (arith, length-records w (itemCount w))))
+            ∙ all j (omega (arith, length-records w (itemCount w)))
 
   -- a chart of known records passes where it is written
   pub written-known : (w : List ℕ) (c : Chart) → Holds w c → AllKnown (c .records) → knownChart G H (written w c) ≡ true

@@ -5,5 +5,8 @@ pub mod AnyNumber
 -- for its callers
 pub mod KnownCharts
 -- the program's own charts pass it
+pub mod OpenNodes
 pub mod KnownItems
 pub mod Own
+-- records and items are one to one
+pub mod Images

@@ -1,4 +1,5 @@
--- Question 8 never refuses the program's own charts: after a start and any list of runs every record names what exists.
+-- Question 8 never refuses the program's own charts: after a start and any list of runs every record is the image of an item that names what
+-- exists.
 use mathlib.Core.Path.{_≡_, refl, sym, ap, _∙_, subst}
 use mathlib.Core.Logic.{inl, inr}
 use mathlib.Core.Bool.{Bool, true, false}
@@ -6,10 +7,10 @@ use mathlib.Core.List.{List, [], _∷_, List·Memᴰ as In}
 use Prim.Native.Nat.{ℕ, zero, suc, _≤_, _<_}
 use native.Mathlib.Omega.{arith}
 use lib.ListN.{length, set, length-set}
-use lib.Dec.{eqb}
+use lib.Dec.{eqb, ltb}
 use borrow.Author.Tests.{eqb-true, eqb-false}
-use Rattle.hrg.specs.Grammars.{Graph, PlanNode, Grammar, planOf, planNode}
-use Rattle.hrg.specs.Items.{Item, active, passive, LeafRule, leaf-rule, BinaryRule, nonterminal-rule, join-rule}
+use Rattle.hrg.specs.Grammars.{Graph, PlanNode, leaf, introduce, join, Grammar, rankOf, ruleOf, planOf, planNode}
+use Rattle.hrg.specs.Items.{Item, active, passive, isOpenAt, LeafRule, leaf-rule, BinaryRule, nonterminal-rule, join-rule}
 use Rattle.hrg.specs.WellFormed.{GrammarOk, GraphOk}
 use Rattle.agenda.specs.Records.{recordOf, itemOf}
 use Rattle.agenda.specs.Consequences.{recordIn, consequences, leafRecords}
@@ -17,7 +18,6 @@ use Rattle.agenda.specs.Steps.{Chart, addedAll, leastWaiting, handledNow, handl
 use Rattle.agenda.specs.declared.Record.{Record}
 use Rattle.agenda.specs.declared.Found.{Found}
 use Rattle.agenda.specs.declared.Found.the-variants.{At, Nowhere}
-use Rattle.agenda.proofs.Records.{record-fresh}
 use Rattle.agenda.proofs.Consequences.{TerminalRule, terminal-with, Consequence, from-root, from-edge, from-first, from-second, terminal-unary, in-consequence, in-leaf-record}
 use Rattle.agenda.proofs.Adding.{cond-by, AddsAll, Ends, held, full, all-ends, marked-all}
 use Rattle.agenda.proofs.Growth.{SetAt, changed, other, set-at, Fresh, From, all-grew, all-from}
@@ -25,11 +25,11 @@ use Rattle.agenda.proofs.Choice.{Chosen, waits, nothing, chosen}
 use Rattle.records.specs.Words.{capacity, written}
 use Rattle.records.proofs.Written.{Holds}
 use Rattle.validity.specs.Checking.{knownRecord, knownChart}
-use Rattle.validity.specs.Existing.{ExistingPartners, no-partner, edge-partner, item-partner, join-partners, ExistingRecord, an-active, a-passive}
-use Rattle.validity.proofs.ExistingTest.{known-existing, existing-known}
+use Rattle.validity.specs.Existing.{ImageOfItem, active-image, passive-image, ExistingPartners, no-partner, edge-partner, item-partner, join-partners, ExistingRecord, an-active, a-passive}
+use Rattle.validity.proofs.ExistingTest.{known-image, known-existing, existing-known}
 use Rattle.validity.proofs.AnyNumber.{count-free}
 use Rattle.validity.proofs.KnownCharts.{AllKnown, written-known}
-use Rattle.validity.proofs.KnownItems.{item-parts, KnownItem, leaf-item, unary-item, binary-item, record-item}
+use Rattle.validity.proofs.KnownItems.{padded-none, item-parts, KnownItem, leaf-item, unary-item, binary-item, record-item}
 
 -- ---- more items
 module _ (G : Grammar) (H : Graph) (x : Record) {n m : ℕ} (more : n ≤ m) where
@@ -46,42 +46,63 @@ module _ (G : Grammar) (H : Graph) (x : Record) {n m : ℕ} (more : n ≤ m) whe
 
 -- ---- a record of a known item with partners that exist
 module _ (G : Grammar) (H : Graph) where
-  active-existing : (n r p m : ℕ) (f : List ℕ) (c a b : ℕ) → KnownItem G H (active r p m f) → ExistingPartners G H n (recordOf (active r p m f) c a b) (planNode (planOf G r) p)
-      → ExistingRecord G H n (recordOf (active r p m f) c a b)
-  active-existing n r p m f c a b w q = an-active refl (w .0) (w .1) (item-parts H (recordOf (active r p m f) c a b) f refl (w .2) (w .3)) q
+  -- both clauses of question 8
+  abbrev Known : ℕ → Record → Type 0
+  Known n x = ImageOfItem G x × ExistingRecord G H n x
 
-  passive-existing : (n s m : ℕ) (L : List ℕ) (c a b : ℕ) → KnownItem G H (passive s m L) → a < n → ExistingRecord G H n (recordOf (passive s m L) c a b)
-  passive-existing n s m L c a b w l = a-passive refl (w .0) (w .1) (item-parts H (recordOf (passive s m L) c a b) L refl (w .2) (w .3)) l
+  -- partners by a plan node: those that exist, and both fields 0 at a leaf
+  abbrev Partners : ℕ → Record → PlanNode → Type 0
+  Partners n x p = (p ≡ leaf → (x .first ≡ 0) × (x .second ≡ 0)) × ExistingPartners G H n x p
 
-  by-node : {n : ℕ} {x : Record} {p q : PlanNode} → p ≡ q → ExistingPartners G H n x q → ExistingPartners G H n x p
-  by-node {n} {x} e = subst (ExistingPartners G H n x) (sym e)
+  active-existing : (n r p m : ℕ) (f : List ℕ) (c a b : ℕ) → KnownItem G H (active r p m f) → Partners n (recordOf (active r p m f) c a b) (planNode (planOf G r) p)
+      → Known n (recordOf (active r p m f) c a b)
+  active-existing n r p m f c a b w q =
+      let x = recordOf (active r p m f) c a b in
+      let used : ℕ → Bool = isOpenAt (ruleOf G r) p in
+      (active-image refl (padded-none (H .nodes) used f (w .3)) (q .0), an-active refl (w .0) (w .1) (item-parts H used x f refl (w .2) (w .3)) (q .1))
+
+  passive-existing : (n s m : ℕ) (L : List ℕ) (c a : ℕ) → KnownItem G H (passive s m L) → a < n → Known n (recordOf (passive s m L) c a 0)
+  passive-existing n s m L c a w l =
+      let x = recordOf (passive s m L) c a 0 in
+      let used : ℕ → Bool = λ k. ltb k (rankOf G s) in
+      (passive-image refl (padded-none (H .nodes) used L (w .3)) refl refl, a-passive refl (w .0) (w .1) (item-parts H used x L refl (w .2) (w .3)) l)
+
+  by-leaf : {n : ℕ} {x : Record} {p : PlanNode} → p ≡ leaf → x .first ≡ 0 → x .second ≡ 0 → Partners n x p
+  by-leaf {n} {x} e a b = (λ q. (a, b), subst (ExistingPartners G H n x) (sym e) no-partner)
+
+  by-introduce : {n c i : ℕ} {x : Record} {p : PlanNode} → p ≡ introduce c i → ExistingPartners G H n x (introduce c i) → Partners n x p
+  by-introduce {n} {c} {i} {x} e q = (λ d. let z : _≡_ {A = ℕ} 0 1 = cc in absurd (omega arith), subst (ExistingPartners G H n x) (sym e) q)
+
+  by-join : {n a b : ℕ} {x : Record} {p : PlanNode} → p ≡ join a b → ExistingPartners G H n x (join a b) → Partners n x p
+  by-join {n} {a} {b} {x} e q = (λ d. let z : _≡_ {A = ℕ} 0 1 = cc in absurd (omega arith), subst (ExistingPartners G H n x) (sym e) q)
 
 module _ (G : Grammar) (H : Graph) (ok : GrammarOk G) (good : GraphOk G H) where
-  leaf-existing : {i : Item} (n : ℕ) → LeafRule G i → ExistingRecord G H n (recordOf i 0 0 0)
-  leaf-existing n (leaf-rule r p k l e) = active-existing G H n r p 0 _ 0 0 0 (leaf-item G H ok good (leaf-rule r p k l e)) (by-node G H e no-partner)
+  leaf-existing : {i : Item} (n : ℕ) → LeafRule G i → Known G H n (recordOf i 0 0 0)
+  leaf-existing n (leaf-rule r p k l e) = active-existing G H n r p 0 _ 0 0 0 (leaf-item G H ok good (leaf-rule r p k l e)) (by-leaf G H e refl refl)
 
-  terminal-existing : {g : ℕ} {a i : Item} (n c j : ℕ) → TerminalRule G H g a i → KnownItem G H a → j < n → ExistingRecord G H n (recordOf i c j g)
+  terminal-existing : {g : ℕ} {a i : Item} (n c j : ℕ) → TerminalRule G H g a i → KnownItem G H a → j < n → Known G H n (recordOf i c j g)
   terminal-existing {g} n c j (terminal-with r p k i m₁ m f h l e w v) a d =
-      active-existing G H n r p m h c j g (unary-item G H ok good (terminal-unary G H (terminal-with r p k i m₁ m f h l e w v)) a) (by-node G H e (edge-partner d (w .kind) (w .known)))
+      active-existing G H n r p m h c j g (unary-item G H ok good (terminal-unary G H (terminal-with r p k i m₁ m f h l e w v)) a) (by-introduce G H e (edge-partner d (w .kind) (w .known)))
 
-  binary-existing : {a b i : Item} (n c j k : ℕ) → BinaryRule G H a b i → KnownItem G H a → KnownItem G H b → j < n → k < n → ExistingRecord G H n (recordOf i c j k)
+  binary-existing : {a b i : Item} (n c j k : ℕ) → BinaryRule G H a b i → KnownItem G H a → KnownItem G H b → j < n → k < n → Known G H n (recordOf i c j k)
   binary-existing n c j k (nonterminal-rule r p d i m₁ m₂ m f L h l e v) a b x y =
-      active-existing G H n r p m h c j k (binary-item G H ok good (nonterminal-rule r p d i m₁ m₂ m f L h l e v) a b) (by-node G H e (item-partner x (b .1) y))
+      active-existing G H n r p m h c j k (binary-item G H ok good (nonterminal-rule r p d i m₁ m₂ m f L h l e v) a b) (by-introduce G H e (item-partner x (b .1) y))
   binary-existing n c j k (join-rule r p d q m₁ m₂ m f g h l e v) a b x y =
-      active-existing G H n r p m h c j k (binary-item G H ok good (join-rule r p d q m₁ m₂ m f g h l e v) a b) (by-node G H e (join-partners x y))
+      active-existing G H n r p m h c j k (binary-item G H ok good (join-rule r p d q m₁ m₂ m f g h l e v) a b) (by-join G H e (join-partners x y))
 
   -- ---- the tests of these records
   -- the leaf items pass, whatever else is in the chart
   pub leaf-known : (n : ℕ) (x : Record) → In x (leafRecords G) → knownRecord G H n x ≡ true
-  leaf-known n x m = let (i, l, e) = in-leaf-record G H x m in ap (knownRecord G H n) e ∙ existing-known G H n (recordOf i 0 0 0) (leaf-existing n l)
+  leaf-known n x m = let (i, l, e) = in-leaf-record G H x m in let k = leaf-existing n l in ap (knownRecord G H n) e ∙ existing-known G H n (recordOf i 0 0 0) (k .0) (k .1)
 
   -- what known records make is known
   module _ (rs : List Record) (all : AllKnown G H rs) (j : ℕ) (l : j < length rs) where
-    item-at : (k : ℕ) → k < length rs → KnownItem G H (itemOf G (recordIn rs k))
-    item-at k h = record-item G H ok good (length rs) (recordIn rs k) (known-existing G H (length rs) (recordIn rs k) (all k h))
+    item-at : (k : ℕ) → k < length rs → KnownItem G H (itemOf G (recordIn rs k .item))
+    item-at k h =
+        record-item G H ok good (length rs) (recordIn rs k) (known-image G H (length rs) (recordIn rs k) (all k h)) (known-existing G H (length rs) (recordIn rs k) (all k h))
 
-    made-existing : {i : Item} {c a b : ℕ} (m : ℕ) → length rs ≤ m → Consequence G H rs j i c a b → ExistingRecord G H m (recordOf i c a b)
-    made-existing m h (from-root {s = s} {m = e} {L = L} u) = passive-existing G H m s e L _ j 0 (unary-item G H ok good u (item-at j l)) (omega arith)
+    made-existing : {i : Item} {c a b : ℕ} (m : ℕ) → length rs ≤ m → Consequence G H rs j i c a b → Known G H m (recordOf i c a b)
+    made-existing m h (from-root {s = s} {m = e} {L = L} u) = passive-existing G H m s e L _ j (unary-item G H ok good u (item-at j l)) (omega arith)
     made-existing m h (from-edge b t) = terminal-existing m _ j t (item-at j l) (omega arith)
     made-existing m h (from-first {k = k} b d t) = binary-existing m _ j k t (item-at j l) (item-at k b) (omega arith) (omega arith)
     made-existing m h (from-second {k = k} b d t) = binary-existing m _ k j t (item-at k b) (item-at j l) (omega arith) (omega arith)
@@ -89,15 +110,16 @@ module _ (G : Grammar) (H : Graph) (ok : GrammarOk G) (good : GraphOk G H) where
     pub consequence-known : (m : ℕ) (x : Record) → length rs ≤ m → In x (consequences G H rs j) → knownRecord G H m x ≡ true
     consequence-known m x h i =
         let t = in-consequence G H rs j x i in
-        ap (knownRecord G H m) (t .is) ∙ existing-known G H m (recordOf (t .item) (t .count) (t .first) (t .second)) (made-existing m h (t .by))
+        let k = made-existing m h (t .by) in
+        ap (knownRecord G H m) (t .is) ∙ existing-known G H m (recordOf (t .item) (t .count) (t .first) (t .second)) (k .0) (k .1)
 
     consequence-fresh : (x : Record) → In x (consequences G H rs j) → Fresh x
-    consequence-fresh x i = let t = in-consequence G H rs j x i in ap (λ (y : Record). y .handled) (t .is) ∙ record-fresh (t .item) (t .count) (t .first) (t .second)
+    consequence-fresh x i = let t = in-consequence G H rs j x i in ap (λ (y : Record). y .handled) (t .is)
 
   -- ---- records added
   module _ (cap : ℕ) where
     known-more : (x : Record) {n m : ℕ} → n ≤ m → knownRecord G H n x ≡ true → knownRecord G H m x ≡ true
-    known-more x {n} {m} l e = existing-known G H m x (existing-more G H x l (known-existing G H n x e))
+    known-more x {n} {m} l e = existing-known G H m x (known-image G H n x e) (existing-more G H x l (known-existing G H n x e))
 
     all-known : {xs rs ts : List Record} → AddsAll cap xs rs ts → ((x : Record) → In x xs → Fresh x)
         → ((m : ℕ) (x : Record) → length rs ≤ m → In x xs → knownRecord G H m x ≡ true) → AllKnown G H rs → AllKnown G H ts
@@ -136,7 +158,7 @@ module _ (G : Grammar) (H : Graph) (ok : GrammarOk G) (good : GraphOk G H) where
         old i b = ap (λ n. knownRecord G H n (recordIn rs i)) size ∙ all i b
 
         go : SetAt rs j (handledNow (recordIn rs j)) k → knownRecord G H (length (handledIn rs j)) (recordIn (handledIn rs j) k) ≡ true
-        go (changed q p) = ap (knownRecord G H (length (handledIn rs j))) p ∙ count-free G H (length (handledIn rs j)) (recordIn rs j) (recordIn rs j .count) 1 ∙ old j l
+        go (changed q p) = ap (knownRecord G H (length (handledIn rs j))) p ∙ count-free G H (length (handledIn rs j)) (recordIn rs j) (recordIn rs j .item .count) 1 ∙ old j l
         go (other n p) = ap (knownRecord G H (length (handledIn rs j))) p ∙ old k (omega (arith, size))
 
     step-known : (c : Chart) → AllKnown G H (c .records) → AllKnown G H (stepChart G H cap c .records)
@@ -170,7 +192,7 @@ module _ (G : Grammar) (H : Graph) (ok : GrammarOk G) (good : GraphOk G H) where
         added-known (leafRecords G) (record { mark = 0; records = [] }) fresh (λ m x h i. leaf-known m x i) (λ k l. absurd (omega arith))
       where
         fresh : (x : Record) → In x (leafRecords G) → Fresh x
-        fresh x m = let (i, l, e) = in-leaf-record G H x m in ap (λ (y : Record). y .handled) e ∙ record-fresh i 0 0 0
+        fresh x m = let (i, l, e) = in-leaf-record G H x m in ap (λ (y : Record). y .handled) e
 
     -- after a start and any list of runs, also where the chart was found too small
     pub own-known : (ks : List ℕ) → AllKnown G H (runsChart G H cap ks (startChart G cap) .records)

@@ -1,16 +1,14 @@
 -- A law for each way through the functions that deliver a text.
 use mathlib.Core.Path.{_≡_, refl, sym, ap, _∙_, subst}
-use mathlib.Core.Bool.{Bool, true, false, cond, _&&_}
+use mathlib.Core.Bool.{Bool, true, false, cond}
 use mathlib.Core.List.{List, [], _∷_, _++_}
 use Prim.Native.Nat.{ℕ, _+_, _-_, _≤_, _<_}
 use native.Mathlib.Decide.{decLe}
 use native.Mathlib.Omega.{arith}
 use lib.ListN.{length, take, drop, replicate, length-drop, length-replicate}
 use lib.Seq.{take-all}
-use lib.Dec.{leb}
 use borrow.Author.Tests.{le-leb, lt-leb}
 use Rattle.hrg.specs.Grammars.{Graph, Grammar}
-use Rattle.hrg.specs.Trees.{Tree}
 use Rattle.agenda.specs.declared.Record.{Record}
 use Rattle.agenda.specs.declared.Found.{Found}
 use Rattle.agenda.specs.declared.Found.the-variants.{At, Nowhere}
@@ -20,15 +18,16 @@ use Rattle.preorder.specs.Rows.{size, rowsOf}
 use Rattle.derivation.specs.Derivations.{derivationText, replayText}
 use Rattle.derivation.proofs.Derivations.{replay-bad}
 use Rattle.extraction.specs.Extraction.{Spelt, nothing, spelt, treeAt}
-use Rattle.extraction.specs.Listing.{Listing, endless, listed, listing, rowsFrom}
-use Rattle.extraction.proofs.Listings.{recordsUnder, listing-none, listing-tree, listing-large}
+use Rattle.extraction.specs.Listing.{Listing, endless, listing}
+use Rattle.extraction.proofs.Listings.{listing-none, listing-tree, listing-large}
 use Rattle.extraction.proofs.ListedRows.{rows-listed}
 use Rattle.questions.specs.Abstract.{grammarOf, graphOf}
 use Rattle.records.specs.Words.{recordAt, chartOf}
 use Rattle.charting.specs.Calls.{fit, fitChart, standingOf}
 use Rattle.charting.specs.declared.Outcome.{Outcome}
 use Rattle.charting.specs.declared.Outcome.the-variants.{Unfit as Unfit-chart, TooSmall as TooSmall-chart, Unfinished as Unfinished-chart, Done}
-use Rattle.charting.proofs.Calls.{chart-fit}
+use Rattle.validity.specs.Checking.{knownChart}
+use Rattle.charting.proofs.Calls.{chart-fit, chart-known}
 use Rattle.chart.proofs.CallSteps.{fit-accepted}
 use Rattle.joins.specs.Joins.{Accepted}
 use Rattle.writing.specs.Writing.{Wrote, refused, writeText, derives, writeSpelt, goalIn, writeGoal, writeBy, writeOf}
@@ -151,6 +150,9 @@ module _ (g h w out : List ℕ) (o : Outcome) (stands : o ≡ standingOf g h w) 
         where
           never : Unfit-chart ≡ Done k → ⊥
           never z = let y : _≡_ {A = ℕ} 0 1 = cc in omega (arith, y)
+
+  pub done-known : (k : ℕ) → o ≡ Done k → knownChart (grammarOf g) (graphOf g h) w ≡ true
+  done-known k e = chart-known g h w (done-fits k e)
 
   pub done-accepted : (k : ℕ) → o ≡ Done k → Accepted g h
   done-accepted k e = fit-accepted g h w (fit g h w) refl (chart-fit g h w (done-fits k e))

@@ -1,22 +1,24 @@
 // The writer: the derivation of a chart's goal, as the text of a derivation file.
 ghost use mathlib.Core.Path.{_≡_};
+ghost use mathlib.Core.Bool.{true};
 ghost use mathlib.Core.List.{[], _∷_, _++_};
 ghost use Prim.Native.Nat.{_≤_};
 ghost use lib.ListN.{length, drop};
 ghost use Rattle.hrg.specs.Trees.{padded};
 ghost use Rattle.hrg.specs.Items.{goal};
-ghost use Rattle.agenda.specs.Records.{recordOf};
+ghost use Rattle.agenda.specs.Records.{chartItem};
 ghost use Rattle.questions.specs.Abstract.{grammarOf, graphOf};
 ghost use Rattle.joins.specs.Joins.{Accepted};
 ghost use Rattle.records.specs.Words.{recordAt, chartOf};
+ghost use Rattle.validity.specs.Checking.{knownChart};
 ghost use Rattle.extraction.specs.Extraction.{treeAt};
 ghost use Rattle.extraction.specs.Listing.{listing};
 ghost use Rattle.extractor.specs.Lists.{ListedIn};
 ghost use Rattle.writing.specs.Writing.{writeSpelt, goalIn, writeGoal, writeOf};
 ghost use Rattle.writing.specs.Demand.{WriteChoices};
 ghost use Rattle.writer.specs.Delivering.{Leaves, delivered};
+use agenda::ChartItem;
 use agenda::Found;
-use agenda::Record;
 use charting::Outcome;
 use writing::Answer;
 
@@ -36,31 +38,28 @@ fn external_nodes(grammar: &[u64], graph: &[u64]) -> [u64; 8]
 }
 
 // The goal: the start symbol, all edges, the external nodes in order.
-fn goal_record(grammar: &[u64], graph: &[u64]) -> Record
+fn goal_item(grammar: &[u64], graph: &[u64]) -> ChartItem
     requires { ⌜ Accepted (now grammar) (now graph) ⌝ }
-    ensures { λ r. ⌜ r ≡ recordOf (goal (grammarOf (now (grammar .entry))) (graphOf (now (grammar .entry)) (now (graph .entry)))) 0 0 0 ⌝ }
+    ensures { λ r. ⌜ r ≡ chartItem (goal (grammarOf (now (grammar .entry))) (graphOf (now (grammar .entry)) (now (graph .entry)))) 0 ⌝ }
 {
     let nodes = external_nodes(grammar, graph);
-    Record {
+    ChartItem {
         kind: 1,
         of: layout::start_symbol(grammar),
         plan: 0,
         edges: masks::full(layout::graph_edges(graph)),
         count: 0,
-        handled: 0,
         nodes,
-        first: 0,
-        second: 0,
     }
 }
 
-// The place of the goal among the chart's items.
+// The place of the goal among the items of a chart that passed question 8: there a record is the image of its item, so that the words tell.
 fn find_goal(grammar: &[u64], graph: &[u64], chart: &[u64]) -> Found
-    requires { ⌜ Accepted (now grammar) (now graph) ⌝ }
+    requires { ⌜ Accepted (now grammar) (now graph) × (knownChart (grammarOf (now grammar)) (graphOf (now grammar) (now graph)) (now chart) ≡ true) ⌝ }
     ensures { λ r. ⌜ r ≡ goalIn (grammarOf (now (grammar .entry))) (graphOf (now (grammar .entry)) (now (graph .entry))) (chartOf (now (chart .entry)) .records) ⌝ }
 {
     let n = records::item_count(chart);
-    let goal = goal_record(grammar, graph);
+    let goal = goal_item(grammar, graph);
     records::find(chart, goal, n)
 }
 
@@ -211,7 +210,7 @@ fn write_item(grammar: &[u64], graph: &[u64], chart: &[u64], j: u64, out: &mut [
 
 // Questions 11 and 12.
 fn write_goal(grammar: &[u64], graph: &[u64], chart: &[u64], out: &mut [u8]) -> Answer
-    requires { ⌜ Accepted (now grammar) (now graph) ⌝ }
+    requires { ⌜ Accepted (now grammar) (now graph) × (knownChart (grammarOf (now grammar)) (graphOf (now grammar) (now graph)) (now chart) ≡ true) ⌝ }
     ensures { λ r. ⌜ Leaves (writeGoal (grammarOf (now (grammar .entry))) (graphOf (now (grammar .entry)) (now (graph .entry))) (λ k. recordAt (now (chart .entry)) k) (now (out .entry)) (goalIn (grammarOf (now (grammar .entry))) (graphOf (now (grammar .entry)) (now (graph .entry))) (chartOf (now (chart .entry)) .records))) r (now (out .exit)) ⌝ }
 {
     match find_goal(grammar, graph, chart) {

@@ -1,18 +1,19 @@
 -- The writer reads no count: charts that differ in counts alone get the same answer and the same bytes.
-use mathlib.Core.Path.{_≡_, refl, sym, ap, ap₂, _∙_, subst, fun-ext}
+use mathlib.Core.Path.{_≡_, refl, sym, ap, ap₂, _∙_, fun-ext}
 use mathlib.Core.Bool.{Bool, true, false, _&&_, cond}
 use mathlib.Core.List.{List, [], _∷_, _++_}
 use Prim.Native.Nat.{ℕ, zero, suc, _+_, _-_, _/_, _<_}
 use native.Mathlib.Omega.{arith}
-use lib.ListN.{length, getD, set, take, replicate}
+use lib.ListN.{length, getD, set, replicate}
 use lib.Dec.{eqb, leb}
 use Rattle.hrg.specs.Counts.{flag}
-use Rattle.hrg.specs.Grammars.{Kind, terminal, nonterminal, Edge, Graph, PlanNode, leaf, introduce, join, Grammar, kindOf, rightOf, planOf, planNode, edgeAt}
+use Rattle.hrg.specs.Grammars.{Kind, terminal, nonterminal, Graph, PlanNode, leaf, introduce, join, Grammar, kindOf, rightOf, planOf, planNode, edgeAt}
 use Rattle.hrg.specs.WellFormedTest.{every}
-use Rattle.hrg.specs.Items.{goal}
-use Rattle.agenda.specs.Records.{recordOf, sameRecord, isHandled}
+use Rattle.hrg.specs.Items.{Item, goal}
+use Rattle.hrg.specs.ClosureRun.{sameItem}
+use Rattle.agenda.specs.Records.{itemOf, isHandled}
 use Rattle.agenda.specs.Consequences.{recordIn}
-use Rattle.agenda.specs.Steps.{Chart, leastWaiting, lastSame, handledCount}
+use Rattle.agenda.specs.Steps.{leastWaiting, handledCount}
 use Rattle.agenda.specs.declared.Record.{Record}
 use Rattle.agenda.specs.declared.Found.{Found}
 use Rattle.agenda.specs.declared.Found.the-variants.{At, Nowhere}
@@ -23,12 +24,12 @@ use Rattle.records.specs.Words.{capacity, itemCount, recordAt, recordsAt, chart
 use Rattle.records.proofs.WordLaws.{length-records, record-in}
 use Rattle.validity.specs.Checking.{knownRecord, knownChart}
 use Rattle.validity.proofs.AnyNumber.{counted, count-free}
-use Rattle.charting.specs.Calls.{fit, fitChart, whenWaiting, answerOf, standingOf}
+use Rattle.charting.specs.Calls.{fitChart, whenWaiting, answerOf, standingOf}
 use Rattle.charting.specs.declared.Outcome.{Outcome}
 use Rattle.charting.specs.declared.Outcome.the-variants.{TooSmall}
 use Rattle.charting.proofs.Calls.{fit-same}
-use Rattle.extraction.specs.Extraction.{partnersVia, partnersWithin, ruleAt, partnersAt, nodesBy, partNodes, placedBy, placeAt, Spelt, SpeltParts, withPart, partsBy, applied, treeAt}
-use Rattle.writing.specs.Writing.{Wrote, writeSpelt, goalIn, writeGoal, writeBy, writeOf}
+use Rattle.extraction.specs.Extraction.{partnersVia, partnersWithin, ruleAt, partnersAt, nodesBy, partNodes, placedBy, placeAt, Spelt, partsBy, applied, treeAt}
+use Rattle.writing.specs.Writing.{Wrote, writeSpelt, lastOf, goalIn, writeGoal, writeBy, writeOf}
 
 -- a record without its count
 abbrev pub uncounted : Record → Record
@@ -97,10 +98,11 @@ waiting-same k rs ss n same = go (leastWaiting rs n) (chosen rs n) (leastWaiting
     go Nowhere (nothing all) (At j) (waits l w m) = absurd (apart (sym (all j l) ∙ same j l ∙ w))
     go (At i) (waits l w m) Nowhere (nothing every) = absurd (apart (sym (every i l) ∙ sym (same i l) ∙ w))
 
-last-same : (x : Record) (rs ss : List Record) (n : ℕ) → ((j : ℕ) → j < n → sameRecord x (recordIn rs j) ≡ sameRecord x (recordIn ss j)) → lastSame x rs n ≡ lastSame x ss n
-unfolding lastSame
-last-same x rs ss zero same = refl
-last-same x rs ss (suc n) same = rw (same n (omega arith), last-same x rs ss n (λ j l. same j (omega arith))) refl
+last-same : (G : Grammar) (i : Item) (rs ss : List Record) (n : ℕ)
+    → ((j : ℕ) → j < n → sameItem (itemOf G (recordIn rs j .item)) i ≡ sameItem (itemOf G (recordIn ss j .item)) i) → lastOf G i rs n ≡ lastOf G i ss n
+unfolding lastOf
+last-same G i rs ss zero same = refl
+last-same G i rs ss (suc n) same = rw (same n (omega arith), last-same G i rs ss n (λ j l. same j (omega arith))) refl
 
 -- ---- charts that differ in counts alone
 pub record SameButCounts (w v : List ℕ) : Type 0 where
@@ -157,11 +159,13 @@ module _ (w v : List ℕ) (s : SameButCounts w v) where
     same-standing = rw (fit-same g h w v same-capacity, same-known, same-answer) refl
 
     same-goal : goalIn (grammarOf g) (graphOf g h) (chartOf w .records) ≡ goalIn (grammarOf g) (graphOf g h) (chartOf v .records)
-    unfolding goalIn chartOf sameRecord
+    unfolding goalIn chartOf itemOf
     same-goal =
         let n = itemCount v in
-        let x = recordOf (goal (grammarOf g) (graphOf g h)) 0 0 0 in
-        rw (same-count, length-records w n, length-records v n) (last-same x (recordsAt w n) (recordsAt v n) n (by-place (λ y. sameRecord x y) (λ y. refl) n))
+        let G = grammarOf g in
+        let i = goal G (graphOf g h) in
+        rw (same-count, length-records w n, length-records v n)
+        (last-same G i (recordsAt w n) (recordsAt v n) n (by-place (λ y. sameItem (itemOf G (y .item)) i) (λ y. refl) n))
 
     same-tree : (j : ℕ) → treeAt (λ k. recordAt w k) (grammarOf g) (graphOf g h) 4096 j ≡ treeAt (λ k. recordAt v k) (grammarOf g) (graphOf g h) 4096 j
     same-tree j =

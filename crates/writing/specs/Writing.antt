@@ -1,15 +1,15 @@
 -- What the writer answers and leaves in the lent output, for every input (01, questions 8 to 12 and 'Besides 8 ..'). The chart is lent to be read only.
-use mathlib.Core.Path.{_≡_}
 use mathlib.Core.Bool.{Bool, cond, _&&_}
 use mathlib.Core.List.{List, _++_}
-use Prim.Native.Nat.{ℕ}
+use Prim.Native.Nat.{ℕ, zero, suc}
 use lib.ListN.{length, drop}
 use lib.Dec.{leb}
 use Rattle.hrg.specs.Grammars.{Graph, Grammar}
 use Rattle.hrg.specs.Trees.{Tree}
-use Rattle.hrg.specs.Items.{goal}
-use Rattle.agenda.specs.Records.{recordOf}
-use Rattle.agenda.specs.Steps.{lastSame}
+use Rattle.hrg.specs.Items.{Item, goal}
+use Rattle.hrg.specs.ClosureRun.{sameItem}
+use Rattle.agenda.specs.Records.{itemOf}
+use Rattle.agenda.specs.Consequences.{recordIn}
 use Rattle.agenda.specs.declared.Record.{Record}
 use Rattle.agenda.specs.declared.Found.{Found}
 use Rattle.agenda.specs.declared.Found.the-variants.{At, Nowhere}
@@ -57,10 +57,16 @@ abbrev pub writeSpelt : Grammar → Graph → List ℕ → Spelt → Wrote
 writeSpelt G H out nothing = refused Unfit out
 writeSpelt G H out (spelt t) = cond (derives G H t) (writeText (derivationText t) out) (refused Unfit out)
 
--- the goal among the records: the last one
+-- the last of the first n records that is of item i
+unfoldable pub lastOf : Grammar → Item → List Record → ℕ → Found
+unfolding sameItem itemOf
+lastOf G i rs zero = Nowhere
+lastOf G i rs (suc n) = cond (sameItem (itemOf G (recordIn rs n .item)) i) (At n) (lastOf G i rs n)
+
+-- the goal among the records, as an item: the last one
 unfoldable pub goalIn : Grammar → Graph → List Record → Found
-unfolding lastSame
-goalIn G H rs = lastSame (recordOf (goal G H) 0 0 0) rs (length rs)
+unfolding lastOf
+goalIn G H rs = lastOf G (goal G H) rs (length rs)
 
 -- 'Is the goal in the closure?', by what stands in the chart; then the derivation that the goal's partners spell, whatever the output's length
 abbrev pub writeGoal : Grammar → Graph → (ℕ → Record) → List ℕ → Found → Wrote

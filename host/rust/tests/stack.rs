@@ -98,12 +98,13 @@ fn owned_charts_need_little_stack() {
     });
 }
 
-/// A chart of 4,096 items that spells the deepest derivation a chart can: leaves, rule 0 on the graph's edge, and above it
-/// each passive item by rule 1 for the one below it.
+/// A chart of 4,096 items that spells the deepest derivation a chart can: leaves (which have no nodes), rule 0 on the graph's
+/// edge, and above it each passive item by rule 1 for the one below it.
 fn deepest_chart() -> Vec<u64> {
     let mut words = vec![4096, 0];
     let mut put = |kind: u64, of: u64, plan: u64, first: u64, second: u64| {
-        words.extend([kind, of, plan, 1, 1, 1, 0, 1, 64, 64, 64, 64, 64, 64, first, second]);
+        let (a, b) = if (kind, plan) == (0, 0) { (64, 64) } else { (0, 1) };
+        words.extend([kind, of, plan, 1, 1, 1, a, b, 64, 64, 64, 64, 64, 64, first, second]);
     };
     put(0, 0, 0, 0, 0);
     put(0, 1, 0, 0, 0);

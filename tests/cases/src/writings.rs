@@ -125,11 +125,12 @@ impl Chart {
         chart
     }
 
-    /// A handled record: kind, rule or symbol, plan node, and its partners; its edges and nodes are the graph's.
+    /// A handled record: kind, rule or symbol, plan node, and its partners; its edges and nodes are the graph's, but a leaf has no nodes.
     fn set(&mut self, j: usize, [kind, of, plan]: [u64; 3], first: usize, second: usize) {
         // The last places are outside the chart: a level that is not whole.
         if j < 4096 {
-            let words = [kind, of, plan, 1, 1, 1, 0, 1, 64, 64, 64, 64, 64, 64, first as u64, second as u64];
+            let (a, b) = if kind == 0 && plan == 0 { (64, 64) } else { (0, 1) };
+            let words = [kind, of, plan, 1, 1, 1, a, b, 64, 64, 64, 64, 64, 64, first as u64, second as u64];
             self.0[2 + 16 * j..18 + 16 * j].copy_from_slice(&words);
         }
     }

@@ -1,40 +1,28 @@
--- A law for each answer.
-use Prim.Native.Nat.{_-_}
 use mathlib.Core.Path.{refl}
 use borrow.Author.Needs.{needs}
+use mathlib.Core.Path.{refl}
 use borrow.Author.Tests.{not-true, not-false}
 use Rattle.chart.proofs.CallSteps.{fit-accepted, fit-known, fit-small, run-refuses, run-unknown, run-ran}
 use Rattle.chart.proofs.run.Statement.{statement}
 use Rattle.chart.proofs.run.Tie as tie
 
-is-fit-requires : tie.Need-is-fit-requires
-is-fit-requires c κs = search needs
-
-same-length : tie.Need-same-length
-same-length c = refl
-
 returns : tie.Need-returns
-returns c =
-    let s = c .before .before .before .before .before .before .args in
+returns c = let s = c .before .before .before .before .before .before .args in
     run-refuses (s .grammar .now) (s .graph .now) (s .chart .now) (s .steps) _ (c .before .is-fit .ensures) (not-true _ (c .if1 .taken))
 
-known-requires : tie.Need-known-requires
-known-requires c κs =
-    let s = c .before .before .before .before .before .before .before .args in
-    fit-accepted (s .grammar .now) (s .graph .now) (s .chart .now) _ (c .before .before .is-fit .ensures) (not-false _ (c .before .if1 .left))
+fill-requires : tie.Need-fill-requires
+fill-requires c κs = ((fit-accepted (c .before .before .before .before .before .before .before .args .grammar .now) (c .before .before .before .before .before .before .before .args .graph .now) (c .before .before .before .before .before .before .before .args .chart .now) _ (c .before .before .is-fit .ensures) (not-false _ (c .before .if1 .left))) .grammar, refl)
 
-same-length-2 : tie.Need-same-length-2
-same-length-2 c = refl
+known-requires : tie.Need-known-requires
+known-requires c κs = (fit-accepted (c .before .before .before .before .before .before .before .before .before .before .before .args .grammar .now) (c .before .before .before .before .before .before .before .before .before .before .before .args .graph .now) (c .before .before .before .before .before .before .before .before .before .before .before .args .chart .now) _ (c .before .before .before .before .before .before .is-fit .ensures) (not-false _ (c .before .before .before .before .before .if1 .left)), c .before .before .before .fill .ensures)
 
 returns-2 : tie.Need-returns-2
-returns-2 c =
-    let s = c .before .before .before .before .before .before .before .before .before .before .args in
-    run-unknown (s .grammar .now) (s .graph .now) (s .chart .now) (s .steps) _ (c .before .before .before .before .before .is-fit .ensures) (not-false _ (c .before .before .before .before .if1 .left)) _ (c .before .before .known .ensures .0) (not-true _ (c .if2 .taken))
+returns-2 c = let s = c .before .before .before .before .before .before .before .before .before .before .before .before .before .before .args in
+    run-unknown (s .grammar .now) (s .graph .now) (s .chart .now) (s .steps) _ (c .before .before .before .before .before .before .before .before .before .is-fit .ensures) (not-false _ (c .before .before .before .before .before .before .before .before .if1 .left)) _ (c .before .before .known .ensures .0) (not-true _ (c .if2 .taken))
 
 advance-requires : tie.Need-advance-requires
-advance-requires c κs =
-    let s = c .before .before .before .before .before .before .before .before .before .before .before .args in
-    (fit-accepted (s .grammar .now) (s .graph .now) (s .chart .now) _ (c .before .before .before .before .before .before .is-fit .ensures) (not-false _ (c .before .before .before .before .before .if1 .left)), fit-known (s .grammar .now) (s .graph .now) (s .chart .now) _ (c .before .before .before .before .before .before .is-fit .ensures) (not-false _ (c .before .before .before .before .before .if1 .left)) _ (c .before .before .before .known .ensures .0) (not-false _ (c .before .if2 .left)), fit-small (s .grammar .now) (s .graph .now) (s .chart .now) _ (c .before .before .before .before .before .before .is-fit .ensures) (not-false _ (c .before .before .before .before .before .if1 .left)))
+advance-requires c κs = let s = c .before .before .before .before .before .before .before .before .before .before .before .before .before .before .before .args in
+    (fit-accepted (s .grammar .now) (s .graph .now) (s .chart .now) _ (c .before .before .before .before .before .before .before .before .before .before .is-fit .ensures) (not-false _ (c .before .before .before .before .before .before .before .before .before .if1 .left)), fit-known (s .grammar .now) (s .graph .now) (s .chart .now) _ (c .before .before .before .before .before .before .before .before .before .before .is-fit .ensures) (not-false _ (c .before .before .before .before .before .before .before .before .before .if1 .left)) _ (c .before .before .before .known .ensures .0) (not-false _ (c .before .if2 .left)), fit-small (s .grammar .now) (s .graph .now) (s .chart .now) _ (c .before .before .before .before .before .before .before .before .before .before .is-fit .ensures) (not-false _ (c .before .before .before .before .before .before .before .before .before .if1 .left)))
 
 outcome-after-requires : tie.Need-outcome-after-requires
 outcome-after-requires c κs = c .before .before .before .advance .ensures .1
@@ -43,21 +31,8 @@ same-length-3 : tie.Need-same-length-3
 same-length-3 c = c .before .before .before .before .advance .kept .1 .1 .0
 
 returns-3 : tie.Need-returns-3
-returns-3 c =
-    let s = c .before .before .before .before .before .before .before .before .before .before .before .before .before .before .before .before .args in
-    run-ran (s .grammar .now) (s .graph .now) (s .chart .now) (s .steps) _ (c .before .before .before .before .before .before .before .before .before .before .before .is-fit .ensures) (not-false _ (c .before .before .before .before .before .before .before .before .before .before .if1 .left)) _ (c .before .before .before .before .before .before .before .before .known .ensures .0) _ _ (not-false _ (c .before .before .before .before .before .before .if2 .left)) (c .before .before .before .before .advance .ensures .0) (c .outcome-after .ensures)
+returns-3 c = let s = c .before .before .before .before .before .before .before .before .before .before .before .before .before .before .before .before .before .before .before .before .args in
+    run-ran (s .grammar .now) (s .graph .now) (s .chart .now) (s .steps) _ (c .before .before .before .before .before .before .before .before .before .before .before .before .before .before .before .is-fit .ensures) (not-false _ (c .before .before .before .before .before .before .before .before .before .before .before .before .before .before .if1 .left)) _ (c .before .before .before .before .before .before .before .before .known .ensures .0) _ _ (not-false _ (c .before .before .before .before .before .before .if2 .left)) (c .before .before .before .before .advance .ensures .0) (c .outcome-after .ensures)
 
 pub run-spec : {M : Type 1} → statement M
-run-spec =
-    tie.close
-    (tie.spec
-    is-fit-requires
-    same-length
-    returns
-    known-requires
-    same-length-2
-    returns-2
-    advance-requires
-    outcome-after-requires
-    same-length-3
-    returns-3)
+run-spec = tie.close (tie.spec (λ c κs. search needs) (λ c. refl) returns (λ c. search needs) fill-requires known-requires (λ c. refl) returns-2 advance-requires outcome-after-requires same-length-3 returns-3)

@@ -1,128 +1,82 @@
 -- A line that passed the test has small numbers, so no sum wraps.
+use mathlib.Core.Path.{refl}
 use native.Mathlib.Omega.{arith}
 use borrow.Author.Tests.{not-true, not-false}
 use borrow.Author.Needs.{needs}
 use Rattle.questions.specs.Layout.{placeOf}
-use Rattle.layout.proofs.Fields.{known, chosen, passed}
+use Rattle.layout.proofs.Fields.{known, passed, placed}
 use Rattle.layout.proofs.place_of.Statement.{statement}
 use Rattle.layout.proofs.place_of.Tie as tie
-
-in-table-requires : tie.Need-in-table-requires
-in-table-requires c κs = search needs
 
 returns : tie.Need-returns
 returns c = (passed _ _ placeOf 0 (c .before .in-table .ensures) (not-true _ (c .if1 .taken)), omega arith)
 
-enum-told : tie.Need-enum-told
-enum-told c = search needs
+symbol-place-requires : tie.Need-symbol-place-requires
+symbol-place-requires c κs = let inside = known _ _ _ (c .before .before .before .before .in-table .ensures) (not-false _ (c .before .before .before .if1 .left)) (c .before .due .given .1) in omega (arith, inside)
 
-enum-known-due : tie.Need-enum-known-due
-enum-known-due c = search needs
+rule-place-requires : tie.Need-rule-place-requires
+rule-place-requires c κs = let inside = known _ _ _ (c .before .before .before .before .in-table .ensures) (not-false _ (c .before .before .before .if1 .left)) (c .before .due2 .given .1) in omega (arith, inside)
 
-add-result : tie.Need-add-result
-add-result c = let h = known _ _ _ (c .before .before .before .before .in-table .ensures) (not-false _ (c .before .before .before .if1 .left)) (c .before .due .given .1) in omega arith
+edge-place-requires : tie.Need-edge-place-requires
+edge-place-requires c κs = let inside = known _ _ _ (c .before .before .before .before .in-table .ensures) (not-false _ (c .before .before .before .if1 .left)) (c .before .due3 .given .1) in omega (arith, inside)
 
-enum-known-due-2 : tie.Need-enum-known-due-2
-enum-known-due-2 c = search needs
+plan-place-requires : tie.Need-plan-place-requires
+plan-place-requires c κs = let inside = known _ _ _ (c .before .before .before .before .in-table .ensures) (not-false _ (c .before .before .before .if1 .left)) (c .before .due4 .given .1) in omega (arith, inside)
 
-mul-result : tie.Need-mul-result
-mul-result c = let h = known _ _ _ (c .before .before .before .before .in-table .ensures) (not-false _ (c .before .before .before .if1 .left)) (c .before .due2 .given .1) in omega arith
-
-add-result-2 : tie.Need-add-result-2
-add-result-2 c = let h = known _ _ _ (c .before .before .before .before .in-table .ensures) (not-false _ (c .before .before .before .if1 .left)) (c .before .due2 .given .1) in omega arith
-
-enum-known-due-3 : tie.Need-enum-known-due-3
-enum-known-due-3 c = search needs
-
-mul-result-2 : tie.Need-mul-result-2
-mul-result-2 c = let h = known _ _ _ (c .before .before .before .before .in-table .ensures) (not-false _ (c .before .before .before .if1 .left)) (c .before .due3 .given .1) in omega arith
-
-add-result-3 : tie.Need-add-result-3
-add-result-3 c = let h = known _ _ _ (c .before .before .before .before .in-table .ensures) (not-false _ (c .before .before .before .if1 .left)) (c .before .due3 .given .1) in omega arith
-
-add-result-4 : tie.Need-add-result-4
-add-result-4 c = let h = known _ _ _ (c .before .before .before .before .in-table .ensures) (not-false _ (c .before .before .before .if1 .left)) (c .before .due3 .given .1) in omega arith
-
-enum-known-due-4 : tie.Need-enum-known-due-4
-enum-known-due-4 c = search needs
-
-mul-result-3 : tie.Need-mul-result-3
-mul-result-3 c = let h = known _ _ _ (c .before .before .before .before .in-table .ensures) (not-false _ (c .before .before .before .if1 .left)) (c .before .due4 .given .1) in omega arith
-
-add-result-5 : tie.Need-add-result-5
-add-result-5 c = let h = known _ _ _ (c .before .before .before .before .in-table .ensures) (not-false _ (c .before .before .before .if1 .left)) (c .before .due4 .given .1) in omega arith
-
-add-result-6 : tie.Need-add-result-6
-add-result-6 c = let h = known _ _ _ (c .before .before .before .before .in-table .ensures) (not-false _ (c .before .before .before .if1 .left)) (c .before .due4 .given .1) in omega arith
-
-enum-told-2 : tie.Need-enum-told-2
-enum-told-2 c = search needs
-
-enum-known-due-5 : tie.Need-enum-known-due-5
-enum-known-due-5 c = search needs
-
-add-result-7 : tie.Need-add-result-7
-add-result-7 c = let h = known _ _ _ (c .before .before .before .before .in-table .ensures) (not-false _ (c .before .before .before .if1 .left)) (c .before .due5 .given .1) in omega arith
-
-enum-told-3 : tie.Need-enum-told-3
-enum-told-3 c = search needs
+graph-edge-place-requires : tie.Need-graph-edge-place-requires
+graph-edge-place-requires c κs = let inside = known _ _ _ (c .before .before .before .before .in-table .ensures) (not-false _ (c .before .before .before .if1 .left)) (c .before .due5 .given .1) in omega (arith, inside)
 
 returns-2 : tie.Need-returns-2
 unfolding placeOf
-returns-2 c = let h = known _ _ _ (c .before .before .before .in-table .ensures) (not-false _ (c .before .before .if1 .left)) (c .enum-told .given .1) in (chosen _ _ _ placeOf 0 (c .before .before .before .in-table .ensures) (not-false _ (c .before .before .if1 .left)) (c .enum-told .given .1), omega arith)
+returns-2 c = placed _ _ _ _ (c .before .before .before .in-table .ensures) (not-false _ (c .before .before .if1 .left)) (c .enum-told .given .1) refl
 
 returns-3 : tie.Need-returns-3
 unfolding placeOf
-returns-3 c = let h = known _ _ _ (c .before .before .before .before .in-table .ensures) (not-false _ (c .before .before .before .if1 .left)) (c .before .due .given .1) in (chosen _ _ _ placeOf 0 (c .before .before .before .before .in-table .ensures) (not-false _ (c .before .before .before .if1 .left)) (c .before .due .given .1), omega arith)
+returns-3 c = placed _ _ _ _ (c .before .before .before .before .before .in-table .ensures) (not-false _ (c .before .before .before .before .if1 .left)) (c .before .before .due .given .1) (c .symbol-place .ensures)
 
 returns-4 : tie.Need-returns-4
 unfolding placeOf
-returns-4 c = let h = known _ _ _ (c .before .before .before .before .in-table .ensures) (not-false _ (c .before .before .before .if1 .left)) (c .before .due2 .given .1) in (chosen _ _ _ placeOf 0 (c .before .before .before .before .in-table .ensures) (not-false _ (c .before .before .before .if1 .left)) (c .before .due2 .given .1), omega arith)
+returns-4 c = placed _ _ _ _ (c .before .before .before .before .before .in-table .ensures) (not-false _ (c .before .before .before .before .if1 .left)) (c .before .before .due2 .given .1) (c .rule-place .ensures)
 
 returns-5 : tie.Need-returns-5
 unfolding placeOf
-returns-5 c = let h = known _ _ _ (c .before .before .before .before .in-table .ensures) (not-false _ (c .before .before .before .if1 .left)) (c .before .due3 .given .1) in (chosen _ _ _ placeOf 0 (c .before .before .before .before .in-table .ensures) (not-false _ (c .before .before .before .if1 .left)) (c .before .due3 .given .1), omega arith)
+returns-5 c = placed _ _ _ _ (c .before .before .before .before .before .in-table .ensures) (not-false _ (c .before .before .before .before .if1 .left)) (c .before .before .due3 .given .1) (c .edge-place .ensures)
 
 returns-6 : tie.Need-returns-6
 unfolding placeOf
-returns-6 c = let h = known _ _ _ (c .before .before .before .before .in-table .ensures) (not-false _ (c .before .before .before .if1 .left)) (c .before .due4 .given .1) in (chosen _ _ _ placeOf 0 (c .before .before .before .before .in-table .ensures) (not-false _ (c .before .before .before .if1 .left)) (c .before .due4 .given .1), omega arith)
+returns-6 c = placed _ _ _ _ (c .before .before .before .before .before .in-table .ensures) (not-false _ (c .before .before .before .before .if1 .left)) (c .before .before .due4 .given .1) (c .plan-place .ensures)
 
 returns-7 : tie.Need-returns-7
 unfolding placeOf
-returns-7 c = let h = known _ _ _ (c .before .before .before .in-table .ensures) (not-false _ (c .before .before .if1 .left)) (c .enum-told2 .given .1) in (chosen _ _ _ placeOf 0 (c .before .before .before .in-table .ensures) (not-false _ (c .before .before .if1 .left)) (c .enum-told2 .given .1), omega arith)
+returns-7 c = placed _ _ _ _ (c .before .before .before .in-table .ensures) (not-false _ (c .before .before .if1 .left)) (c .enum-told2 .given .1) refl
 
 returns-8 : tie.Need-returns-8
 unfolding placeOf
-returns-8 c = let h = known _ _ _ (c .before .before .before .before .in-table .ensures) (not-false _ (c .before .before .before .if1 .left)) (c .before .due5 .given .1) in (chosen _ _ _ placeOf 0 (c .before .before .before .before .in-table .ensures) (not-false _ (c .before .before .before .if1 .left)) (c .before .due5 .given .1), omega arith)
+returns-8 c = placed _ _ _ _ (c .before .before .before .before .before .in-table .ensures) (not-false _ (c .before .before .before .before .if1 .left)) (c .before .before .due5 .given .1) (c .graph-edge-place .ensures)
 
 returns-9 : tie.Need-returns-9
 unfolding placeOf
-returns-9 c = let h = known _ _ _ (c .before .before .before .in-table .ensures) (not-false _ (c .before .before .if1 .left)) (c .enum-told3 .given .1) in (chosen _ _ _ placeOf 0 (c .before .before .before .in-table .ensures) (not-false _ (c .before .before .if1 .left)) (c .enum-told3 .given .1), omega arith)
+returns-9 c = placed _ _ _ _ (c .before .before .before .in-table .ensures) (not-false _ (c .before .before .if1 .left)) (c .enum-told3 .given .1) refl
 
 pub place-of-spec : {M : Type 1} → statement M
 place-of-spec =
     tie.close
     (tie.spec
-    in-table-requires
+    (λ c κs. search needs)
     returns
-    enum-told
-    enum-known-due
-    add-result
-    enum-known-due-2
-    mul-result
-    add-result-2
-    enum-known-due-3
-    mul-result-2
-    add-result-3
-    add-result-4
-    enum-known-due-4
-    mul-result-3
-    add-result-5
-    add-result-6
-    enum-told-2
-    enum-known-due-5
-    add-result-7
-    enum-told-3
+    (λ c. search needs)
+    (λ c. search needs)
+    symbol-place-requires
+    (λ c. search needs)
+    rule-place-requires
+    (λ c. search needs)
+    edge-place-requires
+    (λ c. search needs)
+    plan-place-requires
+    (λ c. search needs)
+    (λ c. search needs)
+    graph-edge-place-requires
+    (λ c. search needs)
     returns-2
     returns-3
     returns-4

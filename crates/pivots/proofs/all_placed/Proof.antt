@@ -1,30 +1,22 @@
--- The same tests.
-use native.Mathlib.Omega.{arith}
+-- The same tests, of eight places.
+use mathlib.Core.Path.{_≡_}
+use lib.ListN.{length}
+use borrow.Author.Needs.{needs}
 use Rattle.pivots.proofs.Answers.{all-placed}
 use Rattle.pivots.proofs.all_placed.Statement.{statement}
 use Rattle.pivots.proofs.all_placed.Tie as tie
 
-shared-slice-read-result : tie.Need-shared-slice-read-result
-shared-slice-read-result c = omega (arith, c .before .pre)
-
-shared-slice-read-result-2 : tie.Need-shared-slice-read-result-2
-shared-slice-read-result-2 c = omega (arith, c .before .before .pre)
-
-shared-slice-read-result-3 : tie.Need-shared-slice-read-result-3
-shared-slice-read-result-3 c = omega (arith, c .before .before .before .pre)
-
-shared-slice-read-result-4 : tie.Need-shared-slice-read-result-4
-shared-slice-read-result-4 c = omega (arith, c .before .before .before .before .pre)
-
 returns : tie.Need-returns
-returns c = all-placed _ _
+returns c =
+    let size : length (c .before .args .x .nodes) ≡ 8 = search needs in
+    all-placed _ _ size
 
 pub all-placed-spec : {M : Type 1} → statement M
 all-placed-spec =
     tie.close
     (tie.spec
-    shared-slice-read-result
-    shared-slice-read-result-2
-    shared-slice-read-result-3
-    shared-slice-read-result-4
+    (λ c. search needs)
+    (λ c. search needs)
+    (λ c. search needs)
+    (λ c. search needs)
     returns)

@@ -1,6 +1,7 @@
 -- A law for each test.
 use native.Mathlib.Omega.{arith}
-use Prim.Native.Nat.{_-_}
+use mathlib.Core.Path.{_≡_}
+use lib.ListN.{length}
 use borrow.Author.Needs.{needs}
 use Rattle.pivots.proofs.Answers.{image-no, image-read}
 use Rattle.pivots.proofs.image.Statement.{statement}
@@ -9,24 +10,16 @@ use Rattle.pivots.proofs.image.Tie as tie
 returns : tie.Need-returns
 returns c = image-no _ _ (c .if1 .taken)
 
-add-result : tie.Need-add-result
-add-result c = search needs
-
-mul-result : tie.Need-mul-result
-mul-result c = search needs
-
-shared-slice-read-result : tie.Need-shared-slice-read-result
-shared-slice-read-result c = omega (arith, c .before .before .pre, c .before .if1 .left)
-
 returns-2 : tie.Need-returns-2
-returns-2 c = image-read _ _ (omega (arith, c .before .if1 .left))
+returns-2 c =
+    let size : length (c .before .before .args .x .nodes) ≡ 8 = search needs in
+    image-read _ _ (omega (arith, c .before .if1 .left)) size
 
 pub image-spec : {M : Type 1} → statement M
 image-spec =
     tie.close
     (tie.spec
     returns
-    add-result
-    mul-result
-    shared-slice-read-result
+    (λ c. search needs)
+    (λ c. search needs)
     returns-2)

@@ -1,80 +1,56 @@
--- By the word of the record; where it has none, place by place.
-use Prim.Native.Nat.{_-_}
-use mathlib.Core.Path.{refl}
-use borrow.Author.Needs.{needs}
+-- By the word of the item; where it has none, place by place.
+use Prim.Native.Nat.{ℕ}
+use mathlib.Core.Path.{_≡_, refl}
+use lib.ListN.{length}
+use borrow.Author.Needs.{needs, length-unmapped}
 use Rattle.pivots.proofs.Answers.{by-word, by-none, by-five, query-is}
 use Rattle.pivots.proofs.query.Statement.{statement}
 use Rattle.pivots.proofs.query.Tie as tie
 
-word-for-requires : tie.Need-word-for-requires
-word-for-requires c κs = search needs
-
-image-requires : tie.Need-image-requires
-image-requires c κs = search needs
-
-mix-requires : tie.Need-mix-requires
-mix-requires c κs = search needs
-
 returns : tie.Need-returns
-returns c = query-is _ _ _ _ refl _ (c .before .before .before .word-for .ensures .0) (by-word _ _ _ _ _ _ (c .before .before .if1 .taken) (c .before .image .ensures) (c .mix .ensures))
-
-uses-of-requires : tie.Need-uses-of-requires
-uses-of-requires c κs = search needs
+returns c =
+    let test = c .before .before in
+    let word = test .before .word-for .ensures .0 in
+    query-is _ _ _ _ refl _ word (by-word _ _ _ _ _ _ _ (test .if1 .taken) (c .before .image .ensures) (c .mix .ensures))
 
 returns-2 : tie.Need-returns-2
-returns-2 c = query-is _ _ _ _ (c .before .uses-of .ensures) _ (c .before .before .before .before .word-for .ensures .0) (by-none (c .before .before .before .before .before .before .before .args .x .now) _ _ _ (c .before .before .before .if1 .left) (c .if2 .taken))
-
-shared-slice-read-s : tie.Need-shared-slice-read-s
-shared-slice-read-s c = search needs
-
-shared-slice-read-place-key : tie.Need-shared-slice-read-place-key
-shared-slice-read-place-key c = search needs
-
-place-key-requires : tie.Need-place-key-requires
-place-key-requires c κs = search needs
-
-shared-slice-read-place-key-2 : tie.Need-shared-slice-read-place-key-2
-shared-slice-read-place-key-2 c = search needs
-
-place-key-requires-2 : tie.Need-place-key-requires-2
-place-key-requires-2 c κs = search needs
-
-shared-slice-read-place-key-3 : tie.Need-shared-slice-read-place-key-3
-shared-slice-read-place-key-3 c = search needs
-
-place-key-requires-3 : tie.Need-place-key-requires-3
-place-key-requires-3 c κs = search needs
-
-shared-slice-read-place-key-4 : tie.Need-shared-slice-read-place-key-4
-shared-slice-read-place-key-4 c = search needs
-
-place-key-requires-4 : tie.Need-place-key-requires-4
-place-key-requires-4 c κs = search needs
-
-place-key-requires-5 : tie.Need-place-key-requires-5
-place-key-requires-5 c κs = search needs
+returns-2 c =
+    let test = c .before .before .before in
+    let word = test .before .word-for .ensures .0 in
+    query-is _ _ _ _ (c .before .uses-of .ensures) _ word (by-none _ _ _ _ _ (test .if1 .left) (c .if2 .taken))
 
 returns-3 : tie.Need-returns-3
-returns-3 c = query-is _ _ _ _ (c .before .before .before .before .before .before .before .before .before .before .before .uses-of .ensures) _ (c .before .before .before .before .before .before .before .before .before .before .before .before .before .before .word-for .ensures .0) (by-five (c .before .before .before .before .before .before .before .before .before .before .before .before .before .before .before .before .before .args .x .now) _ _ _ (c .before .before .before .before .before .before .before .before .before .before .before .before .before .if1 .left) _ _ _ _ _ (c .before .before .before .before .before .before .before .place-key .ensures) (c .before .before .before .before .before .place-key2 .ensures) (c .before .before .before .place-key3 .ensures) (c .before .place-key4 .ensures) (c .place-key5 .ensures))
+returns-3 c =
+    let four = c .before in
+    let three = four .before in
+    let two = three .before in
+    let one = two .before in
+    let counted = one .before .before .before in
+    let test = counted .before .before in
+    let word = test .before .word-for .ensures .0 in
+    let start = test .before .before .before in
+    let nodes = start .args .x .nodes in
+    let size : length nodes ≡ 8 = length-unmapped ℕ nodes 8 (start .good .1 .0 .1 .1 .1 .1 .1 .1 .1 .0 .1 .0 .1) in
+    query-is _ _ _ _ (counted .uses-of .ensures) _ word
+    (by-five _ _ _ _ _ (test .if1 .left) size _ _ _ _ _ (one .place-key .ensures) (two .place-key2 .ensures) (three .place-key3 .ensures) (four .place-key4 .ensures) (c .place-key5 .ensures))
 
 pub query-spec : {M : Type 1} → statement M
 query-spec =
     tie.close
     (tie.spec
-    word-for-requires
-    image-requires
-    mix-requires
+    (λ c κs. search needs)
+    (λ c κs. search needs)
+    (λ c κs. search needs)
     returns
-    uses-of-requires
+    (λ c κs. search needs)
     returns-2
-    shared-slice-read-s
-    shared-slice-read-place-key
-    place-key-requires
-    shared-slice-read-place-key-2
-    place-key-requires-2
-    shared-slice-read-place-key-3
-    place-key-requires-3
-    shared-slice-read-place-key-4
-    place-key-requires-4
-    place-key-requires-5
+    (λ c. search needs)
+    (λ c κs. search needs)
+    (λ c. search needs)
+    (λ c κs. search needs)
+    (λ c. search needs)
+    (λ c κs. search needs)
+    (λ c. search needs)
+    (λ c κs. search needs)
+    (λ c κs. search needs)
     returns-3)

@@ -1,8 +1,8 @@
 -- A law for each test.
 use native.Mathlib.Omega.{arith}
-use Prim.Native.Nat.{_+_, _-_, _*_}
+use Prim.Native.Nat.{_+_}
 use borrow.Author.Needs.{needs}
-use Rattle.pivots.proofs.TableLaws.{rule-far, rule-past, rule-there}
+use Rattle.pivots.proofs.TableLaws.{rule-far, rule-past, rule-read}
 use Rattle.pivots.proofs.rule_word.Statement.{statement}
 use Rattle.pivots.proofs.rule_word.Tie as tie
 
@@ -12,26 +12,17 @@ returns c = (rule-far _ _ _ _ (c .if1 .taken), omega arith)
 returns-2 : tie.Need-returns-2
 returns-2 c = (rule-past _ _ _ _ (omega (arith, c .before .if1 .left)) (c .if2 .taken), omega arith)
 
-mul-result : tie.Need-mul-result
-mul-result c = search needs
-
-add-result : tie.Need-add-result
-add-result c = search needs
-
-add-result-2 : tie.Need-add-result-2
-add-result-2 c = search needs
-
-mul-result-2 : tie.Need-mul-result-2
-mul-result-2 c = search needs
-
-shared-slice-read-result : tie.Need-shared-slice-read-result
-shared-slice-read-result c = search needs
-
 cast-result : tie.Need-cast-result
-cast-result c = omega (arith, c .shared-slice-known .given (c .before .before .before .args .from + 16 * c .before .before .before .args .r + c .before .before .before .args .p))
+cast-result c =
+    let args = c .before .before .before .before .before .args in
+    omega (arith, c .shared-slice-known2 .given (args .from + c .before .place .result))
 
 returns-3 : tie.Need-returns-3
-returns-3 c = (rule-there _ _ _ _ (omega (arith, c .before .before .if1 .left)) (omega (arith, c .before .if2 .left)), omega (arith, c .shared-slice-known .given (c .before .before .before .args .from + 16 * c .before .before .before .args .r + c .before .before .before .args .p)))
+returns-3 c =
+    let args = c .before .before .before .before .before .args in (
+      rule-read _ _ _ _ _ (omega (arith, c .before .before .before .if1 .left)) (omega (arith, c .before .before .if2 .left)) (c .before .place .ensures),
+      omega (arith, c .shared-slice-known2 .given (args .from + c .before .place .result)),
+    )
 
 pub rule-word-spec : {M : Type 1} → statement M
 rule-word-spec =
@@ -39,10 +30,9 @@ rule-word-spec =
     (tie.spec
     returns
     returns-2
-    mul-result
-    add-result
-    add-result-2
-    mul-result-2
-    shared-slice-read-result
+    (λ c κs. search needs)
+    (λ c. search needs)
+    (λ c. search needs)
+    (λ c. search needs)
     cast-result
     returns-3)

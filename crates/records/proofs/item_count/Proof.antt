@@ -4,12 +4,6 @@ use Rattle.records.specs.Words.{itemCount}
 use Rattle.records.proofs.item_count.Statement.{statement}
 use Rattle.records.proofs.item_count.Tie as tie
 
-word-requires : tie.Need-word-requires
-word-requires c κs = search needs
-
-capacity-of-requires : tie.Need-capacity-of-requires
-capacity-of-requires c κs = search needs
-
 returns : tie.Need-returns
 unfolding itemCount
 returns c = search needs
@@ -19,4 +13,4 @@ unfolding itemCount
 returns-2 c = search needs
 
 pub item-count-spec : {M : Type 1} → statement M
-item-count-spec = tie.close (tie.spec word-requires capacity-of-requires returns returns-2)
+item-count-spec = tie.close (tie.spec (λ c κs. search needs) (λ c κs. search needs) returns returns-2)

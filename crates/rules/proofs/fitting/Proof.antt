@@ -1,79 +1,65 @@
 -- Each place passed leaves out only edges that make nothing.
 use native.Mathlib.Omega.{arith}
 use Prim.Native.Nat.{_-_, _≤_}
-use mathlib.Core.Path.{refl}
+use mathlib.Core.Path.{_≡_, refl, ap}
+use lib.ListN.{length, getD}
 use borrow.Author.Needs.{needs}
-use Rattle.records.specs.Words.{ofWords}
+use Rattle.questions.specs.Layout.{rankAt, edgeNode}
 use Rattle.joins.proofs.EdgeMaps.{edge-node-few}
-use Rattle.rules.specs.Candidates.{Candidates}
-use Rattle.rules.proofs.CandidateLaws.{edge-known, place-known, candidates-next}
-use Rattle.rules.proofs.RecordWords.{map-word}
+use Rattle.rules.proofs.Inside.{edge-inside}
+use Rattle.rules.proofs.CandidateLaws.{edge-known, place-known, fitted, fitted-next, candidates-fitted}
 use Rattle.rules.proofs.fitting.Statement.{statement}
 use Rattle.rules.proofs.fitting.Tie as tie
 
 abbrev Inv-loop : tie.InvT-loop
-Inv-loop g h graph want x i m of rank rest₀ k₀ rest k = (k ≤ rank) × Candidates g h (ofWords x) rest
+Inv-loop g h graph want i m of f rank rest₀ k₀ rest k =
+    (k ≤ rank) × (rest ≡ fitted graph (λ k. getD f (edgeNode g of i k) 0) k m)
 
 abbrev μ-loop : tie.MeasureT-loop
-μ-loop g h graph want x i m of rank rest₀ k₀ rest k = rank - k
-
-shared-slice-read-of : tie.Need-shared-slice-read-of Inv-loop μ-loop
-shared-slice-read-of c = omega (arith, c .before .before .before .before .pre .0)
-
-rank-at-requires : tie.Need-rank-at-requires Inv-loop μ-loop
-rank-at-requires c κs = search needs
+μ-loop g h graph want i m of f rank rest₀ k₀ rest k = rank - k
 
 loop-holds : tie.Need-loop-holds Inv-loop μ-loop
-loop-holds c = (omega arith, c .before .before .before .before .before .pre .3)
+unfolding fitted
+loop-holds c = (omega arith, refl)
 
-node-at-requires : tie.Need-node-at-requires Inv-loop μ-loop
-unfolding ofWords
-node-at-requires c κs = (edge-known _ _ _ _ _ (c .before .before .before .before .before .before .before .pre .1) refl, omega (arith, c .before .before .rank-at .ensures .1, c .loop-test .taken))
-
-add-with-node : tie.Need-add-with-node Inv-loop μ-loop
-unfolding ofWords
-add-with-node c = omega (arith, edge-node-few _ _ _ (edge-known _ _ _ _ _ (c .before .before .before .before .before .before .before .before .pre .1) refl) _ _ (place-known _ _ _ _ _ (c .before .before .before .before .before .before .before .before .pre .1) refl _ _ (c .before .before .before .rank-at .ensures .0) (c .before .loop-test .taken)) (c .node-at .ensures))
+edge-node-in-requires : tie.Need-edge-node-in-requires Inv-loop μ-loop
+edge-node-in-requires c κs =
+    let x = c .before .before .before .before .before .before .args .x in
+    let eight : length (x .nodes) ≡ 8 = search needs in
+    let up = c .before .before .before .before .before .before .pre .0 in
+    (edge-inside (edge-known _ _ _ _ _ up eight), omega (arith, c .before .before .rank-at .ensures .1, c .loop-test .taken))
 
 mul-with-node : tie.Need-mul-with-node Inv-loop μ-loop
-unfolding ofWords
-mul-with-node c = omega (arith, edge-node-few _ _ _ (edge-known _ _ _ _ _ (c .before .before .before .before .before .before .before .before .pre .1) refl) _ _ (place-known _ _ _ _ _ (c .before .before .before .before .before .before .before .before .pre .1) refl _ _ (c .before .before .before .rank-at .ensures .0) (c .before .loop-test .taken)) (c .node-at .ensures))
+mul-with-node c =
+    let x = c .before .before .before .before .before .before .before .args .x in
+    let eight : length (x .nodes) ≡ 8 = search needs in
+    let up = c .before .before .before .before .before .before .before .pre .0 in
+    let place = place-known _ _ _ _ _ up eight _ _ (c .before .before .before .rank-at .ensures .0) (c .before .loop-test .taken) in
+    omega (arith, edge-node-few _ _ _ (edge-known _ _ _ _ _ up eight) _ _ place (c .edge-node-in .ensures))
 
-shared-slice-read-with-node : tie.Need-shared-slice-read-with-node Inv-loop μ-loop
-unfolding ofWords
-shared-slice-read-with-node c = omega (arith, c .before .before .before .before .before .before .before .before .before .pre .0, edge-node-few _ _ _ (edge-known _ _ _ _ _ (c .before .before .before .before .before .before .before .before .before .pre .1) refl) _ _ (place-known _ _ _ _ _ (c .before .before .before .before .before .before .before .before .before .pre .1) refl _ _ (c .before .before .before .before .rank-at .ensures .0) (c .before .before .loop-test .taken)) (c .before .node-at .ensures))
-
-with-node-requires : tie.Need-with-node-requires Inv-loop μ-loop
-with-node-requires c κs = omega (arith, c .before .before .before .before .rank-at .ensures .1, c .before .before .loop-test .taken)
-
-add-k : tie.Need-add-k Inv-loop μ-loop
-add-k c = search needs
-
-loop-less : tie.Need-loop-less Inv-loop μ-loop
-loop-less c = omega arith
+array-read-with-node : tie.Need-array-read-with-node Inv-loop μ-loop
+array-read-with-node c =
+    let x = c .before .before .before .before .before .before .before .args .x in
+    let eight : length (x .nodes) ≡ 8 = search needs in
+    let up = c .before .before .before .before .before .before .before .pre .0 in
+    let place = place-known _ _ _ _ _ up eight _ _ (c .before .before .before .rank-at .ensures .0) (c .before .loop-test .taken) in
+    omega (arith, edge-node-few _ _ _ (edge-known _ _ _ _ _ up eight) _ _ place (c .edge-node-in .ensures))
 
 loop-again : tie.Need-loop-again Inv-loop μ-loop
-unfolding ofWords
 loop-again c =
-    (omega arith, candidates-next _ _ _ _ _ (c .before .before .before .before .before .before .before .before .before .before .pre .1) refl _ (c .before .before .before .before .before .before .before .before .before .before .pre .2) _ _ _ _ (place-known _ _ _ _ _ (c .before .before .before .before .before .before .before .before .before .before .pre .1) refl _ _ (c .before .before .before .before .before .rank-at .ensures .0) (c .before .before .before .loop-test .taken)) (c .before .before .node-at .ensures) (map-word (c .before .before .before .before .before .before .before .before .before .before .args .x .now) _ (edge-node-few _ _ _ (edge-known _ _ _ _ _ (c .before .before .before .before .before .before .before .before .before .before .pre .1) refl) _ _ (place-known _ _ _ _ _ (c .before .before .before .before .before .before .before .before .before .before .pre .1) refl _ _ (c .before .before .before .before .before .rank-at .ensures .0) (c .before .before .before .loop-test .taken)) (c .before .before .node-at .ensures))) (c .before .before .before .before .loop .inv .1) _ (c .with-node .ensures))
+    let x = c .before .before .before .before .before .before .before .before .args .x in
+    let before = c .before .before .before .loop .inv .1 in
+    let image = ap (λ y. getD (x .nodes) y 0) (c .before .edge-node-in .ensures) in
+    (omega arith, fitted-next _ _ _ _ _ _ _ before image (c .with-node .ensures))
 
 returns : tie.Need-returns Inv-loop μ-loop
-returns c = c .before .loop .inv .1
+returns c =
+    let args = c .before .before .before .before .before .before .args in
+    let eight : length (args .x .nodes) ≡ 8 = search needs in
+    let pre = c .before .before .before .before .before .before .pre in
+    let loop = c .before .loop in
+    let passed : loop .k ≤ rankAt (args .g .now) (args .want) = omega (arith, loop .inv .0, c .before .before .rank-at .ensures .0) in
+    candidates-fitted _ _ _ _ _ (pre .0) eight _ (pre .1) _ _ _ passed (pre .2) (loop .inv .1)
 
 pub fitting-spec : {M : Type 1} → statement M
-fitting-spec =
-    tie.close
-    (tie.spec
-    Inv-loop
-    μ-loop
-    shared-slice-read-of
-    rank-at-requires
-    loop-holds
-    node-at-requires
-    add-with-node
-    mul-with-node
-    shared-slice-read-with-node
-    with-node-requires
-    add-k
-    loop-less
-    loop-again
-    returns)
+fitting-spec = tie.close (tie.spec Inv-loop μ-loop (λ c κs. search needs) loop-holds edge-node-in-requires mul-with-node array-read-with-node (λ c κs. search needs) (λ c. search needs) (λ c. search needs) loop-again returns)

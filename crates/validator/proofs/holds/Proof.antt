@@ -7,12 +7,9 @@ use Rattle.validity.specs.Checking.{holds}
 use Rattle.validator.proofs.holds.Statement.{statement}
 use Rattle.validator.proofs.holds.Tie as tie
 
-capacity-of-requires : tie.Need-capacity-of-requires
-capacity-of-requires c κs = search needs
-
 returns : tie.Need-returns
 unfolding holds
 returns c = ap (λ n. leb 1 n && leb n 4096) (c .capacity-of .ensures)
 
 pub holds-spec : {M : Type 1} → statement M
-holds-spec = tie.close (tie.spec capacity-of-requires returns)
+holds-spec = tie.close (tie.spec (λ c κs. search needs) returns)

@@ -1,27 +1,55 @@
 -- The tests in the order of the definition.
-use native.Mathlib.Omega.{arith}
-use mathlib.Core.Path.{refl}
 use borrow.Author.Needs.{needs}
-use Rattle.validator.proofs.WordTests.{symbol-inside, below-equal, passive-no-symbol, passive-terminal, passive-by}
+use borrow.Author.Tests.{not-true, not-false}
+use Rattle.validator.proofs.WordTests.{symbol-known, all-edges, passive-no-symbol, passive-terminal, passive-outside, passive-by}
 use Rattle.validator.proofs.known_passive.Statement.{statement}
 use Rattle.validator.proofs.known_passive.Tie as tie
 
 returns : tie.Need-returns
-returns c = passive-no-symbol _ _ (c .before .before .before .before .before .pre .0 .tables) _ _ _ (c .before .before .before .before .before .pre .0 .symbols) (c .if1 .taken)
+returns c = passive-no-symbol _ _ _ (c .before .before .before .before .before .before .pre) _ _ (c .if1 .taken)
 
-add-field-in : tie.Need-add-field-in
-add-field-in c = search needs
-
-field-in-requires : tie.Need-field-in-requires
-field-in-requires c κs = (symbol-inside _ (c .before .before .before .before .before .before .pre .0 .tables .grammar) _ (below-equal _ _ _ (c .before .before .before .before .before .before .pre .0 .symbols) (c .before .if1 .left)), omega arith)
+symbol-kind-in-requires : tie.Need-symbol-kind-in-requires
+symbol-kind-in-requires c κs = symbol-known _ _ _ (c .before .before .before .before .before .before .pre) _ (c .if1 .left)
 
 returns-2 : tie.Need-returns-2
-returns-2 c = passive-terminal _ _ (c .before .before .before .before .before .before .before .before .pre .0 .tables) _ _ _ (c .before .before .before .before .before .before .before .before .pre .0 .symbols) (c .before .before .before .if1 .left) _ (c .before .field-in .ensures) (c .if2 .taken)
+returns-2 c =
+    let kind = c .before in
+    let symbol = kind .before in
+    passive-terminal _ _ _ (symbol .before .before .before .before .before .before .pre) _ _ (symbol .if1 .left) _ (kind .symbol-kind-in .ensures)
+    (c .if2 .taken)
+
+symbol-rank-in-requires : tie.Need-symbol-rank-in-requires
+symbol-rank-in-requires c κs = symbol-known _ _ _ (c .before .before .before .before .before .before .before .before .pre) _ (c .before .before .if1 .left)
+
+in-graph-requires : tie.Need-in-graph-requires
+in-graph-requires c κs = all-edges _ _ _ (c .before .before .before .before .before .before .before .before .before .before .pre)
 
 returns-3 : tie.Need-returns-3
 returns-3 c =
-    let sized = c .before .before .before .before .before .before .before .before .before .pre .0 in
-    passive-by _ _ (sized .tables) _ _ _ (sized .symbols) (c .before .before .before .before .if1 .left) _ (c .before .before .field-in .ensures) (c .before .if2 .left) _ refl (c .before .before .before .before .before .before .before .before .before .pre .1)
+    let parts = c .before in
+    let listed = parts .before in
+    let rank = listed .before in
+    let other = rank .before in
+    let kind = other .before in
+    let symbol = kind .before in
+    let sized = symbol .before .before .before .before .before .before .pre in
+    passive-outside _ _ _ sized _ _ (symbol .if1 .left) _ (kind .symbol-kind-in .ensures) (other .if2 .left) _ _
+    (rank .symbol-rank-in .ensures .0) (listed .full .ensures) _ (parts .in-graph .ensures) (not-true _ (c .if3 .taken))
+
+returns-4 : tie.Need-returns-4
+returns-4 c =
+    let passed = c .before .before .before in
+    let parts = passed .before in
+    let listed = parts .before in
+    let rank = listed .before in
+    let other = rank .before in
+    let kind = other .before in
+    let symbol = kind .before in
+    let sized = symbol .before .before .before .before .before .before .pre in
+    passive-by _ _ _ sized _ _ (symbol .if1 .left) _ (kind .symbol-kind-in .ensures) (other .if2 .left) _ _
+    (rank .symbol-rank-in .ensures .0) (listed .full .ensures) _ (parts .in-graph .ensures) (not-false _ (passed .if3 .left))
 
 pub known-passive-spec : {M : Type 1} → statement M
-known-passive-spec = tie.close (tie.spec returns add-field-in field-in-requires returns-2 returns-3)
+known-passive-spec =
+    tie.close
+    (tie.spec returns symbol-kind-in-requires returns-2 symbol-rank-in-requires (λ c κs. search needs) in-graph-requires returns-3 returns-4)

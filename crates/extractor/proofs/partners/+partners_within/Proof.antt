@@ -11,8 +11,8 @@ use Rattle.extractor.proofs.partners.partners_within.Reads as partners-
 use Rattle.extractor.proofs.partners.partners_within.Kinds as partners-within-kinds
 use Rattle.extractor.proofs.partners.+partners_within.Lts-partners_within as partners-within-lts
 use Rattle.extractor.proofs.lookup.plan_line.Reads as plan-line-reads
-use Rattle.extractor.proofs.partners.first_at.Reads as first-at-reads
-use Rattle.extractor.proofs.partners.second_at.Reads as second-at-reads
+use Rattle.records.proofs.first_at.Reads as first-at-reads
+use Rattle.records.proofs.second_at.Reads as second-at-reads
 use Rattle.extractor.proofs.partners.+partners_within.{statement}
 use Rattle.extractor.proofs.partners.+partners_within.Tie.{close}
 

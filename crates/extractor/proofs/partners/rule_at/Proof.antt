@@ -7,11 +7,11 @@ use Rattle.extractor.proofs.partners.rule_at.Tie as tie
 first-at-requires : tie.Need-first-at-requires
 first-at-requires c κs = search needs
 
-field-requires : tie.Need-field-requires
-field-requires c κs = search needs
+of-at-requires : tie.Need-of-at-requires
+of-at-requires c κs = search needs
 
 returns : tie.Need-returns
-returns c = rule-by _ _ _ _ (c .before .first-at .ensures) (c .field .ensures)
+returns c = rule-by _ _ _ _ (c .before .first-at .ensures) (c .of-at .ensures)
 
 pub rule-at-spec : {M : Type 1} → statement M
-rule-at-spec = tie.close (tie.spec first-at-requires field-requires returns)
+rule-at-spec = tie.close (tie.spec first-at-requires of-at-requires returns)

@@ -1,46 +1,13 @@
 -- Eight tests, for any place: past the eighth there is no node.
+use mathlib.Core.Path.{_≡_}
+use lib.ListN.{length}
 use borrow.Author.Needs.{needs}
 use Rattle.rules.proofs.CoverageLaws.{plain-all}
 use Rattle.rules.proofs.coverage.plain.Statement.{statement}
 use Rattle.rules.proofs.coverage.plain.Tie as tie
 
-shared-slice-read-low : tie.Need-shared-slice-read-low
-shared-slice-read-low c = search needs
-
-shared-slice-read-low-2 : tie.Need-shared-slice-read-low-2
-shared-slice-read-low-2 c = search needs
-
-shared-slice-read-low-3 : tie.Need-shared-slice-read-low-3
-shared-slice-read-low-3 c = search needs
-
-shared-slice-read-low-4 : tie.Need-shared-slice-read-low-4
-shared-slice-read-low-4 c = search needs
-
-shared-slice-read-high : tie.Need-shared-slice-read-high
-shared-slice-read-high c = search needs
-
-shared-slice-read-high-2 : tie.Need-shared-slice-read-high-2
-shared-slice-read-high-2 c = search needs
-
-shared-slice-read-high-3 : tie.Need-shared-slice-read-high-3
-shared-slice-read-high-3 c = search needs
-
-shared-slice-read-high-4 : tie.Need-shared-slice-read-high-4
-shared-slice-read-high-4 c = search needs
-
 returns : tie.Need-returns
-returns c = plain-all (c .before .before .before .before .before .before .before .before .args .l .now) (c .before .before .before .before .before .before .before .before .pre)
+returns c = let eight : length (c .args .t1) ≡ 8 = search needs in plain-all (c .args .t1) eight
 
 pub plain-spec : {M : Type 1} → statement M
-plain-spec =
-    tie.close
-    (tie.spec
-    shared-slice-read-low
-    shared-slice-read-low-2
-    shared-slice-read-low-3
-    shared-slice-read-low-4
-    shared-slice-read-high
-    shared-slice-read-high-2
-    shared-slice-read-high-3
-    shared-slice-read-high-4
-    returns)
+plain-spec = tie.close (tie.spec (λ c. search needs) (λ c. search needs) (λ c. search needs) (λ c. search needs) (λ c. search needs) (λ c. search needs) (λ c. search needs) (λ c. search needs) returns)

@@ -3,79 +3,87 @@ use native.Mathlib.Omega.{arith}
 use borrow.Author.Needs.{needs}
 use Rattle.joins.proofs.Known.{rule-few}
 use Rattle.joins.proofs.PlanMasks.{below-few, join-both}
+use Rattle.rules.proofs.Inside.{node-inside}
 use Rattle.rules.proofs.PlanLaws.{put-leaf, first-few, put-introduce, put-join}
 use Rattle.rules.proofs.plans.put_children.Statement.{statement}
 use Rattle.rules.proofs.plans.put_children.Tie as tie
 
-kind-at-requires : tie.Need-kind-at-requires
-kind-at-requires c κs = search needs
+plan-first-in-requires : tie.Need-plan-first-in-requires
+plan-first-in-requires c κs = node-inside (c .before .before .pre .0)
 
-returns : tie.Need-returns
-returns c = put-leaf _ _ _ _ _ (c .before .before .before .before .pre .0) (c .before .before .before .before .pre .1) _ (c .before .kind-at .ensures) (c .if1 .taken)
-
-first-at-requires : tie.Need-first-at-requires
-first-at-requires c κs = search needs
-
-second-word-requires : tie.Need-second-word-requires
-second-word-requires c κs = (c .before .before .before .before .before .pre .0, λ e. c .before .if1 .left (omega (arith, c .before .before .kind-at .ensures)))
-
-mul-put : tie.Need-mul-put
-mul-put c = omega (arith, c .before .second-word .ensures .1)
-
-add-put : tie.Need-add-put
-add-put c = omega (arith, c .before .second-word .ensures .1, below-few _ _ _ (c .before .before .before .before .before .before .before .pre .0))
+plan-kind-in-requires : tie.Need-plan-kind-in-requires
+plan-kind-in-requires c κs = node-inside (c .before .before .before .pre .0)
 
 put-requires : tie.Need-put-requires
-put-requires c κs = (c .before .before .before .before .before .before .before .pre .1, rule-few _ _ (c .before .before .before .before .before .before .before .pre .0 .grammar) (c .before .before .before .before .before .before .before .pre .0 .rule), first-few _ _ _ (c .before .before .before .before .before .before .before .pre .0) _ _ (c .before .before .before .before .kind-at .ensures) (c .before .before .first-at .ensures) (c .before .before .before .if1 .left), omega (arith, c .before .second-word .ensures .1, below-few _ _ _ (c .before .before .before .before .before .before .before .pre .0)), c .before .before .before .before .before .before .before .pre .2)
-
-same-length : tie.Need-same-length
-same-length c = search needs
-
-returns-2 : tie.Need-returns-2
-returns-2 c = put-introduce _ _ _ _ _ (c .before .before .before .before .before .before .before .before .before .before .before .pre .0) (c .before .before .before .before .before .before .before .before .before .before .before .pre .1) _ _ _ (c .before .before .before .before .before .before .before .before .kind-at .ensures) (c .before .before .before .before .before .before .first-at .ensures) (c .before .before .before .before .before .second-word .ensures .0) (c .if2 .taken) _ (c .before .before .before .put .ensures)
-
-second-at-requires : tie.Need-second-at-requires
-second-at-requires c κs = search needs
-
-mul-put-2 : tie.Need-mul-put-2
-mul-put-2 c = omega (arith, first-few _ _ _ (c .before .before .before .before .before .before .before .before .before .before .before .before .before .pre .0) _ _ (c .before .before .before .before .before .before .before .before .before .before .kind-at .ensures) (c .before .before .before .before .before .before .before .before .first-at .ensures) (c .before .before .before .before .before .before .before .before .before .if1 .left))
-
-add-put-2 : tie.Need-add-put-2
-add-put-2 c = omega (arith, first-few _ _ _ (c .before .before .before .before .before .before .before .before .before .before .before .before .before .pre .0) _ _ (c .before .before .before .before .before .before .before .before .before .before .kind-at .ensures) (c .before .before .before .before .before .before .before .before .first-at .ensures) (c .before .before .before .before .before .before .before .before .before .if1 .left))
-
-mul-put-3 : tie.Need-mul-put-3
-mul-put-3 c = omega (arith, first-few _ _ _ (c .before .before .before .before .before .before .before .before .before .before .before .before .before .pre .0) _ _ (c .before .before .before .before .before .before .before .before .before .before .kind-at .ensures) (c .before .before .before .before .before .before .before .before .first-at .ensures) (c .before .before .before .before .before .before .before .before .before .if1 .left))
-
-add-put-3 : tie.Need-add-put-3
-add-put-3 c = omega (arith, below-few _ _ _ (c .before .before .before .before .before .before .before .before .before .before .before .before .before .pre .0), first-few _ _ _ (c .before .before .before .before .before .before .before .before .before .before .before .before .before .pre .0) _ _ (c .before .before .before .before .before .before .before .before .before .before .kind-at .ensures) (c .before .before .before .before .before .before .before .before .first-at .ensures) (c .before .before .before .before .before .before .before .before .before .if1 .left))
+put-requires c κs =
+    let pre = c .before .before .before .before .before .before .before .pre in
+    let known = pre .0 in
+    let edge = c .before .before .match .keys2 in
+    let few = first-few _ _ _ known _ _ (c .before .before .before .plan-kind-in .ensures) (c .before .before .before .before .plan-first-in .ensures) (λ e. omega (arith, edge)) in
+    (pre .1, rule-few _ _ (known .grammar) (known .rule), few, below-few _ _ _ known, c .second-word .ensures .1, pre .2)
 
 put-requires-2 : tie.Need-put-requires-2
-put-requires-2 c κs = (c .before .before .before .before .before .put .ensures .size, rule-few _ _ (c .before .before .before .before .before .before .before .before .before .before .before .before .before .pre .0 .grammar) (c .before .before .before .before .before .before .before .before .before .before .before .before .before .pre .0 .rule), omega (arith, join-both _ _ _ (c .before .before .before .before .before .before .before .before .before .before .before .before .before .pre .0) _ _ _ (c .before .before .before .before .before .before .before .before .before .before .kind-at .ensures) (c .before .before .before .before .before .before .before .before .first-at .ensures) (c .second-at .ensures) (c .before .before .before .before .before .before .before .before .before .if1 .left) (c .before .before .if2 .left) .1, below-few _ _ _ (c .before .before .before .before .before .before .before .before .before .before .before .before .before .pre .0)), omega (arith, below-few _ _ _ (c .before .before .before .before .before .before .before .before .before .before .before .before .before .pre .0), first-few _ _ _ (c .before .before .before .before .before .before .before .before .before .before .before .before .before .pre .0) _ _ (c .before .before .before .before .before .before .before .before .before .before .kind-at .ensures) (c .before .before .before .before .before .before .before .before .first-at .ensures) (c .before .before .before .before .before .before .before .before .before .if1 .left)), c .before .before .before .before .before .before .before .before .before .before .before .before .before .pre .2)
+put-requires-2 c κs =
+    let pre = c .before .before .before .before .before .before .before .pre in
+    let known = pre .0 in
+    let joins = c .before .before .match .rest in
+    let few = first-few _ _ _ known _ _ (c .before .before .before .plan-kind-in .ensures) (c .before .before .before .before .plan-first-in .ensures) (joins .0 .1) in
+    (pre .1, rule-few _ _ (known .grammar) (known .rule), few, below-few _ _ _ known, c .second-word2 .ensures .1, pre .2)
 
-same-length-2 : tie.Need-same-length-2
-same-length-2 c = search needs
+plan-second-in-requires : tie.Need-plan-second-in-requires
+plan-second-in-requires c κs = node-inside (c .before .before .before .before .before .before .before .before .before .before .pre .0)
+
+mul-put : tie.Need-mul-put
+mul-put c =
+    let kind = c .before .before .before .before .before .before .before .before .plan-kind-in .ensures in
+    let first = c .before .before .before .before .before .before .before .before .before .plan-first-in .ensures in
+    let joins = c .before .before .before .before .before .before .before .match .rest in
+    omega (arith, first-few _ _ _ (c .before .before .before .before .before .before .before .before .before .before .before .before .pre .0) _ _ kind first (joins .0 .1))
+
+add-put : tie.Need-add-put
+add-put c =
+    let kind = c .before .before .before .before .before .before .before .before .plan-kind-in .ensures in
+    let first = c .before .before .before .before .before .before .before .before .before .plan-first-in .ensures in
+    let joins = c .before .before .before .before .before .before .before .match .rest in
+    omega (arith, first-few _ _ _ (c .before .before .before .before .before .before .before .before .before .before .before .before .pre .0) _ _ kind first (joins .0 .1))
+
+put-requires-3 : tie.Need-put-requires-3
+put-requires-3 c κs =
+    let pre = c .before .before .before .before .before .before .before .before .before .before .before .before .pre in
+    let known = pre .0 in
+    let kind = c .before .before .before .before .before .before .before .before .plan-kind-in .ensures in
+    let first = c .before .before .before .before .before .before .before .before .before .plan-first-in .ensures in
+    let joins = c .before .before .before .before .before .before .before .match .rest in
+    let few = first-few _ _ _ known _ _ kind first (joins .0 .1) in
+    let lower = join-both _ _ _ known _ _ _ kind first (c .before .plan-second-in .ensures) (joins .0 .1) (joins .1) in
+    let near = below-few _ _ _ known in
+    let size = c .before .before .before .before .put2 .ensures .size in
+    (size, rule-few _ _ (known .grammar) (known .rule), omega (arith, lower .1, near), near, omega (arith, few), pre .2)
+
+returns : tie.Need-returns
+returns c =
+    let pre = c .before .before .before .before .before .pre in
+    put-leaf _ _ _ _ _ (pre .0) (pre .1) _ (c .before .plan-kind-in .ensures) (c .match .keys1)
+
+returns-2 : tie.Need-returns-2
+returns-2 c =
+    let pre = c .before .before .before .before .before .before .before .before .before .before .pre in
+    let kind = c .before .before .before .before .before .before .plan-kind-in .ensures in
+    let first = c .before .before .before .before .before .before .before .plan-first-in .ensures in
+    let edge = c .before .before .before .before .before .match .keys2 in
+    put-introduce _ _ _ _ _ (pre .0) (pre .1) _ _ _ kind first (c .before .before .before .second-word .ensures .0) edge _ (c .before .before .put .ensures)
 
 returns-3 : tie.Need-returns-3
-returns-3 c = put-join _ _ _ _ _ (c .before .before .before .before .before .before .before .before .before .before .before .before .before .before .before .before .pre .0) (c .before .before .before .before .before .before .before .before .before .before .before .before .before .before .before .before .pre .1) _ _ _ (c .before .before .before .before .before .before .before .before .before .before .before .before .before .kind-at .ensures) (c .before .before .before .before .before .before .before .before .before .before .before .first-at .ensures) (c .before .before .before .before .before .before .before .before .before .before .second-word .ensures .0) _ (c .before .before .before .second-at .ensures) (c .before .before .before .before .before .before .before .before .before .before .before .before .if1 .left) (c .before .before .before .before .before .if2 .left) _ _ (c .before .before .before .before .before .before .before .before .put .ensures) (c .before .before .put2 .ensures)
+returns-3 c =
+    let pre = c .before .before .before .before .before .before .before .before .before .before .before .before .before .before .before .pre in
+    let kind = c .before .before .before .before .before .before .before .before .before .before .before .plan-kind-in .ensures in
+    let first = c .before .before .before .before .before .before .before .before .before .before .before .before .plan-first-in .ensures in
+    let second = c .before .before .before .before .plan-second-in .ensures in
+    let joins = c .before .before .before .before .before .before .before .before .before .before .match .rest in
+    let word = c .before .before .before .before .before .before .before .before .second-word2 .ensures in
+    let one = c .before .before .before .before .before .before .before .put2 .ensures in
+    let two = c .before .before .put3 .ensures in
+    put-join _ _ _ _ _ (pre .0) (pre .1) _ _ _ kind first (word .0) _ second (joins .0 .1) (joins .1) _ _ one two
 
 pub put-children-spec : {M : Type 1} → statement M
-put-children-spec =
-    tie.close
-    (tie.spec
-    kind-at-requires
-    returns
-    first-at-requires
-    second-word-requires
-    mul-put
-    add-put
-    put-requires
-    same-length
-    returns-2
-    second-at-requires
-    mul-put-2
-    add-put-2
-    mul-put-3
-    add-put-3
-    put-requires-2
-    same-length-2
-    returns-3)
+put-children-spec = tie.close (tie.spec plan-first-in-requires plan-kind-in-requires (λ c κs. search needs) put-requires (λ c κs. search needs) put-requires-2 plan-second-in-requires mul-put add-put put-requires-3 returns (λ c. search needs) returns-2 (λ c. search needs) returns-3)

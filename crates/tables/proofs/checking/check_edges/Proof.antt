@@ -17,44 +17,17 @@ Inv-loop t r n symbols nodes top mask₀ i₀ mask i = (i ≤ n) × Passed [] t 
 abbrev μ-loop : tie.MeasureT-loop
 μ-loop t r n symbols nodes top mask₀ i₀ mask i = n - i
 
-field-in-requires : tie.Need-field-in-requires Inv-loop μ-loop
-field-in-requires c κs = search needs
-
-mul-field-in : tie.Need-mul-field-in Inv-loop μ-loop
-mul-field-in c = search needs
-
-add-field-in : tie.Need-add-field-in Inv-loop μ-loop
-add-field-in c = search needs
-
-field-in-requires-2 : tie.Need-field-in-requires-2 Inv-loop μ-loop
-field-in-requires-2 c κs = search needs
-
-at-most-requires : tie.Need-at-most-requires Inv-loop μ-loop
-at-most-requires c κs = search needs
-
 loop-holds : tie.Need-loop-holds Inv-loop μ-loop
 loop-holds c = (omega arith, passed-none grammarWords [] _ _ _ _ _ _ _ (rule-lines _ _ _ (c .before .before .before .before .pre .1)))
-
-rule-edge-stands-requires : tie.Need-rule-edge-stands-requires Inv-loop μ-loop
-rule-edge-stands-requires c κs = search needs
 
 returns : tie.Need-returns Inv-loop μ-loop
 returns c = reaches-no grammarWords [] _ _ _ _ _ (passed-no grammarWords [] _ _ _ _ _ _ _ (rule-lines _ _ _ (c .before .before .before .before .before .before .before .before .before .pre .1)) _ _ (c .before .before .before .before .loop .inv .1) (c .before .before .before .loop-test .taken) _ _ (c .before .before .rule-edge-stands .ensures) (c .if1 .taken))
 
-add-i : tie.Need-add-i Inv-loop μ-loop
-add-i c = search needs
-
-loop-less : tie.Need-loop-less Inv-loop μ-loop
-loop-less c = search needs
-
 loop-again : tie.Need-loop-again Inv-loop μ-loop
 loop-again c = (omega arith, passed-more grammarWords [] _ _ _ _ _ _ _ (rule-lines _ _ _ (c .before .before .before .before .before .before .before .before .before .before .pre .1)) _ _ (c .before .before .before .before .before .loop .inv .1) _ _ (c .before .before .before .rule-edge-stands .ensures) (c .before .if1 .left))
 
-has-all-requires : tie.Need-has-all-requires Inv-loop μ-loop
-has-all-requires c κs = search needs
-
 returns-2 : tie.Need-returns-2 Inv-loop μ-loop
-returns-2 c = passed-reaches grammarWords [] _ _ _ _ _ _ _ (rule-lines _ _ _ (c .before .before .before .before .before .before .before .pre .1)) _ _ (c .before .before .loop .inv .1) (c .before .before .before .before .before .before .before .pre .1 .some) (omega arith) _ (c .before .before .before .before .field-in2 .ensures) _ (c .has-all .ensures) _ (omega arith)
+returns-2 c = let pre = c .before .before .before .before .before .before .before .pre in passed-reaches grammarWords [] _ _ _ _ _ _ _ (rule-lines _ _ _ (pre .1)) _ _ (c .before .before .loop .inv .1) (pre .1 .some) (omega arith) _ (c .before .before .before .before .rule-nodes-in .ensures) _ (c .has-all .ensures) _ (omega arith)
 
 pub check-edges-spec : {M : Type 1} → statement M
 check-edges-spec =
@@ -62,16 +35,14 @@ check-edges-spec =
     (tie.spec
     Inv-loop
     μ-loop
-    field-in-requires
-    mul-field-in
-    add-field-in
-    field-in-requires-2
-    at-most-requires
+    (λ c κs. search needs)
+    (λ c κs. search needs)
+    (λ c κs. search needs)
     loop-holds
-    rule-edge-stands-requires
+    (λ c κs. search needs)
     returns
-    add-i
-    loop-less
+    (λ c. search needs)
+    (λ c. search needs)
     loop-again
-    has-all-requires
+    (λ c κs. search needs)
     returns-2)

@@ -10,17 +10,11 @@ use Rattle.tables.proofs.checking.check_graph.Tie as tie
 returns : tie.Need-returns
 returns c = graph-short _ _ (c .if1 .taken)
 
-graph-stands-requires : tie.Need-graph-stands-requires
-graph-stands-requires c κs = search needs
-
 returns-2 : tie.Need-returns-2
 returns-2 c = graph-is _ _ (c .before .before .if1 .left) _ (graph-no graphWords _ _ _ (c .before .graph-stands .ensures) (c .if2 .taken))
 
-field-in-requires : tie.Need-field-in-requires
-field-in-requires c κs = search needs
-
 check-graph-edges-requires : tie.Need-check-graph-edges-requires
-check-graph-edges-requires c κs = (c .before .before .before .if1 .left, graph-edges-few _ _ _ (c .before .before .graph-stands .ensures .yes (not-false _ (c .before .if2 .left))) (c .field-in .ensures))
+check-graph-edges-requires c κs = (c .before .before .before .if1 .left, graph-edges-few _ _ _ (c .before .before .graph-stands .ensures .yes (not-false _ (c .before .if2 .left))) (c .graph-edges-in .ensures))
 
 returns-3 : tie.Need-returns-3
 returns-3 c = graph-is _ _ (c .before .before .before .before .if1 .left) _ (concludes-on graphWords _ _ _ _ _ _ (graph-line graphWords _ _ _ (c .before .before .before .graph-stands .ensures) (c .before .before .if2 .left)) _ (c .check-graph-edges .ensures))
@@ -30,8 +24,8 @@ check-graph-spec =
     tie.close
     (tie.spec
     returns
-    graph-stands-requires
+    (λ c κs. search needs)
     returns-2
-    field-in-requires
+    (λ c κs. search needs)
     check-graph-edges-requires
     returns-3)

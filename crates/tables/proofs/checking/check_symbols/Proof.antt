@@ -1,5 +1,5 @@
 -- Line after line (proofs/Leading).
-use Prim.Native.Nat.{_+_, _-_, _≤_}
+use Prim.Native.Nat.{_-_, _≤_}
 use native.Mathlib.Omega.{arith}
 use mathlib.Core.Path.{refl}
 use mathlib.Core.Bool.{cond}
@@ -7,14 +7,14 @@ use mathlib.Core.List.{[]}
 use lib.Dec.{ltb}
 use borrow.Author.Needs.{needs}
 use Rattle.questions.specs.declared.Due.the-variants.{Symbol, Rule}
-use Rattle.questions.specs.Layout.{grammarWords, placeOf}
+use Rattle.questions.specs.Layout.{symbolPlace, grammarWords, placeOf}
 use Rattle.tables.specs.Concluding.{Leads}
 use Rattle.tables.proofs.Leading.{reaches-no, reaches-yes, lines-start, lines-end, lines-no, lines-next, next-symbol}
 use Rattle.tables.proofs.checking.check_symbols.Statement.{statement}
 use Rattle.tables.proofs.checking.check_symbols.Tie as tie
 
 abbrev Inv-loop : tie.InvT-loop
-Inv-loop t n s₀ s = (s ≤ n) × Leads grammarWords [] t (Symbol 0) 1 (cond (ltb s n) (Symbol s) (Rule 0)) (1 + s)
+Inv-loop t n s₀ s = (s ≤ n) × Leads grammarWords [] t (Symbol 0) (symbolPlace 0) (cond (ltb s n) (Symbol s) (Rule 0)) (symbolPlace s)
 
 abbrev μ-loop : tie.MeasureT-loop
 μ-loop t n s₀ s = n - s

@@ -18,29 +18,11 @@ abbrev μ-loop : tie.MeasureT-loop
 loop-holds : tie.Need-loop-holds Inv-loop μ-loop
 loop-holds c = (omega arith, graph-none _ _)
 
-graph-label-requires : tie.Need-graph-label-requires Inv-loop μ-loop
-graph-label-requires c κs = search needs
-
-rank-at-requires : tie.Need-rank-at-requires Inv-loop μ-loop
-rank-at-requires c κs = search needs
-
-add-mark-line : tie.Need-add-mark-line Inv-loop μ-loop
-add-mark-line c = search needs
-
-mark-line-requires : tie.Need-mark-line-requires Inv-loop μ-loop
-mark-line-requires c κs = search needs
-
-add-e : tie.Need-add-e Inv-loop μ-loop
-add-e c = search needs
-
-loop-less : tie.Need-loop-less Inv-loop μ-loop
-loop-less c = search needs
-
 loop-again : tie.Need-loop-again Inv-loop μ-loop
-loop-again c = (omega arith, graph-next _ _ _ _ _ _ _ (c .before .before .graph-label .ensures) (c .before .rank-at .ensures .0) (c .before .before .before .before .loop .inv .1) (c .mark-line .ensures))
+loop-again c = (omega arith, graph-next _ _ _ _ _ _ _ _ (c .before .before .before .graph-label .ensures) (c .before .before .rank-at .ensures .0) (c .before .graph-edge-place .ensures) (c .before .before .before .before .before .loop .inv .1) (c .mark-line .ensures))
 
 returns : tie.Need-returns Inv-loop μ-loop
-returns c = graph-done _ _ _ _ _ (c .before .loop .inv .0) (c .loop-test .left) (c .before .loop .inv .1)
+returns c = let loop = c .before .loop in graph-done _ _ _ _ _ (loop .inv .0) (c .loop-test .left) (loop .inv .1)
 
 pub mark-graph-spec : {M : Type 1} → statement M
 mark-graph-spec =
@@ -49,11 +31,11 @@ mark-graph-spec =
     Inv-loop
     μ-loop
     loop-holds
-    graph-label-requires
-    rank-at-requires
-    add-mark-line
-    mark-line-requires
-    add-e
-    loop-less
+    (λ c κs. search needs)
+    (λ c κs. search needs)
+    (λ c κs. search needs)
+    (λ c κs. search needs)
+    (λ c. search needs)
+    (λ c. search needs)
     loop-again
     returns)

@@ -1,0 +1,12 @@
+use borrow.Author.Needs.{needs}
+use Rattle.records.specs.Words.{recordAt, ofWords, blockAt, fieldAt}
+use Rattle.hrg.specs.Counts.{tabulate}
+use Rattle.records.proofs.second_at.Statement.{statement}
+use Rattle.records.proofs.second_at.Tie as tie
+
+returns : tie.Need-returns
+unfolding recordAt ofWords blockAt fieldAt tabulate
+returns c = c .field-any .ensures
+
+pub second-at-spec : {M : Type 1} → statement M
+second-at-spec = tie.close (tie.spec (λ c κs. search needs) returns)
