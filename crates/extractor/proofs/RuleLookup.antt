@@ -2,7 +2,7 @@
 use mathlib.Core.Path.{_≡_, refl, sym, ap, _∙_}
 use mathlib.Core.Bool.{Bool, true, false, cond, not}
 use mathlib.Core.List.{List}
-use Prim.Native.Nat.{ℕ, _+_, _*_, _≤_, _<_}
+use Prim.Native.Nat.{ℕ, _≤_, _<_}
 use native.Mathlib.Omega.{arith}
 use native.Mathlib.Decide.{decLt}
 use lib.ListN.{length, List·getD-eq-default}
@@ -16,7 +16,7 @@ use Rattle.questions.specs.Checking.{checkGrammar}
 use Rattle.questions.specs.Abstract.{kindFrom, planFrom, grammarOf}
 use Rattle.questions.proofs.WellFormedAccepted.{symbols-length, rules-length, kind-is, rank-is, rule-is, edge-is, plan-length}
 use Rattle.joins.specs.Joins.{KnownNode, KnownEdge}
-use Rattle.joins.proofs.Known.{rule-few, right-nodes, right-edges, plan-size, plan-ok, plan-node, nodes-few, edges-few, plan-few}
+use Rattle.joins.proofs.Known.{right-nodes, right-edges, plan-size, plan-ok, plan-node, nodes-few, edges-few}
 use Rattle.joins.proofs.EdgeMaps.{edge-ok}
 use Rattle.extractor.specs.Reading.{PlanLineOf, isNonterminal}
 
@@ -67,13 +67,6 @@ pub known-node : (g : List ℕ) (r p : ℕ) → checkGrammar g ≡ true → p < 
 known-node g r p checked h =
     let known = known-by-node g r p h in
     record { grammar = checked; rule = known; node = omega (arith, plan-size g r checked known) }
-
--- ---- the places of its lines
-pub node-place : (g : List ℕ) (r p : ℕ) → KnownNode g r p → 74 + 25 * r + p ≤ 1664
-node-place g r p known = omega (arith, known .node, rule-few g r (known .grammar) (known .rule), plan-few g r (known .grammar) (known .rule))
-
-pub edge-place : (g : List ℕ) (r i : ℕ) → KnownEdge g r i → 66 + 25 * r + i ≤ 1648
-edge-place g r i known = omega (arith, known .edge, rule-few g r (known .grammar) (known .rule), edges-few g r (known .grammar) (known .rule))
 
 -- ---- a plan node
 pub line-at : (g : List ℕ) (r p kind first second : ℕ) → KnownNode g r p → kind ≡ planKind g r p → first ≡ planFirst g r p → second ≡ planSecond g r p

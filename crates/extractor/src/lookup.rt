@@ -21,10 +21,10 @@ pub(crate) fn node_count(g: &[u64], r: u64) -> u64
     requires { ⌜ checkGrammar (now g) ≡ true ⌝ }
     ensures { λ x. ⌜ (x ≡ rightOf (grammarOf (now (g .entry))) r .nodes) × (x ≤ 8) ⌝ }
 {
-    if layout::field_in(g, 0, 1) <= r {
+    if layout::rule_count_in(g) <= r {
         return 0;
     }
-    layout::field_in(g, 65 + 25 * r, 2)
+    layout::rule_nodes_in(g, r)
 }
 
 // How many edges it has.
@@ -32,10 +32,10 @@ pub(crate) fn edge_count(g: &[u64], r: u64) -> u64
     requires { ⌜ checkGrammar (now g) ≡ true ⌝ }
     ensures { λ x. ⌜ (x ≡ length (rightOf (grammarOf (now (g .entry))) r .edges)) × (x ≤ 8) ⌝ }
 {
-    if layout::field_in(g, 0, 1) <= r {
+    if layout::rule_count_in(g) <= r {
         return 0;
     }
-    layout::field_in(g, 65 + 25 * r, 3)
+    layout::rule_edges_in(g, r)
 }
 
 // How many nodes its plan has.
@@ -43,10 +43,10 @@ pub(crate) fn plan_size(g: &[u64], r: u64) -> u64
     requires { ⌜ checkGrammar (now g) ≡ true ⌝ }
     ensures { λ x. ⌜ x ≡ length (planOf (grammarOf (now (g .entry))) r) ⌝ }
 {
-    if layout::field_in(g, 0, 1) <= r {
+    if layout::rule_count_in(g) <= r {
         return 0;
     }
-    layout::field_in(g, 65 + 25 * r, 4)
+    layout::rule_plan_in(g, r)
 }
 
 // Plan node p of rule r.
@@ -54,11 +54,10 @@ pub(crate) fn plan_line(g: &[u64], r: u64, p: u64) -> PlanLine
     requires { ⌜ KnownNode (now g) r p ⌝ }
     ensures { λ x. ⌜ PlanLineOf (now (g .entry)) r p x ⌝ }
 {
-    let at = 74 + 25 * r + p;
     PlanLine {
-        kind: layout::field_in(g, at, 0),
-        first: layout::field_in(g, at, 1),
-        second: layout::field_in(g, at, 2),
+        kind: layout::plan_kind_in(g, r, p),
+        first: layout::plan_first_in(g, r, p),
+        second: layout::plan_second_in(g, r, p),
     }
 }
 
@@ -67,6 +66,6 @@ pub(crate) fn is_nonterminal(g: &[u64], r: u64, i: u64) -> bool
     requires { ⌜ KnownEdge (now g) r i ⌝ }
     ensures { λ x. ⌜ x ≡ isNonterminal (kindOf (grammarOf (now (g .entry))) (edgeAt (rightOf (grammarOf (now (g .entry))) r .edges) i .label)) ⌝ }
 {
-    let label = layout::field_in(g, 66 + 25 * r + i, 0);
-    layout::field_in(g, 1 + label, 1) != 0
+    let label = layout::edge_label_in(g, r, i);
+    layout::symbol_kind_in(g, label) != 0
 }

@@ -9,8 +9,8 @@ ghost use Rattle.joins.specs.Joins.{KnownNode};
 ghost use Rattle.records.specs.Words.{recordAt};
 ghost use Rattle.extraction.specs.Extraction.{partnersWithin, ruleAt, partnersAt};
 
-// Puts the partners of the edges that are introduced from plan node p of rule r down, with so many levels left and the record at j, over those in bs. Its partners are read
-// only where the plan node has something below it.
+// Puts the partners of the edges that are introduced from plan node p of rule r down, with so many levels left and the
+// record at j, over those in bs. Its partners are read only where the plan node has something below it.
 fn partners_within(
     grammar: &[u64],
     chart: &[u64],
@@ -27,19 +27,22 @@ fn partners_within(
         return;
     }
     let line = crate::lookup::plan_line(grammar, r, p);
-    if line.kind == 0 {
-        return;
+    let kind = line.kind;
+    match kind {
+        0 => {}
+        1 => {
+            let i = line.second as usize;
+            let first = records::first_at(chart, j);
+            bs[i] = records::second_at(chart, j);
+            partners_within(grammar, chart, r, left - 1, line.first, first, bs);
+        }
+        _ => {
+            let first = records::first_at(chart, j);
+            let second = records::second_at(chart, j);
+            partners_within(grammar, chart, r, left - 1, line.first, first, bs);
+            partners_within(grammar, chart, r, left - 1, line.second, second, bs);
+        }
     }
-    let first = records::first_at(chart, j);
-    let second = records::second_at(chart, j);
-    if line.kind == 1 {
-        let i = line.second as usize;
-        bs[i] = second;
-        partners_within(grammar, chart, r, left - 1, line.first, first, bs);
-        return;
-    }
-    partners_within(grammar, chart, r, left - 1, line.first, first, bs);
-    partners_within(grammar, chart, r, left - 1, line.second, second, bs);
 }
 
 // The rule of the passive record at j: that of its root item.

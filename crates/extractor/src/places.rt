@@ -7,7 +7,7 @@ ghost use Rattle.hrg.specs.Counts.{tabulate};
 ghost use Rattle.hrg.specs.Grammars.{rightOf, edgeAt};
 ghost use Rattle.hrg.specs.Trees.{padded};
 ghost use Rattle.hrg.specs.Items.{joined, attach};
-ghost use Rattle.questions.specs.Layout.{rankAt, ruleNodes, edgeLabel, graphEdges, graphNode};
+ghost use Rattle.questions.specs.Layout.{graphEdgePlace, rankAt, ruleNodes, edgeLabel, graphEdges, graphNode};
 ghost use Rattle.questions.specs.Abstract.{grammarOf, graphOf};
 ghost use Rattle.joins.specs.Joins.{Accepted, KnownEdge, edgeNodes, BareFrom};
 ghost use Rattle.records.specs.Words.{recordAt};
@@ -15,15 +15,14 @@ ghost use Rattle.extraction.specs.Extraction.{partNodes, placedBy};
 
 // The nodes of graph edge b, in four places.
 fn nodes_of(graph: &[u64], b: u64) -> [u64; 4]
-    requires { ⌜ 1 + b < length (now graph) ⌝ }
+    requires { ⌜ graphEdgePlace b < length (now graph) ⌝ }
     ensures { λ l. ⌜ l ≡ tabulate 4 (λ k. graphNode (now (graph .entry)) b k) ⌝ }
 {
-    let p = 1 + b;
     [
-        layout::field_in(graph, p, 1),
-        layout::field_in(graph, p, 2),
-        layout::field_in(graph, p, 3),
-        layout::field_in(graph, p, 4),
+        layout::graph_node_in(graph, b, 0),
+        layout::graph_node_in(graph, b, 1),
+        layout::graph_node_in(graph, b, 2),
+        layout::graph_node_in(graph, b, 3),
     ]
 }
 
@@ -32,12 +31,11 @@ fn place_nodes(grammar: &[u64], r: u64, i: u64, l: &[u64], f: &mut [u64])
     requires { ⌜ KnownEdge (now grammar) r i × (length (now f) ≡ 8) × BareFrom (ruleNodes (now grammar) r) (now f) ⌝ }
     ensures { λ x. ⌜ now (f .exit) ≡ padded (joined (ruleNodes (now (grammar .entry)) r) (now (f .entry)) (attach (ruleNodes (now (grammar .entry)) r) (edgeNodes (now (grammar .entry)) r i) (take (rankAt (now (grammar .entry)) (edgeLabel (now (grammar .entry)) r i)) (now (l .entry))))) ⌝ }
 {
-    let p = 66 + 25 * r + i;
-    let rank = joins::rank_of(grammar, layout::field_in(grammar, p, 0));
+    let rank = joins::rank_of(grammar, layout::edge_label_in(grammar, r, i));
     let mut k = layout::at_most(l.len() as u64, rank);
     while 0 < k {
         k -= 1;
-        let x = layout::field_in(grammar, p, 1 + k) as usize;
+        let x = layout::edge_node_in(grammar, r, i, k) as usize;
         if f[x] == 64 {
             f[x] = l[k as usize];
         }
@@ -49,7 +47,7 @@ fn place_edge(grammar: &[u64], graph: &[u64], r: u64, i: u64, b: u64, f: &mut [u
     requires { ⌜ Accepted (now grammar) (now graph) × KnownEdge (now grammar) r i × (b < graphEdges (now graph)) × (length (now f) ≡ 8) × BareFrom (ruleNodes (now grammar) r) (now f) ⌝ }
     ensures { λ x. ⌜ now (f .exit) ≡ padded (joined (ruleNodes (now (grammar .entry)) r) (now (f .entry)) (attach (ruleNodes (now (grammar .entry)) r) (edgeNodes (now (grammar .entry)) r i) (take (rankAt (now (grammar .entry)) (edgeLabel (now (grammar .entry)) r i)) (edgeAt (graphOf (now (grammar .entry)) (now (graph .entry)) .edges) b .attachment)))) ⌝ }
 {
-    let rank = joins::rank_of(grammar, layout::field_in(graph, 1 + b, 0));
+    let rank = joins::rank_of(grammar, layout::graph_label_in(graph, b));
     let nodes = nodes_of(graph, b);
     place_nodes(grammar, r, i, &nodes[..rank as usize], f);
 }

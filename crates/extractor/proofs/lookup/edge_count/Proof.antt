@@ -1,29 +1,27 @@
 -- An unknown rule has no edge, a known one has those of its table line.
 use native.Mathlib.Omega.{arith}
-use Rattle.joins.proofs.Known.{grammar-long, rule-few}
+use Rattle.joins.proofs.Known.{grammar-long, rule-there}
 use Rattle.extractor.proofs.RuleLookup.{edges-none, edges-some}
 use Rattle.extractor.proofs.lookup.edge_count.Statement.{statement}
 use Rattle.extractor.proofs.lookup.edge_count.Tie as tie
 
-field-in-requires : tie.Need-field-in-requires
-field-in-requires c κs = (omega (arith, grammar-long _ (c .before .pre)), omega arith)
+rule-count-in-requires : tie.Need-rule-count-in-requires
+rule-count-in-requires c κs = omega (arith, grammar-long _ (c .before .pre))
 
 returns : tie.Need-returns
-returns c = edges-none _ _ _ (c .before .field-in .ensures) (c .if1 .taken)
+returns c = edges-none _ _ _ (c .before .rule-count-in .ensures) (c .if1 .taken)
 
-mul-field-in : tie.Need-mul-field-in
-mul-field-in c = omega (arith, rule-few _ (c .before .before .before .args .r) (c .before .before .before .pre) (omega (arith, c .before .field-in .ensures, c .if1 .left)))
-
-add-field-in : tie.Need-add-field-in
-add-field-in c = omega (arith, rule-few _ (c .before .before .before .args .r) (c .before .before .before .pre) (omega (arith, c .before .field-in .ensures, c .if1 .left)))
-
-field-in-requires-2 : tie.Need-field-in-requires-2
-field-in-requires-2 c κs = (omega (arith, grammar-long _ (c .before .before .before .pre), rule-few _ (c .before .before .before .args .r) (c .before .before .before .pre) (omega (arith, c .before .field-in .ensures, c .if1 .left))), omega arith)
+rule-edges-in-requires : tie.Need-rule-edges-in-requires
+rule-edges-in-requires c κs =
+    let count = c .before .rule-count-in .ensures in
+    let known = c .if1 .left in
+    rule-there _ _ (c .before .before .before .pre) (omega (arith, count, known))
 
 returns-2 : tie.Need-returns-2
-returns-2 c = edges-some _ _ _ (c .before .before .field-in .ensures) _ (c .before .before .before .before .pre) (c .before .if1 .left) (c .field-in2 .ensures)
+returns-2 c =
+    let count = c .before .before .rule-count-in .ensures in
+    let known = c .before .if1 .left in
+    edges-some _ _ _ count _ (c .before .before .before .before .pre) known (c .rule-edges-in .ensures)
 
 pub edge-count-spec : {M : Type 1} → statement M
-edge-count-spec =
-    tie.close
-    (tie.spec field-in-requires returns mul-field-in add-field-in field-in-requires-2 returns-2)
+edge-count-spec = tie.close (tie.spec rule-count-in-requires returns rule-edges-in-requires returns-2)

@@ -1,39 +1,24 @@
 -- A plan node is a line of the table.
-use native.Mathlib.Omega.{arith}
-use Rattle.joins.proofs.Known.{grammar-long}
-use Rattle.extractor.proofs.RuleLookup.{node-place, line-at}
+use Rattle.joins.proofs.Known.{node-there}
+use Rattle.extractor.proofs.RuleLookup.{line-at}
 use Rattle.extractor.proofs.lookup.plan_line.Statement.{statement}
 use Rattle.extractor.proofs.lookup.plan_line.Tie as tie
 
-mul-at : tie.Need-mul-at
-mul-at c = omega (arith, node-place _ _ _ (c .before .pre))
+plan-kind-in-requires : tie.Need-plan-kind-in-requires
+plan-kind-in-requires c κs = node-there _ _ _ (c .before .pre)
 
-add-at : tie.Need-add-at
-add-at c = omega (arith, node-place _ _ _ (c .before .pre))
+plan-first-in-requires : tie.Need-plan-first-in-requires
+plan-first-in-requires c κs = node-there _ _ _ (c .before .before .pre)
 
-add-at-2 : tie.Need-add-at-2
-add-at-2 c = omega (arith, node-place _ _ _ (c .before .pre))
-
-field-in-requires : tie.Need-field-in-requires
-field-in-requires c κs = (omega (arith, node-place _ _ _ (c .before .pre), grammar-long _ (c .before .pre .grammar)), omega arith)
-
-field-in-requires-2 : tie.Need-field-in-requires-2
-field-in-requires-2 c κs = (omega (arith, node-place _ _ _ (c .before .before .pre), grammar-long _ (c .before .before .pre .grammar)), omega arith)
-
-field-in-requires-3 : tie.Need-field-in-requires-3
-field-in-requires-3 c κs = (omega (arith, node-place _ _ _ (c .before .before .before .pre), grammar-long _ (c .before .before .before .pre .grammar)), omega arith)
+plan-second-in-requires : tie.Need-plan-second-in-requires
+plan-second-in-requires c κs = node-there _ _ _ (c .before .before .before .pre)
 
 returns : tie.Need-returns
-returns c = line-at _ _ _ _ _ _ (c .before .before .before .before .pre) (c .before .before .field-in .ensures) (c .before .field-in2 .ensures) (c .field-in3 .ensures)
+returns c =
+    let known = c .before .before .before .before .pre in
+    let kind = c .before .before .plan-kind-in .ensures in
+    let first = c .before .plan-first-in .ensures in
+    line-at _ _ _ _ _ _ known kind first (c .plan-second-in .ensures)
 
 pub plan-line-spec : {M : Type 1} → statement M
-plan-line-spec =
-    tie.close
-    (tie.spec
-    mul-at
-    add-at
-    add-at-2
-    field-in-requires
-    field-in-requires-2
-    field-in-requires-3
-    returns)
+plan-line-spec = tie.close (tie.spec plan-kind-in-requires plan-first-in-requires plan-second-in-requires returns)

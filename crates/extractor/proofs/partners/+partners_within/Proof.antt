@@ -21,229 +21,15 @@ abbrev μ-partners-within : Measures 3 partners-within-kinds.ps ℕ
 
 abbrev partners-within-at : ℕ → In 3 partners-within-kinds.ps
 partners-within-at t =
-    and
-    3
-    partners-within-kinds.ps
-    (is 3 partners-within-kinds.ps μ-partners-within t)
-    partners-within.Pre
+    and 3 partners-within-kinds.ps (is 3 partners-within-kinds.ps μ-partners-within t) partners-within.Pre
 
 abbrev partners-within-below : ℕ → In 3 partners-within-kinds.ps
 partners-within-below t =
-    and
-    3
-    partners-within-kinds.ps
-    (falls 3 partners-within-kinds.ps _<_ μ-partners-within t)
-    partners-within.Pre
+    and 3 partners-within-kinds.ps (falls 3 partners-within-kinds.ps _<_ μ-partners-within t) partners-within.Pre
 
-partners-within-returns : (t : ℕ) → partners-within-lts.Need-returns (
-  plan-line-reads.Asked,
-  plan-line-reads.Learnt,
-  first-at-reads.Asked,
-  first-at-reads.Learnt,
-  second-at-reads.Asked,
-  second-at-reads.Learnt,
-  partners-within-below t,
-  partners-within.Post,
-) (partners-within-at t) partners-within.Post
-partners-within-returns t c = within-end _ _ _ _ _ _ (c .if1 .taken)
-
-partners-within-plan-line-requires : (t : ℕ) → partners-within-lts.Need-plan-line-requires (
-  plan-line-reads.Asked,
-  plan-line-reads.Learnt,
-  first-at-reads.Asked,
-  first-at-reads.Learnt,
-  second-at-reads.Asked,
-  second-at-reads.Learnt,
-  partners-within-below t,
-  partners-within.Post,
-) (partners-within-at t) partners-within.Post
-partners-within-plan-line-requires t c κs = c .before .before .before .before .pre .1 .0
-
-partners-within-returns-2 : (t : ℕ) → partners-within-lts.Need-returns-2 (
-  plan-line-reads.Asked,
-  plan-line-reads.Learnt,
-  first-at-reads.Asked,
-  first-at-reads.Learnt,
-  second-at-reads.Asked,
-  second-at-reads.Learnt,
-  partners-within-below t,
-  partners-within.Post,
-) (partners-within-at t) partners-within.Post
-partners-within-returns-2 t c = within-leaf _ _ _ _ _ _ (c .before .before .before .if1 .left) _ _ _ (c .before .before .plan-line .ensures .node) (c .if2 .taken)
-
-partners-within-first-at-requires : (t : ℕ) → partners-within-lts.Need-first-at-requires (
-  plan-line-reads.Asked,
-  plan-line-reads.Learnt,
-  first-at-reads.Asked,
-  first-at-reads.Learnt,
-  second-at-reads.Asked,
-  second-at-reads.Learnt,
-  partners-within-below t,
-  partners-within.Post,
-) (partners-within-at t) partners-within.Post
-partners-within-first-at-requires t c κs = search needs
-
-partners-within-second-at-requires : (t : ℕ) → partners-within-lts.Need-second-at-requires (
-  plan-line-reads.Asked,
-  plan-line-reads.Learnt,
-  first-at-reads.Asked,
-  first-at-reads.Learnt,
-  second-at-reads.Asked,
-  second-at-reads.Learnt,
-  partners-within-below t,
-  partners-within.Post,
-) (partners-within-at t) partners-within.Post
-partners-within-second-at-requires t c κs = search needs
-
-partners-within-mul-bs : (t : ℕ) → partners-within-lts.Need-mul-bs (
-  plan-line-reads.Asked,
-  plan-line-reads.Learnt,
-  first-at-reads.Asked,
-  first-at-reads.Learnt,
-  second-at-reads.Asked,
-  second-at-reads.Learnt,
-  partners-within-below t,
-  partners-within.Post,
-) (partners-within-at t) partners-within.Post
-partners-within-mul-bs t c = omega (arith, c .before .before .before .before .before .before .plan-line .ensures .edge (c .if3 .taken))
-
-partners-within-slice-write-bs : (t : ℕ) → partners-within-lts.Need-slice-write-bs (
-  plan-line-reads.Asked,
-  plan-line-reads.Learnt,
-  first-at-reads.Asked,
-  first-at-reads.Learnt,
-  second-at-reads.Asked,
-  second-at-reads.Learnt,
-  partners-within-below t,
-  partners-within.Post,
-) (partners-within-at t) partners-within.Post
-partners-within-slice-write-bs t c = omega (arith, c .before .before .before .before .before .before .plan-line .ensures .edge (c .if3 .taken), c .before .before .before .before .before .before .before .before .before .before .before .pre .1 .1)
-
-partners-within-sub-partners-within : (t : ℕ) → partners-within-lts.Need-sub-partners-within (
-  plan-line-reads.Asked,
-  plan-line-reads.Learnt,
-  first-at-reads.Asked,
-  first-at-reads.Learnt,
-  second-at-reads.Asked,
-  second-at-reads.Learnt,
-  partners-within-below t,
-  partners-within.Post,
-) (partners-within-at t) partners-within.Post
-partners-within-sub-partners-within t c = search needs
-
-partners-within-partners-within-requires :
-    (t : ℕ) → partners-within-lts.Need-partners-within-requires (
-      plan-line-reads.Asked,
-      plan-line-reads.Learnt,
-      first-at-reads.Asked,
-      first-at-reads.Learnt,
-      second-at-reads.Asked,
-      second-at-reads.Learnt,
-      partners-within-below t,
-      partners-within.Post,
-    ) (partners-within-at t) partners-within.Post
-partners-within-partners-within-requires t c κs = (omega arith, (c .before .before .before .before .before .before .before .plan-line .ensures .lower (c .before .before .before .before .before .if2 .left), length-set (c .before .before .before .before .before .before .before .before .before .before .before .before .args .bs .now) _ _ ∙ c .before .before .before .before .before .before .before .before .before .before .before .before .pre .1 .1))
-
-partners-within-same-length : (t : ℕ) → partners-within-lts.Need-same-length (
-  plan-line-reads.Asked,
-  plan-line-reads.Learnt,
-  first-at-reads.Asked,
-  first-at-reads.Learnt,
-  second-at-reads.Asked,
-  second-at-reads.Learnt,
-  partners-within-below t,
-  partners-within.Post,
-) (partners-within-at t) partners-within.Post
-partners-within-same-length t c = c .before .before .partners-within .kept .1 .1 .1 .1 .1 .1 .0 ∙ length-set (c .before .before .before .before .before .before .before .before .before .before .before .before .before .before .before .args .bs .now) _ _
-
-partners-within-returns-3 : (t : ℕ) → partners-within-lts.Need-returns-3 (
-  plan-line-reads.Asked,
-  plan-line-reads.Learnt,
-  first-at-reads.Asked,
-  first-at-reads.Learnt,
-  second-at-reads.Asked,
-  second-at-reads.Learnt,
-  partners-within-below t,
-  partners-within.Post,
-) (partners-within-at t) partners-within.Post
-partners-within-returns-3 t c = within-introduce _ _ _ _ _ _ (c .before .before .before .before .before .before .before .before .before .before .before .if1 .left) _ _ _ (c .before .before .before .before .before .before .before .before .before .before .plan-line .ensures .node) _ _ (c .before .before .before .before .before .before .before .first-at .ensures) (c .before .before .before .before .before .before .second-at .ensures) _ (c .before .before .before .before .if3 .taken) (c .before .before .partners-within .ensures)
-
-partners-within-sub-partners-within-2 : (t : ℕ) → partners-within-lts.Need-sub-partners-within-2 (
-  plan-line-reads.Asked,
-  plan-line-reads.Learnt,
-  first-at-reads.Asked,
-  first-at-reads.Learnt,
-  second-at-reads.Asked,
-  second-at-reads.Learnt,
-  partners-within-below t,
-  partners-within.Post,
-) (partners-within-at t) partners-within.Post
-partners-within-sub-partners-within-2 t c = search needs
-
-partners-within-partners-within-requires-2 :
-    (t : ℕ) → partners-within-lts.Need-partners-within-requires-2 (
-      plan-line-reads.Asked,
-      plan-line-reads.Learnt,
-      first-at-reads.Asked,
-      first-at-reads.Learnt,
-      second-at-reads.Asked,
-      second-at-reads.Learnt,
-      partners-within-below t,
-      partners-within.Post,
-    ) (partners-within-at t) partners-within.Post
-partners-within-partners-within-requires-2 t c κs = (omega arith, (c .before .before .before .before .before .before .before .plan-line .ensures .lower (c .before .before .before .before .before .if2 .left), c .before .before .before .before .before .before .before .before .before .before .before .before .pre .1 .1))
-
-partners-within-sub-partners-within-3 : (t : ℕ) → partners-within-lts.Need-sub-partners-within-3 (
-  plan-line-reads.Asked,
-  plan-line-reads.Learnt,
-  first-at-reads.Asked,
-  first-at-reads.Learnt,
-  second-at-reads.Asked,
-  second-at-reads.Learnt,
-  partners-within-below t,
-  partners-within.Post,
-) (partners-within-at t) partners-within.Post
-partners-within-sub-partners-within-3 t c = search needs
-
-partners-within-partners-within-requires-3 :
-    (t : ℕ) → partners-within-lts.Need-partners-within-requires-3 (
-      plan-line-reads.Asked,
-      plan-line-reads.Learnt,
-      first-at-reads.Asked,
-      first-at-reads.Learnt,
-      second-at-reads.Asked,
-      second-at-reads.Learnt,
-      partners-within-below t,
-      partners-within.Post,
-    ) (partners-within-at t) partners-within.Post
-partners-within-partners-within-requires-3 t c κs = (omega arith, (c .before .before .before .before .before .before .before .before .before .before .before .plan-line .ensures .both (c .before .before .before .before .before .before .before .before .before .if2 .left) (c .before .before .before .before .before .if3 .left), c .before .before .before .partners-within2 .kept .1 .1 .1 .1 .1 .1 .0 ∙ c .before .before .before .before .before .before .before .before .before .before .before .before .before .before .before .before .pre .1 .1))
-
-partners-within-same-length-2 : (t : ℕ) → partners-within-lts.Need-same-length-2 (
-  plan-line-reads.Asked,
-  plan-line-reads.Learnt,
-  first-at-reads.Asked,
-  first-at-reads.Learnt,
-  second-at-reads.Asked,
-  second-at-reads.Learnt,
-  partners-within-below t,
-  partners-within.Post,
-) (partners-within-at t) partners-within.Post
-partners-within-same-length-2 t c = search needs
-
-partners-within-returns-4 : (t : ℕ) → partners-within-lts.Need-returns-4 (
-  plan-line-reads.Asked,
-  plan-line-reads.Learnt,
-  first-at-reads.Asked,
-  first-at-reads.Learnt,
-  second-at-reads.Asked,
-  second-at-reads.Learnt,
-  partners-within-below t,
-  partners-within.Post,
-) (partners-within-at t) partners-within.Post
-partners-within-returns-4 t c = within-join _ _ _ _ _ _ (c .before .before .before .before .before .before .before .before .before .before .before .before .before .before .before .if1 .left) _ _ _ (c .before .before .before .before .before .before .before .before .before .before .before .before .before .before .plan-line .ensures .node) _ _ (c .before .before .before .before .before .before .before .before .before .before .before .first-at .ensures) (c .before .before .before .before .before .before .before .before .before .before .second-at .ensures) _ _ (c .before .before .before .before .before .before .before .before .before .before .before .before .if2 .left) (c .before .before .before .before .before .before .before .before .if3 .left) (c .before .before .before .before .before .before .partners-within2 .ensures) (c .before .before .partners-within3 .ensures)
-
-pub +partners-within-spec : {M : Type 1} → statement M
-+partners-within-spec = close μ-partners-within λ t. partners-within-lts.spec (
+-- what the calls ask and give
+abbrev partners-within-calls : ℕ → partners-within-lts.Claims
+partners-within-calls t = (
   plan-line-reads.Asked,
   plan-line-reads.Learnt,
   first-at-reads.Asked,
@@ -253,22 +39,116 @@ pub +partners-within-spec : {M : Type 1} → statement M
   partners-within-below t,
   partners-within.Post,
 )
+
+partners-within-returns : (t : ℕ)
+    → partners-within-lts.Need-returns (partners-within-calls t) (partners-within-at t) partners-within.Post
+partners-within-returns t c = within-end _ _ _ _ _ _ (c .if1 .taken)
+
+partners-within-plan-line-requires : (t : ℕ)
+    → partners-within-lts.Need-plan-line-requires (partners-within-calls t) (partners-within-at t) partners-within.Post
+partners-within-plan-line-requires t c κs = c .before .before .before .before .pre .1 .0
+
+partners-within-mul-bs : (t : ℕ)
+    → partners-within-lts.Need-mul-bs (partners-within-calls t) (partners-within-at t) partners-within.Post
+partners-within-mul-bs t c =
+    let introduces = c .before .before .match .keys2 in
+    omega (arith, c .before .before .before .plan-line .ensures .edge introduces)
+
+partners-within-slice-write-bs : (t : ℕ)
+    → partners-within-lts.Need-slice-write-bs (partners-within-calls t) (partners-within-at t) partners-within.Post
+partners-within-slice-write-bs t c =
+    let introduces = c .before .before .match .keys2 in
+    let eight = c .before .before .before .before .before .before .before .before .pre .1 .1 in
+    omega (arith, c .before .before .before .plan-line .ensures .edge introduces, eight)
+
+partners-within-partners-within-requires : (t : ℕ)
+    → partners-within-lts.Need-partners-within-requires (partners-within-calls t) (partners-within-at t)
+    partners-within.Post
+partners-within-partners-within-requires t c κs =
+    let introduces = c .before .before .before .match .keys2 in
+    let at-line = c .before .before .before .before in
+    let start = at-line .before .before .before .before .before in
+    let eight = start .pre .1 .1 in
+    let lower = at-line .plan-line .ensures .lower (λ e. omega (arith, introduces)) in
+    (omega arith, (lower, length-set (start .args .bs .now) _ _ ∙ eight))
+
+partners-within-partners-within-requires-2 : (t : ℕ)
+    → partners-within-lts.Need-partners-within-requires-2 (partners-within-calls t) (partners-within-at t)
+    partners-within.Post
+partners-within-partners-within-requires-2 t c κs =
+    let joins = c .before .before .before .match .rest in
+    let at-line = c .before .before .before .before in
+    let eight = at-line .before .before .before .before .before .pre .1 .1 in
+    (omega arith, (at-line .plan-line .ensures .lower (joins .0 .1), eight))
+
+partners-within-partners-within-requires-3 : (t : ℕ)
+    → partners-within-lts.Need-partners-within-requires-3 (partners-within-calls t) (partners-within-at t)
+    partners-within.Post
+partners-within-partners-within-requires-3 t c κs =
+    let joins = c .before .before .before .before .before .before .before .match .rest in
+    let at-line = c .before .before .before .before .before .before .before .before in
+    let kept = c .before .before .before .partners-within2 .kept .1 .1 .1 .1 .1 .1 .0 in
+    let eight = at-line .before .before .before .before .before .pre .1 .1 in
+    (omega arith, (at-line .plan-line .ensures .both (joins .0 .1) (joins .1), kept ∙ eight))
+
+partners-within-returns-2 : (t : ℕ)
+    → partners-within-lts.Need-returns-2 (partners-within-calls t) (partners-within-at t) partners-within.Post
+partners-within-returns-2 t c =
+    let some = c .before .before .if1 .left in
+    within-leaf _ _ _ _ _ _ some _ _ _ (c .before .plan-line .ensures .node) (c .match .keys1)
+
+partners-within-same-length : (t : ℕ)
+    → partners-within-lts.Need-same-length (partners-within-calls t) (partners-within-at t) partners-within.Post
+partners-within-same-length t c =
+    let at-line = c .before .before .before .before .before .before .before in
+    let bs = at-line .before .before .before .before .before .args .bs .now in
+    c .before .before .partners-within .kept .1 .1 .1 .1 .1 .1 .0 ∙ length-set bs _ _
+
+partners-within-returns-3 : (t : ℕ)
+    → partners-within-lts.Need-returns-3 (partners-within-calls t) (partners-within-at t) partners-within.Post
+partners-within-returns-3 t c =
+    let at-line = c .before .before .before .before .before .before .before in
+    let some = at-line .before .if1 .left in
+    let node = at-line .plan-line .ensures .node in
+    let introduces = c .before .before .before .before .before .before .match .keys2 in
+    let first = c .before .before .before .before .before .first-at .ensures in
+    let second = c .before .before .before .before .second-at .ensures in
+    let below = c .before .before .partners-within .ensures in
+    within-introduce _ _ _ _ _ _ some _ _ _ node _ _ first second _ introduces below
+
+partners-within-returns-4 : (t : ℕ)
+    → partners-within-lts.Need-returns-4 (partners-within-calls t) (partners-within-at t) partners-within.Post
+partners-within-returns-4 t c =
+    let at-line = c .before .before .before .before .before .before .before .before .before .before .before in
+    let some = at-line .before .if1 .left in
+    let node = at-line .plan-line .ensures .node in
+    let joins = c .before .before .before .before .before .before .before .before .before .before .match .rest in
+    let first = c .before .before .before .before .before .before .before .before .before .first-at2 .ensures in
+    let second = c .before .before .before .before .before .before .before .before .second-at2 .ensures in
+    let one = c .before .before .before .before .before .before .partners-within2 .ensures in
+    let both = c .before .before .partners-within3 .ensures in
+    within-join _ _ _ _ _ _ some _ _ _ node _ _ first second _ _ (joins .0 .1) (joins .1) one both
+
+pub +partners-within-spec : {M : Type 1} → statement M
++partners-within-spec = close μ-partners-within λ t. partners-within-lts.spec (partners-within-calls t)
     (partners-within-at t)
     partners-within.Post
     (partners-within-returns t)
     (partners-within-plan-line-requires t)
-    (partners-within-returns-2 t)
-    (partners-within-first-at-requires t)
-    (partners-within-second-at-requires t)
+    (λ c κs. search needs)
+    (λ c κs. search needs)
     (partners-within-mul-bs t)
     (partners-within-slice-write-bs t)
-    (partners-within-sub-partners-within t)
+    (λ c. search needs)
     (partners-within-partners-within-requires t)
+    (λ c κs. search needs)
+    (λ c κs. search needs)
+    (λ c. search needs)
+    (partners-within-partners-within-requires-2 t)
+    (λ c. search needs)
+    (partners-within-partners-within-requires-3 t)
+    (partners-within-returns-2 t)
     (partners-within-same-length t)
     (partners-within-returns-3 t)
-    (partners-within-sub-partners-within-2 t)
-    (partners-within-partners-within-requires-2 t)
-    (partners-within-sub-partners-within-3 t)
-    (partners-within-partners-within-requires-3 t)
-    (partners-within-same-length-2 t)
+    (λ c. search needs)
     (partners-within-returns-4 t)
