@@ -2,11 +2,11 @@
 ghost use mathlib.Core.Path.{_≡_};
 ghost use mathlib.Core.Bool.{true, cond};
 ghost use Prim.Native.Nat.{_+_, _*_, _≤_, _<_};
-ghost use lib.ListN.{getD, take};
+ghost use lib.ListN.{getD, take, replicate};
 ghost use lib.Bits.{bitAnd};
 ghost use lib.Dec.{ltb};
 ghost use Rattle.hrg.specs.Grammars.{rightOf, edgeAt};
-ghost use Rattle.hrg.specs.Trees.{padded, images};
+ghost use Rattle.hrg.specs.Trees.{unplaced, padded, images};
 ghost use Rattle.hrg.specs.ClosureRun.{binaryOf};
 ghost use Rattle.agenda.specs.Records.{itemOf, plus};
 ghost use Rattle.questions.specs.Layout.{ruleCount, ruleNodes, planKind, graphEdges};
@@ -32,16 +32,10 @@ pub struct Place {
     pub node: u64,
 }
 
-// What a rule makes: no item where ok is false.
+// What a rule makes: no item where ok is false. The item comes first, so that its words are copied as words.
 pub struct Made {
-    pub ok: bool,
     pub item: ChartItem,
-}
-
-// Whether an item can be the second of two, and its map.
-struct SecondMap {
-    ok: bool,
-    nodes: [u64; 8],
+    pub ok: bool,
 }
 
 // A sum that stays in a word.
@@ -55,18 +49,16 @@ pub fn plus(a: u64, b: u64) -> u64
 }
 
 // ---- lists of graph nodes: eight places, 64 where there is none
-// The first n places of l.
-fn first_places(n: u64, l: [u64; 8]) -> [u64; 8]
-    requires { ⌜ n ≤ 8 ⌝ }
-    ensures { λ x. ⌜ x ≡ padded (take n l) ⌝ }
+// The first n places of l into t, which has no images.
+fn first_places(n: u64, l: [u64; 8], t: &mut [u64])
+    requires { ⌜ (n ≤ 8) × (now t ≡ replicate 8 unplaced) ⌝ }
+    ensures { λ x. ⌜ now (t .exit) ≡ padded (take n l) ⌝ }
 {
-    let mut t = [64u64; 8];
     let mut i: u64 = 0;
     while i < n {
         t[i as usize] = l[i as usize];
         i += 1;
     }
-    t
 }
 
 // The images of a rule's external nodes by a map.
@@ -101,42 +93,37 @@ pub fn edge_nodes(g: &[u64], h: &[u64], e: u64) -> [u64; 8]
 }
 
 // ---- the rules of two premises
-// Whether y can be the second at plan node q of rule `of`, of which w tells what it asks for, and its map. By the
-// nonterminal rule q introduces an edge and y is passive and has the edge's symbol; by the join rule y is active and
-// at the second child. Its places past the rule's nodes may be any, and count for nothing.
-fn second_map(g: &[u64], of: u64, q: u64, w: u64, y: ChartItem) -> SecondMap
-    requires { ⌜ KnownNode (now g) of q × (planKind (now g) of q ≡ 0 → ⊥) × (w ≡ secondWord (now g) of q) ⌝ }
-    ensures { λ x. ⌜ Second (now (g .entry)) of q y (x .nodes) (x .ok) ⌝ }
+// Whether y can be the second at plan node q of rule `of`, of which w tells what it asks for; then its map is put into
+// t, which has no images. By the nonterminal rule q introduces an edge and y is passive and has the edge's symbol; by
+// the join rule y is active and at the second child. Its places past the rule's nodes may be any, and count for nothing.
+fn second_map(g: &[u64], of: u64, q: u64, w: u64, y: ChartItem, t: &mut [u64]) -> bool
+    requires { ⌜ KnownNode (now g) of q × (planKind (now g) of q ≡ 0 → ⊥) × (w ≡ secondWord (now g) of q) × (now t ≡ replicate 8 unplaced) ⌝ }
+    ensures { λ ok. ⌜ Second (now (g .entry)) of q y (now (t .exit)) ok ⌝ }
 {
-    let mut t = [64u64; 8];
-    let none = SecondMap {
-        ok: false,
-        nodes: t,
-    };
     let l = y.nodes;
     let asked = w / 4;
     if w % 4 == 1 {
         if y.kind == 0 {
-            return none;
+            return false;
         }
         if asked % 64 != y.of {
-            return none;
+            return false;
         }
         let i = layout::plan_second_in(g, of, q);
-        joins::attach_by(g, of, i, asked / 64, &l, &mut t);
-        return SecondMap { ok: true, nodes: t };
+        joins::attach_by(g, of, i, asked / 64, &l, t);
+        return true;
     }
     if y.kind != 0 {
-        return none;
+        return false;
     }
     if y.of != of {
-        return none;
+        return false;
     }
     if asked != y.plan {
-        return none;
+        return false;
     }
-    let nodes = first_places(layout::rule_nodes_in(g, of), l);
-    SecondMap { ok: true, nodes }
+    first_places(layout::rule_nodes_in(g, of), l, t);
+    true
 }
 
 // What x first and y second make, with the count `count`. Items may have any numbers: an unknown rule or plan node
@@ -154,7 +141,7 @@ fn combined(
     requires { ⌜ Accepted (now g) (now h) × PlanTable (now g) (now plans) × GraphTable (now g) (now h) (now graph) × (sure ≡ true → Covering (now g) (now h) x) × (sure ≡ true → Covering (now g) (now h) y) ⌝ }
     ensures { λ m. ⌜ Gives (now (g .entry)) (now (h .entry)) sure (binaryOf (grammarOf (now (g .entry))) (graphOf (now (g .entry)) (now (h .entry))) (itemOf (grammarOf (now (g .entry))) x) (itemOf (grammarOf (now (g .entry))) y)) count m ⌝ }
 {
-    let none = Made { ok: false, item: x };
+    let none = Made { item: x, ok: false };
     if x.kind != 0 {
         return none;
     }
@@ -168,12 +155,11 @@ fn combined(
     if w % 4 == 3 {
         return none;
     }
-    let second = second_map(g, r, q, w, y);
-    if !second.ok {
+    let mut t = [64u64; 8];
+    if !second_map(g, r, q, w, y, &mut t) {
         return none;
     }
     let f = x.nodes;
-    let mut t = second.nodes;
     let stays = above.stays;
     let ok = joins::combine(g, h, graph, r, q, stays, x.edges, y.edges, sure, &f, &mut t);
     let item = ChartItem {
@@ -184,7 +170,7 @@ fn combined(
         count,
         nodes: t,
     };
-    Made { ok, item }
+    Made { item, ok }
 }
 
 // What x first and y second make. It may be sure that both cover their open nodes: then what they make does.
@@ -217,7 +203,7 @@ pub fn terminal(
     requires { ⌜ Accepted (now g) (now h) × (e < graphEdges (now h)) × PlanTable (now g) (now plans) × GraphTable (now g) (now h) (now graph) × (sure ≡ true → Covering (now g) (now h) x) ⌝ }
     ensures { λ m. ⌜ Gives (now (g .entry)) (now (h .entry)) sure (terminalItems (grammarOf (now (g .entry))) (graphOf (now (g .entry)) (now (h .entry))) (itemOf (grammarOf (now (g .entry))) x) e) (x .count) m ⌝ }
 {
-    let none = Made { ok: false, item: x };
+    let none = Made { item: x, ok: false };
     if x.kind != 0 {
         return none;
     }
@@ -243,7 +229,7 @@ pub fn root(g: &[u64], x: ChartItem) -> Made
     requires { ⌜ checkGrammar (now g) ≡ true ⌝ }
     ensures { λ m. ⌜ GivesRoot (now (g .entry)) x m ⌝ }
 {
-    let none = Made { ok: false, item: x };
+    let none = Made { item: x, ok: false };
     if x.kind != 0 {
         return none;
     }
@@ -271,7 +257,7 @@ pub fn root(g: &[u64], x: ChartItem) -> Made
         count,
         nodes,
     };
-    Made { ok: true, item }
+    Made { item, ok: true }
 }
 
 // ---- the graph edges worth a try

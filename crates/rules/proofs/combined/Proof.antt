@@ -1,5 +1,5 @@
 -- The one plan node above the first item, the map of the second, and what two sets and maps make there.
-use mathlib.Core.Path.{sym}
+use mathlib.Core.Path.{refl, sym}
 use borrow.Author.Tests.{not-true, not-false, lt-ltb, le-ltb}
 use borrow.Author.Needs.{needs, length-unmapped}
 use Rattle.rules.proofs.JoinWords.{child-kind, join-first, join-later}
@@ -26,20 +26,19 @@ returns-3 c =
 
 second-map-requires : tie.Need-second-map-requires
 second-map-requires c κs =
-    let up = c .before .before .before .before .parent-in .ensures in
-    let near = c .before .before .if2 .left in
+    let up = c .before .before .before .before .before .parent-in .ensures in
+    let near = c .before .before .before .if2 .left in
     let known = up .above .known (lt-ltb _ _ near) in
-    (known, child-kind _ _ _ known _ (up .join near .child), join-first _ _ _ _ (up .join near) (c .if3 .left) .1)
+    (known, child-kind _ _ _ known _ (up .join near .child), join-first _ _ _ _ (up .join near) (c .before .if3 .left) .1, refl)
 
 returns-4 : tie.Need-returns-4
 returns-4 c =
-    let isActive = c .before .before .before .before .before .before .before .before .if1 .left in
-    let up = c .before .before .before .before .before .before .before .parent-in .ensures in
-    let found = lt-ltb _ _ (c .before .before .before .before .before .if2 .left) in
+    let isActive = c .before .before .before .before .before .before .before .before .before .if1 .left in
+    let up = c .before .before .before .before .before .before .before .before .parent-in .ensures in
+    let found = lt-ltb _ _ (c .before .before .before .before .before .before .if2 .left) in
     let second = c .before .before .second-map .ensures in
     gives-none _ _ _ _ _ _ (pair-neither _ _ _ _ isActive _ (up .above) found _ _ second (not-true _ (c .if4 .taken)))
 
--- the eight places of x and of the second map are told where the two structs are: `search` does not come that far
 slice-aggregate-combine : tie.Need-slice-aggregate-combine
 slice-aggregate-combine c =
     let x = c .before .before .before .before .before .before .before .before .before .before .before .before .before .before .before .args .x in
@@ -55,9 +54,9 @@ combine-requires c κs =
     let isActive = c .before .before .before .before .before .before .before .before .before .before .before .before .if1 .left in
     let up = c .before .before .before .before .before .before .before .before .before .before .before .parent-in .ensures in
     let near = c .before .before .before .before .before .before .before .before .before .if2 .left in
-    let second = c .before .before .before .before .before .before .second-map in
-    let holds = not-false _ (c .before .before .before .before .if4 .left) in
-    let eight′ = length-unmapped _ (second .result .nodes) 8 (second .ok .1 .1 .1 .0 .1 .0 .1) in (
+    let second = c .before .before .before .before .before .second-map in
+    let holds = not-false _ (c .before .before .before .if4 .left) in
+    let eight′ = second .kept .1 .1 .1 .1 .1 .0 in (
       pre .0,
       up .above .known (lt-ltb _ _ near),
       pre .2,
@@ -80,11 +79,11 @@ returns-5 c =
     let near = c .before .before .before .before .before .before .before .before .before .before .before .before .before .if2 .left in
     let other = c .before .before .before .before .before .before .before .before .before .before .before .if3 .left in
     let first = join-first _ _ _ _ (up .join near) other in
-    let second = c .before .before .before .before .before .before .before .before .before .before .second-map in
-    let holds = not-false _ (c .before .before .before .before .before .before .before .before .if4 .left) in
-    let eight′ = length-unmapped _ (second .result .nodes) 8 (second .ok .1 .1 .1 .0 .1 .0 .1) in
+    let second = c .before .before .before .before .before .before .before .before .before .second-map in
+    let holds = not-false _ (c .before .before .before .before .before .before .before .if4 .left) in
+    let eight′ = second .kept .1 .1 .1 .1 .1 .0 in
     pair-made _ _ _ _ isActive _ (up .above) (lt-ltb _ _ near) _ _ (second .ensures) _ _ _ _ holds (first .0) eight eight′
     (c .before .before .before .combine .ensures) (pre .3) (pre .4) (pre .0)
 
 pub combined-spec : {M : Type 1} → statement M
-combined-spec = tie.close (tie.spec returns (λ c κs. search needs) returns-2 returns-3 second-map-requires returns-4 slice-aggregate-combine (λ c. search needs) combine-requires returns-5)
+combined-spec = tie.close (tie.spec returns (λ c κs. search needs) returns-2 returns-3 (λ c. search needs) second-map-requires returns-4 slice-aggregate-combine (λ c. search needs) combine-requires returns-5)
