@@ -2,7 +2,7 @@
  *
  * '01' is the paper that fixes files, questions and answers. Every function is proved to meet a contract that fixes its answer and every byte
  * and word that it is lent (crates/capi/src/lib.rt). It is told no more than its parameters, keeps nothing between calls, and needs no heap.
- * Lend it 8 MiB of stack: the replay of 4,096 applications, each under the one before, takes about 2.4.
+ * Lend it 8 MiB of stack: the replay of 4,096 applications, each under the one before, takes about 2.2.
  *
  * The caller sees to it that
  * - a pointer and the length behind it (in elements, not bytes) name memory that may be read, and written where it is not const, for the whole
