@@ -19,7 +19,7 @@
  *    5  a listed node is out of range, or listed twice
  *    6  a node is on no edge
  *    7  the plan breaks its rules, or is not whole
- *    8  the chart does not hold 1 to 4,096 items, no accepted texts could have filled the tables, or the chart holds what does not exist
+ *    8  the chart does not hold 1 to 4,096 items, no accepted texts could have filled the tables, or a record is not the image of an item that names what exists
  *    9  the chart does not hold the closure
  *   10  items wait: run on
  *   11  the goal is not in the closure: the grammar does not derive the graph
@@ -37,9 +37,9 @@
 extern "C" {
 #endif
 
-/* How many words to lend: the tables of the largest grammar (1,665) and of the largest graph (65), and a chart that holds so many items
- * (2 words, and 16 for each item; 0 where items is 0 or above 4,096). Longer tables and charts are taken too: words behind the table stay, and a chart
- * holds as many items as fit. */
+/* How many words to lend: the tables of the largest grammar (1,665) and of the largest graph (65), and a chart that holds so many items (0 where items is
+ * 0 or above 4,096). Longer tables and charts are taken too: words behind the table stay, and a chart holds as many items as fit. How a chart's words are
+ * laid out is the library's own and may change: bobbinmarl_item tells what they say. */
 size_t bobbinmarl_grammar_words(void);
 size_t bobbinmarl_graph_words(void);
 size_t bobbinmarl_chart_words(size_t items);
@@ -62,6 +62,28 @@ uint64_t bobbinmarl_start(const uint64_t *grammar, size_t grammar_len, const uin
  * later run says so, and *done stays. 8: the tables or the chart are refused, and *done stays. */
 uint64_t bobbinmarl_run(const uint64_t *grammar, size_t grammar_len, const uint64_t *graph, size_t graph_len, uint64_t *chart, size_t chart_len,
                         uint64_t steps, uint64_t *done);
+
+/* The fields of an item, by their places in the words that bobbinmarl_item fills. */
+enum bobbinmarl_field {
+    BOBBINMARL_KIND,    /* 0: an active item, of a rule at a plan node; 1: a passive one, of a symbol */
+    BOBBINMARL_OF,      /* the number of the rule (kind 0) or of the symbol (kind 1) */
+    BOBBINMARL_PLAN,    /* kind 0: the plan node; kind 1: 0 */
+    BOBBINMARL_EDGES,   /* the graph edges that it stands for: bit i for edge i */
+    BOBBINMARL_COUNT,   /* the applications that it takes, as found so far; of a handled item the fewest */
+    BOBBINMARL_HANDLED, /* 0: it waits */
+    BOBBINMARL_NODES,   /* eight words: the graph node of each rule node (kind 0) or external node (kind 1) that it knows; 64: none */
+    BOBBINMARL_FIRST = BOBBINMARL_NODES + 8, /* the place of the item that it was made from; a leaf's is 0 */
+    BOBBINMARL_SECOND,  /* the graph edge, or the place of the other item, that it was made with; 0 where there is none */
+    BOBBINMARL_FIELDS   /* how many there are: 16 */
+};
+
+/* How many items a chart has: those at the places below that number, in the order in which they were found. Of words that no start has filled it is some
+ * number, and never more than they hold. */
+uint64_t bobbinmarl_items(const uint64_t *chart, size_t chart_len);
+
+/* Tells the item at a place, whatever wrote the chart. 0: its 16 fields are in the first words of fields, and the rest of it stays. 8: the chart has no
+ * item at that place. 12: fields has fewer than 16 words. */
+uint64_t bobbinmarl_item(const uint64_t *chart, size_t chart_len, uint64_t place, uint64_t *fields, size_t fields_len);
 
 /* Writes the derivation of the graph that a chart holds, as the text of a derivation file; on a chart untouched since its start, one with the
  * fewest applications. 0: *told bytes are written to the front of out, and the rest of it stays. 10: items wait after *told steps. 8 (also where a

@@ -2,7 +2,7 @@
  * the derivation as records and prints these in words.
  * usage: example [--records] FOLDER
  * Exit status: 0 a derivation, 1 a refusal, whose words go to standard error, 2 trouble.
- * All that the library is lent is static here; with 8 MiB of stack the main thread has enough. */
+ * All that the library is lent is static here but for the chart, whose size the library tells; with 8 MiB of stack the main thread has enough. */
 #include <inttypes.h>
 #include <stdio.h>
 #include <stdlib.h>
@@ -12,15 +12,15 @@
 
 /* The words of the two tables; a shorter table is refused 8. */
 enum { GRAMMAR_WORDS = 1665, GRAPH_WORDS = 65 };
-/* A chart takes 2 words and 16 for each item. */
-enum { ITEMS = 2048, CHART_WORDS = 2 + 16 * ITEMS };
+enum { ITEMS = 2048 };
 enum { FILE_BYTES = 32768, OUT_BYTES = 32768, PATH_BYTES = 4096 };
 /* No derivation has more applications. */
 enum { ROWS = 4096 };
 
 static uint64_t grammar[GRAMMAR_WORDS];
 static uint64_t graph[GRAPH_WORDS];
-static uint64_t chart[CHART_WORDS];
+static uint64_t *chart;
+static size_t chart_words;
 static uint8_t out[OUT_BYTES];
 static bobbinmarl_application rows[ROWS];
 /* One byte more than a file may have, to see that it has more. */
@@ -35,7 +35,7 @@ static const char *const words[] = {
     "a listed node is out of range, or listed twice",
     "a node is on no edge",
     "the plan breaks its rules, or is not whole",
-    "the chart does not hold 1 to 4,096 items, no accepted texts could have filled the tables, or the chart holds what does not exist",
+    "the chart does not hold 1 to 4,096 items, no accepted texts could have filled the tables, or a record is not the image of an item that names what exists",
     "the chart does not hold the closure",
     "items wait: run on",
     "the goal is not in the closure: the grammar does not derive the graph",
@@ -94,17 +94,21 @@ static uint64_t derive(const char *folder)
     length = read_file(folder, "graph.txt", "graph");
     require(bobbinmarl_read_graph(grammar, GRAMMAR_WORDS, text, length, graph, GRAPH_WORDS), "graph");
 
+    chart_words = bobbinmarl_chart_words(ITEMS);
+    chart = malloc(chart_words * sizeof *chart);
+    if (chart == NULL)
+        trouble("no memory for", "the chart");
     /* A chart of so many items is done after as many steps, or too small. */
     uint64_t steps = 0;
-    require(bobbinmarl_start(grammar, GRAMMAR_WORDS, graph, GRAPH_WORDS, chart, CHART_WORDS), "start");
-    require(bobbinmarl_run(grammar, GRAMMAR_WORDS, graph, GRAPH_WORDS, chart, CHART_WORDS, ITEMS, &steps), "run");
+    require(bobbinmarl_start(grammar, GRAMMAR_WORDS, graph, GRAPH_WORDS, chart, chart_words), "start");
+    require(bobbinmarl_run(grammar, GRAMMAR_WORDS, graph, GRAPH_WORDS, chart, chart_words, ITEMS, &steps), "run");
     return steps;
 }
 
 static void print_text(const char *folder, uint64_t steps)
 {
     uint64_t written = 0;
-    require(bobbinmarl_write(grammar, GRAMMAR_WORDS, graph, GRAPH_WORDS, chart, CHART_WORDS, out, OUT_BYTES, &written), "writing");
+    require(bobbinmarl_write(grammar, GRAMMAR_WORDS, graph, GRAPH_WORDS, chart, chart_words, out, OUT_BYTES, &written), "writing");
     if (bobbinmarl_replay(grammar, GRAMMAR_WORDS, graph, GRAPH_WORDS, out, (size_t)written) != 0)
         trouble("does not replay: the derivation of", folder);
     fwrite(out, 1, (size_t)written, stdout);
@@ -122,7 +126,7 @@ static void print_numbers(const char *what, const uint64_t *numbers, uint64_t co
 static void print_records(void)
 {
     uint64_t filled = 0;
-    require(bobbinmarl_fill(grammar, GRAMMAR_WORDS, graph, GRAPH_WORDS, chart, CHART_WORDS, rows, ROWS, &filled), "filling");
+    require(bobbinmarl_fill(grammar, GRAMMAR_WORDS, graph, GRAPH_WORDS, chart, chart_words, rows, ROWS, &filled), "filling");
     for (uint64_t i = 0; i < filled; i++) {
         printf("application %" PRIu64 ": rule %" PRIu64, i, rows[i].rule);
         print_numbers("nodes", rows[i].nodes, rows[i].node_count);
@@ -143,6 +147,7 @@ int main(int count, char **arguments)
         print_records();
     else
         print_text(folder, steps);
+    free(chart);
     end_output();
     return 0;
 }

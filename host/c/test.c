@@ -21,7 +21,8 @@ static void check(int holds, const char *fact, const char *where, int line)
 
 /* ---- what is lent, with guards around each part; `kept` is a copy from before a call */
 
-enum { GUARD = 8, GRAMMAR = 1665, GRAPH = 65, CHART = 2 + 16 * 4097, OUT = 64, ROWS = 2048 };
+/* A chart of 4,097 items, one more than a chart may hold, has less than CHART words (test_words). */
+enum { GUARD = 8, GRAMMAR = 1665, GRAPH = 65, CHART = 70000, OUT = 64, ROWS = 2048, FIELDS = BOBBINMARL_FIELDS };
 
 static struct lent {
     uint64_t guard0[GUARD];
@@ -37,6 +38,8 @@ static struct lent {
     uint64_t guard5[GUARD];
     uint64_t told;
     uint64_t guard6[GUARD];
+    uint64_t fields[FIELDS + GUARD];
+    uint64_t guard7[GUARD];
 } lent, kept;
 
 static void keep(void)
@@ -67,9 +70,16 @@ static int same_but(const void *part, size_t size)
 
 #define TABLES lent.grammar, GRAMMAR, lent.graph, GRAPH
 
+/* Each item takes as many words as the others. */
+static size_t words_per_item(void)
+{
+    return bobbinmarl_chart_words(2) - bobbinmarl_chart_words(1);
+}
+
+/* The words of a chart, also where the library has none of that size; of no items the most that hold none. */
 static size_t chart_words(size_t items)
 {
-    return 2 + 16 * items;
+    return items == 0 ? bobbinmarl_chart_words(1) - 1 : bobbinmarl_chart_words(1) + words_per_item() * (items - 1);
 }
 
 static uint64_t read_grammar(const char *text)
@@ -105,6 +115,97 @@ static uint64_t fill(size_t items, size_t room)
 static uint64_t replay(const char *text)
 {
     return bobbinmarl_replay(TABLES, (const uint8_t *)text, strlen(text));
+}
+
+/* ---- touched charts: where a field stands in the words is learnt by asking */
+
+struct bit {
+    size_t word;
+    unsigned place;
+};
+
+/* The bits of the number of items, and of each field of the item at place 0, the lowest first. */
+static struct bit number_bits[13], field_bits[FIELDS][64];
+static unsigned widths[FIELDS];
+
+static void flip(struct bit bit)
+{
+    lent.chart[bit.word] ^= (uint64_t)1 << bit.place;
+}
+
+static void put_bits(const struct bit *bits, unsigned width, size_t behind, uint64_t value)
+{
+    for (unsigned k = 0; k < width; k++) {
+        struct bit bit = {bits[k].word + behind, bits[k].place};
+        if ((lent.chart[bit.word] >> bit.place & 1) != (value >> k & 1))
+            flip(bit);
+    }
+}
+
+static unsigned log_of(uint64_t power)
+{
+    unsigned k = 0;
+    while (power >> k > 1)
+        k++;
+    return k;
+}
+
+/* In a chart whose bits are all 1 a bit that is changed takes from one field what it stands for there. */
+static void learn_field(struct bit bit)
+{
+    uint64_t most[FIELDS], now[FIELDS];
+    CHECK(bobbinmarl_item(lent.chart, chart_words(1), 0, most, FIELDS) == 0);
+    flip(bit);
+    CHECK(bobbinmarl_item(lent.chart, chart_words(1), 0, now, FIELDS) == 0);
+    flip(bit);
+    for (int field = 0; field < FIELDS; field++)
+        if (most[field] != now[field]) {
+            field_bits[field][log_of(most[field] - now[field])] = bit;
+            widths[field]++;
+        }
+}
+
+/* In the largest chart whose bits are all 0 a bit of the number counts as many items as it stands for; higher bits count all that fit. */
+static void learn_number(struct bit bit)
+{
+    flip(bit);
+    unsigned k = log_of(bobbinmarl_items(lent.chart, chart_words(4096)));
+    if (bobbinmarl_items(lent.chart, chart_words(4096)) == (uint64_t)1 << k && number_bits[k].place == 64)
+        number_bits[k] = bit;
+    flip(bit);
+}
+
+static void learn(void)
+{
+    for (size_t k = 0; k < sizeof number_bits / sizeof number_bits[0]; k++)
+        number_bits[k].place = 64;
+    for (unsigned i = 0; i < 64 * chart_words(1); i++) {
+        struct bit bit = {i / 64, i % 64};
+        memset(lent.chart, 0xff, sizeof(uint64_t) * chart_words(1));
+        learn_field(bit);
+        memset(lent.chart, 0, sizeof(uint64_t) * chart_words(1));
+        learn_number(bit);
+    }
+}
+
+static void put_number(uint64_t items)
+{
+    put_bits(number_bits, sizeof number_bits / sizeof number_bits[0], 0, items);
+}
+
+static uint64_t most_of(int field)
+{
+    return UINT64_MAX >> (64 - widths[field]);
+}
+
+static void put_field(uint64_t place, int field, uint64_t value)
+{
+    put_bits(field_bits[field], widths[field], words_per_item() * place, value);
+}
+
+static uint64_t item(size_t items, uint64_t place)
+{
+    return bobbinmarl_item(lent.chart, chart_words(items), place, lent.fields, FIELDS);
 }
 
 /* ---- texts */
@@ -181,8 +282,9 @@ static void test_words(void)
     CHECK(bobbinmarl_grammar_words() == GRAMMAR);
     CHECK(bobbinmarl_graph_words() == GRAPH);
     CHECK(bobbinmarl_chart_words(0) == 0);
-    CHECK(bobbinmarl_chart_words(1) == 18);
-    CHECK(bobbinmarl_chart_words(4096) == 65538);
+    CHECK(bobbinmarl_chart_words(1) > 0);
+    CHECK(bobbinmarl_chart_words(4096) == chart_words(4096));
+    CHECK(chart_words(4097) < CHART);
     CHECK(bobbinmarl_chart_words(4097) == 0);
     CHECK(bobbinmarl_chart_words(SIZE_MAX) == 0);
 }
@@ -248,8 +350,8 @@ static void test_k7(void)
     keep();
     CHECK(run(9, 9) == 9);
     CHECK(same_but(lent.chart, sizeof(uint64_t) * chart_words(9)));
-    /* The first word counts the items; the sixth of an item says whether it is handled. */
-    CHECK(lent.chart[0] == 9 && lent.chart[2 + 5] == 1);
+    CHECK(bobbinmarl_items(lent.chart, chart_words(9)) == 9);
+    CHECK(item(9, 0) == 0 && lent.fields[BOBBINMARL_HANDLED] == 1);
     keep();
     CHECK(run(9, 9) == 9);
     CHECK(same());
@@ -340,7 +442,7 @@ static int alike(uint64_t *number)
     return count <= ROOM && same_but(lent.rows, count * sizeof lent.rows[0]) && strlen(text) == told && memcmp(text, lent.out, told) == 0;
 }
 
-/* Every word of K2's finished chart set to values in and out of its range. */
+/* Every word of K2's finished chart, and then every field of its items, set to values in and out of their ranges. */
 static void test_touched(void)
 {
     static const uint64_t values[] = {0, 1, 3, 10, 64, UINT64_MAX};
@@ -355,7 +457,60 @@ static void test_touched(void)
         }
         lent.chart[at] = former;
     }
+    for (uint64_t i = 0; i < K2_ITEMS * FIELDS; i++) {
+        uint64_t place = i / FIELDS, field = i % FIELDS, number = 0;
+        CHECK(item(K2_ITEMS, place) == 0);
+        uint64_t former = lent.fields[field];
+        for (size_t v = 0; v < sizeof values / sizeof values[0]; v++) {
+            put_field(place, (int)field, values[v] & most_of((int)field));
+            CHECK(item(K2_ITEMS, place) == 0 && lent.fields[field] == (values[v] & most_of((int)field)));
+            CHECK(alike(&number));
+            seen[number % 14] = 1;
+        }
+        put_field(place, (int)field, former);
+    }
     CHECK(seen[0] && seen[8] && seen[9] && seen[10] && seen[11] && !seen[12]);
+}
+
+/* The items of K2: the leaves of the two rules, and among the ten of the closure the goal. */
+static void test_items(void)
+{
+    static const uint64_t goal[FIELDS] = {1, 1, 0, 3, 2, 1, 0, 2, 64, 64, 64, 64, 64, 64};
+    int leaves = 0, goals = 0;
+    run_k2(0);
+    CHECK(bobbinmarl_items(lent.chart, chart_words(K2_ITEMS)) == 2);
+    CHECK(item(K2_ITEMS, 0) == 0 && lent.fields[BOBBINMARL_HANDLED] == 0);
+    CHECK(item(K2_ITEMS, 2) == 8);
+    run_k2(K2_ITEMS);
+    CHECK(bobbinmarl_items(lent.chart, chart_words(K2_ITEMS)) == K2_ITEMS);
+    for (uint64_t place = 0; place < K2_ITEMS; place++) {
+        keep();
+        CHECK(item(K2_ITEMS, place) == 0);
+        CHECK(same_but(lent.fields, sizeof(uint64_t) * FIELDS));
+        leaves += lent.fields[BOBBINMARL_KIND] == 0 && lent.fields[BOBBINMARL_PLAN] == 0 && lent.fields[BOBBINMARL_NODES] == 64;
+        goals += memcmp(lent.fields, goal, sizeof(uint64_t) * BOBBINMARL_FIRST) == 0;
+    }
+    CHECK(leaves == 2 && goals == 1);
+}
+
+/* No item is told where there is none, nor where there is no room; the place is asked first. */
+static void test_untold_items(void)
+{
+    run_k2(K2_ITEMS);
+    keep();
+    CHECK(item(K2_ITEMS, K2_ITEMS) == 8);
+    CHECK(item(K2_ITEMS, UINT64_MAX) == 8);
+    for (size_t room = 0; room < FIELDS; room++) {
+        CHECK(bobbinmarl_item(lent.chart, chart_words(K2_ITEMS), 0, lent.fields, room) == 12);
+        CHECK(bobbinmarl_item(lent.chart, chart_words(K2_ITEMS), K2_ITEMS, lent.fields, room) == 8);
+    }
+    CHECK(same());
+    CHECK(bobbinmarl_item(lent.chart, chart_words(K2_ITEMS), 0, lent.fields, FIELDS + GUARD) == 0);
+    CHECK(same_but(lent.fields, sizeof(uint64_t) * FIELDS) && !same());
+    keep();
+    CHECK(bobbinmarl_items(lent.chart, 0) == 0 && bobbinmarl_item(lent.chart, 0, 0, lent.fields, FIELDS) == 8);
+    CHECK(bobbinmarl_items(lent.chart, chart_words(0)) == 0 && item(0, 0) == 8);
+    CHECK(same());
 }
 
 /* Runs in pieces leave the chart of one run. */
@@ -430,7 +585,7 @@ static void test_table_lengths(void)
 /* A chart holds as many items as fit, and words behind the last one stay. */
 static void test_chart_lengths(void)
 {
-    size_t words = chart_words(K2_ITEMS) + 15;
+    size_t rest = words_per_item() - 1, words = chart_words(K2_ITEMS) + rest;
     read_both(grammar_a, k2);
     keep();
     CHECK(bobbinmarl_start(TABLES, lent.chart, words) == 0);
@@ -438,8 +593,8 @@ static void test_chart_lengths(void)
     CHECK(lent.told == K2_ITEMS);
     lent.told = kept.told;
     CHECK(same_but(lent.chart, sizeof(uint64_t) * chart_words(K2_ITEMS)));
-    CHECK(bobbinmarl_start(TABLES, lent.chart, chart_words(9) + 15) == 0);
-    CHECK(bobbinmarl_run(TABLES, lent.chart, chart_words(9) + 15, K2_ITEMS, &lent.told) == 9);
+    CHECK(bobbinmarl_start(TABLES, lent.chart, chart_words(9) + rest) == 0);
+    CHECK(bobbinmarl_run(TABLES, lent.chart, chart_words(9) + rest, K2_ITEMS, &lent.told) == 9);
 }
 
 /* All that follows the readers says 8, and changes nothing; `told` stays too. */
@@ -470,14 +625,14 @@ static void test_unfit(void)
     CHECK(replay(derivation_k2) == 8);
     /* An item of a kind that is none, and more items than the chart holds. */
     run_k2(10);
-    lent.chart[2] = 2;
+    put_field(0, BOBBINMARL_KIND, 2);
     keep();
     CHECK(run(K2_ITEMS, 1) == 8);
     CHECK(write_out(K2_ITEMS, OUT) == 8);
     CHECK(fill(K2_ITEMS, ROWS) == 8);
     CHECK(same());
     run_k2(10);
-    lent.chart[0] = 11;
+    put_number(11);
     keep();
     CHECK(run(K2_ITEMS, 1) == 8);
     CHECK(write_out(K2_ITEMS, OUT) == 8);
@@ -510,28 +665,27 @@ static void test_nested(void)
     }
 }
 
-static uint64_t *put_item(uint64_t *at, uint64_t kind, uint64_t of, uint64_t plan, uint64_t first, uint64_t second)
+static void put_item(uint64_t place, uint64_t kind, uint64_t of, uint64_t plan, uint64_t first, uint64_t second)
 {
     const int leaf = kind == 0 && plan == 0; /* a leaf has no nodes */
-    const uint64_t item[16] = {kind, of, plan, 1, 1, 1, leaf ? 64 : 0, leaf ? 64 : 1, 64, 64, 64, 64, 64, 64, first, second};
-    memcpy(at, item, sizeof item);
-    return at + 16;
+    const uint64_t fields[FIELDS] = {kind, of, plan, 1, 1, 1, leaf ? 64 : 0, leaf ? 64 : 1, 64, 64, 64, 64, 64, 64, first, second};
+    for (int field = 0; field < FIELDS; field++)
+        put_field(place, field, fields[field]);
 }
 
 /* A chart of 4,096 items that spells the deepest derivation a chart can: leaves, rule 0 on the graph's edge, and above it each passive item by rule 1 for
  * the one below it. */
 static void put_deepest_chart(void)
 {
-    uint64_t *at = lent.chart;
-    *at++ = 4096;
-    *at++ = 0;
-    at = put_item(at, 0, 0, 0, 0, 0);
-    at = put_item(at, 0, 1, 0, 0, 0);
-    at = put_item(at, 0, 0, 1, 0, 0);
-    at = put_item(at, 1, 1, 0, 2, 0);
+    memset(lent.chart, 0, sizeof(uint64_t) * chart_words(4096));
+    put_number(4096);
+    put_item(0, 0, 0, 0, 0, 0);
+    put_item(1, 0, 1, 0, 0, 0);
+    put_item(2, 0, 0, 1, 0, 0);
+    put_item(3, 1, 1, 0, 2, 0);
     for (uint64_t i = 4; i < 4096; i += 2) {
-        at = put_item(at, 0, 1, 1, 1, i - 1);
-        at = put_item(at, 1, 1, 0, i, 0);
+        put_item(i, 0, 1, 1, 1, i - 1);
+        put_item(i + 1, 1, 1, 0, i, 0);
     }
 }
 
@@ -569,6 +723,8 @@ static void test_length_zero(void)
     CHECK(bobbinmarl_fill(NULL, 0, NULL, 0, NULL, 0, NULL, 0, &told) == 8);
     CHECK(told == 77);
     CHECK(bobbinmarl_replay(NULL, 0, NULL, 0, NULL, 0) == 8);
+    CHECK(bobbinmarl_items(NULL, 0) == 0);
+    CHECK(bobbinmarl_item(NULL, 0, 0, NULL, 0) == 8);
     run_k2(10);
     keep();
     CHECK(bobbinmarl_read_grammar(NULL, 0, lent.grammar, GRAMMAR) == 2);
@@ -581,6 +737,7 @@ static void test_length_zero(void)
 
 int main(void)
 {
+    learn();
     test_words();
     test_k1_to_k6();
     test_k7();
@@ -588,6 +745,8 @@ int main(void)
     test_k9();
     test_k10();
     test_row();
+    test_items();
+    test_untold_items();
     test_touched();
     test_pieces();
     test_texts();

@@ -98,7 +98,7 @@ module _ (G : Grammar) (H : Graph) where
       (d .1)
   of-terminal r p m f g q (join a b) u l e k = absurd (in-nil k)
 
-  in-terminal : {x : Record} (n j g : ℕ) (a : Item) → g < length (H .edges) → In x (withTerminal G H a n j g) → (i : Item) × TerminalRule G H g a i × (x ≡ recordOf i n j g)
+  pub in-terminal : {x : Record} (n j g : ℕ) (a : Item) → g < length (H .edges) → In x (withTerminal G H a n j g) → (i : Item) × TerminalRule G H g a i × (x ≡ recordOf i n j g)
   unfolding withTerminal
   in-terminal n j g (active r p m f) b k =
       let t = of-map (λ (i : Item). recordOf i n j g) (eachTo (length (planOf G r)) (λ q. terminalAt G H r p m f g q (planNode (planOf G r) q))) k in
@@ -111,7 +111,7 @@ module _ (G : Grammar) (H : Graph) where
   unfolding atRoot rootAt
   root-in n j (root-rule r p m f e) = in-map (λ (c : Conclusion Item). recordOf (c .item) (plus n (c .constant)) j 0) (in-guard (eqb (suc p) (length (planOf G r))) (eq-test e) (here refl))
 
-  in-root : {x : Record} (n j : ℕ) (a : Item) → In x (atRoot G a n j)
+  pub in-root : {x : Record} (n j : ℕ) (a : Item) → In x (atRoot G a n j)
       → (k s m : ℕ) × (L : List ℕ) × UnaryRule G H a k (passive s m L) × (x ≡ recordOf (passive s m L) (plus n k) j 0)
   unfolding atRoot rootAt
   in-root n j (active r p m f) k =
@@ -121,7 +121,7 @@ module _ (G : Grammar) (H : Graph) where
   in-root n j (passive s m L) k = absurd (in-nil k)
 
   -- ---- the rules of two premises
-  in-pair : {z : Record} (x y : Record) (j k : ℕ) → In z (pair G H x j y k)
+  pub in-pair : {z : Record} (x y : Record) (j k : ℕ) → In z (pair G H x j y k)
       → (i : Item) × BinaryRule G H (itemOf G (x .item)) (itemOf G (y .item)) i × (z ≡ recordOf i (plus (x .item .count) (y .item .count)) j k)
   unfolding pair
   in-pair x y j k m =

@@ -12,3 +12,5 @@ pub mod Making
 pub mod Simulation
 pub mod Runs
 pub mod RunFacts
+-- what a program that lends a chart is told
+pub mod Telling

@@ -2,4 +2,5 @@
 pub mod Records
 pub mod Consequences
 pub mod Steps
+pub mod Telling
 pub mod RunFacts

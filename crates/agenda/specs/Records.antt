@@ -40,6 +40,6 @@ sameChartItem x y =
 abbrev pub isHandled : Record → Bool
 isHandled x = not (eqb (x .handled) 0)
 
--- a sum that stays in a word
+-- a sum of counts, which have 32 bits: on a chart that was touched it may be more, and stays the most
 unfoldable pub plus : ℕ → ℕ → ℕ
-plus a b = min (a + b) (2 ^ 64 - 1)
+plus a b = min (a + b) (2 ^ 32 - 1)

@@ -3,7 +3,8 @@ ghost use mathlib.Core.Path.{_≡_};
 ghost use mathlib.Core.Bool.{cond, _&&_};
 ghost use Prim.Native.Nat.{_+_, _*_};
 ghost use lib.Dec.{leb};
-ghost use Rattle.records.specs.Words.{wordsFor};
+ghost use Rattle.agenda.specs.Telling.{tellItem, TellsItem};
+ghost use Rattle.records.specs.Words.{wordsFor, itemCount, recordAt};
 ghost use Rattle.questions.specs.Layout.{grammarWords, graphWords};
 ghost use Rattle.questions.specs.Reading.{readGrammar};
 ghost use Rattle.questions.specs.Checking.{readGraph};
@@ -103,6 +104,23 @@ pub extern "C" fn bobbinmarl_run(
 {
     let outcome = chart::run(grammar, graph, chart, steps);
     tell_steps(outcome, done)
+}
+
+// ---- the chart's items
+
+// How many items a chart has, and of each the fields: `fieldsOf` says in which order.
+#[no_mangle]
+pub extern "C" fn bobbinmarl_items(chart: &[u64]) -> u64
+    ensures { λ r. ⌜ r ≡ itemCount (now (chart .entry)) ⌝ }
+{
+    records::item_count(chart)
+}
+
+#[no_mangle]
+pub extern "C" fn bobbinmarl_item(chart: &[u64], place: u64, fields: &mut [u64]) -> u64
+    ensures { λ r. ⌜ TellsItem (tellItem (itemCount (now (chart .entry))) (recordAt (now (chart .entry))) place (now (fields .entry))) r (now (fields .exit)) ⌝ }
+{
+    records::telling::tell_item(chart, place, fields)
 }
 
 // ---- the writer

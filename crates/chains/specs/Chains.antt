@@ -6,23 +6,31 @@ use mathlib.Core.Path.{_≡_}
 use lib.Dec.{eqb}
 use lib.ListN.{length, getD, set}
 use Rattle.masks.specs.Masks.{_∪_, single}
+use Rattle.places.specs.Words.{wordOf}
 use Rattle.agenda.specs.declared.ChartItem.{ChartItem}
 use Rattle.agenda.specs.declared.Record.{Record}
 use Rattle.agenda.specs.Consequences.{recordIn}
 
--- The rule or symbol, the plan node, the edges and the first two nodes of a record, mixed. Six bits of each of the small ones stand side by side in one number, so that one product mixes them; the sum of words below 2^64 stays below 2^63.
-unfoldable pub mixed : ChartItem → ℕ
-mixed x =
-    x .edges % 4294967296 * 191825777
-    + x .edges / 4294967296 * 139261425
-    + (x .of % 64 + x .plan % 64 * 64 + getD (x .nodes) 0 0 % 64 * 4096 + getD (x .nodes) 1 0 % 64 * 262144) * 2507321997
+-- the small fields of an item as one number
+abbrev pub tagOf : ChartItem → ℕ
+tagOf x = (x .of * 256 + x .plan) * 65536 + x .kind
 
--- its lower 32 bits, of which a bucket and a bit are made
+-- The edges and the nodes of an item and its small fields, mixed: each half has a factor of its own, and the small fields go with the upper half of the nodes, so
+-- that four products do it. Of words below 2^64 the sum stays below 2^64.
+unfoldable pub mixed : ChartItem → ℕ
+unfolding wordOf
+mixed x =
+    x .edges % 4294967296 * 1051780055
+    + x .edges / 4294967296 * 668265263
+    + wordOf (x .nodes) % 4294967296 * 904645227
+    + (wordOf (x .nodes) / 4294967296 + tagOf x) * 374761393
+
+-- its two halves, added: a bit of a word has an effect on the upper bits of one of them
 unfoldable pub hashOf : ChartItem → ℕ
 unfolding mixed
-hashOf x = mixed x % 4294967296
+hashOf x = (mixed x + mixed x / 4294967296) % 4294967296
 
--- bits 20 to 31 of the mix, on which every lower bit has an effect
+-- bits 20 to 31, on which every bit of an item has an effect
 unfoldable pub bucketOf : ChartItem → ℕ
 unfolding hashOf
 bucketOf x = hashOf x / 1048576
@@ -49,9 +57,13 @@ unfoldable pub linkOf : ℕ → List Record → ℕ → ℕ
 unfolding lastIn bitsIn
 linkOf b rs n = lastIn b rs n + 8192 * bitsIn b rs n
 
+-- how many words there are
+abbrev pub linkWords : ℕ
+linkWords = 8192
+
 -- words that chain the records: 4,096 buckets with the word of their last record, and for each record that of the one before it of the same bucket
 pub record Chained (links : List ℕ) (rs : List Record) : Type 0 where
-  pub words : length links ≡ 8192
+  pub words : length links ≡ linkWords
   pub few : length rs ≤ 4096
   pub last : (b : ℕ) → b < 4096 → getD links b 0 ≡ linkOf b rs (length rs)
   pub previous : (j : ℕ) → j < length rs → getD links (4096 + j) 0 ≡ linkOf (bucketOf (recordIn rs j .item)) rs j
@@ -62,5 +74,5 @@ linked links j h = set (set links (4096 + j) (getD links (h / 1048576) 0)) (h / 
 
 -- words with no record in a bucket
 pub record Cleared (links : List ℕ) : Type 0 where
-  pub words : length links ≡ 8192
+  pub words : length links ≡ linkWords
   pub empty : (b : ℕ) → b < 4096 → getD links b 0 ≡ 0

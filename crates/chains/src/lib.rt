@@ -4,19 +4,31 @@ ghost use Prim.Native.Nat.{_≤_, _<_};
 ghost use lib.ListN.{length};
 ghost use Rattle.agenda.specs.Steps.{lastSame};
 ghost use Rattle.records.specs.Words.{itemCount, chartOf};
-ghost use Rattle.chains.specs.Chains.{hashOf, Chained, linked, Cleared};
+ghost use Rattle.chains.specs.Chains.{tagOf, hashOf, linkWords, Chained, linked, Cleared};
 use agenda::ChartItem;
 use agenda::Found;
 
-// The hash of an item, by its rule or symbol, its plan node, its edges and two of its nodes.
+// The kind, the plan node and the rule or symbol of an item as one number. They come in another order than in the struct: else
+// they are loaded at once, and that load waits where they have just been stored one by one.
+fn tag_of(x: ChartItem) -> u64
+    ensures { λ r. ⌜ (r ≡ tagOf x) × (r < 4294967296) ⌝ }
+{
+    (x.of as u64 * 256 + x.plan as u64) * 65536 + x.kind as u64
+}
+
+// The hash of an item, by its edges, its nodes, and its kind with its plan node and rule or symbol.
 pub fn hash(x: ChartItem) -> u64
-    ensures { λ r. ⌜ (r ≡ hashOf x) × (r < 4294967296) × (length (x .nodes) ≡ 8) ⌝ }
+    ensures { λ r. ⌜ (r ≡ hashOf x) × (r < 4294967296) ⌝ }
 {
     let edges = x.edges;
     let nodes = x.nodes;
-    let small = x.of % 64 + x.plan % 64 * 64 + nodes[0] % 64 * 4096 + nodes[1] % 64 * 262144;
-    let mix = edges % 4294967296 * 191825777 + edges / 4294967296 * 139261425 + small * 2507321997;
-    mix % 4294967296
+    let map = places::word_of(nodes);
+    let tag = tag_of(x);
+    let mix = edges % 4294967296 * 1051780055
+        + edges / 4294967296 * 668265263
+        + map % 4294967296 * 904645227
+        + (map / 4294967296 + tag) * 374761393;
+    (mix + mix / 4294967296) % 4294967296
 }
 
 // The last record of the item x, whose hash is h: only those of its bucket are looked at, from the last one back, as long as its bit is in the set of those that are left.
@@ -38,7 +50,7 @@ pub fn find(chart: &[u64], links: &[u32], x: ChartItem, h: u64) -> Found
 
 // Record j, the last one, whose hash is h, joins its bucket, and its bit the set beside the place.
 pub fn link(links: &mut [u32], j: u64, h: u64)
-    requires { ⌜ (length (now links) ≡ 8192) × (j < 4096) × (h < 4294967296) ⌝ }
+    requires { ⌜ (length (now links) ≡ linkWords) × (j < 4096) × (h < 4294967296) ⌝ }
     ensures { λ r. ⌜ now (links .exit) ≡ linked (now (links .entry)) j h ⌝ }
 {
     let b = (h / 1048576) as usize;

@@ -12,10 +12,12 @@ use Rattle.agenda.specs.Steps.{leastWaiting, handledCount, runChart, startChart
 use Rattle.questions.specs.Checking.{checkGrammar, checkGraph}
 use Rattle.questions.specs.Abstract.{grammarOf, graphOf}
 use Rattle.joins.specs.Joins.{Accepted}
-use Rattle.records.specs.Words.{Fits, capacity, itemCount, recordsAt, chartOf, written}
+use Rattle.records.specs.Words.{capacity, itemCount, recordsAt, chartOf, written}
 use Rattle.records.proofs.WordLaws.{length-records}
 use Rattle.validity.specs.Checking.{holds, knownChart}
+use Rattle.rules.specs.Plans.{PlanTable}
 use Rattle.steps.specs.Runs.{nextIn}
+use Rattle.steps.specs.Ready.{Runnable}
 use Rattle.charting.specs.Calls.{Called, fit, fitChart, whenWaiting, answerOf, startAnswer, startOf, runOf, runsOf, standingOf}
 use Rattle.charting.specs.Facts.{RunRight, StartChoices, RunChoices}
 use Rattle.charting.specs.declared.Outcome.{Outcome}
@@ -57,11 +59,11 @@ module _ (g h w : List ℕ) (b : Bool) (is : b ≡ fit g h w) (y : b ≡ true) w
   pub fit-header : 2 ≤ length w
   fit-header = holds-header w (parts .0)
 
-  pub fit-small : capacity w ≤ 4096
-  fit-small = holds-most w (parts .0)
-
-  pub fit-known : (k : Bool) → k ≡ knownChart (grammarOf g) (graphOf g h) w → k ≡ true → Fits w
-  fit-known k q z = known-fits (grammarOf g) (graphOf g h) w fit-header (sym q ∙ z)
+  -- what a run needs, where the chart is known too
+  pub fit-runnable : (k : Bool) → k ≡ knownChart (grammarOf g) (graphOf g h) w → k ≡ true → (plans : List ℕ) → PlanTable g plans → Runnable g h plans w
+  fit-runnable k q z plans p =
+      let known = sym q ∙ z in
+      record { accepted = fit-accepted; planned = p; fits = known-fits (grammarOf g) (graphOf g h) w fit-header known; small = holds-most w (parts .0); known = known }
 
 -- ---- start
 module _ (g h w : List ℕ) (b : Bool) (is : b ≡ fit g h w) where

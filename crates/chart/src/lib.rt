@@ -94,6 +94,6 @@ pub fn run(grammar: &[u64], graph: &[u64], chart: &mut [u64], steps: u64) -> Out
     if !validator::known(grammar, graph, &plans, chart).known {
         return Outcome::Unfit;
     }
-    let all = steps::advance(grammar, graph, chart, steps);
+    let all = steps::advance(grammar, graph, &plans, chart, steps);
     outcome_after(chart, all)
 }

@@ -58,7 +58,7 @@ module _ (g h w : List ℕ) (e : fit g h w ≡ true) where
   fit-most = holds-most w (fit-parts .0)
 
   pub start-held : Holds w (afterStart g w)
-  start-held = start-holds w (holds-header w (fit-parts .0)) (grammarOf g)
+  start-held = start-holds w (holds-header w (fit-parts .0)) (grammarOf g) fit-grammar
 
 module _ (g h w : List ℕ) (e : fitChart g h w ≡ true) where
   pub chart-fit : fit g h w ≡ true
@@ -73,7 +73,9 @@ module _ (g h w : List ℕ) (e : fitChart g h w ≡ true) where
   fitting = known-fits (grammarOf g) (graphOf g h) w (holds-header w (fit-parts g h w chart-fit .0)) chart-known
 
   grown : (k : ℕ) → Grown w (chartOf w) (afterRun g h w k)
-  grown k = run-grown (grammarOf g) (graphOf g h) w (chartOf w) (holds-own w fitting) k
+  grown k =
+      run-grown (grammarOf g) (graphOf g h) (fit-grammar g h w chart-fit) (fit-graph g h w chart-fit) w (fit-most g h w chart-fit) (chartOf w) (holds-own w fitting)
+      (known-records (grammarOf g) (graphOf g h) w fitting chart-known) k
 
 -- the size of the chart is all that question 8 asks of words before a start
 pub fit-same : (g h v w : List ℕ) → capacity v ≡ capacity w → fit g h v ≡ fit g h w
@@ -200,6 +202,7 @@ module _ (g h w : List ℕ) (j k : ℕ) where
     second : (v : List ℕ) → fitChart g h v ≡ true → capacity v ≡ capacity w → chartOf v ≡ afterRun g h w j → v ≡ written w (afterRun g h w j)
         → runOf g h v k ≡ called (answerOf (afterRun g h w (j + k))) w (afterRun g h w (j + k))
     second v f p q r =
+        let f′ = chart-fit g h w e in
         let d = afterRun g h w j in
         let c = afterRun g h w (j + k) in
         let same : afterRun g h v k ≡ c =
@@ -207,7 +210,8 @@ module _ (g h w : List ℕ) (j k : ℕ) where
         ∙ sym (chart-split (grammarOf g) (graphOf g h) (capacity w) j k (chartOf w)) in
         let longer : length (d .records) ≤ length (c .records) =
         subst (λ (b : Chart). length (d .records) ≤ length (b .records)) (sym (chart-split (grammarOf g) (graphOf g h) (capacity w) j k (chartOf w)))
-        (run-grown (grammarOf g) (graphOf g h) w d (grown g h w e j .holds) k .longer) in
+        (run-grown (grammarOf g) (graphOf g h) (fit-grammar g h w f′) (fit-graph g h w f′) w (fit-most g h w f′) d (grown g h w e j .holds)
+        (run-known (grammarOf g) (graphOf g h) (fit-grammar g h w f′) (fit-graph g h w f′) (capacity w) j (chartOf w) (known-records (grammarOf g) (graphOf g h) w (fitting g h w e) (chart-known g h w e))) k .longer) in
         run-is g h v k f ∙ ap (λ (b : Chart). called (answerOf b) v b) same
         ∙ ap (λ (u : List ℕ). called (answerOf c) u c) r
         ∙ ap (λ (u : List ℕ). record { answer = answerOf c; words = u }) (written-over w d (grown g h w e j .holds) c longer)

@@ -152,7 +152,7 @@ fn write_chart(
 fn derive_tables(grammar: &[u64], graph: &[u64], out: &mut [u8; 32774]) -> usize
     ensures { λ r. ⌜ Prints (derivedText (deriveTables (now (grammar .entry)) (now (graph .entry)))) (now (out .entry)) (now (out .exit)) r ⌝ }
 {
-    let mut chart = [0u64; 32770];
+    let mut chart = [0u64; records::telling::WORDS_FOR_2048];
     let k = chart_number(chart::start(grammar, graph, &mut chart));
     if k != 0 {
         return put_refusal(k, out);

@@ -1,5 +1,5 @@
 -- Where an application places its nodes: an edge's nodes by its partner, put over the map where they have no place yet, and one edge more.
-use mathlib.Core.Path.{_≡_, refl, sym, ap, ap₂, _∙_}
+use mathlib.Core.Path.{_≡_, refl, sym, ap, ap₂, _∙_, subst}
 use mathlib.Core.Bool.{Bool, true, false}
 use mathlib.Core.List.{List, [], _∷_}
 use Prim.Native.Nat.{ℕ, zero, suc, _+_, _-_, _≤_, _<_, min}
@@ -15,6 +15,7 @@ use Rattle.hrg.specs.Grammars.{Kind, terminal, nonterminal, Edge, Graph, Gramma
 use Rattle.hrg.specs.Trees.{unplaced, at, padded}
 use Rattle.hrg.specs.Items.{either, orElse, joined, nodeFor, attach}
 use Rattle.hrg.proofs.Sums.{hit-self, length-tabulate, at-tabulate, tabulate-ext, occurs-around, none-left}
+use Rattle.places.specs.Laws.{tabulated}
 use Rattle.questions.specs.Layout.{rankAt, ruleNodes, edgeLabel, edgeNode, graphEdges, graphLabel, graphNode}
 use Rattle.questions.specs.Abstract.{grammarOf, graphOf}
 use Rattle.questions.proofs.StoredLaws.{take-tabulate}
@@ -28,6 +29,13 @@ use Rattle.records.specs.Words.{recordAt}
 use Rattle.extraction.specs.Extraction.{nodesBy, partNodes, placedBy}
 use Rattle.extractor.specs.Reading.{isNonterminal}
 use Rattle.extractor.proofs.RuleLookup.{label-rank}
+
+-- ---- eight stores
+pub set-eight : (t : List ℕ) (a b c d e f g h : ℕ) → length t ≡ 8 → set (set (set (set (set (set (set (set t 0 a) 1 b) 2 c) 3 d) 4 e) 5 f) 6 g) 7 h ≡ a ∷ b ∷ c ∷ d ∷ e ∷ f ∷ g ∷ h ∷ []
+unfolding tabulate
+set-eight t a b c d e f g h size =
+    let same : tabulate 8 (λ k. getD t k 0) ≡ t = ap (λ n. tabulate n (λ k. getD t k 0)) (sym size) ∙ tabulated t 0 in
+    subst (λ (t : List ℕ). set (set (set (set (set (set (set (set t 0 a) 1 b) 2 c) 3 d) 4 e) 5 f) 6 g) 7 h ≡ a ∷ b ∷ c ∷ d ∷ e ∷ f ∷ g ∷ h ∷ []) same refl
 
 -- ---- the node of L for a rule node
 node-first : (x a b : ℕ) (A L : List ℕ) → x ≡ a → nodeFor x (a ∷ A) (b ∷ L) ≡ b

@@ -14,7 +14,7 @@ pub mod listing;
 mod lookup;
 mod numbers;
 mod partners;
-mod places;
+mod placing;
 mod rows;
 
 // Writes the text of the n applications listed under the passive record at j to the end of the buffer and answers where it starts; the buffer's end where none are

@@ -37,7 +37,7 @@ fn row_of(
     let edges = crate::lookup::edge_count(grammar, r);
     fields[0] = n;
     fields[1] = r;
-    crate::places::place(grammar, graph, chart, r, edges, &bs, &mut fields[2..10]);
+    crate::placing::place(grammar, graph, chart, r, edges, &bs, &mut fields[2..10]);
     let end = crate::numbers::number_parts(grammar, r, edges, &bs, sizes, n + 1, fields, 2 + nodes);
     Row {
         count: 2 + nodes + edges,

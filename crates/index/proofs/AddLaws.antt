@@ -13,14 +13,14 @@ use Rattle.agenda.specs.declared.Found.the-variants.{At, Nowhere}
 use Rattle.agenda.specs.Records.{isHandled}
 use Rattle.agenda.specs.Consequences.{recordIn}
 use Rattle.agenda.specs.Steps.{Chart, improved, handledNow, lastSame, placed, added}
-use Rattle.records.specs.Words.{Fits, capacity, itemCount, recordAt, chartOf, improvedAt, appendedTo, addedTo, markedAt}
+use Rattle.records.specs.Words.{Fits, capacity, itemCount, recordAt, chartOf, improvedAt, appendedTo, addedTo, markedAt, Compact}
 use Rattle.records.proofs.WordLaws.{Below, one, last-below, record-in, improve-handled, improve-less, add-found, add-new}
 use Rattle.records.proofs.Written.{add-written, handle-written, chart-of-written}
 use Rattle.records.proofs.Rewritten.{handledIn, grown-added, grown-handled}
 use Rattle.records.proofs.Grown.{holds-own}
 use Rattle.chains.proofs.ChainLaws.{counted, same-found}
 use Rattle.rules.specs.Coverage.{Covering}
-use Rattle.index.specs.Index.{doubtOf, Indexed, Covered, DoubtKept}
+use Rattle.index.specs.Index.{doubtOf, Indexed, Covered, DoubtKept, Adds}
 use Rattle.index.proofs.CoverLaws.{covered-kept, covered-again, covered-handled, covered-more}
 
 -- ---- the records of a chart with one record more
@@ -122,7 +122,7 @@ module _ (w : List ℕ) (x : Record) (o : Found) (p : o ≡ lastSame (x .item) (
   pub found-inside : (j : ℕ) → o ≡ At j → j < itemCount w
   found-inside j e = let h = at-below (length (chartOf w .records)) j o e (rw p (last-below (x .item) (chartOf w .records) (length (chartOf w .records)))) in omega (arith, counted w)
 
-  module _ (keys : List ℕ) (f : Fits w) (e : length (x .item .nodes) ≡ 8) (m : ℕ) (is : m ≡ getD w 1 0) (z : m ≡ 0) where
+  module _ (keys : List ℕ) (f : Fits w) (e : Compact x) (m : ℕ) (is : m ≡ getD w 1 0) (z : m ≡ 0) where
     mark-is : chartOf w .mark ≡ getD w 1 0
     unfolding chartOf
     mark-is = refl
@@ -136,11 +136,11 @@ module _ (w : List ℕ) (x : Record) (o : Found) (p : o ≡ lastSame (x .item) (
     by : (v ix ls : List ℕ) → v ≡ addedTo w x → Indexed keys ix ls (placed (capacity w) x (chartOf w) o .records) → (v ≡ addedTo w x) × Indexed keys ix ls (chartOf v .records)
     by v ix ls q I = (q, subst (λ (d : Chart). Indexed keys ix ls (d .records)) (sym (ap chartOf q ∙ chart-added)) I)
 
-    pub add-again : (v ix ls : List ℕ) (j : ℕ) → o ≡ At j → v ≡ improvedAt w j x → Indexed keys ix ls (placed (capacity w) x (chartOf w) (At j) .records)
+    add-again : (v ix ls : List ℕ) (j : ℕ) → o ≡ At j → v ≡ improvedAt w j x → Indexed keys ix ls (placed (capacity w) x (chartOf w) (At j) .records)
         → (v ≡ addedTo w x) × Indexed keys ix ls (chartOf v .records)
     add-again v ix ls j t q I = by v ix ls (add-found w x m (itemCount w) o is z refl (p ∙ same-found (x .item) w) v j t q) (rw t I)
 
-    pub add-behind : (v ix ls : List ℕ) → o ≡ Nowhere → v ≡ appendedTo w (itemCount w) x → Indexed keys ix ls (placed (capacity w) x (chartOf w) Nowhere .records)
+    add-behind : (v ix ls : List ℕ) → o ≡ Nowhere → v ≡ appendedTo w (itemCount w) x → Indexed keys ix ls (placed (capacity w) x (chartOf w) Nowhere .records)
         → (v ≡ addedTo w x) × Indexed keys ix ls (chartOf v .records)
     add-behind v ix ls t q I = by v ix ls (add-new w x m (itemCount w) o is z refl (p ∙ same-found (x .item) w) v t q) (rw t I)
 
@@ -148,15 +148,29 @@ module _ (w : List ℕ) (x : Record) (o : Found) (p : o ≡ lastSame (x .item) (
     covered-by g h v ix q C = subst (λ (d : Chart). Covered g h ix (d .records)) (sym (ap chartOf q ∙ chart-added)) C
 
     -- a record found again covers what it did
-    pub again-covered : (v ix new : List ℕ) (j : ℕ) → o ≡ At j → v ≡ addedTo w x → DoubtKept ix new → (g h : List ℕ) → Covered g h ix (chartOf w .records) → Covered g h new (chartOf v .records)
+    again-covered : (v ix new : List ℕ) (j : ℕ) → o ≡ At j → v ≡ addedTo w x → DoubtKept ix new → (g h : List ℕ) → Covered g h ix (chartOf w .records) → Covered g h new (chartOf v .records)
     again-covered v ix new j t q k g h C = covered-by g h v new q (rw t (covered-again g h new (capacity w) x (chartOf w) j (covered-kept g h ix new (chartOf w .records) k C)))
 
-    pub behind-covered : (v ix : List ℕ) → o ≡ Nowhere → v ≡ addedTo w x → (g h : List ℕ) → Covered g h ix (placed (capacity w) x (chartOf w) Nowhere .records) → Covered g h ix (chartOf v .records)
+    behind-covered : (v ix : List ℕ) → o ≡ Nowhere → v ≡ addedTo w x → (g h : List ℕ) → Covered g h ix (placed (capacity w) x (chartOf w) Nowhere .records) → Covered g h ix (chartOf v .records)
     behind-covered v ix t q g h C = covered-by g h v ix q (rw t C)
+
+    -- ---- what `index::add` leaves
+    pub adds-again : (v ix jx ls : List ℕ) (j : ℕ) → o ≡ At j → v ≡ improvedAt w j x → Indexed keys jx ls (placed (capacity w) x (chartOf w) (At j) .records) → DoubtKept ix jx
+        → Adds keys w ix v jx ls x
+    adds-again v ix jx ls j t q I k =
+        let (chart, indexed) = add-again v jx ls j t q I in
+        record { compact = e; chart = chart; indexed = indexed; covered = λ g h C f. again-covered v ix jx j t chart k g h C }
+
+    pub adds-behind : (v ix jx ls : List ℕ) → o ≡ Nowhere → v ≡ appendedTo w (itemCount w) x → Indexed keys jx ls (placed (capacity w) x (chartOf w) Nowhere .records)
+        → ((g h : List ℕ) → Covered g h ix (chartOf w .records) → (doubtOf ix ≡ 0 → Covering g h (x .item)) → Covered g h jx (placed (capacity w) x (chartOf w) Nowhere .records))
+        → Adds keys w ix v jx ls x
+    adds-behind v ix jx ls t q I c =
+        let (chart, indexed) = add-behind v jx ls t q I in
+        record { compact = e; chart = chart; indexed = indexed; covered = λ g h C f. behind-covered v jx t chart g h (c g h C f) }
 
 -- ---- handled
 module _ (w v : List ℕ) (j : ℕ) (f : Fits w) (l : j < itemCount w) (q : v ≡ markedAt w j) where
-  beside : chartOf v ≡ handledIn j (chartOf w)
+  pub beside : chartOf v ≡ handledIn j (chartOf w)
   beside = ap chartOf (q ∙ handle-written w j f l) ∙ chart-of-written w (handledIn j (chartOf w)) (grown-handled w (chartOf w) (holds-own w f) j .holds)
 
   pub handled-beside : (keys ix ls : List ℕ) → Indexed keys ix ls (set (chartOf w .records) j (handledNow (recordIn (chartOf w .records) j))) → Indexed keys ix ls (chartOf v .records)

@@ -17,7 +17,9 @@ use Rattle.agenda.specs.Consequences.{noRecord, recordIn}
 use Rattle.agenda.specs.Steps.{Chart, improved, handledNow, placed}
 use Rattle.records.specs.Words.{itemCount, recordAt, recordsAt, chartOf}
 use Rattle.rules.specs.Coverage.{Covering}
-use Rattle.index.specs.Index.{indexWords, doubtOf, Indexed, Covered, DoubtKept}
+use Rattle.chains.specs.Chains.{linkWords}
+use Rattle.ranking.specs.Ranking.{rankWords}
+use Rattle.index.specs.Index.{indexWords, doubtPlace, doubtOf, Indexed, Covered, DoubtKept}
 use Rattle.ranking.proofs.Parts.{part-set, put, word-behind}
 
 -- ---- the word stays
@@ -28,34 +30,29 @@ pub doubt-on : (ix mid new : List ℕ) → DoubtKept ix mid → DoubtKept mid ne
 doubt-on ix mid new p q = record { word = q .word ∙ p .word }
 
 -- a part in front of it is made anew
-pub doubt-put : (a k : ℕ) (ix new : List ℕ) → length ix ≡ indexWords → length new ≡ k → a + k ≤ 12424 → DoubtKept ix (put a k ix new)
-doubt-put a k ix new s e h = record { word = word-behind a k ix new (omega arith) e 12424 (omega arith) }
-
--- the mark is set
-pub doubt-marked : (ix : List ℕ) (v : ℕ) → DoubtKept ix (set ix 12423 v)
-doubt-marked ix v = record { word = getD-set-other ix 12423 12424 v 0 (λ e. omega arith) }
+pub doubt-put : (a k : ℕ) (ix new : List ℕ) → length ix ≡ indexWords → length new ≡ k → a + k ≤ doubtPlace → DoubtKept ix (put a k ix new)
+doubt-put a k ix new s e h = record { word = word-behind a k ix new (omega arith) e doubtPlace (omega arith) }
 
 -- ---- the word is set: the other indexes stay
-pub indexed-doubted : (ix : List ℕ) (v : ℕ) (keys ls : List ℕ) (rs : List Record) → Indexed keys ix ls rs → Indexed keys (set ix 12424 v) ls rs
+pub indexed-doubted : (ix : List ℕ) (v : ℕ) (keys ls : List ℕ) (rs : List Record) → Indexed keys ix ls rs → Indexed keys (set ix doubtPlace v) ls rs
 indexed-doubted ix v keys ls rs I = record {
-  size = length-set ix 12424 v ∙ I .size;
-  chained = rw (part-set 0 8192 12424 v ix (omega arith)) (I .chained);
-  ranked = rw (part-set 8192 4231 12424 v ix (omega arith)) (I .ranked);
+  size = length-set ix doubtPlace v ∙ I .size;
+  chained = rw (part-set 0 linkWords doubtPlace v ix (omega arith)) (I .chained);
+  ranked = rw (part-set linkWords rankWords doubtPlace v ix (omega arith)) (I .ranked);
   listed = I .listed;
-  regular = λ z. I .regular (sym (getD-set-other ix 12424 12423 v 0 (λ e. omega arith)) ∙ z);
 }
 
 module _ (g h : List ℕ) where
   -- .. and nothing is said of the records
-  pub covered-doubted : (ix : List ℕ) (rs : List Record) → length ix ≡ indexWords → Covered g h (set ix 12424 1) rs
-  covered-doubted ix rs s = record { each = λ z j l. absurd (omega (arith, getD-set-same ix 12424 1 0 (omega arith))) }
+  pub covered-doubted : (ix : List ℕ) (rs : List Record) → length ix ≡ indexWords → Covered g h (set ix doubtPlace 1) rs
+  covered-doubted ix rs s = record { each = λ z j l. absurd (omega (arith, getD-set-same ix doubtPlace 1 0 (omega arith))) }
 
   pub covered-kept : (ix new : List ℕ) (rs : List Record) → DoubtKept ix new → Covered g h ix rs → Covered g h new rs
   covered-kept ix new rs k C = record { each = λ z. C .each (sym (k .word) ∙ z) }
 
   -- ---- what covers is told of the item only, not of the count or the partners
   covering-improved : (y x : Record) → Covering g h (y .item) → Covering g h (improved y x .item)
-  covering-improved y x C = record { plain = C .plain; shown = λ v l o. let S = C .shown v l o in record { active = S .active; passive = S .passive } }
+  covering-improved y x C = record { shown = λ v l o. let S = C .shown v l o in record { active = S .active; passive = S .passive } }
 
   -- a record that covers if the one does in whose place it comes
   covered-set : (ix : List ℕ) (rs : List Record) (j : ℕ) (y : Record) → (Covering g h (recordIn rs j .item) → Covering g h (y .item)) → Covered g h ix rs → Covered g h ix (set rs j y)

@@ -15,17 +15,17 @@ use Rattle.agenda.proofs.Records.{bare}
 use Rattle.agenda.proofs.Growth.{Grew, all-grown}
 use Rattle.records.specs.Words.{Fits, capacity, chartOf, grownBy}
 use Rattle.records.proofs.Grown.{Whole, grown-chart}
-use Rattle.keys.specs.Keys.{passiveTag, mixed, imageOf, fiveKeys, keysBy, wordFor, usesOf, keysOf}
+use Rattle.keys.specs.Keys.{passiveTag, placesFrom, mixed, imageOf, fiveKeys, keysBy, wordFor, usesOf, keysOf}
 use Rattle.index.specs.Index.{keysFor}
 
 module _ (keys : List ℕ) where
   -- ---- of one record
   pub keys-five : (x : ChartItem) → length (keysOf keys x) ≡ 5
   unfolding keysOf keysBy fiveKeys
-  keys-five x = go (eqb (wordFor keys 0 2112 x) 0)
+  keys-five x = go (eqb (wordFor keys 0 placesFrom x) 0)
     where
       go : (b : Bool)
-          → length (cond b (fiveKeys (usesOf keys x) passiveTag (x .of) (x .nodes)) (mixed (wordFor keys 0 2112 x / 16) (imageOf (wordFor keys 0 2112 x) (x .nodes)) ∷ 0 ∷ 0 ∷ 0 ∷ 0 ∷ [])) ≡ 5
+          → length (cond b (fiveKeys (usesOf keys x) passiveTag (x .of) (x .nodes)) (mixed (wordFor keys 0 placesFrom x / 16) (imageOf (wordFor keys 0 placesFrom x) (x .nodes)) ∷ 0 ∷ 0 ∷ 0 ∷ 0 ∷ [])) ≡ 5
       go true = refl
       go false = refl
 

@@ -1,5 +1,5 @@
 -- Quiet records by their words, and the ways of a cursor that skims over them.
-use Prim.Native.Nat.{ℕ, _+_, _-_, _*_, _/_, _≤_, _<_}
+use Prim.Native.Nat.{ℕ, _-_, _*_, _/_, _≤_, _<_}
 use mathlib.Core.Path.{_≡_, sym, ap, _∙_}
 use mathlib.Core.List.{List, [], _∷_}
 use mathlib.Core.Bool.{Bool, true, false}
@@ -7,7 +7,7 @@ use lib.ListN.{getD}
 use Rattle.masks.specs.Masks.{disjoint}
 use Rattle.agenda.specs.Records.{isHandled}
 use Rattle.records.specs.Words.{recordAt}
-use Rattle.lists.specs.Cursors.{Skims, goes, SkimsAll}
+use Rattle.lists.specs.Cursors.{afterOf, Skims, goes, SkimsAll}
 use Rattle.lists.proofs.ListLaws.{five}
 use Rattle.index.specs.Quiet.{quietIn}
 
@@ -28,7 +28,7 @@ module _ (w : List ℕ) (edges k e : ℕ) (d : Bool) (at : e ≡ recordAt w k .i
   quiet-not h z = rw (told ∙ h, z)
 
 -- a turn of the loop
-pub skim-on : (quiet : ℕ → Bool) (ws : List ℕ) (n c d r : ℕ) (b : Bool) → Skims quiet ws n c d → 0 < d → d ≤ 5 * n → b ≡ quiet ((d - 1) / 5) → b ≡ true → r ≡ getD ws (4097 + d) 0 → Skims quiet ws n c r
+pub skim-on : (quiet : ℕ → Bool) (ws : List ℕ) (n c d r : ℕ) (b : Bool) → Skims quiet ws n c d → 0 < d → d ≤ 5 * n → b ≡ quiet ((d - 1) / 5) → b ≡ true → r ≡ afterOf ws d → Skims quiet ws n c r
 skim-on quiet ws n c d r b s p l q h e = goes r d s p l (sym q ∙ h) e
 
 pub skims-five : (quiet : ℕ → Bool) (ws : List ℕ) (n : ℕ) (cs : List ℕ) (a b c d e : ℕ) → Skims quiet ws n (getD cs 0 0) a → Skims quiet ws n (getD cs 1 0) b → Skims quiet ws n (getD cs 2 0) c

@@ -1,6 +1,7 @@
 -- `combine` of crate hrg, stage by stage, over maps in eight places.
 use mathlib.Core.Path.{_≡_, refl, sym, ap, ap₂, _∙_, subst}
 use mathlib.Core.Bool.{Bool, true, false, _&&_, _||_, not, or-true, false≢true}
+use mathlib.Core.Logic.{⊎-elim}
 use mathlib.Core.List.{List, [], _∷_}
 use Prim.Native.Nat.{ℕ, zero, suc, _+_, _^_, _≤_, _<_}
 use native.Mathlib.Omega.{arith}
@@ -18,18 +19,23 @@ use Rattle.hrg.specs.Trees.{unplaced, at, padded}
 use Rattle.hrg.specs.Items.{Item, active, orElse, joined, keepIf, restrict, isBoundary, isOpen, isOpenAt}
 use Rattle.hrg.specs.WellFormedTest.{every}
 use Rattle.hrg.specs.ClosureRun.{guard, agree, oneToOne, covering, combine}
-use Rattle.hrg.proofs.Sums.{hit-self, hit-ne, length-tabulate, at-tabulate, tabulate-ext, occurs-at, occurs-find}
+use Rattle.hrg.proofs.Sums.{hit-self, hit-ne, length-tabulate, at-tabulate, tabulate-ext, occurs-at}
 use Rattle.hrg.proofs.Degrees.{test-T, T-test, and-true}
 use Rattle.hrg.proofs.WellFormedTest.{every-false}
 use Rattle.questions.specs.Layout.{ruleNodes, graphNodes}
 use Rattle.questions.specs.Abstract.{grammarOf, graphOf}
-use Rattle.joins.specs.declared.Merged.{Merged}
-use Rattle.joins.specs.Joins.{Accepted, KnownNode, NodesIn, OpenAt, OpenIn, Spans, Keeps, Holds, Plain, openBy, openJoined, lostAt, noneLost, Merges, Makes}
+use Rattle.places.specs.declared.merging.Merged.{Merged}
+use Rattle.places.specs.Words.{placesOf}
+use Rattle.places.specs.Maps.{Merges}
+use Rattle.places.proofs.Bytewise.{every-out}
+use Rattle.joins.specs.Joins.{Accepted, KnownNode, NodesIn, OpenAt, OpenIn, Holds, Plain, Into, openBy, losesOne, openJoined, lostAt, noneLost}
 use Rattle.joins.specs.Graphs.{GraphTable}
+use Rattle.joins.specs.Premises.{Premises, Combines}
 use Rattle.joins.proofs.Known.{right-nodes, nodes-few, graph-ok, graph-nodes, graph-nodes-few}
 use Rattle.joins.proofs.Touching.{touches-some}
-use Rattle.joins.proofs.Openness.{bool-same, some-find, open-by, open-few, spans-united}
-use Rattle.joins.proofs.MapLaws.{every-true, every-same, agreeAt, length-joined, at-joined}
+use Rattle.joins.proofs.Openness.{bool-same, some-find, open-by, open-few, open-union}
+use Rattle.joins.proofs.MapLaws.{every-true, every-same, agreeAt, at-joined}
+use Rattle.joins.proofs.Narrowing.{every-find, into-plain, agree-few, once-few, kept-padded, kept-in, kept-covers, loses-is}
 
 -- ---- only the first n places count
 agree-take : (n : ℕ) (f k : List ℕ) → agree n (take n f) (take n k) ≡ agree n f k
@@ -68,10 +74,7 @@ open-known g h m v accepted o = boundary-inside (λ e. member m e) (graphOf g h)
 
 -- ---- every open node is an image
 pub every-at : (n : ℕ) (t : ℕ → Bool) → every n t ≡ true → (i : ℕ) → i < n → t i ≡ true
-unfolding every
-every-at zero t h i l = absurd (omega arith)
-every-at (suc n) t h zero l = and-true (t 0) (every n (λ i. t (suc i))) h .0
-every-at (suc n) t h (suc i) l = every-at n (λ i. t (suc i)) (and-true (t 0) (every n (λ i. t (suc i))) h .1) i (omega arith)
+every-at n t h = every-out n t h
 
 module _ (g h : List ℕ) (m o im : ℕ) (t : List ℕ) (accepted : Accepted g h) (small : o < 2 ^ 64) (opened : OpenIn g h m o) (images : NodesIn im t) where
   abbrev seenAt : ℕ → Bool
@@ -110,22 +113,6 @@ module _ (g h : List ℕ) (m o im : ℕ) (t : List ℕ) (accepted : Accepted g h
       (λ p. every-true (graphOf g h .nodes) seenAt (to-seen (within-holds o im (test-T (eqb (bitAnd o im) o) p))))
       (λ p. T-test (eqb (bitAnd o im) o) (holds-within o im (to-subset (every-at (graphOf g h .nodes) seenAt p))))
 
--- every open node is seen, and those that are seen are images
-module _ (g h : List ℕ) (m seen im : ℕ) (accepted : Accepted g h) (spans : Spans g h m seen) (keeps : Keeps g h m seen im) where
-  pub covers-seen : (t : List ℕ) → NodesIn im t → true ≡ covering (graphOf g h) m t
-  unfolding covering
-  covers-seen t images = sym (every-true (graphOf g h .nodes) (λ v. not (isOpen (graphOf g h) m v) || ltb 0 (occurs v t)) (λ v l. go v l (isOpen (graphOf g h) m v) refl))
-    where
-      few : graphOf g h .nodes ≤ 64
-      few = omega (arith, graph-nodes-few g h accepted, graph-nodes g h)
-
-      go : (v : ℕ) → v < graphOf g h .nodes → (p : Bool) → isOpen (graphOf g h) m v ≡ p → (not (isOpen (graphOf g h) m v) || ltb 0 (occurs v t)) ≡ true
-      go v l true p =
-          let d : v < 64 = omega (arith, few) in
-          let here : ltb 0 (occurs v t) ≡ true = sym (images .members v d) ∙ keeps .each v d (spans .each v d p) p in
-          ap (λ b. not (isOpen (graphOf g h) m v) || b) here ∙ or-true (not (isOpen (graphOf g h) m v))
-      go v l false p = ap (λ b. not b || ltb 0 (occurs v t)) p
-
 -- ---- images of both maps are images of the joined one
 first-image : (a b v : ℕ) → v < 64 → a ≡ v → orElse a b ≡ v
 first-image a b v l e = rw (ne-eqb a unplaced (λ q. omega (arith, l, e, q))) e
@@ -138,28 +125,6 @@ second-image a b v l plain same e = go (decLt a 64)
         let is : eqb a b ≡ true = ap₂ (λ (p q : Bool). p || q || eqb a b) (sym (lt-leb unplaced a d)) (sym (lt-leb unplaced b (omega (arith, l, e)))) ∙ same in
         first-image a b v l (eqb-true a b is ∙ e)
     go (no d) = rw (eq-eqb a unplaced (omega (arith, d, plain))) e
-
-module _ (g h : List ℕ) (n seen : ℕ) (f k : List ℕ) (all : NodesIn seen (joined n f k)) where
-  joined-image : (v i : ℕ) → v < 64 → i < n → orElse (at f i) (at k i) ≡ v → member seen v ≡ true
-  joined-image v i l inside e =
-      let j = joined n f k in
-      let here : at j i ≡ v = at-joined n f k i inside ∙ e in
-      all .members v l ∙ lt-ltb 0 (occurs v j) (rw here at (occurs-at j i (omega (arith, inside, length-joined n f k))))
-
-  holds-first : (m : ℕ) → Holds g h m n f → Spans g h m seen
-  holds-first m holds = record {
-    each = λ v l p.
-        let (i, inside, e) = holds .each v l p in
-        joined-image v i l inside (first-image (at f i) (at k i) v l e);
-  }
-
-  holds-second : (m : ℕ) → Plain f → agree n f k ≡ true → Holds g h m n k → Spans g h m seen
-  unfolding agree
-  holds-second m plain same holds = record {
-    each = λ v l p.
-        let (i, inside, e) = holds .each v l p in
-        joined-image v i l inside (second-image (at f i) (at k i) v l (plain i) (every-at n (agreeAt f k) same i inside) e);
-  }
 
 -- ---- images of dropped nodes
 -- a number that stands once in a list does not stand in it where its place is dropped
@@ -186,15 +151,6 @@ occurs-dropped (suc n) s F v (suc x) l h p q = go (s 0) (occurs-dropped n (λ x.
     go true h = omega arith
     go false h = omega (arith, hit-ne v 64 (λ e. omega arith))
 
-every-find : (n : ℕ) (t : ℕ → Bool) → every n t ≡ false → (i : ℕ) × (i < n) × (t i ≡ false)
-unfolding every
-every-find zero t h = absurd (false≢true (sym h))
-every-find (suc n) t h = go (t 0) refl h (every-find n (λ i. t (suc i)))
-  where
-    go : (p : Bool) → t 0 ≡ p → (p && every n (λ i. t (suc i))) ≡ false → (every n (λ i. t (suc i)) ≡ false → (i : ℕ) × (i < n) × (t (suc i) ≡ false)) → (i : ℕ) × (i < suc n) × (t i ≡ false)
-    go true e y ih = let z = ih y in (suc (z .0), omega (arith, z .1), z .2)
-    go false e y ih = (0, omega arith, e)
-
 module _ (g h w : List ℕ) (accepted : Accepted g h) (table : GraphTable g h w) (m : ℕ) (small : m < 2 ^ 64) (n stays : ℕ) (f k : List ℕ) where
   abbrev imageAt : ℕ → ℕ
   imageAt x = orElse (at f x) (at k x)
@@ -212,26 +168,39 @@ module _ (g h w : List ℕ) (accepted : Accepted g h) (table : GraphTable g h w)
       let none : occurs (imageAt x) (openJoined n stays f k) ≡ 0 = omega (arith, one, occurs-dropped n (λ x. member stays x) imageAt (imageAt x) x few l (not-true (member stays x) s) refl) in
       sym (every-false (graphOf g h .nodes) (λ v. not (isOpen (graphOf g h) m v) || ltb 0 (occurs v (openJoined n stays f k))) (imageAt x) known (ap₂ (λ (a : Bool) (b : ℕ). not a || ltb 0 b) is none))
 
-  -- where none is lost, an open image is one of the images that stay
-  none-lost : (seen images : ℕ) → noneLost n stays w m f k ≡ true → NodesIn seen (joined n f k) → NodesIn images (openJoined n stays f k) → Keeps g h m seen images
+  -- where none is lost, an open image is one of those that stay
+  none-lost : noneLost n stays w m f k ≡ true → (v x : ℕ) → v < 64 → x < n → imageAt x ≡ v → isOpen (graphOf g h) m v ≡ true → ltb 0 (occurs v (openJoined n stays f k)) ≡ true
   unfolding noneLost
-  none-lost seen images passes all stayed = record {
-    each = λ v l p o.
-        let j = joined n f k in
-        let (x, d, e) = occurs-find v j (ltb-true 0 (occurs v j) (sym (all .members v l) ∙ p)) in
-        let inside : x < n = omega (arith, length-joined n f k) in
-        let image : imageAt x ≡ v = sym (at-joined n f k x inside) ∙ e in
-        let shut = not-true (lostAt stays w m f k x) (every-at n (λ x. not (lostAt stays w m f k x)) passes x inside) in
-        stayed .members v l ∙ go v l x inside image (open-by g h w accepted table v l m small ∙ o) shut (member stays x) refl;
-  }
+  none-lost passes v x l inside image here =
+      go (member stays x) refl (not-true (lostAt stays w m f k x) (every-at n (λ x. not (lostAt stays w m f k x)) passes x inside))
     where
-      go : (v : ℕ) → v < 64 → (x : ℕ) → x < n → imageAt x ≡ v → openBy w m v ≡ true → lostAt stays w m f k x ≡ false → (b : Bool) → member stays x ≡ b → ltb 0 (occurs v (openJoined n stays f k)) ≡ true
-      go v l x inside image o shut true s =
+      go : (b : Bool) → member stays x ≡ b → lostAt stays w m f k x ≡ false → ltb 0 (occurs v (openJoined n stays f k)) ≡ true
+      go true s shut =
           let t = openJoined n stays f k in
-          let here : at t x ≡ v = at-tabulate n (λ x. keepIf (member stays x) (imageAt x)) x inside ∙ ap (λ b. keepIf b (imageAt x)) s ∙ image in
-          let there = rw here at (occurs-at t x (omega (arith, length-tabulate n (λ x. keepIf (member stays x) (imageAt x))))) in
+          let is : at t x ≡ v = at-tabulate n (λ x. keepIf (member stays x) (imageAt x)) x inside ∙ ap (λ b. keepIf b (imageAt x)) s ∙ image in
+          let there = rw is at (occurs-at t x (omega (arith, length-tabulate n (λ x. keepIf (member stays x) (imageAt x))))) in
           lt-ltb 0 (occurs v t) there
-      go v l x inside image o shut false s = absurd (false≢true (sym shut ∙ ap₂ (λ (b : Bool) (u : ℕ). not b && openBy w m u) s image ∙ o))
+      go false s shut =
+          absurd (false≢true (sym shut ∙ ap₂ (λ (b : Bool) (u : ℕ). not b && openBy w m u) s image ∙ open-by g h w accepted table v l m small ∙ here))
+
+  -- where each map has the open nodes of its set and none is lost, all that are open stay
+  all-stay : (m₁ m₂ : ℕ) → m ≡ m₁ ∪ m₂ → Plain f → agree n f k ≡ true → Holds g h m₁ n f → Holds g h m₂ n k → noneLost n stays w m f k ≡ true
+      → covering (graphOf g h) m (openJoined n stays f k) ≡ true
+  unfolding covering agree
+  all-stay m₁ m₂ u plain same first second passes =
+      every-true (graphOf g h .nodes) (λ v. not (isOpen (graphOf g h) m v) || ltb 0 (occurs v (openJoined n stays f k))) (λ v l. go v l (isOpen (graphOf g h) m v) refl)
+    where
+      seen : (v : ℕ) → v < 64 → isOpen (graphOf g h) m v ≡ true → ltb 0 (occurs v (openJoined n stays f k)) ≡ true
+      seen v l p =
+          ⊎-elim
+          (λ o. let (i, inside, e) = first .each v l o in none-lost passes v i l inside (first-image (at f i) (at k i) v l e) p)
+          (λ o. let (i, inside, e) = second .each v l o in none-lost passes v i l inside (second-image (at f i) (at k i) v l (plain i) (every-at n (agreeAt f k) same i inside) e) p)
+          (open-union g h m₁ m₂ v (ap (λ i. isOpen (graphOf g h) i v) (sym u) ∙ p))
+
+      go : (v : ℕ) → v < graphOf g h .nodes → (p : Bool) → isOpen (graphOf g h) m v ≡ p → (not (isOpen (graphOf g h) m v) || ltb 0 (occurs v (openJoined n stays f k))) ≡ true
+      go v l true p =
+          ap (λ b. not (isOpen (graphOf g h) m v) || b) (seen v (omega (arith, graph-nodes-few g h accepted, graph-nodes g h)) p) ∙ or-true (not (isOpen (graphOf g h) m v))
+      go v l false p = ap (λ b. not b || ltb 0 (occurs v (openJoined n stays f k))) p
 
 -- ---- the four tests
 module _ (H : Graph) (R : Rule) (r q m₁ m₂ : ℕ) where
@@ -274,84 +243,106 @@ module _ (H : Graph) (R : Rule) (r q m₁ m₂ : ℕ) where
   all-pass a j d p c = let (x, y) = and-true a (oneToOne (H .nodes) j) p in rw (d, x, y, c)
 
 -- ---- over accepted tables
-module _ (g h : List ℕ) (r q m₁ m₂ : ℕ) (f k : List ℕ) (accepted : Accepted g h) (known : KnownNode g r q) where
+module _ {g h w : List ℕ} {r q stays m₁ m₂ : ℕ} {sure : Bool} {f k : List ℕ} (P : Premises g h w r q stays m₁ m₂ sure f k) where
   abbrev n : ℕ
   n = ruleNodes g r
+
+  abbrev H : Graph
+  H = graphOf g h
 
   abbrev R : Rule
   R = ruleOf (grammarOf g) r
 
-  abbrev made : List Item
-  made = combine (graphOf g h) R r q m₁ m₂ (take n f) (take n k)
-
-  -- what is promised of the answer
   abbrev Answer : List ℕ → Bool → Type 0
-  Answer t y = Makes made r q (m₁ ∪ m₂) t y
+  Answer t y = Combines g h r q m₁ m₂ f k (record { nodes = t; ok = y })
 
-  whole : made ≡ stages (graphOf g h) R r q m₁ m₂ (agree n f k) (joined n f k)
+  rule-small : n ≤ 8
+  rule-small = nodes-few g r (P .node .grammar) (P .node .rule)
+
+  graph-small : graphNodes h ≤ 64
+  graph-small = graph-nodes-few g h (P .accepted)
+
+  whole : combine H R r q m₁ m₂ (take n f) (take n k) ≡ stages H R r q m₁ m₂ (agree n f k) (joined n f k)
   whole =
-      let size : R .production .right .nodes ≡ n = right-nodes g r (known .grammar) (known .rule) in
-      combine-stages (graphOf g h) R r q m₁ m₂ (take n f) (take n k)
-      ∙ ap₂ (stages (graphOf g h) R r q m₁ m₂)
+      let size : R .production .right .nodes ≡ n = right-nodes g r (P .node .grammar) (P .node .rule) in
+      combine-stages H R r q m₁ m₂ (take n f) (take n k)
+      ∙ ap₂ (stages H R r q m₁ m₂)
       (ap (λ i. agree i (take n f) (take n k)) size ∙ agree-take n f k) (ap (λ i. joined i (take n f) (take n k)) size ∙ joined-take n f k)
 
-  none-made : (t : List ℕ) → stages (graphOf g h) R r q m₁ m₂ (agree n f k) (joined n f k) ≡ [] → Answer t false
-  none-made t none = record { none = λ _. whole ∙ none; one = λ p. absurd (false≢true p) }
+  none-made : stages H R r q m₁ m₂ (agree n f k) (joined n f k) ≡ [] → Answer f false
+  none-made none = record { makes = record { none = λ _. whole ∙ none; one = λ p. absurd (false≢true p) }; into = P .first-into }
 
-  pub combine-apart : (b : Bool) → b ≡ disjoint m₁ m₂ → b ≡ false → (t : List ℕ) → Answer t false
-  combine-apart b e fails t = none-made t (apart-no (graphOf g h) R r q m₁ m₂ (agree n f k) (joined n f k) (sym e ∙ fails))
+  pub first-plain : Plain f
+  first-plain = into-plain (graphNodes h) f graph-small (P .first-into)
 
-  module _ (w : List ℕ) (table : GraphTable g h w) (size nodes stays : ℕ) (opened : OpenAt g r q stays) (e : size ≡ ruleNodes g r) (e′ : nodes ≡ graphNodes h) (m : ℕ) (small : m < 2 ^ 64) (u : m ≡ m₁ ∪ m₂)
-      (t : List ℕ) (x : Merged) (merges : Merges size nodes stays w m f k t x) where
-    abbrev fits : Bool
-    fits = agree n f k && oneToOne (graphOf g h .nodes) (joined n f k)
+  pub second-plain : Plain k
+  second-plain = into-plain (graphNodes h) k graph-small (P .second-into)
 
-    test : (fits && noneLost n stays w m f k) ≡ x .ok
-    test =
-        ap₂ (λ (i n : ℕ). agree n f k && oneToOne i (joined n f k) && noneLost n stays w m f k) (graph-nodes g h ∙ sym e′) (sym e)
-        ∙ sym (merges .test)
+  pub combine-apart : {b : Bool} → b ≡ disjoint m₁ m₂ → b ≡ false → Answer f false
+  combine-apart e fails = none-made (apart-no H R r q m₁ m₂ (agree n f k) (joined n f k) (sym e ∙ fails))
 
-    map : openJoined size stays f k ≡ restrict R q (joined n f k)
-    map = ap (λ i. openJoined i stays f k) e ∙ closed g r q stays f k known opened
+  -- two maps merged
+  module _ {x : Merged} (merges : Merges stays f k x) where
+    fits : x .ok ≡ (agree n f k && oneToOne (H .nodes) (joined n f k))
+    fits =
+        merges .test
+        ∙ ap₂ _&&_ (agree-few n (graphNodes h) f k rule-small graph-small (P .first-bare) (P .second-bare) (P .first-into) (P .second-into))
+        (once-few n (graphNodes h) f k rule-small graph-small (P .first-bare) (P .second-bare) (P .first-into) (P .second-into) ∙ ap (λ i. oneToOne i (joined n f k)) (sym (graph-nodes g h)))
 
-    pub combine-clash : x .ok ≡ false → Answer t false
-    combine-clash fails = none-made t (go fits refl (test ∙ fails))
-      where
-        go : (b : Bool) → fits ≡ b → (b && noneLost n stays w m f k) ≡ false → stages (graphOf g h) R r q m₁ m₂ (agree n f k) (joined n f k) ≡ []
-        go false p z = merge-not (graphOf g h) R r q m₁ m₂ (agree n f k) (joined n f k) p
-        go true p z =
-            cover-no (graphOf g h) R r q m₁ m₂ (agree n f k) (joined n f k)
-            (ap₂ (covering (graphOf g h)) (sym u) (sym (ap (λ i. openJoined i stays f k) (sym e) ∙ map))
-            ∙ lost-bare g h w accepted table m small n stays f k (and-true (agree n f k) (oneToOne (graphOf g h .nodes) (joined n f k)) p .1) z)
+    pub combine-clash : x .ok ≡ false → Answer f false
+    combine-clash fails = none-made (merge-not H R r q m₁ m₂ (agree n f k) (joined n f k) (sym fits ∙ fails))
 
-    module _ (ok : x .ok ≡ true) where
-      passed : (fits ≡ true) × (noneLost n stays w m f k ≡ true)
-      passed = and-true fits (noneLost n stays w m f k) (test ∙ ok)
+    module _ (ok : x .ok ≡ true) {m : ℕ} (u : m ≡ m₁ ∪ m₂) (small : m < 2 ^ 64) {lost : Bool} (is : lost ≡ losesOne w m (x .dropped)) where
+      passed : (agree n f k ≡ true) × (oneToOne (H .nodes) (joined n f k) ≡ true)
+      passed = and-true (agree n f k) (oneToOne (H .nodes) (joined n f k)) (sym fits ∙ ok)
 
-      pub combine-keeps : Keeps g h m (x .seen) (x .images)
-      combine-keeps =
-          none-lost g h w accepted table m small n stays f k (x .seen) (x .images) (passed .1)
-          (subst (λ i. NodesIn (x .seen) (joined i f k)) e (merges .seen ok)) (subst (λ i. NodesIn (x .images) (openJoined i stays f k)) e (merges .images ok))
+      lost-is : lost ≡ not (noneLost n stays w m f k)
+      lost-is =
+          is
+          ∙ loses-is n (graphNodes h) f k rule-small graph-small (P .first-bare) (P .second-bare) (P .first-into) (P .second-into) stays w m (x .dropped) (merges .dropped)
 
-      -- where each map has the open nodes of its set, all that are open are seen
-      pub combine-spans : Holds g h m₁ n f × Plain f → Holds g h m₂ n k → Spans g h m (x .seen)
-      combine-spans first second =
-          let all = subst (λ i. NodesIn (x .seen) (joined i f k)) e (merges .seen ok) in
-          spans-united g h m m₁ m₂ (x .seen) u (holds-first g h n (x .seen) f k all m₁ (first .0))
-          (holds-second g h n (x .seen) f k all m₂ (first .1) (and-true (agree n f k) (oneToOne (graphOf g h .nodes) (joined n f k)) (passed .0) .0) second)
+      map : openJoined n stays f k ≡ restrict R q (joined n f k)
+      map = closed g r q stays f k (P .node) (P .opened)
 
-      pub combine-covered : (b : Bool) → b ≡ disjoint m₁ m₂ → b ≡ true → (c : Bool) → ((t : List ℕ) → NodesIn (x .images) t → c ≡ covering (graphOf g h) m t) → Answer t c
-      combine-covered b d holds c covered = record {
-        none = λ p. whole ∙ cover-no (graphOf g h) R r q m₁ m₂ (agree n f k) (joined n f k) (sym cover ∙ p);
-        one = λ p. record {
-          map = restrict R q (joined n f k);
-          item = whole ∙ all-pass (graphOf g h) R r q m₁ m₂ (agree n f k) (joined n f k) (sym d ∙ holds) (passed .0) (sym cover ∙ p);
-          places = merges .map ok ∙ ap padded map;
-        };
-      }
-        where
-          cover : c ≡ covering (graphOf g h) (m₁ ∪ m₂) (restrict R q (joined n f k))
-          cover = covered (openJoined size stays f k) (merges .images ok) ∙ ap₂ (covering (graphOf g h)) u map
+      pub combine-lost : lost ≡ true → Answer f false
+      combine-lost fails =
+          none-made
+          (cover-no H R r q m₁ m₂ (agree n f k) (joined n f k)
+          (ap₂ (covering H) (sym u) (sym map)
+          ∙ lost-bare g h w (P .accepted) (P .table) m small n stays f k (passed .1) (not-true (noneLost n stays w m f k) (sym lost-is ∙ fails))))
+
+      module _ (none : lost ≡ false) where
+        kept-cover : covering H m (placesOf (x .kept)) ≡ covering H m (openJoined n stays f k)
+        kept-cover =
+            ap (covering H m) (merges .kept)
+            ∙ kept-covers n (graphNodes h) f k rule-small graph-small (P .first-bare) (P .second-bare) (P .first-into) (P .second-into) stays H m (omega (arith, graph-small, graph-nodes g h))
+
+        pub combine-sure : sure ≡ true → covering H m (placesOf (x .kept)) ≡ true
+        combine-sure s =
+            kept-cover
+            ∙ all-stay g h w (P .accepted) (P .table) m small n stays f k m₁ m₂ u first-plain (passed .0) (P .first-holds s) (P .second-holds s) (not-false (noneLost n stays w m f k) (sym lost-is ∙ none))
+
+        pub combine-covered : {b : Bool} → b ≡ disjoint m₁ m₂ → b ≡ true → {c : Bool} → c ≡ covering H m (placesOf (x .kept)) → {t : List ℕ} → t ≡ placesOf (x .kept) → Answer t c
+        combine-covered d apart {c} covered places = record {
+          makes = record {
+            none = λ p. whole ∙ cover-no H R r q m₁ m₂ (agree n f k) (joined n f k) (sym cover ∙ p);
+            one = λ p. record {
+              map = restrict R q (joined n f k);
+              item = whole ∙ all-pass H R r q m₁ m₂ (agree n f k) (joined n f k) (sym d ∙ apart) (sym fits ∙ ok) (sym cover ∙ p);
+              places =
+                  places
+                  ∙ merges .kept
+                  ∙ kept-padded n (graphNodes h) f k rule-small graph-small (P .first-bare) (P .second-bare) (P .first-into) (P .second-into) stays
+                  ∙ ap padded map;
+            };
+          };
+          into =
+              subst (Into (graphNodes h)) (sym (places ∙ merges .kept))
+              (kept-in n (graphNodes h) f k rule-small graph-small (P .first-bare) (P .second-bare) (P .first-into) (P .second-into) stays);
+        }
+          where
+            cover : c ≡ covering H (m₁ ∪ m₂) (restrict R q (joined n f k))
+            cover = covered ∙ kept-cover ∙ ap₂ (covering H) u map
 
 -- two maps that differ at a rule node where both have an image make nothing
 pub combine-differ : (H : Graph) (R : Rule) (r q m₁ m₂ : ℕ) (f k : List ℕ) (x : ℕ) → x < R .production .right .nodes → at f x < unplaced → at k x < unplaced → (at f x ≡ at k x → ⊥)

@@ -53,11 +53,6 @@ same-bare n m t u e s bare = record { past = λ x h. ap (λ (t : List ℕ). at t
 pub as-words : (n : ℕ) (l : List ℕ) → length l ≡ n → tabulate n (λ k. getD l k 0) ≡ l
 as-words n l e = tabulate-list l n (λ k. getD l k 0) (sym e) (λ i h. refl)
 
-pub set-eight : (t : List ℕ) (a b c d e f g h : ℕ) → length t ≡ 8 → set (set (set (set (set (set (set (set t 0 a) 1 b) 2 c) 3 d) 4 e) 5 f) 6 g) 7 h ≡ a ∷ b ∷ c ∷ d ∷ e ∷ f ∷ g ∷ h ∷ []
-unfolding tabulate
-set-eight t a b c d e f g h size =
-    subst (λ (t : List ℕ). set (set (set (set (set (set (set (set t 0 a) 1 b) 2 c) 3 d) 4 e) 5 f) 6 g) 7 h ≡ a ∷ b ∷ c ∷ d ∷ e ∷ f ∷ g ∷ h ∷ []) (as-words 8 t size) refl
-
 -- ---- the node of L for a rule node
 node-first : (x a b : ℕ) (as′ bs : List ℕ) → x ≡ a → nodeFor x (a ∷ as′) (b ∷ bs) ≡ b
 unfolding nodeFor

@@ -1,6 +1,7 @@
--- Open graph nodes one by one, by the words of the graph's table, and sets that hold those of an edge set.
+-- Open graph nodes one by one, by the words of the graph's table, and of a union of edge sets.
 use mathlib.Core.Path.{_≡_, refl, sym, ap, ap₂, _∙_}
 use mathlib.Core.Bool.{Bool, true, false, _&&_, _||_, not, or-true, false≢true}
+use mathlib.Core.Logic.{_⊎_, inl, inr}
 use mathlib.Core.List.{List}
 use Prim.Native.Nat.{ℕ, zero, suc, _+_, _-_, _*_, _/_, _%_, _^_, _<_}
 use native.Mathlib.Nat.{pow-suc}
@@ -207,20 +208,14 @@ open-single g h e v p =
     let (i, _, x, y) = open-edge g h (single e) v p in
     ap (onEdge g h v) (sym (eqb-true i e (sym (member-single e i) ∙ x))) ∙ y
 
--- ---- sets that hold the open nodes
-module _ (g h : List ℕ) where
-  pub spans-union : (a b o : ℕ) → Spans g h a o → Spans g h b o → Spans g h (a ∪ b) o
-  spans-union a b o first second = record {
-    each = λ v l p.
-        let (e, known, x, y) = open-edge g h (a ∪ b) v p in
-        either-way (member a e) (member b e) (sym (member-union a b e) ∙ x)
-        (λ q. first .each v l (open-part g h (a ∪ b) a v e (λ i z. member-union a b i ∙ ap (λ c. c || member b i) z) known q y p))
-        (λ q. second .each v l (open-part g h (a ∪ b) b v e (λ i z. member-union a b i ∙ ap (λ c. member a i || c) z ∙ or-true (member a i)) known q y p));
-  }
+-- an open node of a union is one of a part
+pub open-union : (g h : List ℕ) (a b v : ℕ) → isOpen (graphOf g h) (a ∪ b) v ≡ true → (isOpen (graphOf g h) a v ≡ true) ⊎ (isOpen (graphOf g h) b v ≡ true)
+open-union g h a b v p =
+    let (e, known, x, y) = open-edge g h (a ∪ b) v p in
+    either-way (member a e) (member b e) (sym (member-union a b e) ∙ x)
+    (λ q. inl (open-part g h (a ∪ b) a v e (λ i z. member-union a b i ∙ ap (λ c. c || member b i) z) known q y p))
+    (λ q. inr (open-part g h (a ∪ b) b v e (λ i z. member-union a b i ∙ ap (λ c. member a i || c) z ∙ or-true (member a i)) known q y p))
 
-  pub spans-united : (m a b o : ℕ) → m ≡ a ∪ b → Spans g h a o → Spans g h b o → Spans g h m o
-  spans-united m a b o e first second = rw e (spans-union a b o first second)
-
-  -- any set holds the open nodes of no edges
-  pub spans-none : (o : ℕ) → Spans g h 0 o
-  spans-none o = record { each = λ v l p. let (e, _, x, _) = open-edge g h 0 v p in absurd (false≢true (sym (member-none e) ∙ x)) }
+-- any set holds the open nodes of no edges
+pub spans-none : (g h : List ℕ) (o : ℕ) → Spans g h 0 o
+spans-none g h o = record { each = λ v l p. let (e, _, x, _) = open-edge g h 0 v p in absurd (false≢true (sym (member-none e) ∙ x)) }

@@ -1,23 +1,23 @@
 -- What the functions say of accepted tables: masks of rule edges and of open nodes, and maps of eight rule nodes.
 use mathlib.Core.Path.{_≡_}
 use mathlib.Core.Bool.{Bool, true, false, _&&_, _||_, not}
+use mathlib.Core.Logic.{_⊎_}
 use mathlib.Core.List.{List, [], _∷_}
 use Prim.Native.Nat.{ℕ, zero, suc, _+_, _*_, _-_, _^_, _≤_, _<_}
 use lib.ListN.{getD}
-use lib.Bits.{bitOr, bitAnd}
+use lib.Bits.{bitOr, bitAnd, bitXor}
 use lib.Dec.{eqb, ltb}
 use Rattle.masks.specs.Masks.{member, _∪_}
 use Rattle.hrg.specs.Counts.{occurs, tabulate}
 use Rattle.hrg.specs.Grammars.{ruleOf, rightOf, planOf, edgeAt}
 use Rattle.hrg.specs.Trees.{unplaced, at, padded}
-use Rattle.hrg.specs.Items.{Item, active, below, isOpen, isOpenAt, orElse, joined, keepIf}
-use Rattle.hrg.specs.WellFormedTest.{every}
-use Rattle.hrg.specs.ClosureRun.{agree, oneToOne}
+use Rattle.hrg.specs.Items.{Item, active, below, isOpen, isOpenAt, orElse, keepIf}
+use Rattle.hrg.specs.WellFormedTest.{every, some}
+use Rattle.places.specs.Words.{placesOf}
 use Rattle.questions.specs.Layout.{lineField, rankAt, ruleCount, ruleEdges, rulePlan, edgeLabel, edgeNode}
 use Rattle.questions.specs.Checking.{checkGrammar, checkGraph}
 use Rattle.questions.specs.Abstract.{grammarOf, graphOf}
 use Rattle.joins.specs.declared.Sides.{Sides}
-use Rattle.joins.specs.declared.Merged.{Merged}
 
 -- ---- what callers know
 -- an accepted grammar table and a graph table accepted with it
@@ -87,10 +87,6 @@ pub record OpenIn (g h : List ℕ) (m o : ℕ) : Type 0 where
 pub record Spans (g h : List ℕ) (m o : ℕ) : Type 0 where
   pub each : (v : ℕ) → v < 64 → isOpen (graphOf g h) m v ≡ true → member o v ≡ true
 
--- those in the set `seen` are in the set `images`
-pub record Keeps (g h : List ℕ) (m seen images : ℕ) : Type 0 where
-  pub each : (v : ℕ) → v < 64 → member seen v ≡ true → isOpen (graphOf g h) m v ≡ true → member images v ≡ true
-
 -- the edges of graph node v, by a table of the graph: from word 321 on it has those by place and node
 abbrev pub edgesOn : List ℕ → ℕ → ℕ
 edgesOn t v = bitOr (bitOr (getD t (321 + v) 0) (getD t (385 + v) 0)) (bitOr (getD t (449 + v) 0) (getD t (513 + v) 0))
@@ -99,6 +95,11 @@ edgesOn t v = bitOr (bitOr (getD t (321 + v) 0) (getD t (385 + v) 0)) (bitOr (ge
 unfoldable pub openBy : List ℕ → ℕ → ℕ → Bool
 openBy t m v =
     ltb v 64 && (not (eqb (bitAnd (edgesOn t v) m) 0) && (member (getD t 256 0) v || not (eqb (bitAnd (edgesOn t v) (2 ^ 64 - 1 - m)) 0)))
+
+-- whether one of the dropped nodes, of which a word has each xor 64, is open in the edge set m
+unfoldable pub losesOne : List ℕ → ℕ → ℕ → Bool
+unfolding some
+losesOne t m w = some 8 (λ i. openBy t m (bitXor (getD (placesOf w) i 0) unplaced))
 
 -- ---- maps of rule nodes
 -- the nodes of edge i of rule r
@@ -127,6 +128,10 @@ pub record Holds (g h : List ℕ) (m n : ℕ) (f : List ℕ) : Type 0 where
 abbrev pub Plain : List ℕ → Type 0
 Plain f = (i : ℕ) → at f i ≤ unplaced
 
+-- each place of f has no image, or one of the first n nodes
+abbrev pub Into : ℕ → List ℕ → Type 0
+Into n f = (i : ℕ) → (at f i ≡ unplaced) ⊎ (at f i < n)
+
 -- ---- what two sets and maps make
 -- two maps of n nodes as one, without the nodes that are not in the set `stays`
 abbrev pub openJoined : ℕ → ℕ → List ℕ → List ℕ → List ℕ
@@ -140,13 +145,6 @@ lostAt stays t m f k x = not (member stays x) && openBy t m (orElse (at f x) (at
 unfoldable pub noneLost : ℕ → ℕ → List ℕ → ℕ → List ℕ → List ℕ → Bool
 unfolding every
 noneLost n stays t m f k = every n (λ x. not (lostAt stays t m f k x))
-
--- whether two maps of n nodes are one map and one-to-one and lose no node that is open in the edge set m; `made` is that map without the closed nodes, and the sets are its images, and those of the closed nodes too
-pub record Merges (n nodes stays : ℕ) (t : List ℕ) (m : ℕ) (f k made : List ℕ) (x : Merged) : Type 0 where
-  pub test : x .ok ≡ (agree n f k && oneToOne nodes (joined n f k) && noneLost n stays t m f k)
-  pub map : x .ok ≡ true → made ≡ padded (openJoined n stays f k)
-  pub seen : x .ok ≡ true → NodesIn (x .seen) (joined n f k)
-  pub images : x .ok ≡ true → NodesIn (x .images) (openJoined n stays f k)
 
 -- a list is one active item of rule r at plan node q with the edge set m, and its map is in the eight places of t
 pub record OneItem (l : List Item) (r q m : ℕ) (t : List ℕ) : Type 0 where

@@ -1,3 +1,4 @@
 -- The root of the definitions.
 pub mod Joins
 pub mod Graphs
+pub mod Premises

@@ -11,6 +11,9 @@ ghost use Rattle.joins.specs.Graphs.{graphTableWords, EdgeSets, Group, G
 // Words of the table.
 pub const GRAPH_TABLE_WORDS: usize = 577;
 
+// The sets of four edges.
+pub(crate) const SUBSETS: u64 = 16;
+
 // The nodes of each edge.
 fn edge_sets(g: &[u64], h: &[u64]) -> [u64; 64]
     requires { ⌜ graphEdges (now h) ≤ 64 ⌝ }
@@ -43,8 +46,8 @@ fn group(sets: &[u64; 64], i: u64) -> u64
     requires { ⌜ i < 256 ⌝ }
     ensures { λ m. ⌜ Group (now (sets .entry)) i m ⌝ }
 {
-    let b = 4 * (i / 16);
-    let v = i % 16;
+    let b = 4 * (i / SUBSETS);
+    let v = i % SUBSETS;
     let m0 = chosen(v, 0, sets[b as usize]);
     let m1 = chosen(v, 1, sets[(b + 1) as usize]);
     let m2 = chosen(v, 2, sets[(b + 2) as usize]);
@@ -57,7 +60,7 @@ fn put_groups(h: &[u64], sets: &[u64; 64], t: &mut [u64])
     requires { ⌜ (graphEdges (now h) ≤ 64) × (length (now t) ≡ graphTableWords) ⌝ }
     ensures { λ r. ⌜ Grouped (now (h .entry)) (now (sets .entry)) (now (t .entry)) (now (t .exit)) ⌝ }
 {
-    let n = 16 * ((layout::graph_edges(h) + 3) / 4);
+    let n = SUBSETS * ((layout::graph_edges(h) + 3) / 4);
     let mut i: u64 = 0;
     while i < n {
         let m = group(sets, i);

@@ -1,23 +1,26 @@
 // The leaves of the chart's step, over accepted tables: what lies below a plan node, open nodes, the map of an edge, and two maps joined.
 ghost use mathlib.Core.Path.{_≡_};
-ghost use mathlib.Core.Bool.{true, false};
-ghost use mathlib.Core.List.{List};
-ghost use Prim.Native.Nat.{ℕ, _+_, _*_, _≤_, _<_};
-ghost use lib.ListN.{length, take, replicate};
-ghost use Rattle.masks.specs.Masks.{_∪_};
-ghost use Rattle.hrg.specs.Trees.{unplaced, padded};
+ghost use mathlib.Core.Bool.{true};
+ghost use Prim.Native.Nat.{_+_, _≤_, _<_};
+ghost use lib.ListN.{take};
+ghost use Rattle.hrg.specs.Trees.{padded};
 ghost use Rattle.hrg.specs.Counts.{tabulate};
-ghost use Rattle.hrg.specs.Grammars.{ruleOf};
 ghost use Rattle.hrg.specs.Items.{attach};
-ghost use Rattle.hrg.specs.ClosureRun.{covering, combine};
+ghost use Rattle.hrg.specs.ClosureRun.{covering};
+ghost use Rattle.places.specs.Words.{placesOf};
 ghost use Rattle.questions.specs.Layout.{grammarWords, lineField, rankAt, startSymbol, ruleSymbol, ruleNodes, ruleExternal, edgeLabel, graphExternal};
 ghost use Rattle.questions.specs.Checking.{checkGrammar};
-ghost use Rattle.questions.specs.Abstract.{grammarOf, graphOf};
-ghost use Rattle.joins.specs.Joins.{KnownNode, KnownEdge, Accepted, EdgesBelow, MasksBelow, NodesIn, sideWith, SidesOf, Boundary, OpenAt, OpenIn, Spans, Keeps, Holds, Plain, edgeNodes, nodesWord, openBy, BareFrom, Merges, Makes};
+ghost use Rattle.questions.specs.Abstract.{graphOf};
+ghost use Rattle.joins.specs.Joins.{KnownNode, KnownEdge, Accepted, EdgesBelow, MasksBelow, NodesIn, sideWith, SidesOf, Boundary, OpenAt, OpenIn, edgeNodes, nodesWord, openBy, losesOne};
 ghost use Rattle.joins.specs.Graphs.{GraphTable, Touched};
+ghost use Rattle.joins.specs.Premises.{Premises, Combines};
+use places::PLACES;
+use places::merging;
 
 pub mod graphs;
-mod maps;
+
+// The plan nodes of a rule, at most.
+pub const PLAN_NODES: usize = 16;
 
 // The nodes on edges of a set, and on the other edges.
 struct Sides {
@@ -27,7 +30,7 @@ struct Sides {
 
 // ---- what lies below a plan node
 // The edges below plan node q, where ms has those below each node before it.
-pub fn node_below(g: &[u64], r: u64, q: u64, ms: &[u64; 16]) -> u64
+pub fn node_below(g: &[u64], r: u64, q: u64, ms: &[u64; PLAN_NODES]) -> u64
     requires { ⌜ KnownNode (now g) r q × MasksBelow (now g) r q (now ms) ⌝ }
     ensures { λ m. ⌜ EdgesBelow (now (g .entry)) r q m ⌝ }
 {
@@ -135,10 +138,10 @@ fn touched(g: &[u64], h: &[u64], graph: &[u64; graphs::GRAPH_TABLE_WORDS], m: u6
     let mut rest = m;
     let mut b: u64 = 0;
     while 4 * b < n {
-        let v = rest % 16;
-        inside |= graph[(16 * b + v) as usize];
-        outside |= graph[(16 * b + (15 - v)) as usize];
-        rest /= 16;
+        let v = rest % graphs::SUBSETS;
+        inside |= graph[(graphs::SUBSETS * b + v) as usize];
+        outside |= graph[(graphs::SUBSETS * b + (graphs::SUBSETS - 1 - v)) as usize];
+        rest /= graphs::SUBSETS;
         b += 1;
     }
     Sides { inside, outside }
@@ -162,21 +165,6 @@ pub fn rank_of(g: &[u64], s: u64) -> u64
 }
 
 // ---- maps of rule nodes: eight places, 64 where a node has no image
-// No images.
-pub fn clear(t: &mut [u64])
-    requires { ⌜ length (now t) ≡ 8 ⌝ }
-    ensures { λ x. ⌜ now (t .exit) ≡ replicate 8 unplaced ⌝ }
-{
-    t[0] = 64;
-    t[1] = 64;
-    t[2] = 64;
-    t[3] = 64;
-    t[4] = 64;
-    t[5] = 64;
-    t[6] = 64;
-    t[7] = 64;
-}
-
 // How many nodes edge i of rule r has, and which, as one number.
 pub fn nodes_word(g: &[u64], r: u64, i: u64) -> u64
     requires { ⌜ KnownEdge (now g) r i ⌝ }
@@ -192,19 +180,22 @@ pub fn nodes_word(g: &[u64], r: u64, i: u64) -> u64
     rank + 8 * w
 }
 
-// The map of edge i's nodes, which w tells, to the first nodes of l, in order, into the eight places of t, which has no images: from the last on, since the first of equal nodes counts.
-pub fn attach_by(g: &[u64], r: u64, i: u64, w: u64, l: &[u64], t: &mut [u64])
-    requires { ⌜ KnownEdge (now g) r i × (w ≡ nodesWord (now g) r i) × (length (now l) ≡ 8) × (now t ≡ replicate 8 unplaced) ⌝ }
-    ensures { λ x. ⌜ now (t .exit) ≡ padded (attach (ruleNodes (now (g .entry)) r) (edgeNodes (now (g .entry)) r i) (take (rankAt (now (g .entry)) (edgeLabel (now (g .entry)) r i)) (now (l .entry)))) ⌝ }
+// The map of edge i's nodes, which w tells, to the first nodes of l, in order: from the last on, since the first of
+// equal nodes counts.
+pub fn attach_by(g: &[u64], r: u64, i: u64, w: u64, l: [u8; PLACES]) -> [u8; PLACES]
+    requires { ⌜ KnownEdge (now g) r i × (w ≡ nodesWord (now g) r i) ⌝ }
+    ensures { λ x. ⌜ x ≡ padded (attach (ruleNodes (now (g .entry)) r) (edgeNodes (now (g .entry)) r i) (take (rankAt (now (g .entry)) (edgeLabel (now (g .entry)) r i)) l)) ⌝ }
 {
+    let nodes = places::word_of(l);
+    let mut t = places::NONE;
     let mut k = w % 8;
     let mut rest = w / 8;
     while 0 < k {
         k -= 1;
-        let x = rest % 8;
-        t[x as usize] = l[k as usize];
+        t = places::with_node(t, rest % 8, places::node_at(nodes, k));
         rest /= 8;
     }
+    places::nodes_of(t)
 }
 
 // Whether graph node v is open in the edge set m, so that a rule node with this image must not be dropped. The words of v at the four places have its edges.
@@ -218,92 +209,65 @@ fn lost(graph: &[u64; graphs::GRAPH_TABLE_WORDS], m: u64, v: u64) -> bool
     (on & m != 0) & (masks::has(graph[256], v) | (on & !m != 0))
 }
 
-// Of two maps that are made one: whether they agree, are one-to-one together and drop no open graph node, the images of all nodes, and those of the open ones.
-struct Merged {
-    ok: bool,
-    seen: u64,
-    images: u64,
-}
-
-fn not_merged() -> Merged
-    ensures { λ x. ⌜ x .ok ≡ false ⌝ }
+// Whether one of the dropped nodes is open in the edge set m: w has each xor 64, and 0 at the other places, so that
+// nothing is left once the last one is passed.
+fn loses(graph: &[u64; graphs::GRAPH_TABLE_WORDS], m: u64, w: u64) -> bool
+    ensures { λ x. ⌜ x ≡ losesOne (now (graph .entry)) m w ⌝ }
 {
-    Merged {
-        ok: false,
-        seen: 0,
-        images: 0,
-    }
-}
-
-// Two maps of n rule nodes to `nodes` graph nodes as one without the closed nodes, in one pass: the rule nodes in `stays` are open. The maps differ where the second has an image other than v, since the first, if it has one, has v. The set of an image is made once and serves each test; `rest` is halved each turn, so that its lowest bit says whether the node stays.
-// The second map is t's, and the joined one is put over it: places are written where they are read, so that nothing is copied. From n on it has no images, and keeps none.
-fn merge_maps(
-    n: u64,
-    nodes: u64,
-    stays: u64,
-    graph: &[u64; graphs::GRAPH_TABLE_WORDS],
-    m: u64,
-    f: &[u64],
-    t: &mut [u64],
-) -> Merged
-    requires { ⌜ (n ≤ 8) × (nodes ≤ 64) × (length (now f) ≡ 8) × (length (now t) ≡ 8) × BareFrom n (now t) ⌝ }
-    ensures { λ x. ⌜ Merges n nodes stays (now (graph .entry)) m (now (f .entry)) (now (t .entry)) (now (t .exit)) x ⌝ }
-{
-    let known = masks::full(nodes);
-    let mut rest = stays;
-    let mut seen: u64 = 0;
-    let mut images: u64 = 0;
-    let mut i: u64 = 0;
-    while i < n {
-        let a = f[i as usize];
-        let b = t[i as usize];
-        let v = maps::first_of(a, b);
-        let here = rest % 2 == 1;
+    let mut rest = w;
+    while rest != 0 {
+        let v = (rest % 256) ^ 64;
         if v < 64 {
-            let on = 1u64 << v;
-            if ((b < 64) & (b != v)) | (seen & on & known != 0) {
-                return not_merged();
+            if lost(graph, m, v) {
+                return true;
             }
-            if here {
-                images |= on;
-            } else if lost(graph, m, v) {
-                return not_merged();
-            }
-            seen |= on;
         }
-        t[i as usize] = maps::kept(here, v);
-        rest /= 2;
-        i += 1;
+        rest /= 256;
     }
-    Merged {
-        ok: true,
-        seen,
-        images,
-    }
+    false
 }
 
-// Whether every open graph node of the edge set m is one of the images. Those in `seen` are images; where it is sure that `seen` has all open nodes, they need not be looked for.
+// The nodes at the places of a word.
+fn images(w: u64) -> u64
+    ensures { λ m. ⌜ NodesIn m (placesOf w) ⌝ }
+{
+    let mut mask: u64 = 0;
+    let mut k: u64 = 0;
+    while k < 8 {
+        mask = masks::with(mask, places::node_at(w, k));
+        k += 1;
+    }
+    mask
+}
+
+// Whether every open graph node of the edge set m is at a place of w. Where that is sure, it is not looked up.
 fn covered(
     g: &[u64],
     h: &[u64],
     graph: &[u64; graphs::GRAPH_TABLE_WORDS],
     m: u64,
     sure: bool,
-    seen: u64,
-    images: u64,
+    w: u64,
 ) -> bool
-    requires { ⌜ Accepted (now g) (now h) × GraphTable (now g) (now h) (now graph) × (sure ≡ true → Spans (now g) (now h) m seen) × Keeps (now g) (now h) m seen images ⌝ }
-    ensures { λ x. ⌜ ((t : List ℕ) → NodesIn images t → x ≡ covering (graphOf (now (g .entry)) (now (h .entry))) m t) ⌝ }
+    requires { ⌜ Accepted (now g) (now h) × GraphTable (now g) (now h) (now graph) × (sure ≡ true → covering (graphOf (now g) (now h)) m (placesOf w) ≡ true) ⌝ }
+    ensures { λ x. ⌜ x ≡ covering (graphOf (now (g .entry)) (now (h .entry))) m (placesOf w) ⌝ }
 {
     if sure {
         return true;
     }
     let nodes = open_in(g, h, graph, m);
-    nodes & images == nodes
+    nodes & images(w) == nodes
 }
 
-// Whether two sets and maps of rule nodes make an item of rule r at plan node q: the rule nodes in `stays` are open there. The second map is t's, and the item's is put over it.
-// It may be sure that each map has the open graph nodes of its set: then those of the union, which are among them, are covered if none is dropped.
+// What two sets and maps make: the map of the item, if they make one.
+pub struct Combined {
+    pub nodes: [u8; PLACES],
+    pub ok: bool,
+}
+
+// Whether two sets and maps of rule nodes make an item of rule r at plan node q, and its map: the rule nodes in `stays`
+// are open there. It may be sure that each map has the open graph nodes of its set: then those of the union, which are
+// among them, are covered if none is dropped.
 pub fn combine(
     g: &[u64],
     h: &[u64],
@@ -314,21 +278,36 @@ pub fn combine(
     m1: u64,
     m2: u64,
     sure: bool,
-    f: &[u64],
-    t: &mut [u64],
-) -> bool
-    requires { ⌜ Accepted (now g) (now h) × KnownNode (now g) r q × GraphTable (now g) (now h) (now graph) × OpenAt (now g) r q stays × (sure ≡ true → Holds (now g) (now h) m1 (ruleNodes (now g) r) (now f) × Plain (now f)) × (sure ≡ true → Holds (now g) (now h) m2 (ruleNodes (now g) r) (now t)) × (length (now f) ≡ 8) × (length (now t) ≡ 8) × BareFrom (ruleNodes (now g) r) (now t) ⌝ }
-    ensures { λ x. ⌜ Makes (combine (graphOf (now (g .entry)) (now (h .entry))) (ruleOf (grammarOf (now (g .entry))) r) r q m1 m2 (take (ruleNodes (now (g .entry)) r) (now (f .entry))) (take (ruleNodes (now (g .entry)) r) (now (t .entry)))) r q (m1 ∪ m2) (now (t .exit)) x ⌝ }
+    f: [u8; PLACES],
+    t: [u8; PLACES],
+) -> Combined
+    requires { ⌜ Premises (now g) (now h) (now graph) r q stays m1 m2 sure f t ⌝ }
+    ensures { λ x. ⌜ Combines (now (g .entry)) (now (h .entry)) r q m1 m2 f t x ⌝ }
 {
     if !masks::disjoint(m1, m2) {
-        return false;
+        return Combined {
+            nodes: f,
+            ok: false,
+        };
     }
-    let n = layout::rule_nodes_in(g, r);
-    let nodes = layout::graph_nodes(h);
-    let m = masks::union(m1, m2);
-    let merged = merge_maps(n, nodes, stays, graph, m, f, t);
+    let merged = merging::merge(stays, f, t);
     if !merged.ok {
-        return false;
+        return Combined {
+            nodes: f,
+            ok: false,
+        };
     }
-    covered(g, h, graph, m, sure, merged.seen, merged.images)
+    let m = masks::union(m1, m2);
+    if loses(graph, m, merged.dropped) {
+        return Combined {
+            nodes: f,
+            ok: false,
+        };
+    }
+    let kept = merged.kept;
+    let ok = covered(g, h, graph, m, sure, kept);
+    Combined {
+        nodes: places::nodes_of(kept),
+        ok,
+    }
 }

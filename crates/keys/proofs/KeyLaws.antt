@@ -1,23 +1,25 @@
 -- What it tells of two items that no key of the one is one that the other asks for.
 use mathlib.Core.Path.{_≡_, refl, sym, ap, ap₂, _∙_}
-use mathlib.Core.Bool.{Bool, true, false, _&&_, _||_, cond, true≢false}
+use mathlib.Core.Bool.{Bool, true, false, cond}
 use mathlib.Core.List.{List, [], _∷_}
 use Prim.Native.Nat.{ℕ, zero, suc, _/_, _%_, _^_, _≤_, _<_}
 use native.Mathlib.Omega.{arith}
 use native.Mathlib.Decide.{decLt, ℕ-discrete}
 use lib.ListN.{length, getD}
-use lib.Dec.{eqb, ltb, leb}
-use borrow.Author.Tests.{eq-eqb, ne-eqb, eqb-true, eqb-false, lt-ltb, le-ltb, ltb-true, lt-leb}
+use lib.Dec.{eqb, ltb}
+use borrow.Author.Tests.{eq-eqb, ne-eqb, eqb-true, eqb-false, lt-ltb, le-ltb}
 use Rattle.masks.specs.Masks.{bit, single}
 use Rattle.masks.specs.Laws.{bit-single-other}
+use Rattle.hrg.specs.Grammars.{Rule}
 use Rattle.hrg.specs.Trees.{at}
+use Rattle.hrg.specs.Items.{isOpenAt}
 use Rattle.agenda.specs.declared.ChartItem.{ChartItem}
 use Rattle.agenda.specs.declared.Record.{Record}
 use Rattle.agenda.specs.Steps.{improved}
 use Rattle.questions.specs.Abstract.{grammarOf}
 use Rattle.rules.specs.Wants.{wantOf}
 use Rattle.keys.specs.Pivots.{positionOf, nodeOf, EdgePivot, JoinPivot}
-use Rattle.keys.specs.Keys.{baseOf, mixed, bucketOf, wordOf, imageOf, keyWord, placeOf, placeNode, placeWord, askedFrom, placesFrom, soughtFrom, ruleWord, symbolWord, usesIn, KeyTable, placeKey, fiveKeys, keysBy, wordFor, usesOf, keysOf, queryOf, allPlaced, regularBy, regularOf}
+use Rattle.keys.specs.Keys.{baseOf, mixed, bucketOf, wordOf, imageOf, keyWord, placeOf, placeNode, placeWord, askedFrom, placesFrom, soughtFrom, ruleWord, symbolWord, usesIn, KeyTable, placeKey, fiveKeys, keysBy, wordFor, usesOf, keysOf, queryOf}
 
 -- ---- buckets
 pub bucket-positive : (tag s k a : ℕ) → 0 < bucketOf tag s k a
@@ -46,13 +48,6 @@ image-same : (w w′ : ℕ) (f : List ℕ) → nodeOf w ≡ nodeOf w′ → imag
 unfolding imageOf
 image-same w w′ f e = ap (λ v. cond (ltb v 8) (at f v) 64) e
 
-or-left : (a : ℕ) (t : Bool) (b : ℕ) → (leb a b || t) ≡ true → b < a → t ≡ true
-or-left a t b h l = go (leb a b) (lt-leb a b l) h
-  where
-    go : (s : Bool) → s ≡ false → (s || t) ≡ true → t ≡ true
-    go true e h = absurd (true≢false e)
-    go false e h = h
-
 -- ---- the word of a base and a node
 module _ (tag s k v : ℕ) (tagged : 0 < tag % 128) (few : v < 16) where
   abbrev word : ℕ
@@ -76,13 +71,6 @@ module _ (tag s k v : ℕ) (tagged : 0 < tag % 128) (few : v < 16) where
   word-keys w u tag′ s′ L e =
       rw (ne-eqb word 0 word-there)
       (ap₂ (λ b a. mixed b a ∷ 0 ∷ 0 ∷ 0 ∷ 0 ∷ []) word-base (image-same word w L (word-node ∙ sym e)))
-
-  word-regular : (u : ℕ) (L : List ℕ) → regularBy word u L ≡ true → v < 8 → at L v < 64
-  unfolding regularBy
-  word-regular u L ok h =
-      let n = word-node in
-      let t : ltb (imageOf word L) 64 ≡ true = or-left 8 (ltb (imageOf word L) 64) (nodeOf word) (rw (ne-eqb word 0 word-there) at ok) (omega arith) in
-      omega (arith, image-there word L (omega arith), ltb-true (imageOf word L) 64 t, ap (at L) n)
 
 -- of active items
 module _ (tag want w r p : ℕ) where
@@ -187,15 +175,16 @@ module _ (u tag s : ℕ) (L : List ℕ) (tagged : 0 < tag % 128) where
       go (no d) = (k, h, ap (λ (l : List ℕ). getD l k 0) (listed-all (omega arith)) ∙ five-at k h e)
 
 -- ---- an edge
--- the pivot's position and node, at which the map and the list differ
-pub record Differ (A f L : List ℕ) (w : ℕ) : Type 0 where
+-- the pivot's position and its open node, at which the map and the list differ
+pub record Differ (R : Rule) (p : ℕ) (A f L : List ℕ) (w : ℕ) : Type 0 where
   pub position : positionOf w < length A
   pub node : nodeOf w ≡ at A (positionOf w)
+  pub opened : isOpenAt R p (nodeOf w) ≡ true
   pub differ : at f (nodeOf w) ≡ at L (positionOf w) → ⊥
 
-module _ (u tag s w : ℕ) (A f L : List ℕ) (tagged : 0 < tag % 128) (size : length A ≤ 4) (inside : (k : ℕ) → k < length A → at A k < 8) (pivot : EdgePivot A w) (used : bit u (positionOf w) ≡ 1)
+module _ (u tag s w : ℕ) (R : Rule) (p : ℕ) (A f L : List ℕ) (tagged : 0 < tag % 128) (size : length A ≤ 4) (inside : (k : ℕ) → k < length A → at A k < 8) (pivot : EdgePivot R p A w) (used : bit u (positionOf w) ≡ 1)
     (apart : (i : ℕ) → i < 5 → bucketOf tag s (positionOf w) (imageOf w f) ≡ getD (listedKeys u tag s L) i 0 → ⊥) where
-  pub edge-differ : Differ A f L w
+  pub edge-differ : Differ R p A f L w
   edge-differ = go (eqb w 72) refl
     where
       -- the place of w has a key that is not the active item's
@@ -204,7 +193,7 @@ module _ (u tag s w : ℕ) (A f L : List ℕ) (tagged : 0 < tag % 128) (size : l
           let x = listed-at u tag s L tagged k h (ap (bit u) (sym e) ∙ used) in
           apart (x .0) (x .1) (ap₂ (λ k a. bucketOf tag s k a) e (m ∙ sym n) ∙ sym (x .2))
 
-      go : (b : Bool) → eqb w 72 ≡ b → Differ A f L w
+      go : (b : Bool) → eqb w 72 ≡ b → Differ R p A f L w
       go true e =
           let z = eqb-true w 72 e in
           absurd (other 4 64 (omega arith) (omega arith) (last-image L) (image-none w f (omega arith)))
@@ -216,11 +205,12 @@ module _ (u tag s w : ℕ) (A f L : List ℕ) (tagged : 0 < tag % 128) (size : l
           record {
             position = k;
             node = pivot .node n;
+            opened = pivot .opened n;
             differ = λ d. other (positionOf w) (at L (positionOf w)) (omega arith) refl (image-there (placeNode (positionOf w)) L (omega arith) ∙ ap (at L) m) (image-there w f (omega (arith, pivot .node n, inside (positionOf w) k)) ∙ d);
           }
 
 -- ---- a join
-module _ (n w w′ : ℕ) (f k : List ℕ) (pivot : JoinPivot n w w′) (apart : imageOf w f ≡ imageOf w′ k → ⊥) where
+module _ (R : Rule) (p p′ w w′ : ℕ) (f k : List ℕ) (pivot : JoinPivot R p p′ w w′) (apart : imageOf w f ≡ imageOf w′ k → ⊥) where
   pub join-node : nodeOf w < 8
   join-node = go (decLt (nodeOf w) 8)
     where
@@ -231,31 +221,6 @@ module _ (n w w′ : ℕ) (f k : List ℕ) (pivot : JoinPivot n w w′) (apart :
   pub join-differ : at f (nodeOf w) ≡ at k (nodeOf w) → ⊥
   join-differ e =
       apart (image-there w f join-node ∙ e ∙ ap (at k) (pivot .same) ∙ sym (image-there w′ k (omega (arith, pivot .same, join-node))))
-
--- ---- regular items
-and-parts : (a b : Bool) → (a && b) ≡ true → (a ≡ true) × (b ≡ true)
-and-parts true true h = (refl, refl)
-and-parts true false h = absurd (true≢false (sym h))
-and-parts false b h = absurd (true≢false (sym h))
-
-used-placed : (used : ℕ) (t : Bool) → used ≡ 1 → (eqb used 0 || t) ≡ true → t ≡ true
-used-placed used t e h = rw e at h
-
-placed-at : (u : ℕ) (L : List ℕ) → allPlaced u L ≡ true → (k : ℕ) → k < 4 → bit u k ≡ 1 → at L k < 64
-unfolding allPlaced
-placed-at u L h k few e =
-    let d = and-parts _ _ h in
-    let c = and-parts _ _ (d .0) in
-    let ab = and-parts _ _ (c .0) in
-    go k few e (ab .0) (ab .1) (c .1) (d .1)
-  where
-    go : (k : ℕ) → k < 4 → bit u k ≡ 1 → (eqb (bit u 0) 0 || ltb (at L 0) 64) ≡ true → (eqb (bit u 1) 0 || ltb (at L 1) 64) ≡ true → (eqb (bit u 2) 0 || ltb (at L 2) 64) ≡ true → (eqb (bit u 3) 0 || ltb (at L 3) 64) ≡ true
-        → at L k < 64
-    go zero few e a b c d = ltb-true _ 64 (used-placed (bit u 0) _ e a)
-    go (suc zero) few e a b c d = ltb-true _ 64 (used-placed (bit u 1) _ e b)
-    go (suc (suc zero)) few e a b c d = ltb-true _ 64 (used-placed (bit u 2) _ e c)
-    go (suc (suc (suc zero))) few e a b c d = ltb-true _ 64 (used-placed (bit u 3) _ e d)
-    go (suc (suc (suc (suc k)))) few e a b c d = absurd (omega arith)
 
 -- ---- keys of items
 module _ (g t : List ℕ) (K : KeyTable g t) (x : ChartItem) where
@@ -294,22 +259,6 @@ module _ (g t : List ℕ) (K : KeyTable g t) (x : ChartItem) where
     unfolding queryOf
     join-query h n = keyed askedFrom soughtFrom (usesOf t x) 2 3 (x .of) (want % 64) (omega arith) (K .asked (x .of) (x .plan) ∙ word-join 1 want pivot (x .of) (want % 64) h n)
 
-    module _ (ok : regularOf t x ≡ true) where
-      regular-by : (w : ℕ) → ruleWord t 0 (x .of) (x .plan) ≡ w → regularBy w (usesOf t x) (x .nodes) ≡ true
-      unfolding regularOf
-      regular-by w e = ap (λ w. regularBy w (usesOf t x) (x .nodes)) (sym (for-active 0 placesFrom ∙ e)) ∙ ok
-
-      pub regular-active : (want ≡ 80 → ⊥) → nodeOf pivot < 8 → at (x .nodes) (nodeOf pivot) < 64
-      regular-active n h = go (decLt want 64)
-        where
-          go : Dec (want < 64) → at (x .nodes) (nodeOf pivot) < 64
-          go (yes d) =
-              word-regular 2 want (positionOf pivot) (nodeOf pivot) (omega arith) (omega arith) (usesOf t x) (x .nodes)
-              (regular-by _ (K .listed (x .of) (x .plan) ∙ word-edge 2 want pivot (x .of) (x .plan) d)) h
-          go (no d) =
-              word-regular 3 (x .of) (x .plan) (nodeOf pivot) (omega arith) (omega arith) (usesOf t x) (x .nodes)
-              (regular-by _ (K .listed (x .of) (x .plan) ∙ word-join 2 want pivot (x .of) (x .plan) (omega arith) n)) h
-
   module _ (passive : eqb (x .kind) 0 ≡ false) where
     for-passive : (a b : ℕ) → wordFor t a b x ≡ symbolWord t b (x .of)
     unfolding wordFor
@@ -327,31 +276,10 @@ module _ (g t : List ℕ) (K : KeyTable g t) (x : ChartItem) where
     unfolding queryOf
     passive-query = ap₂ (λ w u. keysBy w u 2 (x .of) (x .nodes)) (for-passive askedFrom soughtFrom ∙ K .sought (x .of)) uses-passive
 
-    module _ (ok : regularOf t x ≡ true) where
-      regular-place : (w : ℕ) → placeWord 1 (x .of) uses ≡ w → regularBy w uses (x .nodes) ≡ true
-      unfolding regularOf
-      regular-place w e = ap₂ (λ w u. regularBy w u (x .nodes)) (sym (for-passive 0 placesFrom ∙ K .place (x .of) ∙ e)) (sym uses-passive) ∙ ok
-
-      pub regular-passive : (k : ℕ) → k < 4 → bit uses k ≡ 1 → at (x .nodes) k < 64
-      unfolding regularBy
-      regular-passive k h b = go (decLt (placeOf uses) 5)
-        where
-          go : Dec (placeOf uses < 5) → at (x .nodes) k < 64
-          go (yes d) =
-              let e = only-place uses k d b in
-              let v : placeNode (placeOf uses) ≡ k = node-first (placeOf uses) (omega arith) ∙ sym e in
-              let there = word-regular 1 (x .of) (placeOf uses) (placeNode (placeOf uses)) (omega arith) (node-few (placeOf uses)) uses (x .nodes) (regular-place _ (place-there 1 (x .of) uses d)) (omega arith) in
-              omega (arith, there, ap (at (x .nodes)) v)
-          go (no d) = placed-at uses (x .nodes) (regular-place 0 (place-none 1 (x .of) uses (omega arith))) k h b
-
 -- ---- the count of an item does not tell
 pub improved-keys : (t : List ℕ) (y x : Record) → keysOf t (improved y x .item) ≡ keysOf t (y .item)
 unfolding keysOf wordFor usesOf
 improved-keys t y x = refl
-
-pub improved-regular : (t : List ℕ) (y x : Record) → regularOf t (improved y x .item) ≡ regularOf t (y .item)
-unfolding regularOf wordFor usesOf
-improved-regular t y x = refl
 
 -- ---- keys are at most 2,048
 place-few : (used tag s i a : ℕ) → placeKey used tag s i a ≤ 2048

@@ -7,11 +7,12 @@ use native.Mathlib.Omega.{arith}
 use lib.ListN.{length, getD, take}
 use lib.Seq.{getD-take}
 use lib.Dec.{eqb}
+use borrow.Author.Tests.{eqb-true, eqb-false}
 use Rattle.masks.specs.Masks.{bit}
 use Rattle.masks.specs.Laws.{member-true}
 use Rattle.hrg.specs.Grammars.{Graph, Grammar, introduce, join, ruleOf, rankOf, rightOf, planOf, planNode, edgeAt}
 use Rattle.hrg.specs.Trees.{at}
-use Rattle.hrg.specs.Items.{active, passive, attach}
+use Rattle.hrg.specs.Items.{active, passive, isOpenAt, attach}
 use Rattle.hrg.specs.ClosureRun.{combine, binaryOf}
 use Rattle.hrg.proofs.Sums.{occurs-at}
 use Rattle.hrg.proofs.Plans.{introduce-known}
@@ -28,9 +29,9 @@ use Rattle.rules.specs.Wants.{wantOf}
 use Rattle.rules.proofs.RuleItems.{item-active, item-passive, pair-passive}
 use Rattle.rules.proofs.Meeting.{rule, label-few, want-label, few, want-first, want-second}
 use Rattle.keys.specs.Pivots.{positionOf, nodeOf, EdgePivot, JoinPivot}
-use Rattle.keys.specs.Keys.{bucketOf, imageOf, usesIn, KeyTable, keysOf, queryOf, regularOf}
+use Rattle.keys.specs.Keys.{bucketOf, imageOf, usesIn, KeyTable, keysOf, queryOf, AllPlaced}
 use Rattle.keys.proofs.Differing.{differ-none, attach-at, edges-none, joins-none}
-use Rattle.keys.proofs.KeyLaws.{bucket-positive, listedKeys, edge-differ, join-node, join-differ, edge-keys, join-keys, edge-query, join-query, passive-keys, passive-query, regular-active, regular-passive}
+use Rattle.keys.proofs.KeyLaws.{bucket-positive, listedKeys, edge-differ, join-node, join-differ, edge-keys, join-keys, edge-query, join-query, passive-keys, passive-query}
 
 -- no rule makes anything of x and y, in either order
 pub record Unjoined (G : Grammar) (H : Graph) (x y : ChartItem) : Type 0 where
@@ -50,8 +51,8 @@ module _ (g t : List ℕ) (checked : checkGrammar g ≡ true) (K : KeyTable g t)
   -- ---- an active item and a passive one
   -- tag: the one that the active item's key and the passive one's have in common
   module _ (tag r p m m′ s : ℕ) (f L : List ℕ) (tagged : 0 < tag % 128)
-      (placed : wantOf G r p ≡ s → s < 64 → nodeOf (pivot-at r p) < 8 → at f (nodeOf (pivot-at r p)) < 64)
-      (listed : (k : ℕ) → k < 4 → bit (usesIn t s) k ≡ 1 → at L k < 64)
+      (placed : (v : ℕ) → isOpenAt (ruleOf G r) p v ≡ true → at f v < 64)
+      (listed : (k : ℕ) → k < rankOf G s → at L k < 64)
       (apart : (i : ℕ) → i < 5 → wantOf G r p ≡ s → s < 64 → bucketOf tag s (positionOf (pivot-at r p)) (imageOf (pivot-at r p) f) ≡ getD (listedKeys (usesIn t s) tag s L) i 0 → ⊥) where
     pub edge-keyless : binaryOf G H (active r p m (take (rightOf G r .nodes) f)) (passive s m′ (take (rankOf G s) L)) ≡ []
     edge-keyless = edges-none G H r p m _ s m′ _ (λ q c i l node e label. at-edge q c i l node e label)
@@ -69,11 +70,11 @@ module _ (g t : List ℕ) (checked : checkGrammar g ≡ true) (K : KeyTable g t)
             let size : length (edgeNodes g r i) ≡ rankOf G s = ok .listed .ranked ∙ ap (rankOf G) (sym label) in
             let inside : (k : ℕ) → k < length (edgeNodes g r i) → at (edgeNodes g r i) k < ruleNodes g r
             = λ k h. ok .listed .inside (at (edgeNodes g r i) k) (occurs-at (edgeNodes g r i) k h) in
-            let pivot : EdgePivot (edgeNodes g r i) (pivot-at r p) = subst (λ p. EdgePivot (edgeNodes g r i) (pivot-at r p)) e (K .taken .edge r q c i l node) in
+            let pivot : EdgePivot (ruleOf G r) p (edgeNodes g r i) (pivot-at r p) = subst (λ p. EdgePivot (ruleOf G r) p (edgeNodes g r i) (pivot-at r p)) e (K .taken .edge r q c i l node) in
             let w = pivot-at r p in
             let four : length (edgeNodes g r i) ≤ 4 = omega (arith, size, rank) in
             let used : bit (usesIn t s) (positionOf w) ≡ 1 = member-true (usesIn t s) (positionOf w) (K .taken .used r p s wanted small) in
-            let x = edge-differ (usesIn t s) tag s w (edgeNodes g r i) f L tagged four (λ k h. omega (arith, inside k h, nodes-few g r checked d)) pivot used (λ j h z. apart j h wanted small z) in
+            let x = edge-differ (usesIn t s) tag s w (ruleOf G r) p (edgeNodes g r i) f L tagged four (λ k h. omega (arith, inside k h, nodes-few g r checked d)) pivot used (λ j h z. apart j h wanted small z) in
             let low : nodeOf w < rightOf G r .nodes = omega (arith, x .node, inside (positionOf w) (x .position), nodes) in
             let own : at (take (rightOf G r .nodes) f) (nodeOf w) ≡ at f (nodeOf w) = getD-take (rightOf G r .nodes) f (nodeOf w) 64 low in
             let other : at (attach (rightOf G r .nodes) (edgeNodes g r i) (take (rankOf G s) L)) (nodeOf w) ≡ at L (positionOf w) =
@@ -81,8 +82,8 @@ module _ (g t : List ℕ) (checked : checkGrammar g ≡ true) (K : KeyTable g t)
             ∙ attach-at (rightOf G r .nodes) (edgeNodes g r i) (take (rankOf G s) L) (positionOf w) (x .position) (omega (arith, x .node, low)) (ok .listed .once)
             ∙ getD-take (rankOf G s) L (positionOf w) 64 (omega (arith, x .position, size)) in
             differ-none H (ruleOf G r) r q m m′ _ _ (nodeOf w) low
-            (omega (arith, own, placed wanted small (omega (arith, low, nodes, nodes-few g r checked d))))
-            (omega (arith, other, listed (positionOf w) (omega (arith, x .position, four)) used))
+            (omega (arith, own, placed (nodeOf w) (x .opened)))
+            (omega (arith, other, listed (positionOf w) (omega (arith, x .position, size))))
             (λ z. x .differ (sym own ∙ z ∙ other))
 
   -- ---- two active items
@@ -92,7 +93,7 @@ module _ (g t : List ℕ) (checked : checkGrammar g ≡ true) (K : KeyTable g t)
     low′ : p′ < 16
     wanted : wantOf G r p ≡ 64 + p′
     wanted′ : wantOf G r p′ ≡ 64 + p
-    pivot : JoinPivot (rightOf G r .nodes) (pivot-at r p) (pivot-at r p′)
+    pivot : JoinPivot (ruleOf G r) p p′ (pivot-at r p) (pivot-at r p′)
 
   siblings : (r q a b : ℕ) → q < length (planOf G r) → planNode (planOf G r) q ≡ join a b → Siblings r a b
   siblings r q a b l node = record {
@@ -109,12 +110,17 @@ module _ (g t : List ℕ) (checked : checkGrammar g ≡ true) (K : KeyTable g t)
     low′ = s .low;
     wanted = s .wanted′;
     wanted′ = s .wanted;
-    pivot = record { same = sym (s .pivot .same); known = λ h. let e = s .pivot .same in omega (arith, s .pivot .known (omega arith)) };
+    pivot = record {
+      same = sym (s .pivot .same);
+      known = λ h. let e = s .pivot .same in omega (arith, s .pivot .known (omega arith));
+      first = λ h. ap (isOpenAt (ruleOf G r) p′) (sym (s .pivot .same)) ∙ s .pivot .second (omega (arith, s .pivot .same));
+      second = λ h. ap (isOpenAt (ruleOf G r) p) (sym (s .pivot .same)) ∙ s .pivot .first (omega (arith, s .pivot .same));
+    };
   }
 
   module _ (r p p′ q m m′ : ℕ) (f k : List ℕ) (s : Siblings r p p′)
-      (placed : nodeOf (pivot-at r p) < 8 → at f (nodeOf (pivot-at r p)) < 64)
-      (placed′ : nodeOf (pivot-at r p′) < 8 → at k (nodeOf (pivot-at r p′)) < 64)
+      (placed : (v : ℕ) → isOpenAt (ruleOf G r) p v ≡ true → at f v < 64)
+      (placed′ : (v : ℕ) → isOpenAt (ruleOf G r) p′ v ≡ true → at k v < 64)
       (apart : imageOf (pivot-at r p) f ≡ imageOf (pivot-at r p′) k → ⊥) where
     abbrev n : ℕ
     n = rightOf G r .nodes
@@ -123,22 +129,20 @@ module _ (g t : List ℕ) (checked : checkGrammar g ≡ true) (K : KeyTable g t)
     v = nodeOf (pivot-at r p)
 
     v-few : v < 8
-    v-few = join-node n _ _ f k (s .pivot) apart
+    v-few = join-node (ruleOf G r) p p′ _ _ f k (s .pivot) apart
 
     v-known : v < n
     v-known = s .pivot .known v-few
 
     here : at (take n f) v < 64
-    here = omega (arith, getD-take n f v 64 v-known, placed v-few)
+    here = omega (arith, getD-take n f v 64 v-known, placed v (s .pivot .first v-few))
 
     there : at (take n k) v < 64
-    there =
-        let e = s .pivot .same in
-        omega (arith, getD-take n k v 64 v-known, placed′ (omega (arith, v-few)), ap (at k) e)
+    there = omega (arith, getD-take n k v 64 v-known, placed′ v (s .pivot .second v-few))
 
     differ : at (take n f) v ≡ at (take n k) v → ⊥
     differ z =
-        join-differ n _ _ f k (s .pivot) apart
+        join-differ (ruleOf G r) p p′ _ _ f k (s .pivot) apart
         (sym (getD-take n f v 64 v-known) ∙ z ∙ getD-take n k v 64 v-known)
 
     forth-none : combine H (ruleOf G r) r q m m′ (take n f) (take n k) ≡ []
@@ -148,13 +152,13 @@ module _ (g t : List ℕ) (checked : checkGrammar g ≡ true) (K : KeyTable g t)
     back-none = differ-none H (ruleOf G r) r q m′ m _ _ v v-known there here (λ z. differ (sym z))
 
   -- ---- two items
-  module _ (x y : ChartItem) (ok : regularOf t x ≡ true) (ok′ : regularOf t y ≡ true)
+  module _ (x y : ChartItem) (ok : AllPlaced G x) (ok′ : AllPlaced G y)
       (apart : (i i′ : ℕ) → i < 5 → i′ < 5 → 0 < getD (queryOf t x) i 0 → getD (queryOf t x) i 0 ≡ getD (keysOf t y) i′ 0 → ⊥) where
     with-passive : eqb (x .kind) 0 ≡ true → eqb (y .kind) 0 ≡ false → Unjoined G H x y
     with-passive a b = record {
       forth =
           ap₂ (binaryOf G H) (item-active G x a) (item-passive G y b)
-          ∙ edge-keyless 1 (x .of) (x .plan) _ _ (y .of) (x .nodes) (y .nodes) (omega arith) (λ e l. regular-active g t K x a ok (λ z. omega arith)) (regular-passive g t K y b ok′)
+          ∙ edge-keyless 1 (x .of) (x .plan) _ _ (y .of) (x .nodes) (y .nodes) (omega arith) (ok .active (eqb-true (x .kind) 0 a)) (ok′ .passive (eqb-false (y .kind) 0 b))
           (λ i h e l z. met i h e l z);
       back = pair-passive G H y x b;
     }
@@ -171,7 +175,7 @@ module _ (g t : List ℕ) (checked : checkGrammar g ≡ true) (K : KeyTable g t)
       forth = pair-passive G H x y a;
       back =
           ap₂ (binaryOf G H) (item-active G y b) (item-passive G x a)
-          ∙ edge-keyless 2 (y .of) (y .plan) _ _ (x .of) (y .nodes) (x .nodes) (omega arith) (λ e l. regular-active g t K y b ok′ (λ z. omega arith)) (regular-passive g t K x a ok)
+          ∙ edge-keyless 2 (y .of) (y .plan) _ _ (x .of) (y .nodes) (x .nodes) (omega arith) (ok′ .active (eqb-true (y .kind) 0 b)) (ok .passive (eqb-false (x .kind) 0 a))
           (λ i h e l z. met i h e l z);
     }
       where
@@ -197,13 +201,11 @@ module _ (g t : List ℕ) (checked : checkGrammar g ≡ true) (K : KeyTable g t)
           (omega (arith, q, bucket-positive 3 (x .of) (wantOf G (x .of) (x .plan) % 64) (imageOf (pivot-at (x .of) (x .plan)) (x .nodes))))
           (q ∙ ap₂ (λ p a. bucketOf 3 (x .of) p a) child same ∙ ap (λ r. bucketOf 3 r (y .plan) (imageOf (pivot-at (y .of) (y .plan)) (y .nodes))) e ∙ sym k)
 
-      placed : Siblings (x .of) (x .plan) (y .plan) → nodeOf (pivot-at (x .of) (x .plan)) < 8 → at (x .nodes) (nodeOf (pivot-at (x .of) (x .plan))) < 64
-      placed s = regular-active g t K x a ok (λ z. omega (arith, s .wanted, s .low′))
+      placed : (v : ℕ) → isOpenAt (ruleOf G (x .of)) (x .plan) v ≡ true → at (x .nodes) v < 64
+      placed = ok .active (eqb-true (x .kind) 0 a)
 
-      placed′ : x .of ≡ y .of → Siblings (x .of) (x .plan) (y .plan) → nodeOf (pivot-at (x .of) (y .plan)) < 8 → at (y .nodes) (nodeOf (pivot-at (x .of) (y .plan))) < 64
-      placed′ e s =
-          subst (λ r. nodeOf (pivot-at r (y .plan)) < 8 → at (y .nodes) (nodeOf (pivot-at r (y .plan))) < 64) (sym e)
-          (regular-active g t K y b ok′ (λ z. omega (arith, ap (λ r. wantOf G r (y .plan)) e, s .wanted′, s .low)))
+      placed′ : x .of ≡ y .of → (v : ℕ) → isOpenAt (ruleOf G (x .of)) (y .plan) v ≡ true → at (y .nodes) v < 64
+      placed′ e v o = ok′ .active (eqb-true (y .kind) 0 b) v (ap (λ r. isOpenAt (ruleOf G r) (y .plan) v) (sym e) ∙ o)
 
       with-active : Unjoined G H x y
       with-active = record {
@@ -225,13 +227,13 @@ module _ (g t : List ℕ) (checked : checkGrammar g ≡ true) (K : KeyTable g t)
               → combine H (ruleOf G (x .of)) (x .of) q (x .edges) (y .edges) (take (rightOf G (x .of) .nodes) (x .nodes)) (take (rightOf G (y .of) .nodes) (y .nodes)) ≡ []
           first q s e =
               ap (λ r. combine H (ruleOf G (x .of)) (x .of) q (x .edges) (y .edges) (take (rightOf G (x .of) .nodes) (x .nodes)) (take (rightOf G r .nodes) (y .nodes))) (sym e)
-              ∙ forth-none (x .of) (x .plan) (y .plan) q (x .edges) (y .edges) (x .nodes) (y .nodes) s (placed s) (placed′ e s) (met-join e s)
+              ∙ forth-none (x .of) (x .plan) (y .plan) q (x .edges) (y .edges) (x .nodes) (y .nodes) s placed (placed′ e) (met-join e s)
 
           second : (q : ℕ) → Siblings (x .of) (x .plan) (y .plan) → y .of ≡ x .of
               → combine H (ruleOf G (y .of)) (y .of) q (y .edges) (x .edges) (take (rightOf G (y .of) .nodes) (y .nodes)) (take (rightOf G (x .of) .nodes) (x .nodes)) ≡ []
           second q s e =
               ap (λ r. combine H (ruleOf G r) r q (y .edges) (x .edges) (take (rightOf G r .nodes) (y .nodes)) (take (rightOf G (x .of) .nodes) (x .nodes))) e
-              ∙ back-none (x .of) (x .plan) (y .plan) q (x .edges) (y .edges) (x .nodes) (y .nodes) s (placed s) (placed′ (sym e) s) (met-join (sym e) s)
+              ∙ back-none (x .of) (x .plan) (y .plan) q (x .edges) (y .edges) (x .nodes) (y .nodes) s placed (placed′ (sym e)) (met-join (sym e) s)
 
     -- x asks for no key that y has
     pub keyless : Unjoined G H x y

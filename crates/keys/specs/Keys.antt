@@ -1,12 +1,14 @@
 -- Keys of items: two items that a rule joins lie on a key that the one is asked for and the other has. All of a key but the image of one node is a word of a table that is worked out once.
 use mathlib.Core.Path.{_≡_}
-use mathlib.Core.Bool.{Bool, true, _&&_, _||_, cond}
+use mathlib.Core.Bool.{true, _&&_, cond}
 use mathlib.Core.List.{List, [], _∷_}
 use Prim.Native.Nat.{ℕ, _+_, _*_, _/_, _%_, _<_}
 use lib.ListN.{length, getD}
-use lib.Dec.{eqb, ltb, leb}
+use lib.Dec.{eqb, ltb}
 use Rattle.masks.specs.Masks.{bit, member}
+use Rattle.hrg.specs.Grammars.{Grammar, rankOf, ruleOf}
 use Rattle.hrg.specs.Trees.{at}
+use Rattle.hrg.specs.Items.{isOpenAt}
 use Rattle.agenda.specs.declared.ChartItem.{ChartItem}
 use Rattle.questions.specs.Abstract.{grammarOf}
 use Rattle.rules.specs.Wants.{wantOf}
@@ -159,26 +161,22 @@ unfoldable pub usesOf : List ℕ → ChartItem → ℕ
 unfolding usesIn
 usesOf t x = cond (eqb (x .kind) 0) 0 (usesIn t (x .of))
 
--- the keys that an item has, 0 for none
+-- its keys by these words, 0 for none
+abbrev pub keysFrom : List ℕ → ℕ → ℕ → ℕ → ChartItem → List ℕ
+keysFrom t rules symbols tag x = keysBy (wordFor t rules symbols x) (usesOf t x) tag (x .of) (x .nodes)
+
+-- the keys that it has
 unfoldable pub keysOf : List ℕ → ChartItem → List ℕ
 unfolding keysBy wordFor usesOf
-keysOf t x = keysBy (wordFor t 0 placesFrom x) (usesOf t x) passiveTag (x .of) (x .nodes)
+keysOf t x = keysFrom t 0 placesFrom passiveTag x
 
--- the keys that its partners have, 0 for none
+-- the keys that its partners have
 unfoldable pub queryOf : List ℕ → ChartItem → List ℕ
 unfolding keysBy wordFor usesOf
-queryOf t x = keysBy (wordFor t askedFrom soughtFrom x) (usesOf t x) edgeTag (x .of) (x .nodes)
+queryOf t x = keysFrom t askedFrom soughtFrom edgeTag x
 
--- whether a node stands in each of the first four places that is in u
-unfoldable pub allPlaced : ℕ → List ℕ → Bool
-unfolding bit
-allPlaced u L = (eqb (bit u 0) 0 || ltb (at L 0) 64) && (eqb (bit u 1) 0 || ltb (at L 1) 64) && (eqb (bit u 2) 0 || ltb (at L 2) 64) && (eqb (bit u 3) 0 || ltb (at L 3) 64)
-
--- whether the nodes by which an item is keyed are there: that of its word w, or those of its places in u
-unfoldable pub regularBy : ℕ → ℕ → List ℕ → Bool
-unfolding imageOf allPlaced
-regularBy w u L = cond (eqb w 0) (allPlaced u L) (leb 8 (nodeOf w) || ltb (imageOf w L) 64)
-
-unfoldable pub regularOf : List ℕ → ChartItem → Bool
-unfolding regularBy wordFor usesOf
-regularOf t x = regularBy (wordFor t 0 placesFrom x) (usesOf t x) (x .nodes)
+-- ---- items whose keys tell
+-- each rule node that is open at an active item's plan node has an image, and each place of a passive one's list a node
+pub record AllPlaced (G : Grammar) (x : ChartItem) : Type 0 where
+  pub active : x .kind ≡ 0 → (v : ℕ) → isOpenAt (ruleOf G (x .of)) (x .plan) v ≡ true → at (x .nodes) v < 64
+  pub passive : (x .kind ≡ 0 → ⊥) → (k : ℕ) → k < rankOf G (x .of) → at (x .nodes) k < 64

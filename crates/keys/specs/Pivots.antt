@@ -5,7 +5,7 @@ use mathlib.Core.List.{List}
 use Prim.Native.Nat.{ℕ, zero, suc, _/_, _%_, _≤_, _<_}
 use lib.ListN.{length}
 use Rattle.masks.specs.Masks.{member}
-use Rattle.hrg.specs.Grammars.{Grammar, introduce, join, ruleOf, rightOf, planOf, planNode}
+use Rattle.hrg.specs.Grammars.{Rule, Grammar, introduce, join, ruleOf, rightOf, planOf, planNode}
 use Rattle.hrg.specs.Trees.{at}
 use Rattle.hrg.specs.Items.{isOpenAt}
 use Rattle.questions.specs.Abstract.{grammarOf}
@@ -24,20 +24,24 @@ abbrev pub noPivot : ℕ
 noPivot = 72
 
 -- ---- what a pivot has to be
--- below a plan node that introduces an edge with the nodes A: a position of the edge and its node
-pub record EdgePivot (A : List ℕ) (w : ℕ) : Type 0 where
+-- at the child p of a plan node that introduces an edge with the nodes A: a position of the edge and its node, which is
+-- open at p
+pub record EdgePivot (R : Rule) (p : ℕ) (A : List ℕ) (w : ℕ) : Type 0 where
   pub position : (w ≡ noPivot → ⊥) → positionOf w < length A
   pub node : (w ≡ noPivot → ⊥) → nodeOf w ≡ at A (positionOf w)
+  pub opened : (w ≡ noPivot → ⊥) → isOpenAt R p (nodeOf w) ≡ true
 
--- at the two children of a join in a rule of n nodes: one node for both
-pub record JoinPivot (n w w′ : ℕ) : Type 0 where
+-- at the two children p and p′ of a join: one node for both, which is open at both
+pub record JoinPivot (R : Rule) (p p′ w w′ : ℕ) : Type 0 where
   pub same : nodeOf w ≡ nodeOf w′
-  pub known : nodeOf w < 8 → nodeOf w < n
+  pub known : nodeOf w < 8 → nodeOf w < R .production .right .nodes
+  pub first : nodeOf w < 8 → isOpenAt R p (nodeOf w) ≡ true
+  pub second : nodeOf w < 8 → isOpenAt R p′ (nodeOf w) ≡ true
 
 -- pivots for g, where `uses` has for each symbol the positions of those that want it; which of the nodes that would do are taken is left open
 pub record PivotChoice (g : List ℕ) (pivot : ℕ → ℕ → ℕ) (uses : ℕ → ℕ) : Type 0 where
-  pub edge : (r q c i : ℕ) → q < length (planOf (grammarOf g) r) → planNode (planOf (grammarOf g) r) q ≡ introduce c i → EdgePivot (edgeNodes g r i) (pivot r c)
-  pub join : (r q a b : ℕ) → q < length (planOf (grammarOf g) r) → planNode (planOf (grammarOf g) r) q ≡ join a b → JoinPivot (rightOf (grammarOf g) r .nodes) (pivot r a) (pivot r b)
+  pub edge : (r q c i : ℕ) → q < length (planOf (grammarOf g) r) → planNode (planOf (grammarOf g) r) q ≡ introduce c i → EdgePivot (ruleOf (grammarOf g) r) c (edgeNodes g r i) (pivot r c)
+  pub join : (r q a b : ℕ) → q < length (planOf (grammarOf g) r) → planNode (planOf (grammarOf g) r) q ≡ join a b → JoinPivot (ruleOf (grammarOf g) r) a b (pivot r a) (pivot r b)
   pub used : (r p s : ℕ) → wantOf (grammarOf g) r p ≡ s → s < 64 → member (uses s) (positionOf (pivot r p)) ≡ true
 
 -- ---- the pivots that are taken
@@ -53,7 +57,7 @@ sharedNode G r p p′ = lastTo (rightOf G r .nodes) (λ x. isOpenAt (ruleOf G r)
 
 -- what plan node q, if p is a child of it, asks of the pivot w of p
 pub record PivotBelow (g : List ℕ) (r p q w : ℕ) : Type 0 where
-  pub edge : (i : ℕ) → planNode (planOf (grammarOf g) r) q ≡ introduce p i → EdgePivot (edgeNodes g r i) w
+  pub edge : (i : ℕ) → planNode (planOf (grammarOf g) r) q ≡ introduce p i → EdgePivot (ruleOf (grammarOf g) r) p (edgeNodes g r i) w
   pub first : (b : ℕ) → planNode (planOf (grammarOf g) r) q ≡ join p b → nodeOf w ≡ sharedNode (grammarOf g) r p b
   pub second : (a : ℕ) → planNode (planOf (grammarOf g) r) q ≡ join a p → nodeOf w ≡ sharedNode (grammarOf g) r p a
 

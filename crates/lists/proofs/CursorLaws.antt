@@ -1,16 +1,15 @@
 -- Cursors that go through five lists: no entry is missed, and they come to an end.
-use Prim.Native.Nat.{ℕ, zero, suc, _+_, _-_, _*_, _/_, _≤_, _<_}
+use Prim.Native.Nat.{ℕ, _+_, _-_, _*_, _/_, _≤_, _<_}
 use mathlib.Core.Path.{_≡_, refl, sym, ap, _∙_, subst}
 use mathlib.Core.Logic.{_≢_}
-use mathlib.Core.List.{List, [], _∷_, _++_}
-use mathlib.Core.Bool.{Bool, true, false, cond, _||_, false≢true}
+use mathlib.Core.List.{List, _++_}
+use mathlib.Core.Bool.{Bool, true, false, false≢true}
 use native.Mathlib.Omega.{arith}
 use native.Mathlib.Decide.{decLt, ℕ-discrete}
-use lib.Dec.{eqb, leb, ltb}
 use lib.ListN.{length, length-append, getD, List·getD-append}
 use borrow.Author.Tests.{eq-eqb, ne-eqb, le-leb, lt-leb, lt-ltb, le-ltb}
 use Rattle.lists.specs.Lists.{firstFrom, Listed, Within}
-use Rattle.lists.specs.Cursors.{alone, startsOf, nearer, nearestOf, leastOf, movedOn, passedOf, Points, Ahead, Skims, stays, goes, SkimsAll, leftOf, leftAll}
+use Rattle.lists.specs.Cursors.{alone, startsOf, nearer, nearestOf, leastOf, afterOf, movedOn, passedOf, Points, Ahead, Skims, stays, goes, SkimsAll, leftOf, leftAll}
 use Rattle.lists.proofs.ListLaws.{IsFirst, first-of, five}
 
 -- ---- the nearer of two
@@ -98,7 +97,7 @@ module _ (ws : List ℕ) (to c : ℕ) where
   unfolding movedOn
   moved-stays h l = rw (ne-eqb c 0 h, lt-ltb to c l)
 
-  pub moved-next : c ≢ 0 → c ≤ to → getD ws (4097 + c) 0 ≡ movedOn ws to c
+  pub moved-next : c ≢ 0 → c ≤ to → afterOf ws c ≡ movedOn ws to c
   unfolding movedOn
   moved-next h l = rw (ne-eqb c 0 h, le-ltb to c l)
 
@@ -125,12 +124,12 @@ module _ (quiet : ℕ → Bool) (ws keys : List ℕ) (c : Listed ws keys) (b : �
 
   module _ (from x : ℕ) (p : Points quiet keys b from to x) where
     -- the next entry is the first one of its key behind the cursor
-    next-is : 0 < x → IsFirst b keys x (length keys) (getD ws (4097 + x) 0)
+    next-is : 0 < x → IsFirst b keys x (length keys) (afterOf ws x)
     next-is h =
         let o = p .own h in
         let n : 4097 + x ≡ 4098 + (x - 1) = omega arith in
         let s : x - 1 + 1 ≡ x = omega arith in
-        let y : getD ws (4097 + x) 0 ≡ firstFrom b keys x =
+        let y : afterOf ws x ≡ firstFrom b keys x =
         ap (λ i. getD ws i 0) n ∙ c .next (x - 1) (omega (arith, p .low)) (omega (arith, o .0, o .1)) (omega (arith, o .1))
         ∙ ap (λ i. firstFrom i keys (x - 1 + 1)) (o .1) ∙ ap (λ i. firstFrom b keys i) s in
         subst (IsFirst b keys x (length keys)) (sym y) (first-of b keys x)
@@ -151,14 +150,14 @@ module _ (quiet : ℕ → Bool) (ws keys : List ℕ) (c : Listed ws keys) (b : �
             (point-first quiet keys b x later to _ (p .own h .0) (omega (arith, l)) room (next-is h))
 
     -- a cursor at an entry of a quiet record goes on
-    point-on : 0 < x → quiet ((x - 1) / 5) ≡ true → Points quiet keys b from to (getD ws (4097 + x) 0)
+    point-on : 0 < x → quiet ((x - 1) / 5) ≡ true → Points quiet keys b from to (afterOf ws x)
     point-on h s = record {
       low = next-is h .low;
       own = λ o. (p .own h .0, next-is h .own o .1);
       ahead = λ e a d t q m. go e d t m (p .ahead e a d t q m .1) (decLt e x);
     }
       where
-        go : (e : ℕ) → e < to → quiet (e / 5) ≡ false → getD keys e 0 ≡ b → x ≤ e + 1 → Dec (e < x) → (0 < getD ws (4097 + x) 0) × (getD ws (4097 + x) 0 ≤ e + 1)
+        go : (e : ℕ) → e < to → quiet (e / 5) ≡ false → getD keys e 0 ≡ b → x ≤ e + 1 → Dec (e < x) → (0 < afterOf ws x) × (afterOf ws x ≤ e + 1)
         go e d t m l (yes g) =
             let same : (x - 1) / 5 ≡ e / 5 = ap (λ i. i / 5) (let o : x - 1 ≡ e = omega arith in o) in
             absurd (false≢true (sym t ∙ sym (ap quiet same) ∙ s))
@@ -179,13 +178,13 @@ record Falls (bound c r : ℕ) : Type 0 where
   less : 0 < c → c ≤ bound → leftOf r < leftOf c
 
 module _ (quiet : ℕ → Bool) (ws keys : List ℕ) (c : Listed ws keys) (b : ℕ) (small : b ≤ 2048) (from to : ℕ) (room : to ≤ length keys) (x : ℕ) (p : Points quiet keys b from to x) (bound : ℕ) where
-  next-less : x ≢ 0 → leftOf (getD ws (4097 + x) 0) < leftOf x
-  next-less z = go (ℕ-discrete (getD ws (4097 + x) 0) 0)
+  next-less : x ≢ 0 → leftOf (afterOf ws x) < leftOf x
+  next-less z = go (ℕ-discrete (afterOf ws x) 0)
     where
-      n : IsFirst b keys x (length keys) (getD ws (4097 + x) 0)
+      n : IsFirst b keys x (length keys) (afterOf ws x)
       n = next-is quiet ws keys c b small to room from x p (omega (arith, z))
 
-      go : Dec (getD ws (4097 + x) 0 ≡ 0) → leftOf (getD ws (4097 + x) 0) < leftOf x
+      go : Dec (afterOf ws x ≡ 0) → leftOf (afterOf ws x) < leftOf x
       go (yes y) = omega (arith, left-end _ y, left-some x z, p .low, c .few)
       go (no y) = omega (arith, left-some _ y, left-some x z, n .low, n .own (omega (arith, y)) .0, c .few)
 
@@ -324,7 +323,7 @@ module _ (quiet : ℕ → Bool) (ws keys query : List ℕ) (n done : ℕ) (cs ds
   left-skims = omega (arith, at 0 (omega arith) .same, at 1 (omega arith) .same, at 2 (omega arith) .same, at 3 (omega arith) .same, at 4 (omega arith) .same)
 
 -- ---- one cursor
-pub alone-passed : (ws : List ℕ) (c k r : ℕ) → 0 < c → c ≤ 5 * k + 5 → r ≡ getD ws (4097 + c) 0 → alone r ≡ passedOf ws (alone c) k
+pub alone-passed : (ws : List ℕ) (c k r : ℕ) → 0 < c → c ≤ 5 * k + 5 → r ≡ afterOf ws c → alone r ≡ passedOf ws (alone c) k
 unfolding passedOf movedOn
 alone-passed ws c k r h l p = rw (p, ne-eqb c 0 (λ e. omega arith), le-ltb (5 * k + 5) c l)
 
@@ -338,6 +337,6 @@ unfolding leastOf
 alone-past c n h p = omega (arith, nearest-is (alone c) .past (5 * n) (omega arith) (five (λ i. 0 < getD (alone c) i 0 → 5 * n < getD (alone c) i 0) (λ o. p (λ e. omega arith)) (λ o. absurd (omega arith)) (λ o. absurd (omega arith)) (λ o. absurd (omega arith)) (λ o. absurd (omega arith))))
 
 -- it goes on over one quiet record
-pub alone-skims : (quiet : ℕ → Bool) (ws : List ℕ) (n c r : ℕ) → c ≢ 0 → c ≤ 5 * n → quiet ((c - 1) / 5) ≡ true → r ≡ getD ws (4097 + c) 0 → SkimsAll quiet ws n (alone c) (alone r)
+pub alone-skims : (quiet : ℕ → Bool) (ws : List ℕ) (n c r : ℕ) → c ≢ 0 → c ≤ 5 * n → quiet ((c - 1) / 5) ≡ true → r ≡ afterOf ws c → SkimsAll quiet ws n (alone c) (alone r)
 alone-skims quiet ws n c r z l q e =
     five (λ i. Skims quiet ws n (getD (alone c) i 0) (getD (alone r) i 0)) (goes r c (stays c refl) (omega (arith, z)) l q e) (stays 0 refl) (stays 0 refl) (stays 0 refl) (stays 0 refl)

@@ -1,5 +1,5 @@
 -- The first entry of a key at or after a place, and how lists are kept as entries come.
-use Prim.Native.Nat.{ℕ, zero, suc, _+_, _-_, _*_, _≤_, _<_}
+use Prim.Native.Nat.{ℕ, zero, suc, _+_, _-_, _≤_, _<_}
 use mathlib.Core.Path.{_≡_, refl, sym, ap, _∙_, subst}
 use mathlib.Core.Logic.{_≢_}
 use mathlib.Core.List.{List, [], _∷_, _++_, append-assoc}
@@ -10,7 +10,7 @@ use lib.Dec.{eqb, leb}
 use lib.ListN.{length, length-append, getD, set, length-set, replicate, length-replicate, getD-replicate, List·getD-append}
 use lib.Seq.{getD-set-same, getD-set-other, getD-at, ext-getD}
 use borrow.Author.Tests.{eq-eqb, ne-eqb, le-leb, eqb-true, leb-true}
-use Rattle.lists.specs.Lists.{firstTo, firstFrom, IsLast, Listed, Unlisted, Linkable, tailOf, appended, entered, Ready, enteredAll, Within}
+use Rattle.lists.specs.Lists.{listWords, firstTo, firstFrom, IsLast, Listed, Unlisted, Linkable, tailOf, appended, entered, Ready, enteredAll, Within}
 use Rattle.lists.specs.Cursors.{alone}
 
 -- ---- tests
@@ -220,14 +220,14 @@ module _ (ws : List ℕ) (e b : ℕ) (k : Linkable ws e b) (pos : 0 < b) where
       go (yes z) = omega (arith, tail-first ws b _ refl z, k .key)
       go (no z) = omega (arith, tail-next ws b _ refl z, z)
 
-  pub tail-below : tailOf ws b < 24578
+  pub tail-below : tailOf ws b < listWords
   tail-below = go (ℕ-discrete (getD ws (2049 + b) 0) 0)
     where
-      go : Dec (getD ws (2049 + b) 0 ≡ 0) → tailOf ws b < 24578
+      go : Dec (getD ws (2049 + b) 0 ≡ 0) → tailOf ws b < listWords
       go (yes z) = omega (arith, tail-first ws b _ refl z, k .key)
       go (no z) = omega (arith, tail-next ws b _ refl z, k .last pos)
 
-  pub length-appended : length (appended ws e b) ≡ 24578
+  pub length-appended : length (appended ws e b) ≡ listWords
   unfolding appended
   length-appended = simp length-set (k .size)
 
@@ -248,8 +248,8 @@ module _ (ws : List ℕ) (e b : ℕ) (k : Linkable ws e b) (pos : 0 < b) where
   word-tail h = thrice-first ws (tailOf ws b) (2049 + b) (4098 + e) (e + 1) 0 h (λ z. tail-not b (k .key) (sym z)) (omega (arith, k .size, tail-below))
 
 -- ---- no entry
-pub unlisted-zeros : Unlisted (replicate 24578 0)
-unlisted-zeros = record { size = length-replicate {A = ℕ} 24578 0; empty = λ i h. getD-replicate {A = ℕ} 24578 i 0 0 h }
+pub unlisted-zeros : Unlisted (replicate listWords 0)
+unlisted-zeros = record { size = length-replicate {A = ℕ} listWords 0; empty = λ i h. getD-replicate {A = ℕ} listWords i 0 0 h }
 
 pub listed-none : (ws : List ℕ) → Unlisted ws → Listed ws []
 listed-none ws u = record {

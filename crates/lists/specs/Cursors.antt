@@ -30,9 +30,13 @@ unfoldable pub leastOf : List ℕ → ℕ
 unfolding nearestOf
 leastOf cs = (nearestOf cs - 1) / 5
 
+-- the entry behind the one that the cursor c is at
+abbrev pub afterOf : List ℕ → ℕ → ℕ
+afterOf ws c = getD ws (4097 + c) 0
+
 -- a cursor at an entry below the place `to` goes on to the next entry of its list
 unfoldable pub movedOn : List ℕ → ℕ → ℕ → ℕ
-movedOn ws to c = cond (eqb c 0 || ltb to c) c (getD ws (4097 + c) 0)
+movedOn ws to c = cond (eqb c 0 || ltb to c) c (afterOf ws c)
 
 -- each cursor whose record is k or before goes on by one entry
 unfoldable pub passedOf : List ℕ → List ℕ → ℕ → List ℕ
@@ -60,7 +64,7 @@ pub record Ahead (quiet : ℕ → Bool) (keys query : List ℕ) (n done : ℕ) (
 -- the cursor r is c, or comes after it on its list, and in between there are only entries of quiet records of the first n
 pub data Skims (quiet : ℕ → Bool) (ws : List ℕ) (n c : ℕ) : ℕ → Type 0 where
   stays : (r : ℕ) → r ≡ c → Skims quiet ws n c r
-  goes : (r d : ℕ) → Skims quiet ws n c d → 0 < d → d ≤ 5 * n → quiet ((d - 1) / 5) ≡ true → r ≡ getD ws (4097 + d) 0 → Skims quiet ws n c r
+  goes : (r d : ℕ) → Skims quiet ws n c d → 0 < d → d ≤ 5 * n → quiet ((d - 1) / 5) ≡ true → r ≡ afterOf ws d → Skims quiet ws n c r
 
 -- .. for each of five cursors
 abbrev pub SkimsAll : (ℕ → Bool) → List ℕ → ℕ → List ℕ → List ℕ → Type 0

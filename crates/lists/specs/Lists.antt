@@ -1,8 +1,8 @@
 -- Entries 0, 1, 2, .. have a key each, 0 for none; words link the entries of one key in rising order.
 use mathlib.Core.Bool.{cond, _&&_}
-use mathlib.Core.List.{List, [], _∷_}
+use mathlib.Core.List.{List}
 use mathlib.Core.Path.{_≡_}
-use Prim.Native.Nat.{ℕ, zero, suc, _+_, _-_, _*_, _≤_, _<_}
+use Prim.Native.Nat.{ℕ, zero, suc, _+_, _-_, _≤_, _<_}
 use lib.Dec.{eqb, leb}
 use lib.ListN.{length, getD, set}
 
@@ -26,10 +26,14 @@ pub record IsLast (b : ℕ) (keys : List ℕ) (r : ℕ) : Type 0 where
   pub own : 0 < r → getD keys (r - 1) 0 ≡ b
   pub most : (i : ℕ) → i < length keys → getD keys i 0 ≡ b → i < r
 
+-- how many words there are
+abbrev pub listWords : ℕ
+listWords = 24578
+
 -- Words that list the entries of each key up to 2048: words 0 to 2048 the first entry of a key, 2049 to 4097 the last one, and from 4098 on
 -- for each entry the next one of its key; each as its place + 1, 0 for none. Key 0 has no entry, and an entry with key 0 is on no list.
 pub record Listed (ws keys : List ℕ) : Type 0 where
-  pub size : length ws ≡ 24578
+  pub size : length ws ≡ listWords
   pub few : length keys ≤ 20480
   pub none : getD ws 0 0 ≡ 0
   pub first : (b : ℕ) → 0 < b → b ≤ 2048 → getD ws b 0 ≡ firstFrom b keys 0
@@ -38,19 +42,19 @@ pub record Listed (ws keys : List ℕ) : Type 0 where
 
 -- words with no entry on a list
 pub record Unlisted (ws : List ℕ) : Type 0 where
-  pub size : length ws ≡ 24578
-  pub empty : (i : ℕ) → i < 24578 → getD ws i 0 ≡ 0
+  pub size : length ws ≡ listWords
+  pub empty : (i : ℕ) → i < listWords → getD ws i 0 ≡ 0
 
 -- entry e can be put on the list of b, or on none where b is 0
 pub record Linkable (ws : List ℕ) (e b : ℕ) : Type 0 where
-  pub size : length ws ≡ 24578
+  pub size : length ws ≡ listWords
   pub entry : e < 20480
   pub key : b ≤ 2048
   pub last : 0 < b → getD ws (2049 + b) 0 ≤ 20480
 
 -- words on whose lists entries can be put
 pub record Ready (ws : List ℕ) : Type 0 where
-  pub size : length ws ≡ 24578
+  pub size : length ws ≡ listWords
   pub lasts : (b : ℕ) → 0 < b → b ≤ 2048 → getD ws (2049 + b) 0 ≤ 20480
 
 -- the word that is to lead to the next entry with key b: that of the last one, or the first word of b

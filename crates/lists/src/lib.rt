@@ -2,12 +2,15 @@
 ghost use mathlib.Core.Path.{_≡_};
 ghost use Prim.Native.Nat.{_+_, _≤_, _<_};
 ghost use lib.ListN.{length, getD};
-ghost use Rattle.lists.specs.Lists.{Linkable, tailOf, appended, entered, Ready, enteredAll, Within};
-ghost use Rattle.lists.specs.Cursors.{alone, startsOf, nearer, leastOf, movedOn, passedOf};
+ghost use Rattle.lists.specs.Lists.{listWords, Linkable, tailOf, appended, entered, Ready, enteredAll, Within};
+ghost use Rattle.lists.specs.Cursors.{alone, startsOf, nearer, leastOf, afterOf, movedOn, passedOf};
+
+// How many words the lists take.
+pub const LIST_WORDS: usize = 24578;
 
 // The first entry of key b: its place + 1, 0 for none.
 pub fn first(ws: &[u16], b: u64) -> u64
-    requires { ⌜ (length (now ws) ≡ 24578) × (b ≤ 2048) ⌝ }
+    requires { ⌜ (length (now ws) ≡ listWords) × (b ≤ 2048) ⌝ }
     ensures { λ r. ⌜ r ≡ getD (now (ws .entry)) b 0 ⌝ }
 {
     ws[b as usize] as u64
@@ -15,8 +18,8 @@ pub fn first(ws: &[u16], b: u64) -> u64
 
 // The word that is to lead to the next entry of key b.
 fn tail(ws: &[u16], b: u64) -> u64
-    requires { ⌜ (length (now ws) ≡ 24578) × (b ≤ 2048) × (getD (now ws) (2049 + b) 0 ≤ 20480) ⌝ }
-    ensures { λ r. ⌜ (r ≡ tailOf (now (ws .entry)) b) × (r < 24578) ⌝ }
+    requires { ⌜ (length (now ws) ≡ listWords) × (b ≤ 2048) × (getD (now ws) (2049 + b) 0 ≤ 20480) ⌝ }
+    ensures { λ r. ⌜ (r ≡ tailOf (now (ws .entry)) b) × (r < listWords) ⌝ }
 {
     let last = ws[(2049 + b) as usize] as u64;
     if last == 0 {
@@ -69,7 +72,7 @@ pub fn enter_one(ws: &mut [u16], e: u64, b: u64)
 
 // Five cursors, each at the first entry of its key; key 0 has none.
 pub fn starts(ws: &[u16], query: [u64; 5]) -> [u64; 5]
-    requires { ⌜ (length (now ws) ≡ 24578) × Within 2048 query ⌝ }
+    requires { ⌜ (length (now ws) ≡ listWords) × Within 2048 query ⌝ }
     ensures { λ r. ⌜ r ≡ startsOf (now (ws .entry)) query ⌝ }
 {
     [
@@ -105,15 +108,15 @@ pub fn least(cs: [u64; 5]) -> u64
 
 // The entry behind the one that the cursor e is at: its place + 1, 0 for none.
 pub fn after(ws: &[u16], e: u64) -> u64
-    requires { ⌜ (length (now ws) ≡ 24578) × (e ≤ 20480) ⌝ }
-    ensures { λ r. ⌜ r ≡ getD (now (ws .entry)) (4097 + e) 0 ⌝ }
+    requires { ⌜ (length (now ws) ≡ listWords) × (e ≤ 20480) ⌝ }
+    ensures { λ r. ⌜ r ≡ afterOf (now (ws .entry)) e ⌝ }
 {
     ws[(4097 + e) as usize] as u64
 }
 
 // A cursor at an entry below the place `to` goes on to the next entry of its list.
 fn moved(ws: &[u16], to: u64, c: u64) -> u64
-    requires { ⌜ (length (now ws) ≡ 24578) × (c ≤ 20480) ⌝ }
+    requires { ⌜ (length (now ws) ≡ listWords) × (c ≤ 20480) ⌝ }
     ensures { λ r. ⌜ r ≡ movedOn (now (ws .entry)) to c ⌝ }
 {
     if c == 0 {
@@ -127,7 +130,7 @@ fn moved(ws: &[u16], to: u64, c: u64) -> u64
 
 // Each cursor whose record is k or before goes on by one entry; it may be at another entry of record k then.
 pub fn passed(ws: &[u16], cs: [u64; 5], k: u64) -> [u64; 5]
-    requires { ⌜ (length (now ws) ≡ 24578) × Within 20480 cs × (k ≤ 4096) ⌝ }
+    requires { ⌜ (length (now ws) ≡ listWords) × Within 20480 cs × (k ≤ 4096) ⌝ }
     ensures { λ r. ⌜ r ≡ passedOf (now (ws .entry)) cs k ⌝ }
 {
     let to = 5 * k + 5;

@@ -1,18 +1,16 @@
 -- What the functions of keys answer, by their tests.
 use mathlib.Core.Path.{_≡_, refl, sym, ap, ap₂, _∙_}
-use mathlib.Core.Bool.{Bool, true, _&&_, _||_}
 use mathlib.Core.List.{List, [], _∷_}
 use Prim.Native.Nat.{ℕ, _+_, _*_, _/_, _%_, _≤_, _<_}
 use native.Mathlib.Omega.{arith}
 use lib.ListN.{length, getD}
-use lib.Dec.{eqb, ltb, leb}
 use borrow.Author.Tests.{eq-eqb, ne-eqb}
 use Rattle.masks.specs.Masks.{bit}
 use Rattle.hrg.specs.Trees.{at}
 use Rattle.agenda.specs.declared.ChartItem.{ChartItem}
 use Rattle.joins.proofs.MapLaws.{getD-any}
 use Rattle.keys.specs.Pivots.{positionOf, nodeOf}
-use Rattle.keys.specs.Keys.{baseOf, mixed, bucketOf, wordOf, imageOf, keyWord, placeOf, placeNode, placeWord, askedFrom, usesFrom, placesFrom, soughtFrom, ruleWord, symbolWord, usesIn, placeKey, fiveKeys, keysBy, wordFor, usesOf, keysOf, queryOf, allPlaced, regularBy, regularOf}
+use Rattle.keys.specs.Keys.{baseOf, mixed, bucketOf, wordOf, imageOf, keyWord, placeOf, placeNode, placeWord, usesFrom, ruleWord, symbolWord, usesIn, placeKey, fiveKeys, keysBy, wordFor, usesOf, keysFrom}
 use Rattle.keys.proofs.KeyLaws.{word-edge, word-join, word-none, place-there, place-none, node-first, image-there, image-none}
 
 -- ---- words of the table
@@ -129,37 +127,7 @@ module _ (s : ℕ) (L : List ℕ) (w u tag : ℕ) where
           let all : (a ∷ b ∷ c ∷ d ∷ e ∷ []) ≡ fiveKeys u tag s L = cc in
           rw (eq-eqb w 0 none) all
 
-module _ (t : List ℕ) (x : ChartItem) (w u : ℕ) (uses : u ≡ usesOf t x) where
-  pub keys-are : (ks : List ℕ) → w ≡ wordFor t 0 placesFrom x → ks ≡ keysBy w u 1 (x .of) (x .nodes) → ks ≡ keysOf t x
-  unfolding keysOf
-  keys-are ks e q = q ∙ ap₂ (λ w u. keysBy w u 1 (x .of) (x .nodes)) e uses
-
-  pub query-is : (ks : List ℕ) → w ≡ wordFor t askedFrom soughtFrom x → ks ≡ keysBy w u 2 (x .of) (x .nodes) → ks ≡ queryOf t x
-  unfolding queryOf
-  query-is ks e q = q ∙ ap₂ (λ w u. keysBy w u 2 (x .of) (x .nodes)) e uses
-
-  pub regular-is : (b : Bool) → w ≡ wordFor t 0 placesFrom x → b ≡ regularBy w u (x .nodes) → b ≡ regularOf t x
-  unfolding regularOf
-  regular-is b e q = q ∙ ap₂ (λ w u. regularBy w u (x .nodes)) e uses
-
--- ---- regular items
-abbrev placedAt : List ℕ → ℕ → ℕ → Bool
-placedAt L u k = eqb (u % 2) 0 || ltb (getD L k 0) 64
-
-pub all-placed : (u : ℕ) (L : List ℕ) → length L ≡ 8 → (placedAt L u 0 && placedAt L (u / 2) 1 && placedAt L (u / 4) 2 && placedAt L (u / 8) 3) ≡ allPlaced u L
-unfolding allPlaced bit
-all-placed u L size =
-    rw (bit-first u, place-read L size 0 (omega arith), place-read L size 1 (omega arith), place-read L size 2 (omega arith), place-read L size 3 (omega arith))
-
-module _ (w u : ℕ) (L : List ℕ) where
-  pub regular-word : (a : ℕ) → (w ≡ 0 → ⊥) → a ≡ imageOf w L → (leb 8 (nodeOf w) || ltb a 64) ≡ regularBy w u L
-  unfolding regularBy
-  regular-word a n e = rw (ne-eqb w 0 n) (ap (λ a. leb 8 (nodeOf w) || ltb a 64) e)
-
-  pub regular-none : w ≡ 0 → u ≡ 0 → true ≡ regularBy w u L
-  unfolding regularBy allPlaced bit
-  regular-none e q = sym (ap₂ (λ w u. regularBy w u L) e q)
-
-  pub regular-five : (b : Bool) → w ≡ 0 → b ≡ allPlaced u L → b ≡ regularBy w u L
-  unfolding regularBy
-  regular-five b e q = rw (eq-eqb w 0 e) q
+-- by an item's own
+pub keys-from : (t : List ℕ) (x : ChartItem) (rules symbols tag w u : ℕ) → u ≡ usesOf t x → (ks : List ℕ) → w ≡ wordFor t rules symbols x → ks ≡ keysBy w u tag (x .of) (x .nodes)
+    → ks ≡ keysFrom t rules symbols tag x
+keys-from t x rules symbols tag w u uses ks e q = q ∙ ap₂ (λ w u. keysBy w u tag (x .of) (x .nodes)) e uses

@@ -19,6 +19,7 @@ use Rattle.hrg.specs.Trees.{at}
 use Rattle.hrg.specs.Items.{isOpenAt}
 use Rattle.hrg.specs.WellFormed.{children}
 use Rattle.hrg.proofs.Sums.{hit-self, at-tabulate}
+use Rattle.hrg.proofs.Degrees.{and-true}
 use Rattle.hrg.proofs.Plans.{introduce-known, introduce-lower, join-lower}
 use Rattle.questions.specs.Layout.{placeOf, rankAt, ruleCount, ruleNodes, ruleEdges, edgeLabel, edgeNode, planKind, planFirst, planSecond}
 use Rattle.questions.specs.Checking.{checkGrammar}
@@ -41,8 +42,8 @@ use Rattle.keys.specs.Keys.{keyWord, placeWord, rulePlaces, askedFrom, usesFrom
 use Rattle.keys.proofs.KeyLaws.{word-none, place-nowhere}
 
 -- ---- an edge
-pub no-edge-pivot : (A : List ℕ) → EdgePivot A 72 × (72 ≤ 72)
-no-edge-pivot A = (record { position = λ n. absurd (n refl); node = λ n. absurd (n refl) }, omega arith)
+pub no-edge-pivot : (R : Rule) (p : ℕ) (A : List ℕ) → EdgePivot R p A 72 × (72 ≤ 72)
+no-edge-pivot R p A = (record { position = λ n. absurd (n refl); node = λ n. absurd (n refl); opened = λ n. absurd (n refl) }, omega arith)
 
 module _ (g : List ℕ) (r i : ℕ) (known : KnownEdge g r i) (label rank : ℕ) (a : label ≡ edgeLabel g r i) (b : rank ≡ rankAt g label) where
   at-edge : (k : ℕ) → k < rank → at (edgeNodes g r i) k ≡ edgeNode g r i k
@@ -55,13 +56,15 @@ module _ (g : List ℕ) (r i : ℕ) (known : KnownEdge g r i) (label rank : ℕ)
   pub node-few : (k v : ℕ) → k < rank → v ≡ edgeNode g r i k → v < 8
   node-few k v h e = let size : rank ≡ rankAt g (edgeLabel g r i) = b ∙ ap (rankAt g) a in edge-node-few g r i known k v (omega arith) e
 
-  pub edge-pivot : (k v : ℕ) → k < rank → v ≡ edgeNode g r i k → EdgePivot (edgeNodes g r i) (16 * k + v) × (16 * k + v ≤ 72)
-  edge-pivot k v h e =
+  pub edge-pivot : (p m : ℕ) → OpenAt g r p m → (k v : ℕ) (t : Bool) → k < rank → v ≡ edgeNode g r i k → t ≡ member m v → t ≡ true
+      → EdgePivot (ruleOf (grammarOf g) r) p (edgeNodes g r i) (16 * k + v) × (16 * k + v ≤ 72)
+  edge-pivot p m o k v t h e q there =
       let size : rank ≡ rankAt g (edgeLabel g r i) = b ∙ ap (rankAt g) a in
       let few : v < 8 = node-few k v h e in
       let x : (16 * k + v) / 16 ≡ k = omega arith in
       let y : (16 * k + v) % 16 ≡ v = omega arith in
-      (record { position = λ n. omega (arith, edge-rank g r i known); node = λ n. y ∙ e ∙ sym (at-edge k h) ∙ ap (at (edgeNodes g r i)) (sym x) }, omega arith)
+      let opened = ap (isOpenAt (ruleOf (grammarOf g) r) p) y ∙ sym (o .members v (omega arith)) ∙ sym q ∙ there in
+      (record { position = λ n. omega (arith, edge-rank g r i known); node = λ n. y ∙ e ∙ sym (at-edge k h) ∙ ap (at (edgeNodes g r i)) (sym x); opened = λ n. opened }, omega arith)
 
 -- ---- two children
 last-ext : (n : ℕ) (s t : ℕ → Bool) → ((x : ℕ) → s x ≡ t x) → lastTo n s ≡ lastTo n t
@@ -78,6 +81,16 @@ last-known (suc n) t h = go (t n) h (last-known n t)
     go true h rest = omega arith
     go false h rest = omega (arith, rest h)
 
+-- it passes
+last-passes : (n : ℕ) (t : ℕ → Bool) → lastTo n t < 8 → t (lastTo n t) ≡ true
+unfolding lastTo
+last-passes zero t h = absurd (omega arith)
+last-passes (suc n) t h = go (t n) refl h (last-passes n t)
+  where
+    go : (b : Bool) → t n ≡ b → cond b n (lastTo n t) < 8 → (lastTo n t < 8 → t (lastTo n t) ≡ true) → t (cond b n (lastTo n t)) ≡ true
+    go true e h rest = e
+    go false e h rest = rest h
+
 and-comm : (a b : Bool) → (a && b) ≡ (b && a)
 and-comm true true = refl
 and-comm true false = refl
@@ -91,6 +104,11 @@ shared-comm G r p q = last-ext (rightOf G r .nodes) _ _ (λ x. and-comm (isOpenA
 shared-known : (G : Grammar) (r p q : ℕ) → sharedNode G r p q < 8 → sharedNode G r p q < rightOf G r .nodes
 unfolding sharedNode
 shared-known G r p q h = last-known (rightOf G r .nodes) _ h
+
+-- it is open at both
+shared-open : (G : Grammar) (r p q : ℕ) → sharedNode G r p q < 8 → (isOpenAt (ruleOf G r) p (sharedNode G r p q) ≡ true) × (isOpenAt (ruleOf G r) q (sharedNode G r p q) ≡ true)
+unfolding sharedNode
+shared-open G r p q h = and-true (isOpenAt (ruleOf G r) p (sharedNode G r p q)) (isOpenAt (ruleOf G r) q (sharedNode G r p q)) (last-passes (rightOf G r .nodes) _ h)
 
 -- the search: no node from v on is open at both
 abbrev bothOpen : List ℕ → ℕ → ℕ → ℕ → ℕ → Bool
@@ -167,11 +185,11 @@ module _ (g : List ℕ) (r p q : ℕ) (known : KnownNode g r q) (kind first seco
             record { grammar = known .grammar; rule = known .rule; edge = introduce-known (ruleEdges g r) (planOf (grammarOf g) r) ok q first second introduced },
           )
 
-      pub below-edge : (w : ℕ) → EdgePivot (edgeNodes g r second) w × (w ≤ 72) → PivotBelow g r p q w × (w ≤ 72)
+      pub below-edge : (w : ℕ) → EdgePivot (ruleOf (grammarOf g) r) p (edgeNodes g r second) w × (w ≤ 72) → PivotBelow g r p q w × (w ≤ 72)
       below-edge w (x, few) =
           let n = introduced in (
             record {
-              edge = λ i d. let s : second ≡ i = cc in subst (λ i. EdgePivot (edgeNodes g r i) w) s x;
+              edge = λ i d. let s : second ≡ i = cc in subst (λ i. EdgePivot (ruleOf (grammarOf g) r) p (edgeNodes g r i) w) s x;
               first = λ i d. absurd (clash (cc));
               second = λ i d. absurd (clash (cc));
             },
@@ -570,9 +588,13 @@ module _ (g : List ℕ) (checked : checkGrammar g ≡ true) (t : List ℕ) (n i 
           let low = few g checked r q d a b node in
           let here = known-word r a k (low .0) (λ z. omega (arith, low, want-second g checked r q d a b node)) .each q d .first b node in
           let there = known-word r b k (low .1) (λ z. omega (arith, low, want-first g checked r q d a b node)) .each q d .second a node in
+          let R = ruleOf (grammarOf g) r in
+          let both = shared-open (grammarOf g) r a b in
           record {
             same = here ∙ shared-comm (grammarOf g) r a b ∙ sym there;
             known = λ h. omega (arith, here, shared-known (grammarOf g) r a b (omega (arith, here)));
+            first = λ h. ap (isOpenAt R a) here ∙ both (omega (arith, here)) .0;
+            second = λ h. ap (isOpenAt R b) here ∙ both (omega (arith, here)) .1;
           };
       used = λ r p s q h. used-word r p s q h (decLt r (ruleCount g)) (decLt p 16);
     };

@@ -2,15 +2,17 @@
 ghost use mathlib.Core.Path.{_≡_};
 ghost use mathlib.Core.Bool.{true};
 ghost use mathlib.Core.List.{[], _∷_};
-ghost use Prim.Native.Nat.{_≤_, _<_};
+ghost use Prim.Native.Nat.{ℕ, _≤_, _<_};
 ghost use lib.ListN.{length, replicate};
+ghost use Rattle.hrg.specs.Grammars.{ruleOf};
 ghost use Rattle.questions.specs.Checking.{checkGrammar};
 ghost use Rattle.questions.specs.Abstract.{grammarOf};
 ghost use Rattle.joins.specs.Joins.{KnownNode, KnownEdge, edgeNodes};
 ghost use Rattle.rules.specs.Plans.{PlanTable};
 ghost use Rattle.keys.specs.Pivots.{noPivot, sharedNode, EdgePivot, PivotBelow, PivotOf};
-ghost use Rattle.keys.specs.Keys.{baseOf, mixed, imageOf, keyWord, placeOf, placeWord, rulePlaces, askedFrom, soughtFrom, keyTableWords, rulePlace, ruleWord, symbolWord, KeyTable, Entered, Placed, placeKey, wordFor, usesOf, keysOf, queryOf, allPlaced, regularOf};
+ghost use Rattle.keys.specs.Keys.{baseOf, mixed, imageOf, keyWord, placeOf, placeWord, rulePlaces, askedFrom, soughtFrom, keyTableWords, rulePlace, ruleWord, symbolWord, KeyTable, Entered, Placed, placeKey, wordFor, usesOf, keysFrom, keysOf, queryOf};
 use agenda::ChartItem;
+use rules::plans::PLAN_TABLE_WORDS;
 
 // The size of the table of key words.
 pub const KEY_TABLE_WORDS: usize = 2240;
@@ -37,9 +39,9 @@ const NO_PIVOT: u64 = 72;
 
 // ---- pivots
 // Below a plan node that introduces edge i: the first position of the edge whose node is open at p, with that node.
-fn edge_pivot(g: &[u64], plans: &[u32; 2048], r: u64, p: u64, i: u64) -> u64
+fn edge_pivot(g: &[u64], plans: &[u32; PLAN_TABLE_WORDS], r: u64, p: u64, i: u64) -> u64
     requires { ⌜ KnownNode (now g) r p × KnownEdge (now g) r i × PlanTable (now g) (now plans) ⌝ }
-    ensures { λ w. ⌜ EdgePivot (edgeNodes (now (g .entry)) r i) w × (w ≤ noPivot) ⌝ }
+    ensures { λ w. ⌜ EdgePivot (ruleOf (grammarOf (now (g .entry))) r) p (edgeNodes (now (g .entry)) r i) w × (w ≤ noPivot) ⌝ }
 {
     let nodes = rules::plans::open_at(g, plans, r, p);
     let rank = layout::rank_at(g, layout::edge_label(g, r, i));
@@ -55,7 +57,7 @@ fn edge_pivot(g: &[u64], plans: &[u32; 2048], r: u64, p: u64, i: u64) -> u64
 }
 
 // At the two children of a join: the last rule node that is open at both.
-fn shared_node(g: &[u64], plans: &[u32; 2048], r: u64, p: u64, q: u64) -> u64
+fn shared_node(g: &[u64], plans: &[u32; PLAN_TABLE_WORDS], r: u64, p: u64, q: u64) -> u64
     requires { ⌜ KnownNode (now g) r p × KnownNode (now g) r q × PlanTable (now g) (now plans) ⌝ }
     ensures { λ v. ⌜ (v ≡ sharedNode (grammarOf (now (g .entry))) r p q) × (v ≤ 8) ⌝ }
 {
@@ -72,7 +74,7 @@ fn shared_node(g: &[u64], plans: &[u32; 2048], r: u64, p: u64, q: u64) -> u64
 }
 
 // What plan node q asks of the pivot of p.
-fn pivot_below(g: &[u64], plans: &[u32; 2048], r: u64, p: u64, q: u64) -> u64
+fn pivot_below(g: &[u64], plans: &[u32; PLAN_TABLE_WORDS], r: u64, p: u64, q: u64) -> u64
     requires { ⌜ KnownNode (now g) r q × PlanTable (now g) (now plans) ⌝ }
     ensures { λ w. ⌜ PivotBelow (now (g .entry)) r p q w × (w ≤ noPivot) ⌝ }
 {
@@ -101,7 +103,7 @@ fn pivot_below(g: &[u64], plans: &[u32; 2048], r: u64, p: u64, q: u64) -> u64
 }
 
 // The pivot of rule r and plan node p.
-fn pivot(g: &[u64], plans: &[u32; 2048], r: u64, p: u64) -> u64
+fn pivot(g: &[u64], plans: &[u32; PLAN_TABLE_WORDS], r: u64, p: u64) -> u64
     requires { ⌜ (checkGrammar (now g) ≡ true) × PlanTable (now g) (now plans) ⌝ }
     ensures { λ w. ⌜ PivotOf (now (g .entry)) r p w ⌝ }
 {
@@ -202,7 +204,7 @@ fn fill_places(t: &mut [u32])
 }
 
 // The table, into words that are 0: for all rules and plan nodes the words by which active items are listed, then those by which they ask; for each symbol the positions at which it is wanted, and the same two words of passive items.
-pub fn fill(g: &[u64], plans: &[u32; 2048], t: &mut [u32])
+pub fn fill(g: &[u64], plans: &[u32; PLAN_TABLE_WORDS], t: &mut [u32])
     requires { ⌜ (checkGrammar (now g) ≡ true) × PlanTable (now g) (now plans) × (now t ≡ replicate keyTableWords 0) ⌝ }
     ensures { λ r. ⌜ KeyTable (now (g .entry)) (now (t .exit)) ⌝ }
 {
@@ -259,9 +261,9 @@ fn word_for(t: &[u32], rules: u64, symbols: u64, x: ChartItem) -> u64
     ensures { λ w. ⌜ (w ≡ wordFor (now (t .entry)) rules symbols x) × (w < 4294967296) ⌝ }
 {
     if x.kind == 0 {
-        return rule_word(t, rules, x.of, x.plan);
+        return rule_word(t, rules, x.of as u64, x.plan as u64);
     }
-    symbol_word(t, symbols, x.of)
+    symbol_word(t, symbols, x.of as u64)
 }
 
 // The positions at which it is asked for, if it is passive.
@@ -272,7 +274,7 @@ fn uses_of(t: &[u32], x: ChartItem) -> u64
     if x.kind == 0 {
         return 0;
     }
-    symbol_word(t, USES_FROM, x.of)
+    symbol_word(t, USES_FROM, x.of as u64)
 }
 
 // The image of a word's node by the nodes of an item.
@@ -284,7 +286,7 @@ fn image(w: u64, x: ChartItem) -> u64
         return 64;
     }
     let nodes = x.nodes;
-    nodes[v as usize]
+    places::node_at(places::word_of(nodes), v)
 }
 
 // The key of position i of a passive item, if that is used.
@@ -297,33 +299,19 @@ fn place_key(used: u64, tag: u64, s: u64, i: u64, a: u64) -> u64
     mix(base(tag, s, i), a)
 }
 
-// The key that the partners of an item have, where a word of the table tells that there is but one; 0 where it has no partners.
-pub struct AskedKey {
-    pub single: bool,
-    pub key: u64,
-}
-
-// Of an item.
-pub fn asked(keys: &[u32; KEY_TABLE_WORDS], x: ChartItem) -> AskedKey
-    ensures { λ r. ⌜ (r .single ≡ true → (r .key ∷ 0 ∷ 0 ∷ 0 ∷ 0 ∷ []) ≡ queryOf (now (keys .entry)) x) ⌝ }
+// An item's keys by its words from `rules` and `symbols` on, 0 for none: the one by its word, which comes first, or one for
+// each place that is used.
+fn keys_by(
+    keys: &[u32; KEY_TABLE_WORDS],
+    rules: u64,
+    symbols: u64,
+    tag: u64,
+    x: ChartItem,
+) -> [u64; 5]
+    requires { ⌜ (rules ≤ askedFrom) × (symbols ≤ soughtFrom) ⌝ }
+    ensures { λ ks. ⌜ ks ≡ keysFrom (now (keys .entry)) rules symbols tag x ⌝ }
 {
-    let w = word_for(keys, ASKED_FROM, SOUGHT_FROM, x);
-    if w != 0 {
-        let key = mix(w / 16, image(w, x));
-        return AskedKey { single: true, key };
-    }
-    let none = uses_of(keys, x) == 0;
-    AskedKey {
-        single: none,
-        key: 0,
-    }
-}
-
-// The keys that the partners of an item have, 0 for none. The five places are written out here and in `listing`: a function for both would hand an array over by value.
-pub fn query(keys: &[u32; KEY_TABLE_WORDS], x: ChartItem) -> [u64; 5]
-    ensures { λ ks. ⌜ ks ≡ queryOf (now (keys .entry)) x ⌝ }
-{
-    let w = word_for(keys, ASKED_FROM, SOUGHT_FROM, x);
+    let w = word_for(keys, rules, symbols, x);
     if w != 0 {
         return [mix(w / 16, image(w, x)), 0, 0, 0, 0];
     }
@@ -331,91 +319,64 @@ pub fn query(keys: &[u32; KEY_TABLE_WORDS], x: ChartItem) -> [u64; 5]
     if u == 0 {
         return [0, 0, 0, 0, 0];
     }
-    let s = x.of;
+    let s = x.of as u64;
     let nodes = x.nodes;
+    let map = places::word_of(nodes);
     [
-        place_key(u % 2, EDGE_TAG, s, 0, nodes[0]),
-        place_key(u / 2 % 2, EDGE_TAG, s, 1, nodes[1]),
-        place_key(u / 4 % 2, EDGE_TAG, s, 2, nodes[2]),
-        place_key(u / 8 % 2, EDGE_TAG, s, 3, nodes[3]),
-        place_key(u / 16 % 2, EDGE_TAG, s, 4, 64),
+        place_key(u % 2, tag, s, 0, places::node_at(map, 0)),
+        place_key(u / 2 % 2, tag, s, 1, places::node_at(map, 1)),
+        place_key(u / 4 % 2, tag, s, 2, places::node_at(map, 2)),
+        place_key(u / 8 % 2, tag, s, 3, places::node_at(map, 3)),
+        place_key(u / 16 % 2, tag, s, 4, 64),
     ]
 }
 
-// Whether a node stands in each of a passive item's first four places that is in u.
-fn all_placed(u: u64, x: ChartItem) -> bool
-    ensures { λ t. ⌜ t ≡ allPlaced u (x .nodes) ⌝ }
-{
-    let nodes = x.nodes;
-    ((u % 2 == 0) | (nodes[0] < 64))
-        & ((u / 2 % 2 == 0) | (nodes[1] < 64))
-        & ((u / 4 % 2 == 0) | (nodes[2] < 64))
-        & ((u / 8 % 2 == 0) | (nodes[3] < 64))
-}
-
-// The keys that an item has, 0 for none, and whether the nodes by which it is keyed are there. Both rest on the same words, which are looked up once.
-pub struct Entries {
-    pub keys: [u64; 5],
-    pub regular: bool,
-}
-
-// Of an item. An only key comes first.
-pub fn listing(keys: &[u32; KEY_TABLE_WORDS], x: ChartItem) -> Entries
-    ensures { λ r. ⌜ (r .keys ≡ keysOf (now (keys .entry)) x) × (r .regular ≡ regularOf (now (keys .entry)) x) ⌝ }
-{
-    let w = word_for(keys, 0, PLACES_FROM, x);
-    if w != 0 {
-        let a = image(w, x);
-        return Entries {
-            keys: [mix(w / 16, a), 0, 0, 0, 0],
-            regular: (8 <= w % 16) | (a < 64),
-        };
-    }
-    let u = uses_of(keys, x);
-    if u == 0 {
-        return Entries {
-            keys: [0, 0, 0, 0, 0],
-            regular: true,
-        };
-    }
-    let s = x.of;
-    let nodes = x.nodes;
-    Entries {
-        keys: [
-            place_key(u % 2, PASSIVE_TAG, s, 0, nodes[0]),
-            place_key(u / 2 % 2, PASSIVE_TAG, s, 1, nodes[1]),
-            place_key(u / 4 % 2, PASSIVE_TAG, s, 2, nodes[2]),
-            place_key(u / 8 % 2, PASSIVE_TAG, s, 3, nodes[3]),
-            place_key(u / 16 % 2, PASSIVE_TAG, s, 4, 64),
-        ],
-        regular: all_placed(u, x),
-    }
-}
-
-// The key that an item has, where a word of the table tells that there is but one, or 0 where it has none; and whether the node by which it is keyed is there.
-pub struct OwnKey {
+// The same without an array, where a word of the table tells that there is but one key; 0 where there is none.
+pub struct OnlyKey {
     pub single: bool,
     pub key: u64,
-    pub regular: bool,
 }
 
-// Of an item.
-pub fn entry(keys: &[u32; KEY_TABLE_WORDS], x: ChartItem) -> OwnKey
-    ensures { λ r. ⌜ (r .single ≡ true → ((r .key ∷ 0 ∷ 0 ∷ 0 ∷ 0 ∷ []) ≡ keysOf (now (keys .entry)) x) × (r .regular ≡ regularOf (now (keys .entry)) x)) ⌝ }
+fn only_key(keys: &[u32; KEY_TABLE_WORDS], rules: u64, symbols: u64, x: ChartItem) -> OnlyKey
+    requires { ⌜ (rules ≤ askedFrom) × (symbols ≤ soughtFrom) ⌝ }
+    ensures { λ r. ⌜ (r .single ≡ true → (tag : ℕ) → (r .key ∷ 0 ∷ 0 ∷ 0 ∷ 0 ∷ []) ≡ keysFrom (now (keys .entry)) rules symbols tag x) ⌝ }
 {
-    let w = word_for(keys, 0, PLACES_FROM, x);
+    let w = word_for(keys, rules, symbols, x);
     if w != 0 {
-        let a = image(w, x);
-        return OwnKey {
-            single: true,
-            key: mix(w / 16, a),
-            regular: (8 <= w % 16) | (a < 64),
-        };
+        let key = mix(w / 16, image(w, x));
+        return OnlyKey { single: true, key };
     }
-    let keyless = uses_of(keys, x) == 0;
-    OwnKey {
-        single: keyless,
+    let none = uses_of(keys, x) == 0;
+    OnlyKey {
+        single: none,
         key: 0,
-        regular: true,
     }
+}
+
+// The keys that an item has.
+pub fn listing(keys: &[u32; KEY_TABLE_WORDS], x: ChartItem) -> [u64; 5]
+    ensures { λ ks. ⌜ ks ≡ keysOf (now (keys .entry)) x ⌝ }
+{
+    keys_by(keys, 0, PLACES_FROM, PASSIVE_TAG, x)
+}
+
+// An only one.
+pub fn entry(keys: &[u32; KEY_TABLE_WORDS], x: ChartItem) -> OnlyKey
+    ensures { λ r. ⌜ (r .single ≡ true → (r .key ∷ 0 ∷ 0 ∷ 0 ∷ 0 ∷ []) ≡ keysOf (now (keys .entry)) x) ⌝ }
+{
+    only_key(keys, 0, PLACES_FROM, x)
+}
+
+// The keys that its partners have.
+pub fn query(keys: &[u32; KEY_TABLE_WORDS], x: ChartItem) -> [u64; 5]
+    ensures { λ ks. ⌜ ks ≡ queryOf (now (keys .entry)) x ⌝ }
+{
+    keys_by(keys, ASKED_FROM, SOUGHT_FROM, EDGE_TAG, x)
+}
+
+// An only one.
+pub fn asked(keys: &[u32; KEY_TABLE_WORDS], x: ChartItem) -> OnlyKey
+    ensures { λ r. ⌜ (r .single ≡ true → (r .key ∷ 0 ∷ 0 ∷ 0 ∷ 0 ∷ []) ≡ queryOf (now (keys .entry)) x) ⌝ }
+{
+    only_key(keys, ASKED_FROM, SOUGHT_FROM, x)
 }

@@ -23,10 +23,11 @@ use Rattle.questions.specs.Reading.{readGrammar}
 use Rattle.questions.specs.Checking.{checkGrammar, checkGraph, readGraph}
 use Rattle.questions.specs.Abstract.{grammarOf, graphOf}
 use Rattle.questions.specs.declared.Answer.the-variants.{Done}
+use Rattle.places.specs.Words.{wordBy, wordOf, bytesAnd, placesOf}
 use Rattle.agenda.specs.Records.{itemOf, sameChartItem, plus}
 use Rattle.agenda.specs.Consequences.{gather, atRoot, terminalAt as terminalAt-agenda, withTerminal, pair, withPartner, consequences, leafRecords}
 use Rattle.agenda.specs.Steps.{lastSame, placed, added, addedAll, lesser, leastWaiting, handledAt, stepChart, runChart, startChart, runsChart, handledCount, sumOf}
-use Rattle.records.specs.Words.{capacity, itemCount, fieldAt, blockAt, itemWords, ofWords, recordAt, recordsAt, lesserAt, chartOf, wordsOf, pasted, saved, allWords, written, improvedAt, appendedTo, placedIn, addedTo, markedAt, grownBy}
+use Rattle.records.specs.Words.{capacity, itemCount, wordAt, itemFrom, recordFrom, recordAt, recordsAt, lesserAt, chartOf, headOf, tailOf, wordsOf, put, saved, allWords, written, improvedAt, appendedTo, placedIn, addedTo, markedAt, grownBy}
 use Rattle.validity.specs.Checking.{holds, knownEdges, knownPlace, knownPlaces, inGraph, knownSecond, knownPartners, knownActive, knownPassive, knownRecord, knownChart}
 use Rattle.charting.specs.Calls.{numberOf as chartNumber, fit, fitChart, answerOf, startAnswer, startOf, runOf, standingOf, runsOf}
 use Rattle.scripts.specs.Scripts.{rowLines, rowsText, rowBytes, hasLetter, opens, rowsFrom, scriptOf, rowsIn}
@@ -113,7 +114,7 @@ _then_ : {x y : List ℕ} {xs ys : List (List ℕ)} → x ≡ y → xs ≡ ys �
 _then_ {x} {y} {xs} {ys} e f = ap (λ (z : List ℕ). z ∷ xs) e ∙ ap (λ (zs : List (List ℕ)). y ∷ zs) f
 
 cases-print : prints k1 ∷ prints k2 ∷ prints k3 ∷ prints k4 ∷ prints k5 ∷ prints k6 ∷ [] ≡ map due (take 6 table)
-unfolding startBy runBy standingBy writingBy derivedBy bytesOf refusalLine stepsLine bit member _∪_ disjoint single full within ofBits allBelow sameBytes withByte linesOf lineBytes textOf lineLen lineOf lineStart lineEnd isEnded afterLine countingStart countingOf column fieldText digitOf valueFrom valueOf cellOf fieldCount fieldBytes fieldOf numberOf numbersFrom fieldsOf letterOf letterKind kindLetter isCapital shapeOf fieldsText lineBody lineText writable fieldFits lineFits hit occurs tabulate upTo select belowWithin below isBoundary isOpen isOpenAt joined restrict nodeFor attach padded internals edgesOf innerOf applications sameList sameItem agree oneToOne covering combine leafAt leaves withEdge terminalAt rootAt unaryOf nonterminalAt joinAt binaryOf every some each listedTest edgeTest onEdgeTest sideTest planTest ruleTest symbolTest grammarTest graphTest touches cost itemOf sameChartItem plus gather atRoot terminalAt-agenda withTerminal pair withPartner consequences leafRecords lastSame placed added addedAll lesser leastWaiting handledAt stepChart runChart startChart runsChart handledCount sumOf capacity itemCount fieldAt blockAt itemWords ofWords recordAt recordsAt lesserAt chartOf wordsOf pasted saved allWords written improvedAt appendedTo placedIn addedTo markedAt grownBy holds knownEdges knownPlace knownPlaces inGraph knownSecond knownPartners knownActive knownPassive knownRecord knownChart fit fitChart answerOf startAnswer startOf runOf standingOf runsOf rowLines rowsText rowBytes hasLetter opens rowsFrom scriptOf rowsIn partNumbers rowsOf size treeRows fresh newNodes rowTest edgeTest-preorder whole replayed replays replayAt derivationText replayText partnersWithin partnersAt partNodes placedBy placeAt partsBy treeAt writeText derives lastOf goalIn writeOf
+unfolding startBy runBy standingBy writingBy derivedBy bytesOf refusalLine stepsLine bit member _∪_ disjoint single full within ofBits allBelow sameBytes withByte linesOf lineBytes textOf lineLen lineOf lineStart lineEnd isEnded afterLine countingStart countingOf column fieldText digitOf valueFrom valueOf cellOf fieldCount fieldBytes fieldOf numberOf numbersFrom fieldsOf letterOf letterKind kindLetter isCapital shapeOf fieldsText lineBody lineText writable fieldFits lineFits hit occurs tabulate upTo select belowWithin below isBoundary isOpen isOpenAt joined restrict nodeFor attach padded internals edgesOf innerOf applications sameList sameItem agree oneToOne covering combine leafAt leaves withEdge terminalAt rootAt unaryOf nonterminalAt joinAt binaryOf every some each listedTest edgeTest onEdgeTest sideTest planTest ruleTest symbolTest grammarTest graphTest touches cost itemOf sameChartItem plus gather atRoot terminalAt-agenda withTerminal pair withPartner consequences leafRecords lastSame placed added addedAll lesser leastWaiting handledAt stepChart runChart startChart runsChart handledCount sumOf capacity itemCount wordBy wordOf bytesAnd placesOf wordAt itemFrom recordFrom recordAt recordsAt lesserAt chartOf headOf tailOf wordsOf put saved allWords written improvedAt appendedTo placedIn addedTo markedAt grownBy holds knownEdges knownPlace knownPlaces inGraph knownSecond knownPartners knownActive knownPassive knownRecord knownChart fit fitChart answerOf startAnswer startOf runOf standingOf runsOf rowLines rowsText rowBytes hasLetter opens rowsFrom scriptOf rowsIn partNumbers rowsOf size treeRows fresh newNodes rowTest edgeTest-preorder whole replayed replays replayAt derivationText replayText partnersWithin partnersAt partNodes placedBy placeAt partsBy treeAt writeText derives lastOf goalIn writeOf
 cases-print = refl
 
 rows-print : map printed (take 6 table) ≡ prints k1 ∷ prints k2 ∷ prints k3 ∷ prints k4 ∷ prints k5 ∷ prints k6 ∷ []

@@ -36,7 +36,7 @@ abbrev pub derivedText : Derived → List ℕ
 derivedText (refused k) = refusalLine k
 derivedText (derived text steps) = text ++ stepsLine steps
 
--- '`derive` lends 2,048 items', in 32,770 words, 'and 32,768 bytes of output'
+-- '`derive` lends 2,048 items .. and 32,768 bytes of output'
 abbrev pub items : ℕ
 items = 2048
 

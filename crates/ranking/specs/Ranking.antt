@@ -43,10 +43,14 @@ Held base ws rs = (p : ℕ) → p < 131072 → holds ws p ≡ eqb (orderAt rs (p
 abbrev pub Whole : ℕ → List Record → Type 0
 Whole base rs = (j : ℕ) → orderAt rs j ≤ 4096 * base + 131072
 
+-- how many words there are
+abbrev pub rankWords : ℕ
+rankWords = 4231
+
 -- the words are the ranking of the records: word 1 is the base, and the set follows. Where word 0 is 0 the set holds every waiting record,
 -- where it is 1 those of a count of base + 32 or more may be missing, and where it is 2 the other words say nothing
 pub record Ranked (w : List ℕ) (rs : List Record) : Type 0 where
-  pub size : length w ≡ 4231
+  pub size : length w ≡ rankWords
   pub levels : getD w 0 0 < 2 → Levels (setOf w)
   pub based : getD w 0 0 < 2 → Based (getD w 1 0) rs
   pub held : getD w 0 0 < 2 → Held (getD w 1 0) (setOf w) rs
@@ -54,7 +58,7 @@ pub record Ranked (w : List ℕ) (rs : List Record) : Type 0 where
 
 -- words that are 0: the ranking of no records
 pub record Blank (w : List ℕ) : Type 0 where
-  pub size : length w ≡ 4231
+  pub size : length w ≡ rankWords
   pub zeros : (n : ℕ) → getD w n 0 ≡ 0
 
 -- the records rs′ have the orders of rs, but p at place j

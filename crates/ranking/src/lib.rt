@@ -10,7 +10,7 @@ ghost use lib.ListN.{length};
 ghost use Rattle.agenda.specs.declared.Record.{Record};
 ghost use Rattle.agenda.specs.Steps.{leastWaiting};
 ghost use Rattle.records.specs.Words.{itemCount, chartOf};
-ghost use Rattle.ranking.specs.Ranking.{orderOf, orderAt, Ranked, Blank, Replaces, takenFrom};
+ghost use Rattle.ranking.specs.Ranking.{orderOf, orderAt, rankWords, Ranked, Blank, Replaces, takenFrom};
 use agenda::Found;
 use queues::Taken;
 
@@ -21,7 +21,7 @@ const END: usize = 4231;
 
 // The record at place j, which did not wait, waits with the count given. One below the base or far above it has no number.
 fn insert(ranks: &mut [u32], j: u64, count: u64)
-    requires { ⌜ (length (now ranks) ≡ 4231) × (j < 4096) ⌝ }
+    requires { ⌜ (length (now ranks) ≡ rankWords) × (j < 4096) ⌝ }
     ensures { λ r. ⌜ ((rs rs′ : List Record) → Ranked (now (ranks .entry)) rs → orderAt rs j ≡ 0 → Replaces j (orderOf true j count) rs rs′ → Ranked (now (ranks .exit)) rs′) ⌝ }
 {
     let base = ranks[1] as u64;
@@ -41,7 +41,7 @@ fn insert(ranks: &mut [u32], j: u64, count: u64)
 
 // The record at place j, of which nothing waited, comes with the count given; one that does not wait changes nothing.
 pub fn place(ranks: &mut [u32], j: u64, waits: bool, count: u64)
-    requires { ⌜ (length (now ranks) ≡ 4231) × (j < 4096) ⌝ }
+    requires { ⌜ (length (now ranks) ≡ rankWords) × (j < 4096) ⌝ }
     ensures { λ r. ⌜ ((rs rs′ : List Record) → Ranked (now (ranks .entry)) rs → orderAt rs j ≡ 0 → Replaces j (orderOf waits j count) rs rs′ → Ranked (now (ranks .exit)) rs′) ⌝ }
 {
     if waits {
@@ -51,7 +51,7 @@ pub fn place(ranks: &mut [u32], j: u64, waits: bool, count: u64)
 
 // The record at place j, which waited with the count given, waits no more.
 fn remove(ranks: &mut [u32], j: u64, count: u64)
-    requires { ⌜ (length (now ranks) ≡ 4231) × (j < 4096) ⌝ }
+    requires { ⌜ (length (now ranks) ≡ rankWords) × (j < 4096) ⌝ }
     ensures { λ r. ⌜ ((rs rs′ : List Record) → Ranked (now (ranks .entry)) rs → orderAt rs j ≡ orderOf true j count → Replaces j 0 rs rs′ → Ranked (now (ranks .exit)) rs′) ⌝ }
 {
     let base = ranks[1] as u64;
@@ -67,7 +67,7 @@ fn remove(ranks: &mut [u32], j: u64, count: u64)
 
 // The record at place j, which waits, has another count.
 pub fn recount(ranks: &mut [u32], j: u64, old: u64, count: u64)
-    requires { ⌜ (length (now ranks) ≡ 4231) × (j < 4096) ⌝ }
+    requires { ⌜ (length (now ranks) ≡ rankWords) × (j < 4096) ⌝ }
     ensures { λ r. ⌜ ((rs rs′ : List Record) → Ranked (now (ranks .entry)) rs → orderAt rs j ≡ orderOf true j old → Replaces j (orderOf true j count) rs rs′ → Ranked (now (ranks .exit)) rs′) ⌝ }
 {
     remove(ranks, j, old);
@@ -91,7 +91,7 @@ fn fill(chart: &[u64], ranks: &mut [u32])
 
 // The words are made anew from a base, unless that has no place in a word.
 fn renew(chart: &[u64], ranks: &mut [u32], base: u64)
-    requires { ⌜ (length (now ranks) ≡ 4231) × (itemCount (now chart) ≤ 4096) ⌝ }
+    requires { ⌜ (length (now ranks) ≡ rankWords) × (itemCount (now chart) ≤ 4096) ⌝ }
     ensures { λ r. ⌜ Ranked (now (ranks .exit)) (chartOf (now (chart .entry)) .records) ⌝ }
 {
     if base >= 4294967295 {
@@ -124,7 +124,7 @@ fn again(chart: &[u64], ranks: &mut [u32]) -> Found
 // The set is empty, but records may be missing in it: it is made anew for the next 32 counts and, where none waits with one of these, from the least.
 // The hint of a set made anew tells nothing yet.
 fn onward(chart: &[u64], ranks: &mut [u32]) -> Found
-    requires { ⌜ (length (now ranks) ≡ 4231) × (length (chartOf (now chart) .records) ≤ 4096) ⌝ }
+    requires { ⌜ (length (now ranks) ≡ rankWords) × (length (chartOf (now chart) .records) ≤ 4096) ⌝ }
     ensures { λ r. ⌜ (r ≡ leastWaiting (chartOf (now (chart .entry)) .records) (length (chartOf (now (chart .entry)) .records))) × Ranked (now (ranks .exit)) (takenFrom (chartOf (now (chart .entry)) .records) r) ⌝ }
 {
     let base = ranks[1] as u64;

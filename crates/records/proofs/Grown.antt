@@ -6,28 +6,31 @@ use mathlib.Core.Bool.{Bool, true, false}
 use native.Mathlib.Omega.{arith}
 use lib.ListN.{length}
 use Rattle.agenda.specs.declared.Record.{Record}
-use Rattle.hrg.specs.Items.{Item}
 use Rattle.hrg.specs.ClosureRun.{guard, eachTo}
-use Rattle.agenda.specs.Records.{recordOf, isHandled}
+use Rattle.agenda.specs.Records.{isHandled}
 use Rattle.agenda.specs.Consequences.{gather, recordIn}
 use Rattle.agenda.specs.Steps.{Chart, added, addedAll}
-use Rattle.agenda.proofs.Records.{item-eight}
 use Rattle.agenda.proofs.Growth.{Grew, all-grown}
 use Rattle.agenda.proofs.Adding.{all-append}
-use Rattle.records.specs.Words.{Fits, capacity, itemCount, recordAt, chartOf, written, addedTo, grownBy}
+use Rattle.records.specs.Words.{Compact, Fits, capacity, itemCount, recordAt, chartOf, written, addedTo, grownBy}
+use Rattle.records.proofs.Packing.{record-compact}
 use Rattle.records.proofs.WordLaws.{length-records, record-in, count-fits}
-use Rattle.records.proofs.Written.{Holds, eight-nodes, chart-written, add-written, capacity-written, fits-written, chart-of-written, written-over}
+use Rattle.records.proofs.Written.{Holds, chart-written, add-written, capacity-written, fits-written, chart-of-written, written-over}
 use Rattle.records.proofs.Rewritten.{Grown, grown-added}
 
--- each record of a list has eight places
+-- each record of a list can be read again from its words
 abbrev pub Whole : List Record → Type 0
-Whole xs = (x : Record) → In x xs → length (x .item .nodes) ≡ 8
+Whole xs = (x : Record) → In x xs → Compact x
 
 pub whole-none : Whole []
 whole-none x m = absurd (in-nil m)
 
-pub whole-guard : (b : Bool) (xs : List Record) → Whole xs → Whole (guard b xs)
-whole-guard true xs e x m = e x m
+pub whole-one : {x : Record} → Compact x → Whole (x ∷ [])
+whole-one e y (here q) = rw q e
+whole-one e y (there m) = absurd (in-nil m)
+
+pub whole-guard : (b : Bool) (xs : List Record) → (b ≡ true → Whole xs) → Whole (guard b xs)
+whole-guard true xs e x m = e refl x m
 whole-guard false xs e x m = absurd (in-nil m)
 
 pub whole-append : (xs ys : List Record) → Whole xs → Whole ys → Whole (xs ++ ys)
@@ -35,22 +38,19 @@ whole-append [] ys e f y m = f y m
 whole-append (x ∷ xs) ys e f y (here q) = e y (here q)
 whole-append (x ∷ xs) ys e f y (there m) = whole-append xs ys (λ z n. e z (there n)) f y m
 
-pub whole-map : {A : Type 0} (f : A → Record) → ((a : A) → length (f a .item .nodes) ≡ 8) → (l : List A) → Whole (map f l)
-whole-map f e [] x m = absurd (in-nil m)
-whole-map f e (a ∷ l) x (here q) = rw q (e a)
-whole-map f e (a ∷ l) x (there m) = whole-map f e l x m
+pub whole-map : {A : Type 0} (f : A → Record) (l : List A) → ((a : A) → In a l → Compact (f a)) → Whole (map f l)
+whole-map f [] e x m = absurd (in-nil m)
+whole-map f (a ∷ l) e x (here q) = rw q (e a (here refl))
+whole-map f (a ∷ l) e x (there m) = whole-map f l (λ b n. e b (there n)) x m
 
-pub whole-items : (is : List Item) (n a b : ℕ) → Whole (map (λ (i : Item). recordOf i n a b) is)
-whole-items is n a b = whole-map (λ (i : Item). recordOf i n a b) (λ i. item-eight i n) is
-
-pub whole-each : (n : ℕ) (f : ℕ → List Record) → ((k : ℕ) → Whole (f k)) → Whole (eachTo n f)
+pub whole-each : (n : ℕ) (f : ℕ → List Record) → ((k : ℕ) → k < n → Whole (f k)) → Whole (eachTo n f)
 whole-each zero f e x m = absurd (in-nil m)
-whole-each (suc n) f e x m = whole-append (f n) (eachTo n f) (e n) (whole-each n f e) x m
+whole-each (suc n) f e x m = whole-append (f n) (eachTo n f) (e n (omega arith)) (whole-each n f (λ k l. e k (omega arith))) x m
 
-pub whole-gather : (n : ℕ) (f : ℕ → List Record) → ((k : ℕ) → Whole (f k)) → Whole (gather n f)
+pub whole-gather : (n : ℕ) (f : ℕ → List Record) → ((k : ℕ) → k < n → Whole (f k)) → Whole (gather n f)
 unfolding gather
 whole-gather zero f e x m = absurd (in-nil m)
-whole-gather (suc n) f e x m = whole-append (gather n f) (f n) (whole-gather n f e) (e n) x m
+whole-gather (suc n) f e x m = whole-append (gather n f) (f n) (whole-gather n f (λ k l. e k (omega arith))) (e n (omega arith)) x m
 
 -- words that hold the chart that they stand for
 pub holds-own : (w : List ℕ) → Fits w → Holds w (chartOf w)
@@ -58,7 +58,7 @@ unfolding chartOf
 holds-own w f = record {
   header = f .header;
   number = omega (arith, count-fits w, length-records w (itemCount w));
-  places = λ k l. ap (λ (x : Record). length (x .item .nodes)) (record-in w (itemCount w) k (omega (arith, length-records w (itemCount w)))) ∙ eight-nodes w k;
+  compact = λ k l. subst Compact (sym (record-in w (itemCount w) k (omega (arith, length-records w (itemCount w))))) (record-compact w k);
 }
 
 -- ---- several records more
@@ -75,7 +75,7 @@ module _ (w : List ℕ) (f : Fits w) where
   unfolding grownBy addedAll
   grown-none = sym (chart-written w f)
 
-  pub grown-one : (x : Record) → length (x .item .nodes) ≡ 8 → addedTo w x ≡ grownBy w (x ∷ [])
+  pub grown-one : (x : Record) → Compact x → addedTo w x ≡ grownBy w (x ∷ [])
   unfolding grownBy addedAll
   grown-one x e = add-written w x f e
 

@@ -17,34 +17,35 @@ use Rattle.agenda.specs.declared.Found.the-variants.{At, Nowhere}
 use Rattle.agenda.specs.Records.{isHandled}
 use Rattle.agenda.specs.Consequences.{recordIn, noRecord}
 use Rattle.agenda.specs.Steps.{Chart, improved, handledNow, lastSame, leastWaiting, handledCount, placed, added}
-use Rattle.records.specs.Words.{capacity, itemCount, recordsAt, chartOf, written, addedTo, markedAt}
+use Rattle.records.specs.Words.{Compact, capacity, itemCount, recordsAt, chartOf, written, addedTo, markedAt}
 use Rattle.agenda.proofs.Adding.{cond-by}
+use Rattle.records.proofs.Packing.{compact-improved, compact-handled}
 use Rattle.records.proofs.WordLaws.{length-records}
-use Rattle.records.proofs.Written.{Eights, Holds, add-written, handle-written, capacity-written, fits-written, chart-of-written, written-over}
+use Rattle.records.proofs.Written.{AllCompact, Holds, add-written, handle-written, capacity-written, fits-written, chart-of-written, written-over}
 
--- ---- records keep their eight places
-set-eights : (rs : List Record) (j : ℕ) (y : Record) → Eights rs → (j < length rs → length (y .item .nodes) ≡ 8) → Eights (set rs j y)
-set-eights rs j y e h k l = go (decLt k j) (decLt j k)
+-- ---- records stay compact
+set-compact : (rs : List Record) (j : ℕ) (y : Record) → AllCompact rs → (j < length rs → Compact y) → AllCompact (set rs j y)
+set-compact rs j y e h k l = go (decLt k j) (decLt j k)
   where
-    else : k ≢ j → length (recordIn (set rs j y) k .item .nodes) ≡ 8
-    else d = ap (λ (z : Record). length (z .item .nodes)) (getD-set-other rs j k y noRecord d) ∙ e k (omega (arith, length-set rs j y))
+    else : k ≢ j → Compact (recordIn (set rs j y) k)
+    else d = subst Compact (sym (getD-set-other rs j k y noRecord d)) (e k (omega (arith, length-set rs j y)))
 
-    go : Dec (k < j) → Dec (j < k) → length (recordIn (set rs j y) k .item .nodes) ≡ 8
+    go : Dec (k < j) → Dec (j < k) → Compact (recordIn (set rs j y) k)
     go (yes d) q = else (λ z. omega arith)
     go (no d) (yes q) = else (λ z. omega arith)
     go (no d) (no q) =
         let b : j < length rs = omega (arith, length-set rs j y) in
         let z : k ≡ j = omega arith in
-        subst (λ (i : ℕ). length (recordIn (set rs j y) i .item .nodes) ≡ 8) (sym z) (ap (λ (a : Record). length (a .item .nodes)) (getD-set-same rs j y noRecord b) ∙ h b)
+        subst (λ (i : ℕ). Compact (recordIn (set rs j y) i)) (sym z) (subst Compact (sym (getD-set-same rs j y noRecord b)) (h b))
 
-more-eights : (rs : List Record) (y : Record) → Eights rs → length (y .item .nodes) ≡ 8 → Eights (rs ++ (y ∷ []))
-more-eights rs y e h k l = go (decLt k (length rs))
+more-compact : (rs : List Record) (y : Record) → AllCompact rs → Compact y → AllCompact (rs ++ (y ∷ []))
+more-compact rs y e h k l = go (decLt k (length rs))
   where
-    go : Dec (k < length rs) → length (recordIn (rs ++ (y ∷ [])) k .item .nodes) ≡ 8
-    go (yes d) = ap (λ (z : Record). length (z .item .nodes)) (List·getD-append rs (y ∷ []) noRecord k d) ∙ e k d
+    go : Dec (k < length rs) → Compact (recordIn (rs ++ (y ∷ [])) k)
+    go (yes d) = subst Compact (sym (List·getD-append rs (y ∷ []) noRecord k d)) (e k d)
     go (no d) =
         let z : length rs ≡ k = omega (arith, length-append rs (y ∷ [])) in
-        ap (λ (a : Record). length (a .item .nodes)) (getD-at rs y [] noRecord k z) ∙ h
+        subst Compact (sym (getD-at rs y [] noRecord k z)) h
 
 -- ---- one record more
 -- the words hold the chart d, which has no fewer records than c
@@ -61,32 +62,32 @@ module _ (w : List ℕ) (c : Chart) (o : Holds w c) where
   stays = record { holds = o; longer = omega arith }
 
   marks : (m : ℕ) → Grown w c (record { mark = m; records = c .records })
-  marks m = record { holds = record { header = o .header; number = o .number; places = o .places }; longer = omega arith }
+  marks m = record { holds = record { header = o .header; number = o .number; compact = o .compact }; longer = omega arith }
 
-  sets : (j : ℕ) (y : Record) → (j < length (c .records) → length (y .item .nodes) ≡ 8) → Grown w c (record { mark = c .mark; records = set (c .records) j y })
+  sets : (j : ℕ) (y : Record) → (j < length (c .records) → Compact y) → Grown w c (record { mark = c .mark; records = set (c .records) j y })
   sets j y h =
       let l : length (set (c .records) j y) ≡ length (c .records) = length-set (c .records) j y in
       let n = o .number in
-      record { holds = record { header = o .header; number = omega arith; places = set-eights (c .records) j y (o .places) h }; longer = omega arith }
+      record { holds = record { header = o .header; number = omega arith; compact = set-compact (c .records) j y (o .compact) h }; longer = omega arith }
 
-  appends : (y : Record) → length (c .records) < capacity w → length (y .item .nodes) ≡ 8 → Grown w c (record { mark = c .mark; records = c .records ++ (y ∷ []) })
+  appends : (y : Record) → length (c .records) < capacity w → Compact y → Grown w c (record { mark = c .mark; records = c .records ++ (y ∷ []) })
   appends y h e =
       let l : length (c .records ++ (y ∷ [])) ≡ length (c .records) + 1 = length-append (c .records) (y ∷ []) in
-      record { holds = record { header = o .header; number = omega arith; places = more-eights (c .records) y (o .places) e }; longer = omega arith }
+      record { holds = record { header = o .header; number = omega arith; compact = more-compact (c .records) y (o .compact) e }; longer = omega arith }
 
-  grown-placed : (x : Record) → length (x .item .nodes) ≡ 8 → (f : Found) → Grown w c (placed (capacity w) x c f)
+  grown-placed : (x : Record) → Compact x → (f : Found) → Grown w c (placed (capacity w) x c f)
   unfolding placed
   grown-placed x e Nowhere = cond-by (Grown w c) (ltb (length (c .records)) (capacity w)) (λ t. appends x (ltb-true _ _ t) e) (λ t. marks 1)
   grown-placed x e (At j) =
       cond-by (Grown w c) (isHandled (recordIn (c .records) j) || leb (recordIn (c .records) j .item .count) (x .item .count)) (λ t. stays)
-      (λ t. sets j (improved (recordIn (c .records) j) x) (λ l. o .places j l))
+      (λ t. sets j (improved (recordIn (c .records) j) x) (λ l. compact-improved (o .compact j l) e))
 
-  pub grown-added : (x : Record) → length (x .item .nodes) ≡ 8 → Grown w c (added (capacity w) x c)
+  pub grown-added : (x : Record) → Compact x → Grown w c (added (capacity w) x c)
   unfolding added
   grown-added x e = cond-by (Grown w c) (eqb (c .mark) 0) (λ t. grown-placed x e (lastSame (x .item) (c .records) (length (c .records)))) (λ t. stays)
 
   -- what `add` makes of words that stand for c
-  pub add-on : (v : List ℕ) (x : Record) → v ≡ written w c → length (x .item .nodes) ≡ 8 → addedTo v x ≡ written w (added (capacity w) x c)
+  pub add-on : (v : List ℕ) (x : Record) → v ≡ written w c → Compact x → addedTo v x ≡ written w (added (capacity w) x c)
   add-on v x p e =
       ap (λ (u : List ℕ). addedTo u x) p
       ∙ add-written (written w c) x (fits-written w c o) e
@@ -97,7 +98,7 @@ module _ (w : List ℕ) (c : Chart) (o : Holds w c) where
   -- ---- a record that becomes handled
 
   pub grown-handled : (j : ℕ) → Grown w c (handledIn j c)
-  grown-handled j = sets j (handledNow (recordIn (c .records) j)) (λ l. o .places j l)
+  grown-handled j = sets j (handledNow (recordIn (c .records) j)) (λ l. compact-handled (o .compact j l))
 
   counted : itemCount (written w c) ≡ length (c .records)
   unfolding chartOf

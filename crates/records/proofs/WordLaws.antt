@@ -1,139 +1,105 @@
 -- A chart's words: records that are read and written, one turn of each loop over them.
-use Prim.Native.Nat.{ℕ, zero, suc, _+_, _-_, _*_, _≤_, _<_}
+use Prim.Native.Nat.{ℕ, zero, suc, _+_, _-_, _*_, _/_, _%_, _≤_, _<_}
 use mathlib.Core.Path.{_≡_, refl, sym, ap, ap₂, _∙_}
+use mathlib.Core.Logic.{_≢_}
 use mathlib.Core.List.{List, [], _∷_, _++_}
 use mathlib.Core.Bool.{Bool, true, false, cond, _&&_, _||_, not}
 use native.Mathlib.Omega.{arith}
 use native.Mathlib.Decide.{decLt}
 use native.Mathlib.Numerals.{add-one}
 use lib.Dec.{eqb, leb}
-use lib.ListN.{length, length-append, getD, set, List·getD-eq-default, List·getD-append}
-use lib.Seq.{set-out, getD-at, paste-suc, paste-zero, getD-set-same, getD-set-other, ext-getD}
+use lib.ListN.{length, length-append, getD, set, length-set, List·getD-eq-default, List·getD-append}
+use lib.Seq.{set-out, set-getD, set-comm, getD-at, getD-set-same, getD-set-other}
 use borrow.Author.Tests.{lt-ltb, le-ltb, le-leb, lt-leb, eq-eqb, ne-eqb}
-use Rattle.hrg.specs.Counts.{tabulate, flag}
-use Rattle.hrg.specs.ClosureRun.{sameList}
+use Rattle.hrg.specs.Counts.{flag}
 use Rattle.agenda.specs.declared.ChartItem.{ChartItem}
 use Rattle.agenda.specs.declared.Record.{Record}
 use Rattle.agenda.specs.declared.Found.{Found}
 use Rattle.agenda.specs.declared.Found.the-variants.{At, Nowhere}
 use Rattle.agenda.specs.Records.{sameChartItem, isHandled}
 use Rattle.agenda.specs.Consequences.{recordIn, noRecord}
-use Rattle.agenda.specs.Steps.{improved, lastSame, lesser, leastWaiting, handledCount}
-use Rattle.records.specs.Words.{itemCount, improvedAt, appendedTo, placedIn, addedTo, markedAt, recordsAt, lesserAt, capacity, fieldAt, blockAt, fourSame, itemWords, ofWords, recordAt, wordsOf, pasted, saved}
+use Rattle.agenda.specs.Steps.{improved, handledNow, lastSame, lesser, leastWaiting, handledCount}
+use Rattle.records.specs.Words.{capacity, itemCount, wordAt, recordAt, recordsAt, lesserAt, tailOf, wordsOf, put, saved, improvedAt, appendedTo, placedIn, addedTo, markedAt}
+use Rattle.records.proofs.Packing.{words-improved, words-handled}
 
 -- ---- reading
 pub past-end : (w : List ℕ) (i : ℕ) → length w ≤ i → 0 ≡ getD w i 0
 past-end w i h = sym (List·getD-eq-default w 0 h)
 
-pub field-past : (w : List ℕ) (j k : ℕ) → length w ≤ 16 * j → 0 ≡ fieldAt w j k
-unfolding fieldAt
-field-past w j k h = past-end w (2 + 16 * j + k) (omega arith)
+pub word-past : (w : List ℕ) (j k : ℕ) → length w ≤ 4 * j → 0 ≡ wordAt w j k
+unfolding wordAt
+word-past w j k h = past-end w (2 + 4 * j + k) (omega arith)
 
-pub field-at : (w : List ℕ) (j k : ℕ) (r : ℕ) → r ≡ getD w (2 + 16 * j + k) 0 → r ≡ fieldAt w j k
-unfolding fieldAt
-field-at w j k r e = e
-
--- one word more is copied
-pub copied-more : (ws w : List ℕ) (j i r : ℕ) → i < length ws → r ≡ fieldAt w j i → ((k : ℕ) → k < i → getD ws k 0 ≡ fieldAt w j k)
-    → (k : ℕ) → k < i + 1 → getD (set ws i r) k 0 ≡ fieldAt w j k
-copied-more ws w j i r h e p k l = go (decLt k i)
-  where
-    go : Dec (k < i) → getD (set ws i r) k 0 ≡ fieldAt w j k
-    go (yes d) = getD-set-other ws i k r 0 (omega arith) ∙ p k d
-    go (no d) = let q : k ≡ i = omega arith in rw q (getD-set-same ws i r 0 h ∙ e)
-
-length-tabulate : (n : ℕ) (f : ℕ → ℕ) → length (tabulate n f) ≡ n
-unfolding tabulate
-length-tabulate zero f = refl
-length-tabulate (suc n) f = ap suc (length-tabulate n (λ i. f (suc i)))
-
-getD-tabulate : (n : ℕ) (f : ℕ → ℕ) (k : ℕ) → k < n → getD (tabulate n f) k 0 ≡ f k
-unfolding tabulate
-getD-tabulate zero f k h = absurd (omega arith)
-getD-tabulate (suc n) f zero h = refl
-getD-tabulate (suc n) f (suc k) h = getD-tabulate n (λ i. f (suc i)) k (omega arith)
-
-pub length-block : (w : List ℕ) (j : ℕ) → length (blockAt w j) ≡ 16
-unfolding blockAt
-length-block w j = length-tabulate 16 (λ k. getD w (2 + 16 * j + k) 0)
-
-pub block-word : (w : List ℕ) (j k : ℕ) → k < 16 → getD (blockAt w j) k 0 ≡ getD w (2 + 16 * j + k) 0
-unfolding blockAt
-block-word w j k h = getD-tabulate 16 (λ i. getD w (2 + 16 * j + i) 0) k h
-
-pub first-word : (w : List ℕ) (j : ℕ) → getD w (2 + 16 * j) 0 ≡ fieldAt w j 0
-unfolding fieldAt
-first-word w j = ap (λ i. getD w i 0) (let e : 2 + 16 * j ≡ 2 + 16 * j + 0 = omega arith in e)
-
-pub copied-all : (ws w : List ℕ) (j k : ℕ) → length ws ≡ 16 → 16 ≤ k → ((i : ℕ) → i < k → getD ws i 0 ≡ fieldAt w j i) → ws ≡ blockAt w j
-unfolding blockAt fieldAt
-copied-all ws w j k e h p =
-    ext-getD 0 ws (blockAt w j) (e ∙ sym (length-block w j)) (λ i l. p i (omega arith) ∙ sym (getD-tabulate 16 (λ m. getD w (2 + 16 * j + m) 0) i (omega arith)))
-
-pub record-of-block : (w b : List ℕ) (j : ℕ) (r : Record) → b ≡ blockAt w j → r ≡ ofWords b → r ≡ recordAt w j
-unfolding recordAt
-record-of-block w b j r e p = p ∙ ap ofWords e
+pub word-from : (w : List ℕ) (j k : ℕ) (r : ℕ) → r ≡ getD w (2 + 4 * j + k) 0 → r ≡ wordAt w j k
+unfolding wordAt
+word-from w j k r e = e
 
 -- ---- writing
--- a list of eight is its eight elements
-pub eight : (ns : List ℕ) → length ns ≡ 8
-    → getD ns 0 0 ∷ getD ns 1 0 ∷ getD ns 2 0 ∷ getD ns 3 0 ∷ getD ns 4 0 ∷ getD ns 5 0 ∷ getD ns 6 0 ∷ getD ns 7 0 ∷ [] ≡ ns
-eight ns e = sym (ext-getD 0 ns _ e (λ k l. go k (omega arith)))
-  where
-    go : (k : ℕ) → k < 8 → getD ns k 0 ≡ getD (getD ns 0 0 ∷ getD ns 1 0 ∷ getD ns 2 0 ∷ getD ns 3 0 ∷ getD ns 4 0 ∷ getD ns 5 0 ∷ getD ns 6 0 ∷ getD ns 7 0 ∷ []) k 0
-    go zero h = refl
-    go (suc zero) h = refl
-    go (suc (suc zero)) h = refl
-    go (suc (suc (suc zero))) h = refl
-    go (suc (suc (suc (suc zero)))) h = refl
-    go (suc (suc (suc (suc (suc zero))))) h = refl
-    go (suc (suc (suc (suc (suc (suc zero)))))) h = refl
-    go (suc (suc (suc (suc (suc (suc (suc zero))))))) h = refl
-    go (suc (suc (suc (suc (suc (suc (suc (suc k)))))))) h = absurd (omega arith)
+-- four words that are put into a list
+module _ (w : List ℕ) (at : ℕ) (ws : List ℕ) where
+  pub length-put : length (put w at ws) ≡ length w
+  unfolding put
+  length-put = simp length-set
 
-pub words-by : (x : Record) → length (x .item .nodes) ≡ 8
-    → x .item .kind ∷ x .item .of ∷ x .item .plan ∷ x .item .edges ∷ x .item .count ∷ x .handled ∷ getD (x .item .nodes) 0 0 ∷ getD (x .item .nodes) 1 0 ∷ getD (x .item .nodes) 2 0 ∷ getD (x .item .nodes) 3 0
-    ∷ getD (x .item .nodes) 4 0 ∷ getD (x .item .nodes) 5 0 ∷ getD (x .item .nodes) 6 0 ∷ getD (x .item .nodes) 7 0 ∷ x .first ∷ x .second ∷ [] ≡ wordsOf x
-unfolding wordsOf
-words-by x e = ap (λ (ns : List ℕ). x .item .kind ∷ x .item .of ∷ x .item .plan ∷ x .item .edges ∷ x .item .count ∷ x .handled ∷ (ns ++ (x .first ∷ x .second ∷ []))) (eight (x .item .nodes) e)
+  put-else : (i : ℕ) → i ≢ at + 0 → i ≢ at + 1 → i ≢ at + 2 → i ≢ at + 3 → getD (put w at ws) i 0 ≡ getD w i 0
+  unfolding put
+  put-else i a b c d = simp getD-set-other
 
-pub paste-start : (d s : List ℕ) (at : ℕ) → d ≡ pasted d at s 0
-unfolding pasted
-paste-start d s at = paste-zero d at s
+  pub put-before : (i : ℕ) → i < at → getD (put w at ws) i 0 ≡ getD w i 0
+  put-before i h = put-else i (λ e. omega arith) (λ e. omega arith) (λ e. omega arith) (λ e. omega arith)
 
-paste-next : (d s e : List ℕ) (at i k : ℕ) → k ≡ i + 1 → at + i < length d → i < length s → e ≡ pasted d at s i
-    → set e (at + i) (getD s i 0) ≡ pasted d at s k
-unfolding pasted
-paste-next d s e at i k n h l p = rw (p, n, add-one) (paste-suc d at s i 0 h l)
+  pub put-behind : (i : ℕ) → at + 4 ≤ i → getD (put w at ws) i 0 ≡ getD w i 0
+  put-behind i h = put-else i (λ e. omega arith) (λ e. omega arith) (λ e. omega arith) (λ e. omega arith)
 
-pub paste-four : (d s e : List ℕ) (at i : ℕ) → at + i + 4 ≤ length d → i + 4 ≤ length s → e ≡ pasted d at s i
-    → set (set (set (set e (at + i) (getD s i 0)) (at + (i + 1)) (getD s (i + 1) 0)) (at + (i + 2)) (getD s (i + 2) 0)) (at + (i + 3)) (getD s (i + 3) 0) ≡ pasted d at s (i + 4)
-paste-four d s e at i h l p =
-    paste-next d s _ at (i + 3) (i + 4) (omega arith) (omega arith) (omega arith)
-    (paste-next d s _ at (i + 2) (i + 3) (omega arith) (omega arith) (omega arith)
-    (paste-next d s _ at (i + 1) (i + 2) (omega arith) (omega arith) (omega arith)
-    (paste-next d s e at i (i + 1) refl (omega arith) (omega arith) p)))
+  pub put-at : at + 4 ≤ length w → (k : ℕ) → k < 4 → getD (put w at ws) (at + k) 0 ≡ getD ws k 0
+  unfolding put
+  put-at i zero l =
+      let x : at + 0 ≢ at + 3 = λ e. omega arith in
+      let y : at + 0 ≢ at + 2 = λ e. omega arith in
+      let z : at + 0 ≢ at + 1 = λ e. omega arith in
+      let h : at + 0 < length w = omega arith in
+      simp (getD-set-other, getD-set-same)
+  put-at i (suc zero) l =
+      let x : at + 1 ≢ at + 3 = λ e. omega arith in
+      let y : at + 1 ≢ at + 2 = λ e. omega arith in
+      let h : at + 1 < length (set w (at + 0) (getD ws 0 0)) = simp length-set (omega arith) in
+      simp (getD-set-other, getD-set-same)
+  put-at i (suc (suc zero)) l =
+      let x : at + 2 ≢ at + 3 = λ e. omega arith in
+      let h : at + 2 < length (set (set w (at + 0) (getD ws 0 0)) (at + 1) (getD ws 1 0)) = simp length-set (omega arith) in
+      simp (getD-set-other, getD-set-same)
+  put-at i (suc (suc (suc zero))) l =
+      let h : at + 3 < length (set (set (set w (at + 0) (getD ws 0 0)) (at + 1) (getD ws 1 0)) (at + 2) (getD ws 2 0)) = simp length-set (omega arith) in
+      simp getD-set-same
+  put-at i (suc (suc (suc (suc k)))) l = absurd (omega arith)
 
-pub save-some : (w v : List ℕ) (j : ℕ) (x : Record) → j < capacity w → v ≡ pasted w (2 + 16 * j) (wordsOf x) 16 → v ≡ saved w j x
+-- one of them is another than before
+module _ (w : List ℕ) (j a : ℕ) where
+  put-tail : put w (2 + 4 * j) (wordAt w j 0 ∷ wordAt w j 1 ∷ wordAt w j 2 ∷ a ∷ []) ≡ set w (2 + 4 * j + 3) a
+  unfolding put wordAt
+  put-tail = rw (set-getD w (2 + 4 * j + 0) 0, set-getD w (2 + 4 * j + 1) 0, set-getD w (2 + 4 * j + 2) 0)
+
+  put-head : put w (2 + 4 * j) (a ∷ wordAt w j 1 ∷ wordAt w j 2 ∷ wordAt w j 3 ∷ []) ≡ set w (2 + 4 * j + 0) a
+  unfolding put wordAt
+  put-head =
+      let at = 2 + 4 * j + 0 in
+      let same : (i : ℕ) → at ≢ i → set (set w at a) i (getD w i 0) ≡ set w at a =
+      λ i d. set-comm w at i a (getD w i 0) d ∙ ap (λ (v : List ℕ). set v at a) (set-getD w i 0)
+      in
+      rw (same (2 + 4 * j + 1) (λ e. omega arith), same (2 + 4 * j + 2) (λ e. omega arith), same (2 + 4 * j + 3) (λ e. omega arith))
+
+pub save-some : (w v : List ℕ) (j : ℕ) (x : Record) → j < capacity w → v ≡ put w (2 + 4 * j) (wordsOf x) → v ≡ saved w j x
 unfolding saved
 save-some w v j x h e = rw (lt-ltb _ _ h) e
 
-pub place-fits : (w : List ℕ) (j : ℕ) → j < capacity w → 2 + 16 * j + 16 ≤ length w
+-- words as long as others hold as many items
+pub same-capacity : (v w : List ℕ) → length v ≡ length w → capacity v ≡ capacity w
+unfolding capacity
+same-capacity v w e = ap (λ n. (n - 2) / 4) e
+
+pub place-fits : (w : List ℕ) (j : ℕ) → j < capacity w → 2 + 4 * j + 4 ≤ length w
 unfolding capacity
 place-fits w j h = omega arith
-
-pub fits-place : (w : List ℕ) (j : ℕ) → 2 + 16 * j + 16 ≤ length w → j < capacity w
-unfolding capacity
-fits-place w j h = omega arith
-
--- each of the first n records lies inside, where the words hold n
-pub first-fit : (w : List ℕ) (n j : ℕ) → n ≤ capacity w → j < n → 2 + 16 * j + 16 ≤ length w
-first-fit w n j h l = place-fits w j (omega arith)
-
--- the items of the words lie inside them
-pub item-fits : (w : List ℕ) (j : ℕ) → j < itemCount w → 2 + 16 * j + 16 ≤ length w
-unfolding itemCount
-item-fits w j h = place-fits w j (omega arith)
 
 -- there are never more items than places
 pub count-fits : (w : List ℕ) → itemCount w ≤ capacity w
@@ -142,118 +108,6 @@ count-fits w = omega arith
 
 pub item-inside : (w : List ℕ) (j : ℕ) → j < itemCount w → j < capacity w
 item-inside w j h = omega (arith, count-fits w)
-
--- .. by the number of items that the code has read
-pub beyond : (w : List ℕ) (j n : ℕ) → n ≡ capacity w → n ≤ j → capacity w ≤ j
-beyond w j n e h = omega arith
-
-pub within : (w : List ℕ) (j n : ℕ) → n ≡ capacity w → j < n → j < capacity w
-within w j n e h = omega arith
-
--- ---- comparing
-and-all : (a b c d : Bool) → a && b && c && d ≡ a && (b && (c && (d && true)))
-and-all true true true true = refl
-and-all true true true false = refl
-and-all true true false d = refl
-and-all true false c d = refl
-and-all false b c d = refl
-
-and-eight : (a b c d e f g h : Bool) → a && b && c && d && (e && f && g && h) ≡ a && (b && (c && (d && (e && (f && (g && (h && true)))))))
-and-eight true true true true e f g h = and-all e f g h
-and-eight true true true false e f g h = refl
-and-eight true true false d e f g h = refl
-and-eight true false c d e f g h = refl
-and-eight false b c d e f g h = refl
-
--- eight places are compared in two halves
-pub same-places : (ms ns : List ℕ) → length ms ≡ 8 → length ns ≡ 8
-    → eqb (getD ms 0 0) (getD ns 0 0) && eqb (getD ms 1 0) (getD ns 1 0) && eqb (getD ms 2 0) (getD ns 2 0) && eqb (getD ms 3 0) (getD ns 3 0)
-    && (eqb (getD ms 4 0) (getD ns 4 0) && eqb (getD ms 5 0) (getD ns 5 0) && eqb (getD ms 6 0) (getD ns 6 0) && eqb (getD ms 7 0) (getD ns 7 0)) ≡ sameList ms ns
-unfolding sameList
-same-places ms ns p q =
-    and-eight (eqb (getD ms 0 0) (getD ns 0 0)) (eqb (getD ms 1 0) (getD ns 1 0)) (eqb (getD ms 2 0) (getD ns 2 0)) (eqb (getD ms 3 0) (getD ns 3 0)) (eqb (getD ms 4 0) (getD ns 4 0)) (eqb (getD ms 5 0) (getD ns 5 0)) (eqb (getD ms 6 0) (getD ns 6 0)) (eqb (getD ms 7 0) (getD ns 7 0))
-    ∙ ap (λ (l : List ℕ). sameList l (getD ns 0 0 ∷ getD ns 1 0 ∷ getD ns 2 0 ∷ getD ns 3 0 ∷ getD ns 4 0 ∷ getD ns 5 0 ∷ getD ns 6 0 ∷ getD ns 7 0 ∷ [])) (eight ms p)
-    ∙ ap (λ (l : List ℕ). sameList ms l) (eight ns q)
-
-pub kind-of : (w : List ℕ) (j : ℕ) → recordAt w j .item .kind ≡ fieldAt w j 0
-unfolding recordAt ofWords itemWords blockAt fieldAt tabulate
-kind-of w j = refl
-
-pub rule-of : (w : List ℕ) (j : ℕ) → recordAt w j .item .of ≡ fieldAt w j 1
-unfolding recordAt ofWords itemWords blockAt fieldAt tabulate
-rule-of w j = refl
-
-pub plan-of : (w : List ℕ) (j : ℕ) → recordAt w j .item .plan ≡ fieldAt w j 2
-unfolding recordAt ofWords itemWords blockAt
-plan-of w j = refl
-
-pub edges-of : (w : List ℕ) (j : ℕ) → recordAt w j .item .edges ≡ fieldAt w j 3
-unfolding recordAt ofWords itemWords blockAt fieldAt tabulate
-edges-of w j = refl
-
-pub count-of : (w : List ℕ) (j : ℕ) → recordAt w j .item .count ≡ fieldAt w j 4
-unfolding recordAt ofWords itemWords blockAt fieldAt tabulate
-count-of w j = refl
-
-pub handled-of : (w : List ℕ) (j : ℕ) → recordAt w j .handled ≡ fieldAt w j 5
-unfolding recordAt ofWords itemWords blockAt fieldAt tabulate
-handled-of w j = refl
-
--- word by word, where the record lies inside
-pub same-inside : (ms w : List ℕ) (j : ℕ) → length ms ≡ 8
-    → eqb (getD ms 0 0) (getD w (2 + 16 * j + 6) 0) && eqb (getD ms 1 0) (getD w (2 + 16 * j + 7) 0) && eqb (getD ms 2 0) (getD w (2 + 16 * j + 8) 0) && eqb (getD ms 3 0) (getD w (2 + 16 * j + 9) 0)
-    && (eqb (getD ms 4 0) (getD w (2 + 16 * j + 10) 0) && eqb (getD ms 5 0) (getD w (2 + 16 * j + 11) 0) && eqb (getD ms 6 0) (getD w (2 + 16 * j + 12) 0) && eqb (getD ms 7 0) (getD w (2 + 16 * j + 13) 0))
-    ≡ sameList ms (recordAt w j .item .nodes)
-unfolding recordAt ofWords itemWords blockAt fieldAt tabulate
-same-inside ms w j e = same-places ms (recordAt w j .item .nodes) e refl
-
-module _ (x : ChartItem) (w : List ℕ) (j : ℕ) where
-  word-is : (k n m : ℕ) → n ≡ fieldAt w j k → (fieldAt w j k ≡ m → ⊥) → eqb m n ≡ false
-  unfolding fieldAt
-  word-is k n m e h = ne-eqb m n (λ q. h (sym e ∙ sym q))
-
-  pub other-edges : (fieldAt w j 3 ≡ x .edges → ⊥) → false ≡ sameChartItem x (recordAt w j .item)
-  unfolding sameChartItem
-  other-edges h = rw (word-is 3 _ (x .edges) (edges-of w j) h)
-
-  pub other-of : (fieldAt w j 1 ≡ x .of → ⊥) → false ≡ sameChartItem x (recordAt w j .item)
-  unfolding sameChartItem
-  other-of h = rw (word-is 1 _ (x .of) (rule-of w j) h) (go (eqb (x .edges) (recordAt w j .item .edges)) (eqb (x .kind) (recordAt w j .item .kind)))
-    where
-      go : (a b : Bool) → false ≡ a && b && false && eqb (x .plan) (recordAt w j .item .plan) && sameList (x .nodes) (recordAt w j .item .nodes)
-      go true true = refl
-      go true false = refl
-      go false b = refl
-
-  pub other-plan : (fieldAt w j 2 ≡ x .plan → ⊥) → false ≡ sameChartItem x (recordAt w j .item)
-  unfolding sameChartItem
-  other-plan h = rw (word-is 2 _ (x .plan) (plan-of w j) h) (go (eqb (x .edges) (recordAt w j .item .edges)) (eqb (x .kind) (recordAt w j .item .kind)) (eqb (x .of) (recordAt w j .item .of)))
-    where
-      go : (a b d : Bool) → false ≡ a && b && d && false && sameList (x .nodes) (recordAt w j .item .nodes)
-      go true true true = refl
-      go true true false = refl
-      go true false d = refl
-      go false b d = refl
-
-  pub other-kind : (fieldAt w j 0 ≡ x .kind → ⊥) → false ≡ sameChartItem x (recordAt w j .item)
-  unfolding sameChartItem fieldAt
-  other-kind h = rw (word-is 0 _ (x .kind) (kind-of w j) h) (go (eqb (x .edges) (recordAt w j .item .edges)))
-    where
-      go : (a : Bool) → false ≡ a && false && eqb (x .of) (recordAt w j .item .of) && eqb (x .plan) (recordAt w j .item .plan) && sameList (x .nodes) (recordAt w j .item .nodes)
-      go true = refl
-      go false = refl
-
-  pub same-rest : fieldAt w j 3 ≡ x .edges → fieldAt w j 1 ≡ x .of → fieldAt w j 2 ≡ x .plan → fieldAt w j 0 ≡ x .kind
-      → (t : Bool) → t ≡ sameList (x .nodes) (recordAt w j .item .nodes) → t ≡ sameChartItem x (recordAt w j .item)
-  unfolding sameChartItem fieldAt
-  same-rest a b d e t p =
-      rw (eq-eqb (x .edges) (recordAt w j .item .edges) (sym (edges-of w j ∙ a)), eq-eqb (x .kind) (recordAt w j .item .kind) (sym (kind-of w j ∙ e)), eq-eqb (x .of) (recordAt w j .item .of) (sym (rule-of w j ∙ b)), eq-eqb (x .plan) (recordAt w j .item .plan) (sym (plan-of w j ∙ d))) p
-
--- its nodes in two halves
-pub same-halves : (ns w : List ℕ) (j : ℕ) (a b : Bool) → length ns ≡ 8 → a ≡ fourSame ns w j 0 → b ≡ fourSame ns w j 4
-    → a && b ≡ sameList ns (recordAt w j .item .nodes)
-unfolding fourSame
-same-halves ns w j a b e p q = ap₂ (λ (s t : Bool). s && t) p q ∙ same-inside ns w j e
 
 -- ---- records of the words
 pub length-records : (w : List ℕ) (n : ℕ) → length (recordsAt w n) ≡ n
@@ -336,9 +190,6 @@ pub least-start : (rs : List Record) → Nowhere ≡ leastWaiting rs 0
 unfolding leastWaiting
 least-start rs = refl
 
-pub handled-at : (w : List ℕ) (i r : ℕ) → r ≡ fieldAt w i 5 → not (eqb r 0) ≡ isHandled (recordAt w i)
-handled-at w i r e = ap (λ n. not (eqb n 0)) (e ∙ sym (handled-of w i))
-
 pub lesser-handled : (w : List ℕ) (i j : ℕ) → isHandled (recordAt w i) ≡ true → At j ≡ lesserAt w i (At j)
 unfolding lesserAt
 lesser-handled w i j h = rw h
@@ -393,9 +244,11 @@ module _ (w : List ℕ) (j : ℕ) (x : Record) where
     unfolding improvedAt
     improve-less l = rw (z, le-leb (recordAt w j .item .count) (x .item .count) l)
 
-    pub improve-more : {v : List ℕ} → x .item .count < recordAt w j .item .count → v ≡ saved w j (improved (recordAt w j) x) → v ≡ improvedAt w j x
+    pub improve-more : j < capacity w → x .item .count < recordAt w j .item .count → set w (2 + 4 * j + 3) (tailOf x) ≡ improvedAt w j x
     unfolding improvedAt
-    improve-more l s = rw (z, lt-leb (recordAt w j .item .count) (x .item .count) l) s
+    improve-more h l =
+        rw (z, lt-leb (recordAt w j .item .count) (x .item .count) l)
+        (save-some w _ j (improved (recordAt w j) x) h (sym (put-tail w j (tailOf x)) ∙ ap (put w (2 + 4 * j)) (sym (words-improved w j x))))
 
 short-capacity : (w : List ℕ) → length w < 2 → capacity w ≡ 0
 unfolding capacity
@@ -431,10 +284,13 @@ module _ (w : List ℕ) (x : Record) (m n : ℕ) (f : Found) (me : m ≡ getD w 
   unfolding placedIn
   add-new p q = add-placed (rw (p, ← ne) q)
 
+-- ---- a record that becomes handled
 pub mark-none : (w : List ℕ) (j : ℕ) → capacity w ≤ j → w ≡ markedAt w j
-unfolding markedAt
+unfolding markedAt saved
 mark-none w j h = rw (le-ltb j (capacity w) h)
 
-pub mark-some : (w : List ℕ) (j : ℕ) → j < capacity w → set w (2 + 16 * j + 5) 1 ≡ markedAt w j
+pub mark-some : (w : List ℕ) (j : ℕ) → j < capacity w → set w (2 + 4 * j + 0) (wordAt w j 0 % 4294967296 + 4294967296) ≡ markedAt w j
 unfolding markedAt
-mark-some w j h = rw (lt-ltb j (capacity w) h)
+mark-some w j h =
+    save-some w _ j (handledNow (recordAt w j)) h
+    (sym (put-head w j (wordAt w j 0 % 4294967296 + 4294967296)) ∙ ap (put w (2 + 4 * j)) (sym (words-handled w j)))

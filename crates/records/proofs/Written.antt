@@ -7,10 +7,9 @@ use mathlib.Core.Bool.{Bool, true, false, cond, _||_}
 use native.Mathlib.Omega.{arith}
 use native.Mathlib.Decide.{decLt}
 use lib.Dec.{eqb, ltb, leb}
-use lib.ListN.{length, length-append, getD, take, drop, set, length-set, length-drop, length-take, take-append-drop, List·getD-append}
-use lib.Seq.{paste, length-paste, length-take-le, take-paste, drop-paste, getD-set-same, getD-set-other, getD-take, getD-drop, getD-append-add, getD-at, ext-getD, drop-drop}
+use lib.ListN.{length, length-append, getD, drop, set, length-set, length-drop, List·getD-append}
+use lib.Seq.{getD-set-same, getD-set-other, getD-drop, getD-append-add, getD-at, ext-getD, drop-cons}
 use borrow.Author.Tests.{lt-ltb, ltb-true}
-use Rattle.hrg.specs.Counts.{tabulate}
 use Rattle.agenda.specs.declared.ChartItem.{ChartItem}
 use Rattle.agenda.specs.declared.Record.{Record}
 use Rattle.agenda.specs.declared.Found.{Found}
@@ -18,118 +17,53 @@ use Rattle.agenda.specs.declared.Found.the-variants.{At, Nowhere}
 use Rattle.agenda.specs.Records.{isHandled}
 use Rattle.agenda.specs.Consequences.{recordIn, noRecord}
 use Rattle.agenda.specs.Steps.{Chart, improved, handledNow, lastSame, placed, added}
-use Rattle.records.specs.Words.{Fits, capacity, itemCount, fieldAt, blockAt, itemWords, ofWords, recordAt, recordsAt, chartOf, wordsOf, pasted, saved, allWords, written, improvedAt, appendedTo, placedIn, addedTo, markedAt}
-use Rattle.records.proofs.WordLaws.{eight, words-by, copied-all, length-records, record-in, place-fits, item-inside, Below, one, last-below}
+use Rattle.records.specs.Words.{Fits, capacity, itemCount, wordAt, recordAt, recordsAt, chartOf, wordsOf, Compact, put, saved, allWords, written, improvedAt, appendedTo, placedIn, addedTo, markedAt}
+use Rattle.records.proofs.Packing.{words-again, record-compact, record-read, compact-improved, compact-handled}
+use Rattle.records.proofs.WordLaws.{length-put, put-before, put-behind, put-at, length-records, record-in, place-fits, item-inside, Below, one, last-below}
 
--- ---- what was pasted, and what stays
-module _ (d s : List ℕ) (at n : ℕ) (hd : at + n ≤ length d) (hs : n ≤ length s) where
-  pub length-pasted : length (pasted d at s n) ≡ length d
-  unfolding pasted
-  length-pasted = length-paste d at s n hd hs
-
-  pub pasted-at : (k : ℕ) → k < n → getD (pasted d at s n) (at + k) 0 ≡ getD s k 0
-  unfolding pasted
-  pasted-at k h =
-      sym (getD-take (at + n) (paste d at s n) (at + k) 0 (omega arith))
-      ∙ ap (λ (l : List ℕ). getD l (at + k) 0) (take-paste d at s n (omega arith) hs)
-      ∙ ap (λ m. getD (take at d ++ take n s) (m + k) 0) (sym (length-take-le at d (omega arith)))
-      ∙ getD-append-add (take at d) (take n s) k 0
-      ∙ getD-take n s k 0 h
-
-  pub pasted-below : (j : ℕ) → j < at → getD (pasted d at s n) j 0 ≡ getD d j 0
-  unfolding pasted
-  pasted-below j h =
-      sym (getD-take (at + n) (paste d at s n) j 0 (omega arith))
-      ∙ ap (λ (l : List ℕ). getD l j 0) (take-paste d at s n (omega arith) hs)
-      ∙ List·getD-append (take at d) (take n s) 0 j (omega (arith, length-take-le at d (omega arith)))
-      ∙ getD-take at d j 0 h
-
-  pub pasted-past : (j : ℕ) → at + n ≤ j → getD (pasted d at s n) j 0 ≡ getD d j 0
-  unfolding pasted
-  pasted-past j h =
-      let e : j ≡ at + n + (j - (at + n)) = omega arith in
-      ap (λ m. getD (paste d at s n) m 0) e
-      ∙ sym (getD-drop (at + n) (paste d at s n) (j - (at + n)) 0)
-      ∙ ap (λ (l : List ℕ). getD l (j - (at + n)) 0) (drop-paste d at s n (omega arith) hs)
-      ∙ getD-drop (at + n) d (j - (at + n)) 0
-      ∙ ap (λ m. getD d m 0) (sym e)
-
--- ---- records and their words
-length-words : (x : Record) → length (x .item .nodes) ≡ 8 → length (wordsOf x) ≡ 16
-length-words x e = ap length (sym (words-by x e))
-
-of-words : (x : Record) → length (x .item .nodes) ≡ 8 → ofWords (wordsOf x) ≡ x
-unfolding ofWords itemWords
-of-words x e =
-    sym (ap ofWords (words-by x e))
-    ∙ (λ i. record { item = withNodes (eight (x .item .nodes) e i); handled = x .handled; first = x .first; second = x .second })
-  where
-    withNodes : List ℕ → ChartItem
-    withNodes ns = record { kind = x .item .kind; of = x .item .of; plan = x .item .plan; edges = x .item .edges; count = x .item .count; nodes = ns }
-
-pub own-words : (x : Record) (ws : List ℕ) → length (x .item .nodes) ≡ 8 → ws ≡ wordsOf x → ofWords ws ≡ x
-own-words x ws e p = ap ofWords p ∙ of-words x e
-
-words-again : (w : List ℕ) (j : ℕ) → wordsOf (recordAt w j) ≡ blockAt w j
-unfolding wordsOf recordAt ofWords itemWords blockAt tabulate
-words-again w j = refl
+-- words that agree at a place have the same record there
+record-by : (v w : List ℕ) (j : ℕ) → ((k : ℕ) → k < 4 → getD v (2 + 4 * j + k) 0 ≡ getD w (2 + 4 * j + k) 0) → recordAt v j ≡ recordAt w j
+unfolding recordAt wordAt
+record-by v w j p = rw (p 0 (omega arith), p 1 (omega arith), p 2 (omega arith), p 3 (omega arith))
 
 -- a record that is read has eight places
 pub eight-nodes : (w : List ℕ) (j : ℕ) → length (recordAt w j .item .nodes) ≡ 8
-unfolding recordAt ofWords itemWords
-eight-nodes w j = refl
-
-same-tabulate : (n : ℕ) (f g : ℕ → ℕ) → ((k : ℕ) → k < n → f k ≡ g k) → tabulate n f ≡ tabulate n g
-unfolding tabulate
-same-tabulate zero f g q = refl
-same-tabulate (suc n) f g q = λ i. q 0 (omega arith) i ∷ same-tabulate n (λ k. f (suc k)) (λ k. g (suc k)) (λ k l. q (suc k) (omega arith)) i
-
--- words that agree at a place have the same record there
-record-by : (v w : List ℕ) (j : ℕ) → ((k : ℕ) → k < 16 → getD v (2 + 16 * j + k) 0 ≡ getD w (2 + 16 * j + k) 0) → recordAt v j ≡ recordAt w j
-unfolding recordAt blockAt
-record-by v w j p = ap ofWords (same-tabulate 16 (λ k. getD v (2 + 16 * j + k) 0) (λ k. getD w (2 + 16 * j + k) 0) p)
+eight-nodes w j = record-compact w j .item .places .size
 
 -- ---- a record that is saved
-module _ (w : List ℕ) (j : ℕ) (x : Record) (h : j < capacity w) (e : length (x .item .nodes) ≡ 8) where
-  saved-is : saved w j x ≡ pasted w (2 + 16 * j) (wordsOf x) 16
+module _ (w : List ℕ) (j : ℕ) (x : Record) (h : j < capacity w) where
+  saved-is : saved w j x ≡ put w (2 + 4 * j) (wordsOf x)
   unfolding saved
   saved-is = rw (lt-ltb j (capacity w) h)
 
-  fits : 2 + 16 * j + 16 ≤ length w
-  fits = place-fits w j h
-
-  long : 16 ≤ length (wordsOf x)
-  long = omega (arith, length-words x e)
-
   pub length-saved : length (saved w j x) ≡ length w
-  length-saved = ap length saved-is ∙ length-pasted w (wordsOf x) (2 + 16 * j) 16 fits long
+  length-saved = ap length saved-is ∙ length-put w (2 + 4 * j) (wordsOf x)
 
-  pub saved-before : (i : ℕ) → i < 2 + 16 * j → getD (saved w j x) i 0 ≡ getD w i 0
-  saved-before i l = ap (λ (v : List ℕ). getD v i 0) saved-is ∙ pasted-below w (wordsOf x) (2 + 16 * j) 16 fits long i l
+  pub saved-before : (i : ℕ) → i < 2 + 4 * j → getD (saved w j x) i 0 ≡ getD w i 0
+  saved-before i l = ap (λ (v : List ℕ). getD v i 0) saved-is ∙ put-before w (2 + 4 * j) (wordsOf x) i l
 
-  pub saved-behind : (i : ℕ) → 2 + 16 * j + 16 ≤ i → getD (saved w j x) i 0 ≡ getD w i 0
-  saved-behind i l = ap (λ (v : List ℕ). getD v i 0) saved-is ∙ pasted-past w (wordsOf x) (2 + 16 * j) 16 fits long i l
+  pub saved-behind : (i : ℕ) → 2 + 4 * j + 4 ≤ i → getD (saved w j x) i 0 ≡ getD w i 0
+  saved-behind i l = ap (λ (v : List ℕ). getD v i 0) saved-is ∙ put-behind w (2 + 4 * j) (wordsOf x) i l
 
-  saved-word : (k : ℕ) → k < 16 → getD (wordsOf x) k 0 ≡ fieldAt (saved w j x) j k
-  unfolding fieldAt
-  saved-word k l = sym (ap (λ (v : List ℕ). getD v (2 + 16 * j + k) 0) saved-is ∙ pasted-at w (wordsOf x) (2 + 16 * j) 16 fits long k l)
+  saved-word : (k : ℕ) → k < 4 → wordAt (saved w j x) j k ≡ getD (wordsOf x) k 0
+  unfolding wordAt
+  saved-word k l = ap (λ (v : List ℕ). getD v (2 + 4 * j + k) 0) saved-is ∙ put-at w (2 + 4 * j) (wordsOf x) (place-fits w j h) k l
 
   -- the record is read again
-  pub saved-same : recordAt (saved w j x) j ≡ x
-  unfolding recordAt
-  saved-same = ap ofWords (sym (copied-all (wordsOf x) (saved w j x) j 16 (length-words x e) (omega arith) saved-word)) ∙ of-words x e
+  pub saved-same : Compact x → recordAt (saved w j x) j ≡ x
+  saved-same e = record-read x e (saved w j x) j saved-word
 
   -- the others stay
   pub saved-other : (k : ℕ) → k ≢ j → recordAt (saved w j x) k ≡ recordAt w k
   saved-other k ne = record-by (saved w j x) w k (λ i l. go i l (decLt k j))
     where
-      go : (i : ℕ) → i < 16 → Dec (k < j) → getD (saved w j x) (2 + 16 * k + i) 0 ≡ getD w (2 + 16 * k + i) 0
-      go i l (yes d) = saved-before (2 + 16 * k + i) (omega arith)
-      go i l (no d) = saved-behind (2 + 16 * k + i) (omega arith)
+      go : (i : ℕ) → i < 4 → Dec (k < j) → getD (saved w j x) (2 + 4 * k + i) 0 ≡ getD w (2 + 4 * k + i) 0
+      go i l (yes d) = saved-before (2 + 4 * k + i) (omega arith)
+      go i l (no d) = saved-behind (2 + 4 * k + i) (omega arith)
 
 -- a word of the header leaves the records
 pub header-records : (w : List ℕ) (i a k : ℕ) → i < 2 → recordAt (set w i a) k ≡ recordAt w k
-header-records w i a k h = record-by (set w i a) w k (λ m l. getD-set-other w i (2 + 16 * k + m) a 0 (omega arith))
+header-records w i a k h = record-by (set w i a) w k (λ m l. getD-set-other w i (2 + 4 * k + m) a 0 (omega arith))
 
 -- a record that was found among the items lies inside
 at-below : (n j : ℕ) → Below n (At j) → j < n
@@ -147,27 +81,31 @@ unfolding allWords
 words-append [] ys = refl
 words-append (x ∷ xs) ys = ap (λ (l : List ℕ). wordsOf x ++ l) (words-append xs ys) ∙ sym (append-assoc (wordsOf x) (allWords xs) (allWords ys))
 
-word-behind : (v : List ℕ) (n i : ℕ) → getD (drop (2 + 16 * n) v) i 0 ≡ fieldAt v n i
-unfolding fieldAt
-word-behind v n i = getD-drop (2 + 16 * n) v i 0
-
 -- the words from a record on are its own and those behind it
-next-record : (v : List ℕ) (n : ℕ) → 2 + 16 * n + 16 ≤ length v → drop (2 + 16 * n) v ≡ wordsOf (recordAt v n) ++ drop (2 + 16 * n + 16) v
-next-record v n h =
-    let rest : List ℕ = drop (2 + 16 * n) v in
-    let e : take 16 rest ≡ blockAt v n =
-    copied-all (take 16 rest) v n 16 (simp (length-take, length-drop) (omega arith)) (omega arith) (λ i l. getD-take 16 rest i 0 l ∙ word-behind v n i)
-    in
-    sym (take-append-drop 16 rest) ∙ ap (λ (l : List ℕ). l ++ drop 16 rest) (e ∙ sym (words-again v n)) ∙ ap (λ (l : List ℕ). wordsOf (recordAt v n) ++ l) (drop-drop 16 (2 + 16 * n) v)
+four-more : (v : List ℕ) (a : ℕ) → a + 4 ≤ length v
+    → drop a v ≡ getD v (a + 0) 0 ∷ getD v (a + 1) 0 ∷ getD v (a + 2) 0 ∷ getD v (a + 3) 0 ∷ drop (a + 4) v
+four-more v a h =
+    let p0 : a + 0 ≡ a = omega arith in
+    let p1 : a + 1 ≡ suc a = omega arith in
+    let p2 : a + 2 ≡ suc (suc a) = omega arith in
+    let p3 : a + 3 ≡ suc (suc (suc a)) = omega arith in
+    let p4 : a + 4 ≡ suc (suc (suc (suc a))) = omega arith in
+    let next : (i : ℕ) → i < length v → drop i v ≡ getD v i 0 ∷ drop (suc i) v = λ i l. drop-cons v i 0 l in
+    rw (p0, p1, p2, p3, p4)
+    (rw (next a (omega arith), next (suc a) (omega arith), next (suc (suc a)) (omega arith), next (suc (suc (suc a))) (omega arith)))
 
-all-records : (v : List ℕ) (n : ℕ) → 2 + 16 * n ≤ length v → drop 2 v ≡ allWords (recordsAt v n) ++ drop (2 + 16 * n) v
+next-record : (v : List ℕ) (n : ℕ) → 2 + 4 * n + 4 ≤ length v → drop (2 + 4 * n) v ≡ wordsOf (recordAt v n) ++ drop (2 + 4 * n + 4) v
+unfolding wordAt
+next-record v n h = four-more v (2 + 4 * n) h ∙ ap (λ (l : List ℕ). l ++ drop (2 + 4 * n + 4) v) (sym (words-again v n))
+
+all-records : (v : List ℕ) (n : ℕ) → 2 + 4 * n ≤ length v → drop 2 v ≡ allWords (recordsAt v n) ++ drop (2 + 4 * n) v
 unfolding allWords recordsAt
 all-records v zero h = refl
 all-records v (suc n) h =
     all-records v n (omega arith)
-    ∙ ap (λ (l : List ℕ). allWords (recordsAt v n) ++ l) (next-record v n (omega arith) ∙ ap (λ m. wordsOf (recordAt v n) ++ drop m v) (let q : 2 + 16 * n + 16 ≡ 2 + 16 * suc n = omega arith in q))
-    ∙ sym (append-assoc (allWords (recordsAt v n)) (wordsOf (recordAt v n)) (drop (2 + 16 * suc n) v))
-    ∙ ap (λ (l : List ℕ). l ++ drop (2 + 16 * suc n) v)
+    ∙ ap (λ (l : List ℕ). allWords (recordsAt v n) ++ l) (next-record v n (omega arith) ∙ ap (λ m. wordsOf (recordAt v n) ++ drop m v) (let q : 2 + 4 * n + 4 ≡ 2 + 4 * suc n = omega arith in q))
+    ∙ sym (append-assoc (allWords (recordsAt v n)) (wordsOf (recordAt v n)) (drop (2 + 4 * suc n) v))
+    ∙ ap (λ (l : List ℕ). l ++ drop (2 + 4 * suc n) v)
     (ap (λ (l : List ℕ). allWords (recordsAt v n) ++ l) (sym (append-nil (wordsOf (recordAt v n)))) ∙ sym (words-append (recordsAt v n) (recordAt v n ∷ [])))
 
 two-words : (v : List ℕ) → 2 ≤ length v → v ≡ getD v 0 0 ∷ getD v 1 0 ∷ drop 2 v
@@ -178,12 +116,12 @@ two-words (a ∷ b ∷ l) h = refl
 -- words v where w stood before, with the header and the records of the chart c, and behind them what w has
 pub record Standing (v w : List ℕ) (c : Chart) (n : ℕ) : Type 0 where
   pub number : length (c .records) ≡ n
-  pub room : 2 + 16 * n ≤ length v
+  pub room : 2 + 4 * n ≤ length v
   pub long : length v ≡ length w
   pub first : getD v 0 0 ≡ n
   pub second : getD v 1 0 ≡ c .mark
   pub at : (k : ℕ) → k < n → recordAt v k ≡ recordIn (c .records) k
-  pub behind : (i : ℕ) → 2 + 16 * n ≤ i → getD v i 0 ≡ getD w i 0
+  pub behind : (i : ℕ) → 2 + 4 * n ≤ i → getD v i 0 ≡ getD w i 0
 
 same-records : (v : List ℕ) (rs : List Record) (n : ℕ) → length rs ≡ n → ((k : ℕ) → k < n → recordAt v k ≡ recordIn rs k) → recordsAt v n ≡ rs
 same-records v rs n e p =
@@ -199,17 +137,17 @@ unfolding written
 written-by v w c n s =
     let a : 2 ≤ length v = omega (arith, s .room) in
     two-words v a
-    ∙ ap (λ (l : List ℕ). getD v 0 0 ∷ getD v 1 0 ∷ l) (all-records v n (s .room) ∙ ap (λ (rs : List Record). allWords rs ++ drop (2 + 16 * n) v) (same-records v (c .records) n (s .number) (s .at)) ∙ ap (λ (l : List ℕ). allWords (c .records) ++ l) (same-behind v w (2 + 16 * n) (s .long) (s .behind)))
-    ∙ ap (λ m. m ∷ getD v 1 0 ∷ (allWords (c .records) ++ drop (2 + 16 * n) w)) (s .first)
-    ∙ ap (λ m. n ∷ m ∷ (allWords (c .records) ++ drop (2 + 16 * n) w)) (s .second)
-    ∙ ap (λ m. m ∷ c .mark ∷ (allWords (c .records) ++ drop (2 + 16 * m) w)) (sym (s .number))
+    ∙ ap (λ (l : List ℕ). getD v 0 0 ∷ getD v 1 0 ∷ l) (all-records v n (s .room) ∙ ap (λ (rs : List Record). allWords rs ++ drop (2 + 4 * n) v) (same-records v (c .records) n (s .number) (s .at)) ∙ ap (λ (l : List ℕ). allWords (c .records) ++ l) (same-behind v w (2 + 4 * n) (s .long) (s .behind)))
+    ∙ ap (λ m. m ∷ getD v 1 0 ∷ (allWords (c .records) ++ drop (2 + 4 * n) w)) (s .first)
+    ∙ ap (λ m. n ∷ m ∷ (allWords (c .records) ++ drop (2 + 4 * n) w)) (s .second)
+    ∙ ap (λ m. m ∷ c .mark ∷ (allWords (c .records) ++ drop (2 + 4 * m) w)) (sym (s .number))
 
 -- ---- a chart within its capacity
 pub count-is : (w : List ℕ) → Fits w → itemCount w ≡ getD w 0 0
 unfolding itemCount
 count-is w f = let l = f .number in omega arith
 
-records-fit : (w : List ℕ) (n : ℕ) → 2 ≤ length w → n ≤ capacity w → 2 + 16 * n ≤ length w
+records-fit : (w : List ℕ) (n : ℕ) → 2 ≤ length w → n ≤ capacity w → 2 + 4 * n ≤ length w
 unfolding capacity
 records-fit w n a b = omega arith
 
@@ -220,7 +158,7 @@ module _ (w : List ℕ) (n : ℕ) (f : Fits w) (ne : n ≡ getD w 0 0) where
   within : n ≤ capacity w
   within = let l = f .number in omega arith
 
-  roomy : 2 + 16 * n ≤ length w
+  roomy : 2 + 4 * n ≤ length w
   roomy = records-fit w n (f .header) within
 
   -- the words stand for their own chart
@@ -246,13 +184,13 @@ module _ (w : List ℕ) (n : ℕ) (f : Fits w) (ne : n ≡ getD w 0 0) where
 
   -- words that differ from w in one record
   module _ (j : ℕ) (h : j < n) (v : List ℕ) (y : Record) (long : length v ≡ length w) (same : recordAt v j ≡ y)
-      (before : (i : ℕ) → i < 2 + 16 * j → getD v i 0 ≡ getD w i 0) (behind : (i : ℕ) → 2 + 16 * j + 16 ≤ i → getD v i 0 ≡ getD w i 0) where
+      (before : (i : ℕ) → i < 2 + 4 * j → getD v i 0 ≡ getD w i 0) (behind : (i : ℕ) → 2 + 4 * j + 4 ≤ i → getD v i 0 ≡ getD w i 0) where
     record-else : (k : ℕ) → k ≢ j → recordAt v k ≡ recordAt w k
     record-else k d = record-by v w k (λ i l. go i l (decLt k j))
       where
-        go : (i : ℕ) → i < 16 → Dec (k < j) → getD v (2 + 16 * k + i) 0 ≡ getD w (2 + 16 * k + i) 0
-        go i l (yes q) = before (2 + 16 * k + i) (omega arith)
-        go i l (no q) = behind (2 + 16 * k + i) (omega arith)
+        go : (i : ℕ) → i < 4 → Dec (k < j) → getD v (2 + 4 * k + i) 0 ≡ getD w (2 + 4 * k + i) 0
+        go i l (yes q) = before (2 + 4 * k + i) (omega arith)
+        go i l (no q) = behind (2 + 4 * k + i) (omega arith)
 
     one-record : (k : ℕ) → k < n → recordAt v k ≡ recordIn (set (recordsAt w n) j y) k
     one-record k l = go (decLt k j) (decLt j k)
@@ -281,33 +219,33 @@ module _ (w : List ℕ) (n : ℕ) (f : Fits w) (ne : n ≡ getD w 0 0) where
           behind = λ i l. behind i (omega arith);
         })
 
-  pub saved-written : (j : ℕ) (y : Record) → j < n → length (y .item .nodes) ≡ 8 → saved w j y ≡ written w (record { mark = getD w 1 0; records = set (recordsAt w n) j y })
+  pub saved-written : (j : ℕ) (y : Record) → j < n → Compact y → saved w j y ≡ written w (record { mark = getD w 1 0; records = set (recordsAt w n) j y })
   saved-written j y h e =
       let c : j < capacity w = omega (arith, within) in
-      replaced j h (saved w j y) y (length-saved w j y c e) (saved-same w j y c e) (saved-before w j y c e) (saved-behind w j y c e)
+      replaced j h (saved w j y) y (length-saved w j y c) (saved-same w j y c e) (saved-before w j y c) (saved-behind w j y c)
 
   -- one record more behind the others
-  appended : (x : Record) → n < capacity w → length (x .item .nodes) ≡ 8
+  appended : (x : Record) → n < capacity w → Compact x
       → set (saved w n x) 0 (n + 1) ≡ written w (record { mark = getD w 1 0; records = recordsAt w n ++ (x ∷ []) })
   appended x h e =
       let s = saved w n x in
-      let ls : length s ≡ length w = length-saved w n x h e in
+      let ls : length s ≡ length w = length-saved w n x h in
       let lv : length (set s 0 (n + 1)) ≡ length s = length-set s 0 (n + 1) in
-      let fit : 2 + 16 * n + 16 ≤ length w = place-fits w n h in
+      let fit : 2 + 4 * n + 4 ≤ length w = place-fits w n h in
       written-by (set s 0 (n + 1)) w (record { mark = getD w 1 0; records = recordsAt w n ++ (x ∷ []) }) (n + 1)
       (record {
         number = simp length-append (omega (arith, length-records w n));
         room = omega arith;
         long = lv ∙ ls;
         first = getD-set-same s 0 (n + 1) 0 (omega arith);
-        second = getD-set-other s 0 1 (n + 1) 0 (omega arith) ∙ saved-before w n x h e 1 (omega arith);
+        second = getD-set-other s 0 1 (n + 1) 0 (omega arith) ∙ saved-before w n x h 1 (omega arith);
         at = λ k l. header-records s 0 (n + 1) k (omega arith) ∙ go k (decLt k n) l;
-        behind = λ i l. getD-set-other s 0 i (n + 1) 0 (omega arith) ∙ saved-behind w n x h e i (omega arith);
+        behind = λ i l. getD-set-other s 0 i (n + 1) 0 (omega arith) ∙ saved-behind w n x h i (omega arith);
       })
     where
       go : (k : ℕ) → Dec (k < n) → k < n + 1 → recordAt (saved w n x) k ≡ recordIn (recordsAt w n ++ (x ∷ [])) k
       go k (yes d) l =
-          saved-other w n x h e k (λ z. omega arith) ∙ sym (record-in w n k d)
+          saved-other w n x h k (λ z. omega arith) ∙ sym (record-in w n k d)
           ∙ sym (List·getD-append (recordsAt w n) (x ∷ []) noRecord k (omega (arith, length-records w n)))
       go k (no d) l =
           let z : k ≡ n = omega arith in
@@ -319,7 +257,7 @@ cond-both : (w : List ℕ) (t : Bool) (a b : List ℕ) (c d : Chart) → (t ≡ 
 cond-both w true a b c d p q = p refl
 cond-both w false a b c d p q = q refl
 
-module _ (w : List ℕ) (n : ℕ) (f : Fits w) (ne : n ≡ getD w 0 0) (e : n ≡ itemCount w) (x : Record) (ex : length (x .item .nodes) ≡ 8) where
+module _ (w : List ℕ) (n : ℕ) (f : Fits w) (ne : n ≡ getD w 0 0) (e : n ≡ itemCount w) (x : Record) (ex : Compact x) where
   found-again : (j : ℕ) → j < n → improvedAt w j x ≡ written w (placed (capacity w) x (chartIn w n) (At j))
   unfolding improvedAt placed
   found-again j h =
@@ -327,7 +265,7 @@ module _ (w : List ℕ) (n : ℕ) (f : Fits w) (ne : n ≡ getD w 0 0) (e : n �
       (λ (y : Record). improvedAt w j x ≡ written w (cond (isHandled y || leb (y .item .count) (x .item .count)) (chartIn w n) (record { mark = getD w 1 0; records = set (recordsAt w n) j (improved y x) })))
       (sym (record-in w n j h))
       (cond-both w (isHandled (recordAt w j) || leb (recordAt w j .item .count) (x .item .count)) w (saved w j (improved (recordAt w j) x)) (chartIn w n) (record { mark = getD w 1 0; records = set (recordsAt w n) j (improved (recordAt w j) x) })
-      (λ t. kept w n f ne) (λ t. saved-written w n f ne j (improved (recordAt w j) x) h (eight-nodes w j)))
+      (λ t. kept w n f ne) (λ t. saved-written w n f ne j (improved (recordAt w j) x) h (compact-improved (record-compact w j) ex)))
 
   new-one : appendedTo w n x ≡ written w (placed (capacity w) x (chartIn w n) Nowhere)
   unfolding appendedTo placed
@@ -354,7 +292,7 @@ module _ (w : List ℕ) (n : ℕ) (f : Fits w) (ne : n ≡ getD w 0 0) (e : n �
       (λ t. placed-written (lastSame (x .item) (recordsAt w n) n) (last-below (x .item) (recordsAt w n) n)) (λ t. kept w n f ne))
 
 -- `add` makes of words what `added` makes of the chart that they stand for
-pub add-written : (w : List ℕ) (x : Record) → Fits w → length (x .item .nodes) ≡ 8 → addedTo w x ≡ written w (added (capacity w) x (chartOf w))
+pub add-written : (w : List ℕ) (x : Record) → Fits w → Compact x → addedTo w x ≡ written w (added (capacity w) x (chartOf w))
 unfolding chartOf
 add-written w x f ex = added-written w (itemCount w) f (count-is w f) refl x ex
 
@@ -364,55 +302,25 @@ unfolding chartOf
 chart-written w f = kept w (itemCount w) f (count-is w f)
 
 -- ---- a record that becomes handled
-module _ (w : List ℕ) (j : ℕ) (h : j < capacity w) where
-  other-word : (i : ℕ) → i ≢ 2 + 16 * j + 5 → getD (set w (2 + 16 * j + 5) 1) i 0 ≡ getD w i 0
-  other-word i d = getD-set-other w (2 + 16 * j + 5) i 1 0 d
-
-  own-word : (k : ℕ) → k ≢ 5 → getD (set w (2 + 16 * j + 5) 1) (2 + 16 * j + k) 0 ≡ getD w (2 + 16 * j + k) 0
-  own-word k d = other-word (2 + 16 * j + k) (λ z. d (omega arith))
-
-  handled-record : recordAt (set w (2 + 16 * j + 5) 1) j ≡ handledNow (recordAt w j)
-  unfolding recordAt ofWords itemWords blockAt tabulate
-  handled-record = λ i. record {
-    item = record {
-      kind = own-word 0 (λ z. omega arith) i;
-      of = own-word 1 (λ z. omega arith) i;
-      plan = own-word 2 (λ z. omega arith) i;
-      edges = own-word 3 (λ z. omega arith) i;
-      count = own-word 4 (λ z. omega arith) i;
-      nodes =
-          own-word 6 (λ z. omega arith) i ∷ own-word 7 (λ z. omega arith) i ∷ own-word 8 (λ z. omega arith) i ∷ own-word 9 (λ z. omega arith) i
-          ∷ own-word 10 (λ z. omega arith) i ∷ own-word 11 (λ z. omega arith) i ∷ own-word 12 (λ z. omega arith) i ∷ own-word 13 (λ z. omega arith) i ∷ [];
-    };
-    handled = getD-set-same w (2 + 16 * j + 5) 1 0 (omega (arith, place-fits w j h)) i;
-    first = own-word 14 (λ z. omega arith) i;
-    second = own-word 15 (λ z. omega arith) i;
-  }
-
 -- the number of items stays, and the record is handled
+saved-count : (w : List ℕ) (j : ℕ) (x : Record) → j < capacity w → itemCount (saved w j x) ≡ itemCount w
+unfolding itemCount capacity
+saved-count w j x h = ap₂ (λ a b. min a ((b - 2) / 4)) (saved-before w j x h 0 (omega arith)) (length-saved w j x h)
+
 pub marked-count : (w : List ℕ) (j : ℕ) → j < itemCount w → itemCount (markedAt w j) ≡ itemCount w
-unfolding markedAt itemCount capacity
-marked-count w j l =
-    let h : j < (length w - 2) / 16 = omega arith in
-    rw (lt-ltb j ((length w - 2) / 16) h)
-    (ap₂ (λ a b. min a ((b - 2) / 16)) (getD-set-other w (2 + 16 * j + 5) 0 1 0 (λ e. omega arith)) (length-set w (2 + 16 * j + 5) 1))
+unfolding markedAt
+marked-count w j l = saved-count w j (handledNow (recordAt w j)) (item-inside w j l)
 
 pub marked-handled : (w : List ℕ) (j : ℕ) → j < itemCount w → isHandled (recordAt (markedAt w j) j) ≡ true
 unfolding markedAt
-marked-handled w j l =
-    let h : j < capacity w = item-inside w j l in
-    ap (λ (b : Bool). isHandled (recordAt (cond b (set w (2 + 16 * j + 5) 1) w) j)) (lt-ltb j (capacity w) h) ∙ ap isHandled (handled-record w j h)
+marked-handled w j l = ap isHandled (saved-same w j (handledNow (recordAt w j)) (item-inside w j l) (compact-handled (record-compact w j)))
 
 handle-in : (w : List ℕ) (n j : ℕ) → Fits w → n ≡ getD w 0 0 → j < n
     → markedAt w j ≡ written w (record { mark = getD w 1 0; records = set (recordsAt w n) j (handledNow (recordIn (recordsAt w n) j)) })
 unfolding markedAt
 handle-in w n j f ne l =
-    let h : j < capacity w = omega (arith, f .number) in
-    let v : List ℕ = set w (2 + 16 * j + 5) 1 in
     subst (λ (y : Record). markedAt w j ≡ written w (record { mark = getD w 1 0; records = set (recordsAt w n) j (handledNow y) })) (sym (record-in w n j l))
-    (ap (λ (t : Bool). cond t v w) (lt-ltb j (capacity w) h)
-    ∙ replaced w n f ne j l v (handledNow (recordAt w j)) (length-set w (2 + 16 * j + 5) 1) (handled-record w j h)
-    (λ i q. other-word w j h i (λ z. omega arith)) (λ i q. other-word w j h i (λ z. omega arith)))
+    (saved-written w n f ne j (handledNow (recordAt w j)) l (compact-handled (record-compact w j)))
 
 -- the step's first half: the record at j is handled
 pub handle-written : (w : List ℕ) (j : ℕ) → Fits w → j < itemCount w
@@ -421,43 +329,46 @@ unfolding chartOf
 handle-written w j f l = handle-in w (itemCount w) j f (count-is w f) l
 
 -- ---- a chart that is written is read again
--- each record has eight places
-abbrev pub Eights : List Record → Type 0
-Eights rs = (k : ℕ) → k < length rs → length (recordIn rs k .item .nodes) ≡ 8
+length-words : (x : Record) → length (wordsOf x) ≡ 4
+unfolding wordsOf
+length-words x = refl
 
-length-all : (rs : List Record) → Eights rs → length (allWords rs) ≡ 16 * length rs
+length-all : (rs : List Record) → length (allWords rs) ≡ 4 * length rs
 unfolding allWords
-length-all [] e = refl
-length-all (x ∷ rs) e =
-    length-append (wordsOf x) (allWords rs) ∙ omega (arith, length-words x (e 0 (omega arith)), length-all rs (λ k l. e (suc k) (omega arith)))
+length-all [] = refl
+length-all (x ∷ rs) = length-append (wordsOf x) (allWords rs) ∙ omega (arith, length-words x, length-all rs)
 
-word-of-all : (rs : List Record) (t : List ℕ) (k i m : ℕ) → Eights rs → k < length rs → i < 16 → m ≡ 16 * k + i → getD (allWords rs ++ t) m 0 ≡ getD (wordsOf (recordIn rs k)) i 0
+word-of-all : (rs : List Record) (t : List ℕ) (k i m : ℕ) → k < length rs → i < 4 → m ≡ 4 * k + i → getD (allWords rs ++ t) m 0 ≡ getD (wordsOf (recordIn rs k)) i 0
 unfolding allWords
-word-of-all [] t k i m e h l q = absurd (omega arith)
-word-of-all (x ∷ rs) t zero i m e h l q =
+word-of-all [] t k i m h l q = absurd (omega arith)
+word-of-all (x ∷ rs) t zero i m h l q =
     let z : m ≡ i = omega arith in
     ap (λ (a : List ℕ). getD a m 0) (append-assoc (wordsOf x) (allWords rs) t)
-    ∙ List·getD-append (wordsOf x) (allWords rs ++ t) 0 m (omega (arith, length-words x (e 0 (omega arith)))) ∙ ap (λ a. getD (wordsOf x) a 0) z
-word-of-all (x ∷ rs) t (suc k) i m e h l q =
-    let z : m ≡ length (wordsOf x) + (16 * k + i) = omega (arith, length-words x (e 0 (omega arith))) in
+    ∙ List·getD-append (wordsOf x) (allWords rs ++ t) 0 m (omega (arith, length-words x)) ∙ ap (λ a. getD (wordsOf x) a 0) z
+word-of-all (x ∷ rs) t (suc k) i m h l q =
+    let z : m ≡ length (wordsOf x) + (4 * k + i) = omega (arith, length-words x) in
     ap (λ (a : List ℕ). getD a m 0) (append-assoc (wordsOf x) (allWords rs) t)
     ∙ ap (λ a. getD (wordsOf x ++ (allWords rs ++ t)) a 0) z
-    ∙ getD-append-add (wordsOf x) (allWords rs ++ t) (16 * k + i) 0
-    ∙ word-of-all rs t k i (16 * k + i) (λ a b. e (suc a) (omega arith)) (omega arith) l refl
+    ∙ getD-append-add (wordsOf x) (allWords rs ++ t) (4 * k + i) 0
+    ∙ word-of-all rs t k i (4 * k + i) (omega arith) l refl
+
+-- each record can be read again
+abbrev pub AllCompact : List Record → Type 0
+AllCompact rs = (k : ℕ) → k < length rs → Compact (recordIn rs k)
 
 -- the words hold the chart
 pub record Holds (w : List ℕ) (c : Chart) : Type 0 where
   pub header : 2 ≤ length w
   pub number : length (c .records) ≤ capacity w
-  pub places : Eights (c .records)
+  pub compact : AllCompact (c .records)
 
 -- behind the records w stays
-written-behind : (w : List ℕ) (c : Chart) → Eights (c .records) → (i : ℕ) → 2 + 16 * length (c .records) ≤ i → getD (written w c) i 0 ≡ getD w i 0
+written-behind : (w : List ℕ) (c : Chart) (i : ℕ) → 2 + 4 * length (c .records) ≤ i → getD (written w c) i 0 ≡ getD w i 0
 unfolding written
-written-behind w c e i h =
+written-behind w c i h =
     let rs = c .records in
-    let a = 2 + 16 * length rs in
-    let z : i ≡ suc (suc (length (allWords rs) + (i - a))) = omega (arith, length-all rs e) in
+    let a = 2 + 4 * length rs in
+    let z : i ≡ suc (suc (length (allWords rs) + (i - a))) = omega (arith, length-all rs) in
     let y : i ≡ a + (i - a) = omega arith in
     ap (λ m. getD (written w c) m 0) z ∙ getD-append-add (allWords rs) (drop a w) (i - a) 0 ∙ getD-drop a w (i - a) 0 ∙ ap (λ m. getD w m 0) (sym y)
 
@@ -466,12 +377,12 @@ module _ (w : List ℕ) (c : Chart) (o : Holds w c) where
   unfolding written
   length-written =
       let rs = c .records in
-      let r : 2 + 16 * length rs ≤ length w = records-fit w (length rs) (o .header) (o .number) in
-      omega (arith, length-append (allWords rs) (drop (2 + 16 * length rs) w), length-all rs (o .places), length-drop (2 + 16 * length rs) w)
+      let r : 2 + 4 * length rs ≤ length w = records-fit w (length rs) (o .header) (o .number) in
+      omega (arith, length-append (allWords rs) (drop (2 + 4 * length rs) w), length-all rs, length-drop (2 + 4 * length rs) w)
 
   pub capacity-written : capacity (written w c) ≡ capacity w
   unfolding capacity
-  capacity-written = ap (λ n. (n - 2) / 16) length-written
+  capacity-written = ap (λ n. (n - 2) / 4) length-written
 
   written-first : getD (written w c) 0 0 ≡ length (c .records)
   unfolding written
@@ -481,17 +392,14 @@ module _ (w : List ℕ) (c : Chart) (o : Holds w c) where
   unfolding written
   written-second = refl
 
-  written-word : (k : ℕ) → k < length (c .records) → (i : ℕ) → i < 16 → getD (wordsOf (recordIn (c .records) k)) i 0 ≡ fieldAt (written w c) k i
-  unfolding written fieldAt
+  written-word : (k : ℕ) → k < length (c .records) → (i : ℕ) → i < 4 → wordAt (written w c) k i ≡ getD (wordsOf (recordIn (c .records) k)) i 0
+  unfolding written wordAt
   written-word k h i l =
-      let z : 2 + 16 * k + i ≡ suc (suc (16 * k + i)) = omega arith in
-      sym (ap (λ m. getD (written w c) m 0) z ∙ word-of-all (c .records) (drop (2 + 16 * length (c .records)) w) k i (16 * k + i) (o .places) h l refl)
+      let z : 2 + 4 * k + i ≡ suc (suc (4 * k + i)) = omega arith in
+      ap (λ m. getD (written w c) m 0) z ∙ word-of-all (c .records) (drop (2 + 4 * length (c .records)) w) k i (4 * k + i) h l refl
 
   written-record : (k : ℕ) → k < length (c .records) → recordAt (written w c) k ≡ recordIn (c .records) k
-  unfolding recordAt
-  written-record k h =
-      let x = recordIn (c .records) k in
-      ap ofWords (sym (copied-all (wordsOf x) (written w c) k 16 (length-words x (o .places k h)) (omega arith) (written-word k h))) ∙ of-words x (o .places k h)
+  written-record k h = record-read (recordIn (c .records) k) (o .compact k h) (written w c) k (written-word k h)
 
   pub fits-written : Fits (written w c)
   fits-written =
@@ -512,7 +420,7 @@ module _ (w : List ℕ) (c : Chart) (o : Holds w c) where
   -- where a chart with no fewer records is written over it, only that one is left
   pub written-over : (d : Chart) → length (c .records) ≤ length (d .records) → written (written w c) d ≡ written w d
   unfolding written
-  written-over d l = ap (λ (r : List ℕ). length (d .records) ∷ d .mark ∷ (allWords (d .records) ++ r)) (same-behind (written w c) w (2 + 16 * length (d .records)) length-written behind)
+  written-over d l = ap (λ (r : List ℕ). length (d .records) ∷ d .mark ∷ (allWords (d .records) ++ r)) (same-behind (written w c) w (2 + 4 * length (d .records)) length-written behind)
     where
-      behind : (i : ℕ) → 2 + 16 * length (d .records) ≤ i → getD (written w c) i 0 ≡ getD w i 0
-      behind i h = written-behind w c (o .places) i (omega arith)
+      behind : (i : ℕ) → 2 + 4 * length (d .records) ≤ i → getD (written w c) i 0 ≡ getD w i 0
+      behind i h = written-behind w c i (omega arith)

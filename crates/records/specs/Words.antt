@@ -1,13 +1,14 @@
--- A chart as words: two header words (the number of items, the mark), then sixteen words for each item.
+-- A chart as words: two header words (the number of items, the mark), then four words for each item. Fields that share a word
+-- stand side by side, and the uppermost one has what is left, so that each four words are those of just one record.
 use mathlib.Core.List.{List, [], _∷_, _++_}
-use Prim.Native.Nat.{ℕ, zero, suc, _+_, _-_, _*_, _/_, _≤_, min}
+use Prim.Native.Nat.{ℕ, zero, suc, _+_, _-_, _*_, _/_, _%_, _≤_, _<_, min}
 use lib.ListN.{length, getD, drop, set}
-use lib.Seq.{paste}
 use lib.Dec.{eqb, ltb, leb}
-use mathlib.Core.Bool.{Bool, cond, _&&_, _||_}
-use Rattle.hrg.specs.Counts.{tabulate}
+use mathlib.Core.Path.{_≡_}
+use mathlib.Core.Bool.{cond, _||_}
+use Rattle.places.specs.Words.{wordOf, placesOf, Readable}
 use Rattle.agenda.specs.Records.{isHandled}
-use Rattle.agenda.specs.Steps.{Chart, improved, lastSame, addedAll}
+use Rattle.agenda.specs.Steps.{Chart, improved, handledNow, lastSame, addedAll}
 use Rattle.agenda.specs.declared.Found.{Found}
 use Rattle.agenda.specs.declared.Found.the-variants.{At, Nowhere}
 use Rattle.agenda.specs.declared.ChartItem.{ChartItem}
@@ -18,7 +19,7 @@ abbrev pub headerWords : ℕ
 headerWords = 2
 
 abbrev pub wordsFor : ℕ → ℕ
-wordsFor n = 2 + 16 * n
+wordsFor n = 2 + 4 * n
 
 -- words with no items and no mark
 abbrev pub cleared : List ℕ → List ℕ
@@ -26,50 +27,44 @@ cleared w = set (set w 0 0) 1 0
 
 -- how many items the words hold
 unfoldable pub capacity : List ℕ → ℕ
-capacity w = (length w - 2) / 16
+capacity w = (length w - 2) / 4
 
 -- how many items they have; never more than they hold
 unfoldable pub itemCount : List ℕ → ℕ
 unfolding capacity
 itemCount w = min (getD w 0 0) (capacity w)
 
+-- ---- the four words of a record: its head, its edges, its nodes as a map of bytes, its tail
 -- word k of the record at place j, 0 past the end
-unfoldable pub fieldAt : List ℕ → ℕ → ℕ → ℕ
-fieldAt w j k = getD w (2 + 16 * j + k) 0
+unfoldable pub wordAt : List ℕ → ℕ → ℕ → ℕ
+wordAt w j k = getD w (2 + 4 * j + k) 0
 
--- the sixteen words of the record at place j
-unfoldable pub blockAt : List ℕ → ℕ → List ℕ
-unfolding tabulate fieldAt
-blockAt w j = tabulate 16 (λ k. fieldAt w j k)
-
--- whether the four nodes from k on are those of the record at place j
-unfoldable pub fourSame : List ℕ → List ℕ → ℕ → ℕ → Bool
-fourSame ns w j k =
-    eqb (getD ns k 0) (getD w (2 + 16 * j + (6 + k)) 0)
-    && eqb (getD ns (k + 1) 0) (getD w (2 + 16 * j + (6 + (k + 1))) 0)
-    && eqb (getD ns (k + 2) 0) (getD w (2 + 16 * j + (6 + (k + 2))) 0)
-    && eqb (getD ns (k + 3) 0) (getD w (2 + 16 * j + (6 + (k + 3))) 0)
-
--- the item of a record's sixteen words
-unfoldable pub itemWords : List ℕ → ChartItem
-itemWords w = record {
-  kind = getD w 0 0;
-  of = getD w 1 0;
-  plan = getD w 2 0;
-  edges = getD w 3 0;
-  count = getD w 4 0;
-  nodes = getD w 6 0 ∷ getD w 7 0 ∷ getD w 8 0 ∷ getD w 9 0 ∷ getD w 10 0 ∷ getD w 11 0 ∷ getD w 12 0 ∷ getD w 13 0 ∷ [];
+-- the item of a record's words
+unfoldable pub itemFrom : ℕ → ℕ → ℕ → ℕ → ChartItem
+unfolding placesOf
+itemFrom head edges map tail = record {
+  kind = head % 65536;
+  of = head / 65536 % 256;
+  plan = head / 65536 / 256 % 256;
+  count = tail / 65536 / 65536;
+  edges = edges;
+  nodes = placesOf map;
 }
 
--- the record of sixteen words
-unfoldable pub ofWords : List ℕ → Record
-unfolding itemWords
-ofWords w = record { item = itemWords w; handled = getD w 5 0; first = getD w 14 0; second = getD w 15 0 }
+-- the record of its words
+unfoldable pub recordFrom : ℕ → ℕ → ℕ → ℕ → Record
+unfolding itemFrom
+recordFrom head edges map tail = record {
+  item = itemFrom head edges map tail;
+  handled = head / 65536 / 256 / 256;
+  first = tail % 65536;
+  second = tail / 65536 % 65536;
+}
 
 -- the record at place j
 unfoldable pub recordAt : List ℕ → ℕ → Record
-unfolding ofWords blockAt
-recordAt w j = ofWords (blockAt w j)
+unfolding recordFrom wordAt
+recordAt w j = recordFrom (wordAt w j 0) (wordAt w j 1) (wordAt w j 2) (wordAt w j 3)
 
 -- the first n records
 unfoldable pub recordsAt : List ℕ → ℕ → List Record
@@ -88,20 +83,49 @@ unfoldable pub chartOf : List ℕ → Chart
 unfolding recordsAt itemCount
 chartOf w = record { mark = getD w 1 0; records = recordsAt w (itemCount w) }
 
--- the sixteen words of a record
-unfoldable pub wordsOf : Record → List ℕ
-wordsOf x =
-    let i = x .item in
-    i .kind ∷ i .of ∷ i .plan ∷ i .edges ∷ i .count ∷ x .handled ∷ (i .nodes ++ (x .first ∷ x .second ∷ []))
+-- the kind, the rule or symbol and the plan node of an item as one number
+unfoldable pub itemHead : ChartItem → ℕ
+itemHead x = (x .plan * 256 + x .of) * 65536 + x .kind
 
--- w with the first n words of ws from the place at on
-unfoldable pub pasted : List ℕ → ℕ → List ℕ → ℕ → List ℕ
-pasted w at ws n = paste w at ws n
+-- the first and the last word of a record
+unfoldable pub headOf : Record → ℕ
+headOf x = ((x .handled * 256 + x .item .plan) * 256 + x .item .of) * 65536 + x .item .kind
+
+unfoldable pub tailOf : Record → ℕ
+tailOf x = (x .item .count * 65536 + x .second) * 65536 + x .first
+
+-- the four words of a record
+unfoldable pub wordsOf : Record → List ℕ
+unfolding headOf tailOf wordOf
+wordsOf x = headOf x ∷ x .item .edges ∷ wordOf (x .item .nodes) ∷ tailOf x ∷ []
+
+-- an item that is read again from a record's words: what shares a word has no more bits there than its place
+pub record CompactItem (x : ChartItem) : Type 0 where
+  pub kind : x .kind < 65536
+  pub of : x .of < 256
+  pub plan : x .plan < 256
+  pub places : Readable (x .nodes)
+
+-- a record that is read again from its words
+pub record Compact (x : Record) : Type 0 where
+  pub item : CompactItem (x .item)
+  pub first : x .first < 65536
+  pub second : x .second < 65536
+
+-- r is the head of the item x; what the types of its fields tell is said by name
+pub record Headed (x : ChartItem) (r : ℕ) : Type 0 where
+  pub value : r ≡ itemHead x
+  pub small : r < 4294967296
+  pub compact : CompactItem x
+
+-- w with the four words ws from the place at on
+unfoldable pub put : List ℕ → ℕ → List ℕ → List ℕ
+put w at ws = set (set (set (set w (at + 0) (getD ws 0 0)) (at + 1) (getD ws 1 0)) (at + 2) (getD ws 2 0)) (at + 3) (getD ws 3 0)
 
 -- w with the record x at place j, if it has that place
 unfoldable pub saved : List ℕ → ℕ → Record → List ℕ
-unfolding capacity wordsOf pasted
-saved w j x = cond (ltb j (capacity w)) (pasted w (2 + 16 * j) (wordsOf x) 16) w
+unfolding capacity wordsOf put
+saved w j x = cond (ltb j (capacity w)) (put w (2 + 4 * j) (wordsOf x)) w
 
 unfoldable pub allWords : List Record → List ℕ
 unfolding wordsOf
@@ -111,7 +135,7 @@ allWords (x ∷ xs) = wordsOf x ++ allWords xs
 -- words that stand for the chart c, where w stood before: what lies behind the records stays
 unfoldable pub written : List ℕ → Chart → List ℕ
 unfolding allWords
-written w c = length (c .records) ∷ c .mark ∷ (allWords (c .records) ++ drop (2 + 16 * length (c .records)) w)
+written w c = length (c .records) ∷ c .mark ∷ (allWords (c .records) ++ drop (2 + 4 * length (c .records)) w)
 
 -- words that have a header, and no more items than they hold
 pub record Fits (w : List ℕ) : Type 0 where
@@ -137,8 +161,8 @@ addedTo w x = cond (eqb (getD w 1 0) 0) (placedIn w x (lastSame (x .item) (recor
 
 -- w with the record at place j handled, if it has that place
 unfoldable pub markedAt : List ℕ → ℕ → List ℕ
-unfolding capacity
-markedAt w j = cond (ltb j (capacity w)) (set w (2 + 16 * j + 5) 1) w
+unfolding saved
+markedAt w j = saved w j (handledNow (recordAt w j))
 
 -- w with the records xs, one after another
 unfoldable pub grownBy : List ℕ → List Record → List ℕ

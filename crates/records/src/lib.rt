@@ -1,10 +1,10 @@
-// A chart's words: two header words, then sixteen words for each record. Only this crate knows where a field stands: records are loaded and
-// stored by value, and what is looked at in place has a name.
+// A chart's words: two header words, then four words for each record. Only this crate knows where a field stands: records are
+// loaded and stored by value, and what is looked at in place has a name.
 ghost use mathlib.Core.Path.{_≡_};
 ghost use mathlib.Core.List.{List};
 ghost use Prim.Native.Nat.{ℕ, _≤_, _<_, _+_, _*_};
 ghost use lib.ListN.{length, getD};
-ghost use Rattle.records.specs.Words.{headerWords, wordsFor, cleared, capacity, itemCount, fieldAt, blockAt, ofWords, recordAt, recordsAt, wordsOf, pasted, saved, fourSame, lesserAt, improvedAt, appendedTo, addedTo, markedAt};
+ghost use Rattle.records.specs.Words.{headerWords, wordsFor, cleared, capacity, itemCount, wordAt, itemFrom, recordFrom, recordAt, recordsAt, itemHead, Headed, Compact, saved, lesserAt, improvedAt, appendedTo, addedTo, markedAt};
 ghost use Rattle.agenda.specs.Records.{newRecord, sameChartItem, isHandled};
 ghost use Rattle.agenda.specs.declared.Found.the-variants.{At};
 ghost use Rattle.agenda.specs.Steps.{lastSame, leastWaiting, handledCount};
@@ -12,29 +12,22 @@ use agenda::ChartItem;
 use agenda::Found;
 use agenda::Record;
 
+pub mod telling;
+
 // How many words the header and a record have.
 const HEADER: usize = 2;
 
-const WORDS: usize = 16;
+const WORDS: usize = 4;
 
-// Where the fields of a record stand among its words.
-const KIND: usize = 0;
+// The words of a record: the kind (16 bits), the rule or symbol (8), the plan node (8) and whether it is handled (32);
+// its edges; its nodes, a byte each; the first and the second partner (16 each) and the count (32).
+const HEAD: usize = 0;
 
-const OF: usize = 1;
+const EDGES: usize = 1;
 
-const PLAN: usize = 2;
+const NODES: usize = 2;
 
-const EDGES: usize = 3;
-
-const COUNT: usize = 4;
-
-const HANDLED: usize = 5;
-
-const NODES: usize = 6;
-
-const FIRST: usize = 14;
-
-const SECOND: usize = 15;
+const TAIL: usize = 3;
 
 // How many items the chart holds.
 pub fn capacity_of(chart: &[u64]) -> u64
@@ -80,27 +73,27 @@ pub fn mark_of(chart: &[u64]) -> u64
 // Where the words of the record at place j begin.
 fn place(chart: &[u64], j: u64) -> usize
     requires { ⌜ j < capacity (now chart) ⌝ }
-    ensures { λ r. ⌜ (r ≡ 2 + 16 * j) × (r + 16 ≤ length (now (chart .entry))) ⌝ }
+    ensures { λ r. ⌜ (r ≡ 2 + 4 * j) × (r + 4 ≤ length (now (chart .entry))) ⌝ }
 {
     HEADER + WORDS * j as usize
 }
 
 // Word k of the record at place j, which the chart has.
-fn field(chart: &[u64], j: u64, k: usize) -> u64
-    requires { ⌜ (j < capacity (now chart)) × (k < 16) ⌝ }
-    ensures { λ r. ⌜ r ≡ fieldAt (now (chart .entry)) j k ⌝ }
+fn word_at(chart: &[u64], j: u64, k: usize) -> u64
+    requires { ⌜ (j < capacity (now chart)) × (k < 4) ⌝ }
+    ensures { λ r. ⌜ r ≡ wordAt (now (chart .entry)) j k ⌝ }
 {
     let at = place(chart, j);
     chart[at + k]
 }
 
 // The same of any place: 0 past the end.
-fn field_any(chart: &[u64], j: u64, k: usize) -> u64
-    requires { ⌜ k < 16 ⌝ }
-    ensures { λ r. ⌜ r ≡ fieldAt (now (chart .entry)) j k ⌝ }
+fn word_any(chart: &[u64], j: u64, k: usize) -> u64
+    requires { ⌜ k < 4 ⌝ }
+    ensures { λ r. ⌜ r ≡ wordAt (now (chart .entry)) j k ⌝ }
 {
-    // No slice is so long that it has a place 2^59.
-    if j >= 576460752303423488 {
+    // No slice is so long that it has a place 2^61.
+    if j >= 2305843009213693952 {
         return 0;
     }
     word(chart, HEADER as u64 + WORDS as u64 * j + k as u64)
@@ -111,7 +104,7 @@ pub fn edges_at(chart: &[u64], j: u64) -> u64
     requires { ⌜ j < capacity (now chart) ⌝ }
     ensures { λ r. ⌜ r ≡ recordAt (now (chart .entry)) j .item .edges ⌝ }
 {
-    field(chart, j, EDGES)
+    word_at(chart, j, EDGES)
 }
 
 // Its count.
@@ -119,7 +112,7 @@ pub fn count_at(chart: &[u64], j: u64) -> u64
     requires { ⌜ j < capacity (now chart) ⌝ }
     ensures { λ r. ⌜ r ≡ recordAt (now (chart .entry)) j .item .count ⌝ }
 {
-    field(chart, j, COUNT)
+    word_at(chart, j, TAIL) / 65536 / 65536
 }
 
 // Whether it is handled.
@@ -127,84 +120,63 @@ pub fn is_handled(chart: &[u64], j: u64) -> bool
     requires { ⌜ j < capacity (now chart) ⌝ }
     ensures { λ r. ⌜ r ≡ isHandled (recordAt (now (chart .entry)) j) ⌝ }
 {
-    field(chart, j, HANDLED) != 0
+    word_at(chart, j, HEAD) / 65536 / 256 / 256 != 0
 }
 
 // The rule or symbol of the record at any place; past the end its words are 0.
 pub fn of_at(chart: &[u64], j: u64) -> u64
     ensures { λ r. ⌜ r ≡ recordAt (now (chart .entry)) j .item .of ⌝ }
 {
-    field_any(chart, j, OF)
+    word_any(chart, j, HEAD) / 65536 % 256
 }
 
 // The first partner.
 pub fn first_at(chart: &[u64], j: u64) -> u64
     ensures { λ r. ⌜ r ≡ recordAt (now (chart .entry)) j .first ⌝ }
 {
-    field_any(chart, j, FIRST)
+    word_any(chart, j, TAIL) % 65536
 }
 
 // The second partner.
 pub fn second_at(chart: &[u64], j: u64) -> u64
     ensures { λ r. ⌜ r ≡ recordAt (now (chart .entry)) j .second ⌝ }
 {
-    field_any(chart, j, SECOND)
+    word_any(chart, j, TAIL) / 65536 % 65536
 }
 
 // ---- records by value
-// The sixteen words of the record at place j, which the chart has: a plain copy, which takes few instructions.
-fn words_in(chart: &[u64], j: u64) -> [u64; WORDS]
-    requires { ⌜ j < capacity (now chart) ⌝ }
-    ensures { λ r. ⌜ r ≡ blockAt (now (chart .entry)) j ⌝ }
-{
-    let at = place(chart, j);
-    let mut ws = [0u64; WORDS];
-    let mut k = 0;
-    while k < WORDS {
-        ws[k] = chart[at + k];
-        k += 1;
-    }
-    ws
-}
-
-// The same where the chart may end before or inside the record.
-fn words_any(chart: &[u64], j: u64) -> [u64; WORDS]
-    ensures { λ r. ⌜ r ≡ blockAt (now (chart .entry)) j ⌝ }
-{
-    let mut ws = [0u64; WORDS];
-    let mut k = 0;
-    while k < WORDS {
-        ws[k] = field_any(chart, j, k);
-        k += 1;
-    }
-    ws
-}
-
 // The item of a record's words.
-fn item_of(w: [u64; WORDS]) -> ChartItem
-    ensures { λ r. ⌜ r ≡ ofWords w .item ⌝ }
+fn item_of(head: u64, edges: u64, map: u64, tail: u64) -> ChartItem
+    ensures { λ r. ⌜ r ≡ itemFrom head edges map tail ⌝ }
 {
-    let nodes = [w[6], w[7], w[8], w[9], w[10], w[11], w[12], w[13]];
+    let nodes = places::nodes_of(map);
+    let kind = (head % 65536) as u16;
+    let of = (head / 65536 % 256) as u8;
+    let plan = (head / 65536 / 256 % 256) as u8;
+    let count = (tail / 65536 / 65536) as u32;
     ChartItem {
-        kind: w[KIND],
-        of: w[OF],
-        plan: w[PLAN],
-        edges: w[EDGES],
-        count: w[COUNT],
+        kind,
+        of,
+        plan,
+        count,
+        edges,
         nodes,
     }
 }
 
 // The record of its words.
-fn record_of(w: [u64; WORDS]) -> Record
-    ensures { λ r. ⌜ r ≡ ofWords w ⌝ }
+fn record_of(head: u64, edges: u64, map: u64, tail: u64) -> Record
+    ensures { λ r. ⌜ r ≡ recordFrom head edges map tail ⌝ }
 {
-    let item = item_of(w);
+    let item = item_of(head, edges, map, tail);
+    let handled = (head / 65536 / 256 / 256) as u32;
+    let first = (tail % 65536) as u16;
+    let second = (tail / 65536 % 65536) as u16;
     Record {
         item,
-        handled: w[HANDLED],
-        first: w[FIRST],
-        second: w[SECOND],
+        handled,
+        first,
+        second,
     }
 }
 
@@ -213,14 +185,24 @@ pub fn load(chart: &[u64], j: u64) -> Record
     requires { ⌜ j < capacity (now chart) ⌝ }
     ensures { λ r. ⌜ r ≡ recordAt (now (chart .entry)) j ⌝ }
 {
-    record_of(words_in(chart, j))
+    let at = place(chart, j);
+    record_of(
+        chart[at + HEAD],
+        chart[at + EDGES],
+        chart[at + NODES],
+        chart[at + TAIL],
+    )
 }
 
 // The record at any place; past the end its words are 0.
 pub fn load_any(chart: &[u64], j: u64) -> Record
     ensures { λ r. ⌜ r ≡ recordAt (now (chart .entry)) j ⌝ }
 {
-    record_of(words_any(chart, j))
+    let head = word_any(chart, j, HEAD);
+    let edges = word_any(chart, j, EDGES);
+    let map = word_any(chart, j, NODES);
+    let tail = word_any(chart, j, TAIL);
+    record_of(head, edges, map, tail)
 }
 
 // The item at place j.
@@ -228,71 +210,40 @@ pub fn item_at(chart: &[u64], j: u64) -> ChartItem
     requires { ⌜ j < capacity (now chart) ⌝ }
     ensures { λ r. ⌜ r ≡ recordAt (now (chart .entry)) j .item ⌝ }
 {
-    item_of(words_in(chart, j))
+    let at = place(chart, j);
+    item_of(
+        chart[at + HEAD],
+        chart[at + EDGES],
+        chart[at + NODES],
+        chart[at + TAIL],
+    )
 }
 
 // A new record of an item, made of these partners.
 pub fn new_record(x: ChartItem, first: u64, second: u64) -> Record
-    ensures { λ r. ⌜ r ≡ newRecord x first second ⌝ }
+    requires { ⌜ (first < 65536) × (second < 65536) ⌝ }
+    ensures { λ r. ⌜ (r ≡ newRecord x first second) × Compact r ⌝ }
 {
     Record {
         item: x,
         handled: 0,
-        first,
-        second,
+        first: first as u16,
+        second: second as u16,
     }
 }
 
-// The words of a record.
-fn words_of(x: Record) -> [u64; WORDS]
-    ensures { λ r. ⌜ r ≡ wordsOf x ⌝ }
+// The kind, the rule or symbol and the plan node of an item as one number: the first word of a record that is not handled.
+pub fn head_of(x: ChartItem) -> u64
+    ensures { λ r. ⌜ Headed x r ⌝ }
 {
-    let item = x.item;
-    let nodes = item.nodes;
-    [
-        item.kind,
-        item.of,
-        item.plan,
-        item.edges,
-        item.count,
-        x.handled,
-        nodes[0],
-        nodes[1],
-        nodes[2],
-        nodes[3],
-        nodes[4],
-        nodes[5],
-        nodes[6],
-        nodes[7],
-        x.first,
-        x.second,
-    ]
+    (x.plan as u64 * 256 + x.of as u64) * 65536 + x.kind as u64
 }
 
-// Four words, the k-th and the next, copied to their places from at on: all are read before one is written, so that wide loads and stores can do it.
-fn put_four(chart: &mut [u64], at: usize, x: &[u64], k: usize)
-    requires { ⌜ (at + k + 4 ≤ length (now chart)) × (k + 4 ≤ length (now x)) ⌝ }
-    ensures { λ r. ⌜ ((w : List ℕ) → length w ≡ length (now (chart .entry)) → now (chart .entry) ≡ pasted w at (now (x .entry)) k → now (chart .exit) ≡ pasted w at (now (x .entry)) (k + 4)) × (length (now (chart .exit)) ≡ length (now (chart .entry))) ⌝ }
+// The last word of a record.
+fn tail_of(count: u32, first: u16, second: u16) -> u64
+    ensures { λ r. ⌜ r ≡ (count * 65536 + second) * 65536 + first ⌝ }
 {
-    let a = x[k];
-    let b = x[k + 1];
-    let c = x[k + 2];
-    let d = x[k + 3];
-    chart[at + k] = a;
-    chart[at + (k + 1)] = b;
-    chart[at + (k + 2)] = c;
-    chart[at + (k + 3)] = d;
-}
-
-// Sixteen words, copied to the place at on.
-fn put_words(chart: &mut [u64], at: usize, x: &[u64])
-    requires { ⌜ (at + 16 ≤ length (now chart)) × (length (now x) ≡ 16) ⌝ }
-    ensures { λ r. ⌜ now (chart .exit) ≡ pasted (now (chart .entry)) at (now (x .entry)) 16 ⌝ }
-{
-    put_four(chart, at, x, 0);
-    put_four(chart, at, x, 4);
-    put_four(chart, at, x, 8);
-    put_four(chart, at, x, 12);
+    (count as u64 * 65536 + second as u64) * 65536 + first as u64
 }
 
 // The record x at place j, which the chart has.
@@ -300,43 +251,29 @@ fn store(chart: &mut [u64], j: u64, x: Record)
     requires { ⌜ j < capacity (now chart) ⌝ }
     ensures { λ r. ⌜ now (chart .exit) ≡ saved (now (chart .entry)) j x ⌝ }
 {
-    let ws = words_of(x);
     let at = place(chart, j);
-    put_words(chart, at, &ws);
+    let item = x.item;
+    let nodes = item.nodes;
+    let head = x.handled as u64 * 4294967296 + head_of(item);
+    let map = places::word_of(nodes);
+    let tail = tail_of(item.count, x.first, x.second);
+    chart[at + HEAD] = head;
+    chart[at + EDGES] = item.edges;
+    chart[at + NODES] = map;
+    chart[at + TAIL] = tail;
 }
 
 // ---- equal items
-// Whether the four nodes from k on are those of the record at place j.
-fn same_four(chart: &[u64], j: u64, nodes: [u64; 8], k: usize) -> bool
-    requires { ⌜ (j < capacity (now chart)) × (k ≤ 4) ⌝ }
-    ensures { λ r. ⌜ (r ≡ fourSame nodes (now (chart .entry)) j k) × (length nodes ≡ 8) ⌝ }
-{
-    let at = place(chart, j);
-    (nodes[k] == chart[at + (NODES + k)])
-        & (nodes[k + 1] == chart[at + (NODES + (k + 1))])
-        & (nodes[k + 2] == chart[at + (NODES + (k + 2))])
-        & (nodes[k + 3] == chart[at + (NODES + (k + 3))])
-}
-
-// Whether the record at place j is of the item x: what differs most is looked at first.
+// Whether the record at place j is of the item x, by whole words and without a branch.
 pub fn same(chart: &[u64], j: u64, x: ChartItem) -> bool
     requires { ⌜ j < capacity (now chart) ⌝ }
     ensures { λ r. ⌜ r ≡ sameChartItem x (recordAt (now (chart .entry)) j .item) ⌝ }
 {
-    if field(chart, j, EDGES) != x.edges {
-        return false;
-    }
-    if field(chart, j, OF) != x.of {
-        return false;
-    }
-    if field(chart, j, PLAN) != x.plan {
-        return false;
-    }
-    if field(chart, j, KIND) != x.kind {
-        return false;
-    }
+    let at = place(chart, j);
     let nodes = x.nodes;
-    same_four(chart, j, nodes, 0) & same_four(chart, j, nodes, 4)
+    (x.edges == chart[at + EDGES])
+        & (places::word_of(nodes) == chart[at + NODES])
+        & (head_of(x) == chart[at + HEAD] % 4294967296)
 }
 
 // The last of the first n records, which the chart has, that is of the item x.
@@ -433,7 +370,7 @@ pub fn words_for(items: u64) -> u64
 }
 
 // ---- one record more
-// The record at place j takes the count and the partners of x, unless it is handled or its count is no greater: only these words change.
+// The record at place j takes the count and the partners of x, unless it is handled or its count is no greater: one word changes.
 pub fn improve(chart: &mut [u64], j: u64, x: Record)
     requires { ⌜ j < capacity (now chart) ⌝ }
     ensures { λ r. ⌜ now (chart .exit) ≡ improvedAt (now (chart .entry)) j x ⌝ }
@@ -442,13 +379,11 @@ pub fn improve(chart: &mut [u64], j: u64, x: Record)
         return;
     }
     let item = x.item;
-    if count_at(chart, j) <= item.count {
+    if count_at(chart, j) <= item.count as u64 {
         return;
     }
     let at = place(chart, j);
-    chart[at + COUNT] = item.count;
-    chart[at + FIRST] = x.first;
-    chart[at + SECOND] = x.second;
+    chart[at + TAIL] = tail_of(item.count, x.first, x.second);
 }
 
 // The record x behind the n that there are; where no place is left the chart is marked.
@@ -481,7 +416,7 @@ pub fn add(chart: &mut [u64], x: Record)
     }
 }
 
-// The record at place j becomes handled.
+// The record at place j becomes handled: the upper half of its first word is 1.
 pub fn mark_handled(chart: &mut [u64], j: u64)
     ensures { λ r. ⌜ now (chart .exit) ≡ markedAt (now (chart .entry)) j ⌝ }
 {
@@ -489,5 +424,6 @@ pub fn mark_handled(chart: &mut [u64], j: u64)
         return;
     }
     let at = place(chart, j);
-    chart[at + HANDLED] = 1;
+    let head = chart[at + HEAD];
+    chart[at + HEAD] = head % 4294967296 + 4294967296;
 }

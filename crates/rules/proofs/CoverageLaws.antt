@@ -26,41 +26,6 @@ use Rattle.joins.proofs.EdgeMaps.{at-past}
 use Rattle.joins.proofs.MapLaws.{getD-any}
 use Rattle.rules.specs.Coverage.{Shown, Covering}
 
--- ---- eight tests, for any place
-module _ (l : List ℕ) (size : length l ≡ 8) where
-  abbrev fits : ℕ → Bool
-  fits i = leb (getD l i 0) 64
-
-  all-near : ((fits 0 && fits 1 && fits 2 && fits 3) && (fits 4 && fits 5 && fits 6 && fits 7)) ≡ true → (i : ℕ) → i < 8 → getD l i 0 ≤ unplaced
-  all-near p i h =
-      let (low, high) = and-true (fits 0 && fits 1 && fits 2 && fits 3) (fits 4 && fits 5 && fits 6 && fits 7) p in
-      leb-true (getD l i 0) 64 (by i h (four 0 1 2 3 low) (four 4 5 6 7 high))
-    where
-      four : (a b c d : ℕ) → (fits a && fits b && fits c && fits d) ≡ true → (fits a ≡ true) × (fits b ≡ true) × (fits c ≡ true) × (fits d ≡ true)
-      four a b c d q =
-          let (abc, d′) = and-true (fits a && fits b && fits c) (fits d) q in
-          let (ab, c′) = and-true (fits a && fits b) (fits c) abc in
-          let (a′, b′) = and-true (fits a) (fits b) ab in
-          (a′, b′, c′, d′)
-
-      by : (i : ℕ) → i < 8 → (fits 0 ≡ true) × (fits 1 ≡ true) × (fits 2 ≡ true) × (fits 3 ≡ true) → (fits 4 ≡ true) × (fits 5 ≡ true) × (fits 6 ≡ true) × (fits 7 ≡ true) → fits i ≡ true
-      by zero h x y = x .0
-      by (suc zero) h x y = x .1
-      by (suc (suc zero)) h x y = x .2
-      by (suc (suc (suc zero))) h x y = x .3
-      by (suc (suc (suc (suc zero)))) h x y = y .0
-      by (suc (suc (suc (suc (suc zero))))) h x y = y .1
-      by (suc (suc (suc (suc (suc (suc zero)))))) h x y = y .2
-      by (suc (suc (suc (suc (suc (suc (suc zero))))))) h x y = y .3
-      by (suc (suc (suc (suc (suc (suc (suc (suc i)))))))) h x y = absurd (omega arith)
-
-  pub plain-all : ((fits 0 && fits 1 && fits 2 && fits 3) && (fits 4 && fits 5 && fits 6 && fits 7)) ≡ true → Plain l
-  plain-all p i = go (decLt i 8)
-    where
-      go : Dec (i < 8) → at l i ≤ unplaced
-      go (yes h) = omega (arith, all-near p i h, getD-any l i unplaced 0 (omega (arith, size)))
-      go (no h) = omega (arith, at-past l i (omega (arith, size)))
-
 -- ---- the images of chosen places
 -- each node of the set is at one of the first n places of l that are chosen
 abbrev pub Imaged : List ℕ → ℕ → ℕ → ℕ → Type 0
@@ -77,11 +42,12 @@ pub imaged-skip : (l : List ℕ) (chosen i set after : ℕ) → after ≡ set �
 imaged-skip l chosen i set after e before = rw e (imaged-more l chosen i (i + 1) set (omega arith) before)
 
 -- the node at one place more
-pub imaged-with : (l : List ℕ) (chosen i set more after : ℕ) (here : Bool) → i < length l → Found chosen i here → here ≡ true → Added set (getD l i 0) more → after ≡ more → Imaged l chosen i set → Imaged l chosen (i + 1) after
-imaged-with l chosen i set more after here inside found sure added e before v h p =
-    either-way (member set v) (eqb v (getD l i 0)) (sym (added .members v h) ∙ ap (λ m. member m v) (sym e) ∙ p)
+pub imaged-with : (l : List ℕ) (chosen i u set more after : ℕ) (here : Bool) → i < length l → Found chosen i here → here ≡ true → u ≡ getD l i 0 → Added set u more → after ≡ more → Imaged l chosen i set
+    → Imaged l chosen (i + 1) after
+imaged-with l chosen i u set more after here inside found sure read added e before v h p =
+    either-way (member set v) (eqb v u) (sym (added .members v h) ∙ ap (λ m. member m v) (sym e) ∙ p)
     (λ q. imaged-more l chosen i (i + 1) set (omega arith) before v h q)
-    (λ q. (i, omega arith, sym (found .value) ∙ sure, getD-any l i unplaced 0 inside ∙ sym (eqb-true v (getD l i 0) q)))
+    (λ q. (i, omega arith, sym (found .value) ∙ sure, getD-any l i unplaced 0 inside ∙ sym (eqb-true v u q ∙ read)))
 
 -- ---- a plan node that passes both tests
 pub known-by : (g : List ℕ) (r p rules nodes : ℕ) → checkGrammar g ≡ true → rules ≡ ruleCount g → r < rules → nodes ≡ rulePlan g r → p < nodes → KnownNode g r p
@@ -114,17 +80,16 @@ module _ (g : List ℕ) (x : ChartItem) where
   shown-none v h p = absurd (false≢true (sym (member-none v) ∙ p))
 
 -- ---- an item that shows each
-module _ (g h : List ℕ) (x : ChartItem) (plain : Plain (x .nodes)) where
+module _ (g h : List ℕ) (x : ChartItem) where
   -- no edges have no open nodes
   pub covering-none : x .edges ≡ 0 → Covering g h x
   covering-none e = record {
-    plain = plain;
     shown = λ v l p. absurd (false≢true (sym (member-none v) ∙ spans-none g h 0 .each v l (ap (λ m. isOpen (graphOf g h) m v) (sym e) ∙ p)));
   }
 
   pub covering-all : (nodes set : ℕ) → OpenIn g h (x .edges) nodes → ((v : ℕ) → v < 64 → member set v ≡ true → Shown g x v)
       → eqb (bitAnd nodes set) nodes ≡ true → Covering g h x
-  covering-all nodes set opened each e = record { plain = plain; shown = λ v l p. each v l (there v (opened .members v l ∙ p)) }
+  covering-all nodes set opened each e = record { shown = λ v l p. each v l (there v (opened .members v l ∙ p)) }
     where
       there : (v : ℕ) → member nodes v ≡ true → member set v ≡ true
       there v p = and-true (member nodes v) (member set v) (sym (member-both nodes set v) ∙ ap (λ k. member k v) (eqb-true (bitAnd nodes set) nodes e) ∙ p) .1

@@ -22,42 +22,35 @@ use Rattle.agenda.specs.declared.ChartItem.{ChartItem}
 use Rattle.questions.specs.Layout.{rankAt, ruleCount, ruleSymbol, ruleNodes, rulePlan}
 use Rattle.questions.specs.Checking.{checkGrammar}
 use Rattle.questions.specs.Abstract.{grammarOf, graphOf}
-use Rattle.joins.specs.Joins.{Accepted, KnownNode, Holds, Plain, Makes}
+use Rattle.joins.specs.Joins.{Accepted, KnownNode, Holds, Makes}
 use Rattle.joins.proofs.Known.{rule-ok, nodes-few, plan-size}
 use Rattle.joins.proofs.Touching.{touches-some}
 use Rattle.joins.proofs.Openness.{either-way, some-find}
 use Rattle.joins.proofs.EdgeMaps.{rank-cap, at-padded}
-use Rattle.joins.proofs.Showing.{plain-padded, plain-take, made-shows, made-plain}
+use Rattle.joins.proofs.Showing.{made-shows}
 use Rattle.rules.specs.Coverage.{Covering}
 use Rattle.rules.specs.Rules.{Second}
 use Rattle.rules.proofs.NodeLists.{externals-size}
 
 -- ---- the maps of two items
-pub first-holds : (g h : List ℕ) (x : ChartItem) → x .kind ≡ 0 → Covering g h x → Holds g h (x .edges) (ruleNodes g (x .of)) (x .nodes) × Plain (x .nodes)
-first-holds g h x isActive covering = (
-  record { each = λ v l p. let (i, inside, _, image) = covering .shown v l p .active isActive in (i, inside, image) },
-  covering .plain,
-)
+pub first-holds : (g h : List ℕ) (x : ChartItem) → x .kind ≡ 0 → Covering g h x → Holds g h (x .edges) (ruleNodes g (x .of)) (x .nodes)
+first-holds g h x isActive covering =
+    record { each = λ v l p. let (i, inside, _, image) = covering .shown v l p .active isActive in (i, inside, image) }
 
 pub second-holds : (g h : List ℕ) (r q : ℕ) (y : ChartItem) (t : List ℕ) (b : Bool) → Second g r q y t b → b ≡ true → Covering g h y
     → Holds g h (y .edges) (ruleNodes g r) t
 second-holds g h r q y t b second is covering = record { each = λ v l p. second .held is v (covering .shown v l p) }
 
 -- ---- the item that they make
-module _ (g h : List ℕ) (r q m₁ m₂ : ℕ) (f k t : List ℕ) (accepted : Accepted g h) (known : KnownNode g r q) (first : Plain f) (eight : length f ≡ 8) (second : Plain k) (eight′ : length k ≡ 8) where
+module _ (g h : List ℕ) (r q m₁ m₂ : ℕ) (f k t : List ℕ) (accepted : Accepted g h) (known : KnownNode g r q) where
   abbrev n : ℕ
   n = ruleNodes g r
-
-  few : n ≤ 8
-  few = nodes-few g r (known .grammar) (known .rule)
 
   pub made-covering : (b : Bool) → Makes (combine (graphOf g h) (ruleOf (grammarOf g) r) r q m₁ m₂ (take n f) (take n k)) r q (m₁ ∪ m₂) t b → b ≡ true
       → (count : ℕ) → Covering g h (record { kind = 0; of = r; plan = q; edges = m₁ ∪ m₂; count = count; nodes = t })
   made-covering b makes is count =
       let made = subst (Makes (combine (graphOf g h) (ruleOf (grammarOf g) r) r q m₁ m₂ (take n f) (take n k)) r q (m₁ ∪ m₂) t) is makes in
       record {
-        plain =
-            made-plain g h r q m₁ m₂ (m₁ ∪ m₂) (take n f) (take n k) t accepted known made refl (plain-take n f (omega (arith, few, eight)) first) (plain-take n k (omega (arith, few, eight′)) second);
         shown = λ v l p. record {
           active = λ _. made-shows g h r q m₁ m₂ (m₁ ∪ m₂) (take n f) (take n k) t accepted known made refl v l p;
           passive = λ none. absurd (none refl);
@@ -81,12 +74,7 @@ root-external R p x all o =
     lies : ℕ → Bool
     lies i = ltb 0 (occurs i (below (R .plan) p))
 
-plain-images : (F xs : List ℕ) → Plain F → Plain (images F xs)
-plain-images F [] plain i = omega arith
-plain-images F (x ∷ xs) plain zero = plain x
-plain-images F (x ∷ xs) plain (suc i) = plain-images F xs plain i
-
-module _ (g h : List ℕ) (x : ChartItem) (checked : checkGrammar g ≡ true) (known : x .of < ruleCount g) (isActive : x .kind ≡ 0) (root : suc (x .plan) ≡ rulePlan g (x .of)) (eight : length (x .nodes) ≡ 8) (covering : Covering g h x) where
+module _ (g h : List ℕ) (x : ChartItem) (checked : checkGrammar g ≡ true) (known : x .of < ruleCount g) (isActive : x .kind ≡ 0) (root : suc (x .plan) ≡ rulePlan g (x .of)) (covering : Covering g h x) where
   abbrev F : List ℕ
   F = take (ruleNodes g (x .of)) (x .nodes)
 
@@ -96,7 +84,6 @@ module _ (g h : List ℕ) (x : ChartItem) (checked : checkGrammar g ≡ true) (k
   pub root-covering : (s : ℕ) (l : List ℕ) → s ≡ ruleSymbol g (x .of) → l ≡ padded (images F ext)
       → (count : ℕ) → Covering g h (record { kind = 1; of = s; plan = 0; edges = x .edges; count = count; nodes = l })
   root-covering s l qs ql count = record {
-    plain = subst Plain (sym ql) (plain-padded (images F ext) (plain-images F ext (plain-take (ruleNodes g (x .of)) (x .nodes) (omega (arith, eight, nodes-few g (x .of) checked known)) (covering .plain))));
     shown = λ v few p.
         let (i, inside, o, image) = covering .shown v few p .active isActive in
         let ok = rule-ok g (x .of) checked known in

@@ -1,11 +1,11 @@
--- Lists of graph nodes in eight places: the first of another list, the images of a rule's external nodes, and the nodes of a graph edge.
+-- Lists of graph nodes in eight places: the images of a rule's external nodes, and the nodes of a graph edge.
 use mathlib.Core.Path.{_≡_, refl, sym, ap, _∙_}
 use mathlib.Core.Bool.{true}
 use mathlib.Core.List.{List, _∷_, map}
 use Prim.Native.Nat.{ℕ, zero, suc, _+_, _≤_, _<_}
 use native.Mathlib.Omega.{arith}
 use lib.ListN.{length, getD, set, take}
-use lib.Seq.{getD-take, length-take-le}
+use lib.Seq.{getD-take}
 use Rattle.hrg.specs.Counts.{tabulate}
 use Rattle.hrg.specs.Grammars.{Edge, Rule, rightOf, edgeAt}
 use Rattle.hrg.specs.Trees.{unplaced, at, padded, images}
@@ -13,7 +13,6 @@ use Rattle.hrg.proofs.Sums.{occurs-at, length-tabulate, at-tabulate}
 use Rattle.questions.specs.Layout.{rankAt, ruleCount, ruleNodes, ruleSymbol, ruleExternal, graphEdges, graphLabel, graphNode}
 use Rattle.questions.specs.Checking.{checkGrammar}
 use Rattle.questions.specs.Abstract.{ruleFrom, grammarOf, graphOf}
-use Rattle.questions.proofs.WellFormedLists.{tabulate-list}
 use Rattle.questions.proofs.WellFormedAccepted.{rule-is}
 use Rattle.joins.proofs.Known.{rule-ok, right-nodes, nodes-few}
 use Rattle.joins.proofs.MapLaws.{getD-any, Placed, placed-next, placed-all}
@@ -23,16 +22,6 @@ map-tabulate : (n : ℕ) (t f : ℕ → ℕ) → map t (tabulate n f) ≡ tabula
 unfolding tabulate
 map-tabulate zero t f = refl
 map-tabulate (suc n) t f = ap (λ (l : List ℕ). t (f 0) ∷ l) (map-tabulate n t (λ k. f (suc k)))
-
--- ---- the first places of a list
-module _ (l : List ℕ) (eight : length l ≡ 8) where
-  pub copied-next : (i : ℕ) (t : List ℕ) → i < 8 → Placed (λ x. at l x) i t → Placed (λ x. at l x) (i + 1) (set t i (getD l i 0))
-  copied-next i t h before = placed-next (λ x. at l x) i (getD l i 0) t h (getD-any l i 0 unplaced (omega arith)) before
-
-  pub copied-all : (n i : ℕ) (t : List ℕ) → n ≤ 8 → i ≤ n → n ≤ i → Placed (λ x. at l x) i t → t ≡ padded (take n l)
-  copied-all n i t few a b p =
-      placed-all (λ x. at l x) n i t a b p
-      ∙ ap padded (tabulate-list (take n l) n (λ x. at l x) (sym (length-take-le n l (omega arith))) (λ x h. getD-any l x unplaced 0 (omega arith) ∙ sym (getD-take n l x 0 h)))
 
 -- ---- the external nodes of a rule
 module _ (g : List ℕ) (r : ℕ) (checked : checkGrammar g ≡ true) (known : r < ruleCount g) where
@@ -59,10 +48,10 @@ module _ (g : List ℕ) (r : ℕ) (checked : checkGrammar g ≡ true) (known : r
     abbrev pub image : ℕ → ℕ
     image k = at (take (ruleNodes g r) f) (ruleExternal g r k)
 
-    pub image-next : (k x : ℕ) (l : List ℕ) → k < rank → rank ≤ 4 → x ≡ ruleExternal g r k → Placed image k l → Placed image (k + 1) (set l k (getD f x 0))
-    image-next k x l h few e before =
-        placed-next image k (getD f x 0) l (omega arith)
-        (getD-any f x 0 unplaced (omega (arith, external-few k x h e))
+    pub image-next : (k x v : ℕ) (l : List ℕ) → k < rank → rank ≤ 4 → v ≡ getD f x 0 → x ≡ ruleExternal g r k → Placed image k l → Placed image (k + 1) (set l k v)
+    image-next k x v l h few read e before =
+        placed-next image k v l (omega arith)
+        (read ∙ getD-any f x 0 unplaced (omega (arith, external-few k x h e))
         ∙ sym (getD-take (ruleNodes g r) f x unplaced (external-known k x h e)) ∙ ap (λ y. at (take (ruleNodes g r) f) y) e)
         before
 

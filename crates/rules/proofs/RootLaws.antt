@@ -17,7 +17,7 @@ use Rattle.agenda.specs.Consequences.{atRoot}
 use Rattle.agenda.specs.declared.ChartItem.{ChartItem}
 use Rattle.agenda.specs.declared.Record.{Record}
 use Rattle.agenda.proofs.Records.{item-active, item-passive}
-use Rattle.questions.specs.Layout.{ruleCount, ruleSymbol, ruleNodes, rulePlan}
+use Rattle.questions.specs.Layout.{wordField, lineField, ruleCount, ruleSymbol, ruleNodes, rulePlan}
 use Rattle.questions.specs.Checking.{checkGrammar}
 use Rattle.questions.specs.Abstract.{ruleFrom, grammarOf}
 use Rattle.questions.proofs.WellFormedAccepted.{rules-length, rule-is}
@@ -29,14 +29,19 @@ use Rattle.rules.specs.Rules.{rootItems, GivesRoot, madeOf}
 use Rattle.rules.proofs.Parents.{child-lower}
 use Rattle.rules.proofs.Covering.{root-covering}
 
--- ---- sums that stay in a word
-pub plus-small : (a b : ℕ) → a + b ≤ 18446744073709551615 → a + b ≡ plus a b
+-- ---- sums that stay in 32 bits
+pub plus-small : (a b : ℕ) → a + b ≤ 4294967295 → a + b ≡ plus a b
 unfolding plus
 plus-small a b h = omega arith
 
-pub plus-large : (a b : ℕ) → 18446744073709551615 ≤ a + b → 18446744073709551615 ≡ plus a b
+pub plus-large : (a b : ℕ) → 4294967295 ≤ a + b → 4294967295 ≡ plus a b
 unfolding plus
 plus-large a b h = omega arith
+
+-- ---- the symbol of a rule, a field of a line, is a byte
+pub symbol-byte : (g : List ℕ) (r s : ℕ) → s ≡ ruleSymbol g r → s < 256
+unfolding lineField wordField
+symbol-byte g r s e = omega arith
 
 -- ---- over any grammar
 inner-none : (G : Grammar) (r p m n : ℕ) (f : List ℕ) → eqb (suc p) (length (planOf G r)) ≡ false → rootItems G (active r p m f) n ≡ []
@@ -99,15 +104,15 @@ module _ (g : List ℕ) (x : ChartItem) where
     unfolding ruleFrom
     lhs-is = ap (λ (R : Rule). R .production .lhs) (rule-is g (x .of) known)
 
-    pub root-made : (s c : ℕ) (l : List ℕ) → suc (x .plan) ≡ n → s ≡ ruleSymbol g (x .of) → c ≡ plus (x .count) 1 → length (x .nodes) ≡ 8
+    pub root-made : (s c : ℕ) (l : List ℕ) → suc (x .plan) ≡ n → s ≡ ruleSymbol g (x .of) → c ≡ plus (x .count) 1
         → l ≡ padded (images (take (ruleNodes g (x .of)) (x .nodes)) (rightOf G (x .of) .externals)) → GivesRoot g x (record { ok = true; item = passiveItem s c l })
-    root-made s c l h qs qc eight ql = record {
+    root-made s c l h qs qc ql = record {
       none = λ p. absurd (true≢false p);
       one = λ _.
           as-active e
           ∙ root-item G (x .of) (x .plan) (x .edges) (x .count) f (eq-eqb (suc (x .plan)) (length (planOf G (x .of))) (h ∙ size ∙ sym (plan-size g (x .of) checked known)))
           ∙ ap (λ (y : ChartItem). y ∷ []) (sym is);
-      covering = λ w covers _. root-covering g w x checked known e (h ∙ size) eight covers s l qs ql c;
+      covering = λ w covers _. root-covering g w x checked known e (h ∙ size) covers s l qs ql c;
     }
       where
         nodes : l ≡ padded (images f (rightOf G (x .of) .externals))

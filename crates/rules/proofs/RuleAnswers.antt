@@ -1,6 +1,7 @@
 -- What the rules make over accepted tables, and what callers read off the answers.
 use mathlib.Core.Path.{_≡_, refl, sym, ap, ap₂, _∙_, subst}
 use mathlib.Core.Bool.{Bool, true, false, _&&_, cond, true≢false, false≢true}
+use mathlib.Core.Logic.{_⊎_, inl, inr}
 use mathlib.Core.List.{List, [], _∷_, map}
 use Prim.Native.Nat.{ℕ, _/_, _%_, _≤_, _<_}
 use native.Mathlib.Omega.{arith}
@@ -23,20 +24,20 @@ use Rattle.agenda.specs.Records.{chartItem, recordOf, itemOf, plus}
 use Rattle.agenda.specs.Consequences.{withTerminal, pair}
 use Rattle.agenda.specs.declared.ChartItem.{ChartItem}
 use Rattle.agenda.specs.declared.Record.{Record}
-use Rattle.questions.specs.Layout.{rankAt, ruleNodes, edgeLabel, planKind, planFirst, planSecond, graphEdges, graphLabel}
+use Rattle.questions.specs.Layout.{rankAt, ruleNodes, edgeLabel, planKind, planFirst, planSecond, graphNodes, graphEdges, graphLabel}
 use Rattle.questions.specs.Abstract.{grammarOf, graphOf}
 use Rattle.questions.proofs.WellFormedLent.{checked-grammar-ok}
 use Rattle.rules.specs.declared.Place.{Place}
 use Rattle.rules.specs.declared.Made.{Made}
-use Rattle.joins.specs.Joins.{Accepted, KnownNode, KnownEdge, BareFrom, Plain, Makes, edgeNodes}
+use Rattle.joins.specs.Joins.{Accepted, KnownNode, KnownEdge, BareFrom, Into, Makes, edgeNodes}
 use Rattle.rules.specs.Plans.{secondWord}
 use Rattle.rules.specs.Coverage.{Shown, Covering}
-use Rattle.rules.specs.Rules.{Gives, Second, terminalItems, binaryAt, madeOf, Above}
+use Rattle.rules.specs.Rules.{Gives, Second, terminalItems, binaryAt, madeOf, Above, Usable, StandsFor}
 use Rattle.joins.proofs.Known.{right-nodes, nodes-few, plan-size, graph-size, graph-nodes, graph-ok, graph-edges-few, graph-nodes-few}
 use Rattle.joins.proofs.PlanMasks.{node-is, joined-is}
 use Rattle.joins.proofs.EdgeMaps.{edge-ok, edge-label as rule-label, edge-rank, rank-cap, node-there, edge-node-known, at-padded, at-past, take-padded, padded-bare, length-attach, attach-place}
 use Rattle.joins.proofs.Openness.{open-single}
-use Rattle.joins.proofs.Showing.{plain-padded, plain-take, plain-attach}
+use Rattle.joins.proofs.GraphPlaces.{Placeable, in-padded, in-take, in-attach}
 use Rattle.rules.proofs.JoinWords.{introduced, second-edge, asked-known, asked-label, second-other}
 use Rattle.rules.proofs.NodeLists.{label-is, edge-ranked}
 use Rattle.rules.proofs.Covering.{made-covering}
@@ -98,11 +99,11 @@ module _ (g : List ℕ) (r q : ℕ) (known : KnownNode g r q) where
 
   module _ (y : ChartItem) (t : List ℕ) where
     second-none : ((H : Graph) (p m : ℕ) (f : List ℕ) → binaryAt G H (active r p m f) (itemOf G y) q ≡ []) → Second g r q y t false
-    second-none h = record { none = λ _. h; some = λ e. absurd (false≢true e); bare = λ e. absurd (false≢true e); held = λ e. absurd (false≢true e); plain = λ e. absurd (false≢true e) }
+    second-none h = record { none = λ _. h; some = λ e. absurd (false≢true e); bare = λ e. absurd (false≢true e); held = λ e. absurd (false≢true e); into = λ e. absurd (false≢true e) }
 
     second-some : ((H : Graph) (p m : ℕ) (f : List ℕ) → planFirst g r q ≡ p → binaryAt G H (active r p m f) (itemOf G y) q ≡ combine H R r q m (y .edges) f (take n t)) → BareFrom n t
-        → ((v : ℕ) → Shown g y v → (i : ℕ) × (i < n) × (at t i ≡ v)) → (Plain (y .nodes) → Plain t) → Second g r q y t true
-    second-some h past held plain = record { none = λ e. absurd (true≢false e); some = λ _. h; bare = λ _. past; held = λ _. held; plain = λ _. plain }
+        → ((v : ℕ) → Shown g y v → (i : ℕ) × (i < n) × (at t i ≡ v)) → ((n : ℕ) → Into n (y .nodes) → Into n t) → Second g r q y t true
+    second-some h past held into = record { none = λ e. absurd (true≢false e); some = λ _. h; bare = λ _. past; held = λ _. held; into = λ _. into }
 
     with-active : y .kind ≡ 0 → (H : Graph) (p m : ℕ) (f : List ℕ)
         → binaryAt G H (active r p m f) (itemOf G y) q ≡ guard (eqb r (y .of)) (joinAt H R r p m f (y .plan) (y .edges) (take (rightOf G (y .of) .nodes) (y .nodes)) q node)
@@ -179,7 +180,7 @@ module _ (g : List ℕ) (r q : ℕ) (known : KnownNode g r q) where
                   ∙ getD-take rank (y .nodes) k unplaced there
                   ∙ e,
             ))
-            (λ plain. subst Plain (sym t-is) (plain-padded (attach n (edge .attachment) L) (plain-attach n (edge .attachment) L (plain-take rank (y .nodes) short plain))))
+            (λ k h. subst (Into k) (sym t-is) (in-padded k (attach n (edge .attachment) L) (in-attach k n (edge .attachment) L (in-take k rank (y .nodes) short h))))
           where
             rank : ℕ
             rank = rankAt g (edgeLabel g r i)
@@ -248,32 +249,19 @@ module _ (g : List ℕ) (r q : ℕ) (known : KnownNode g r q) where
             ∙ ap (λ b. guard (eqb r (y .of)) (guard b (both H m f (take (rightOf G (y .of) .nodes) (y .nodes))))) (and-no (eqb (planFirst g r q) p) (eqb d (y .plan)) (ne-eqb d (y .plan) e))
             ∙ guard-none (eqb r (y .of)))
 
-        pub joined-made : y .of ≡ r → d ≡ y .plan → length (y .nodes) ≡ 8 → (size′ : ℕ) → size′ ≡ n → t ≡ padded (take size′ (y .nodes)) → Second g r q y t true
-        joined-made s e eight size′ is t-is′ =
+        pub joined-made : y .of ≡ r → d ≡ y .plan → BareFrom (ruleNodes g (y .of)) (y .nodes) → t ≡ y .nodes → Second g r q y t true
+        joined-made s e past t-is =
             second-some
             (λ H p m f c.
             joined-items H p m f
             ∙ ap (λ b. guard b (guard (eqb (planFirst g r q) p && eqb d (y .plan)) (both H m f (take (rightOf G (y .of) .nodes) (y .nodes))))) (eq-eqb r (y .of) (sym s))
             ∙ ap₂ (λ a b. guard (a && b) (both H m f (take (rightOf G (y .of) .nodes) (y .nodes)))) (eq-eqb (planFirst g r q) p c) (eq-eqb d (y .plan) e)
-            ∙ ap (both H m f) (ap (λ i. take (rightOf G i .nodes) (y .nodes)) s ∙ ap (λ i. take i (y .nodes)) size ∙ sym (ap (take n) t-is ∙ take-padded n (take n (y .nodes)) long few)))
-            (subst (BareFrom n) (sym t-is) (padded-bare n (take n (y .nodes)) (omega (arith, long))))
+            ∙ ap (both H m f) (ap (λ i. take (rightOf G i .nodes) (y .nodes)) s ∙ ap₂ (λ i (l : List ℕ). take i l) size (sym t-is)))
+            (subst (λ i. BareFrom (ruleNodes g i) t) s (subst (BareFrom (ruleNodes g (y .of))) (sym t-is) past))
             (λ v shown.
             let (i, l, _, e′) = shown .active isActive in
-            let inside : i < n = omega (arith, l, ap (ruleNodes g) s) in (
-              i,
-              inside,
-              ap (λ (t : List ℕ). at t i) t-is ∙ at-padded (take n (y .nodes)) i (omega (arith, inside, few)) ∙ getD-take n (y .nodes) i unplaced inside ∙ e′,
-            ))
-            (λ plain. subst Plain (sym t-is) (plain-padded (take n (y .nodes)) (plain-take n (y .nodes) (omega (arith, few, eight)) plain)))
-          where
-            few : n ≤ 8
-            few = nodes-few g r (known .grammar) (known .rule)
-
-            long : length (take n (y .nodes)) ≡ n
-            long = length-take-le n (y .nodes) (omega (arith, few))
-
-            t-is : t ≡ padded (take n (y .nodes))
-            t-is = t-is′ ∙ ap (λ i. padded (take i (y .nodes))) is
+            (i, omega (arith, l, ap (ruleNodes g) s), ap (λ (t : List ℕ). at t i) t-is ∙ e′))
+            (λ k h. subst (Into k) (sym t-is) h)
 
 -- ---- over accepted tables
 module _ (g h : List ℕ) where
@@ -327,48 +315,36 @@ module _ (g h : List ℕ) where
               (right-nodes g (x .of) (known .grammar) (known .rule)))
 
           -- the one item
-          pub pair-made : (sure : Bool) (made : List ℕ) (j : Bool) (n : ℕ) → b ≡ true → planFirst g (x .of) (p .node) ≡ x .plan → length (x .nodes) ≡ 8 → length t ≡ 8
+          pub pair-made : (sure : Bool) (made : List ℕ) (j : Bool) (n : ℕ) → b ≡ true → planFirst g (x .of) (p .node) ≡ x .plan
               → Makes (combine H (ruleOf G′ (x .of)) (x .of) (p .node) (x .edges) (y .edges) (take (ruleNodes g (x .of)) (x .nodes)) (take (ruleNodes g (x .of)) t)) (x .of) (p .node) (x .edges ∪ y .edges) made j
-              → (sure ≡ true → Covering g h x) → (sure ≡ true → Covering g h y) → Accepted g h
-              → Gives g h sure pairs n (record { ok = j; item = record { kind = 0; of = x .of; plan = p .node; edges = bitOr (x .edges) (y .edges); count = n; nodes = made } })
+              → Accepted g h → Gives g h sure pairs n (record { ok = j; item = record { kind = 0; of = x .of; plan = p .node; edges = bitOr (x .edges) (y .edges); count = n; nodes = made } })
           unfolding _∪_
-          pair-made sure made j n e first eight eight′ makes covers-x covers-y accepted = record {
+          pair-made sure made j n e first makes accepted = record {
             none = λ f. sym (pair-both e first) ∙ makes .none f;
             one = λ f.
                 let one = makes .one f in
                 ap (map (λ (i : Item). chartItem i n)) (sym (pair-both e first) ∙ one .item) ∙ ap (λ (l : List ℕ). item l ∷ []) (sym (one .places));
             covering = λ s f.
-                made-covering g h (x .of) (p .node) (x .edges) (y .edges) (x .nodes) t made accepted (above .known found) (covers-x s .plain) eight
-                (second .plain e (covers-y s .plain)) eight′ j makes f n;
+                made-covering g h (x .of) (p .node) (x .edges) (y .edges) (x .nodes) t made accepted (above .known found) j makes f n;
           }
             where
               item : List ℕ → ChartItem
               item l = record { kind = 0; of = x .of; plan = p .node; edges = bitOr (x .edges) (y .edges); count = n; nodes = l }
 
   -- ---- a graph edge
-  module _ (x : ChartItem) (e : ℕ) (accepted : Accepted g h) (known : e < graphEdges h) where
+  module _ (e : ℕ) (accepted : Accepted g h) (known : e < graphEdges h) where
     abbrev graph-edge : Edge
     graph-edge = edgeAt (H .edges) e
-
-    abbrev edge-items : List Item
-    edge-items = terminalItems G′ H (itemOf G′ x) e
 
     edge-inside : e < length (H .edges)
     edge-inside = omega (arith, graph-size g h)
 
-    as-pair : edge-items ≡ binaryOf G′ H (itemOf G′ x) (passive (graph-edge .label) (single e) (graph-edge .attachment))
-    as-pair = edge-pair G′ H e (graph-ok g h accepted .terminals e edge-inside) (itemOf G′ x)
-
-    pub edge-passive : (x .kind ≡ 0 → ⊥) → edge-items ≡ []
-    edge-passive k = terminal-passive G′ H x e (ne-eqb (x .kind) 0 k)
+    as-pair : (i : Item) → terminalItems G′ H i e ≡ binaryOf G′ H i (passive (graph-edge .label) (single e) (graph-edge .attachment))
+    as-pair i = edge-pair G′ H e (graph-ok g h accepted .terminals e edge-inside) i
 
     module _ (m : ℕ) (added : Added 0 e m) where
       set-is : m ≡ single e
       set-is = single-added e m (omega (arith, graph-edges-few g h accepted)) added
-
-      pub edge-apart : (b : Bool) → b ≡ disjoint (x .edges) m → b ≡ false → edge-items ≡ []
-      edge-apart b t f =
-          as-pair ∙ binary-apart G′ H (itemOf G′ x) (passive (graph-edge .label) (single e) (graph-edge .attachment)) (ap₂ disjoint (item-edges G′ x) (sym set-is) ∙ sym t ∙ f)
 
       -- the item of the edge
       module _ (s : ℕ) (l : List ℕ) (label : s ≡ graphLabel h e) (nodes : l ≡ padded (graph-edge .attachment)) where
@@ -395,7 +371,6 @@ module _ (g h : List ℕ) where
         -- its open nodes are those of the edge
         pub edge-covering : Covering g h edge-item
         edge-covering = record {
-          plain = subst Plain (sym nodes) (plain-padded (graph-edge .attachment) (λ i. place i (decLt i (length (graph-edge .attachment)))));
           shown = λ v l p.
               let on = open-single g h e v (ap (λ i. isOpen H i v) (sym set-is) ∙ p) in
               let (k, d, q) = occurs-find v (graph-edge .attachment) (ltb-true 0 (occurs v (graph-edge .attachment)) on) in
@@ -404,13 +379,24 @@ module _ (g h : List ℕ) where
                 passive = λ _. (k, omega (arith, d, edge-ranked g h e known, ap (rankAt g) label), ap (λ (l : List ℕ). at l k) nodes ∙ at-padded (graph-edge .attachment) k (omega (arith, d, few, ok .listed .ranked)) ∙ q);
               };
         }
-          where
-            place : (i : ℕ) → Dec (i < length (graph-edge .attachment)) → at (graph-edge .attachment) i ≤ unplaced
-            place i (yes d) = omega (arith, ok .listed .inside (at (graph-edge .attachment) i) (occurs-at (graph-edge .attachment) i d), graph-nodes g h, graph-nodes-few g h accepted)
-            place i (no d) = omega (arith, at-past (graph-edge .attachment) i (omega (arith, d)))
 
-        pub edge-pairs : binaryOf G′ H (itemOf G′ x) (itemOf G′ edge-item) ≡ edge-items
-        edge-pairs = ap (binaryOf G′ H (itemOf G′ x)) y-is ∙ sym as-pair
+        -- so a rule may take it
+        edge-usable : (sure : Bool) → Usable g h sure edge-item
+        edge-usable sure = record {
+          into = subst (Into (graphNodes h)) (sym nodes) (in-padded (graphNodes h) (graph-edge .attachment) (λ i. place i (decLt i (length (graph-edge .attachment)))));
+          bare = λ z. absurd (omega (arith, z));
+          covering = λ _. edge-covering;
+        }
+          where
+            place : (i : ℕ) → Dec (i < length (graph-edge .attachment)) → Placeable (graphNodes h) (at (graph-edge .attachment) i)
+            place i (yes d) = inr (omega (arith, ok .listed .inside (at (graph-edge .attachment) i) (occurs-at (graph-edge .attachment) i d), graph-nodes g h))
+            place i (no d) = inl (at-past (graph-edge .attachment) i (omega (arith, d)))
+
+        pub edge-stands : StandsFor g h e edge-item
+        edge-stands = record {
+          usable = edge-usable;
+          pairs = λ x. ap (binaryOf G′ H (itemOf G′ x)) y-is ∙ sym (as-pair (itemOf G′ x));
+        }
 
   -- ---- what callers read off an answer: the records that the rule makes
   fresh-records : (l : List Item) (n a b : ℕ) → map (λ (i : Item). recordOf i n a b) l ≡ map (λ (x : ChartItem). madeOf x a b) (map (λ (i : Item). chartItem i n) l)

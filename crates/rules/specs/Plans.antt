@@ -13,7 +13,8 @@ use Rattle.agenda.specs.Records.{itemOf}
 use Rattle.agenda.specs.declared.ChartItem.{ChartItem}
 use Rattle.questions.specs.Layout.{planKind, planFirst, planSecond, edgeLabel}
 use Rattle.questions.specs.Abstract.{grammarOf}
-use Rattle.joins.specs.Joins.{OpenAt, nodesWord}
+use Rattle.joins.specs.Joins.{Accepted, KnownNode, OpenAt, nodesWord}
+use Rattle.joins.specs.Graphs.{GraphTable}
 use Rattle.rules.specs.declared.plans.Parent.{Parent}
 use Rattle.rules.specs.Rules.{Above}
 
@@ -61,6 +62,18 @@ PlacedAt g t r p = WordsAt g r p (getD t (16 * r + p) 0) (getD t (1024 + (16 * r
 pub record PlanTable (g t : List ℕ) : Type 0 where
   pub each : (r p : ℕ) → r < 64 → p < 16 → PlacedAt g t r p
   pub small : (k : ℕ) → getD t k 0 < 4294967296
+
+-- w tells what plan node q of rule r, which is no leaf, asks for beside an item at its first child
+pub record Asks (g : List ℕ) (r q w : ℕ) : Type 0 where
+  pub node : KnownNode g r q
+  pub inner : planKind g r q ≡ 0 → ⊥
+  pub word : w ≡ secondWord g r q
+
+-- accepted tables, and what a run works out from them for the rules
+pub record RunTables (g h plans graph : List ℕ) : Type 0 where
+  pub accepted : Accepted g h
+  pub planned : PlanTable g plans
+  pub graphed : GraphTable g h graph
 
 -- where two items make something in some graph, x is only the first of them or only the second
 pub record Leads (g : List ℕ) (x : ChartItem) (first : Bool) : Type 0 where

@@ -6,19 +6,19 @@ use Prim.Native.Nat.{ℕ, _<_}
 use lib.ListN.{length, take}
 use lib.Dec.{eqb}
 use Rattle.hrg.specs.Counts.{occurs}
-use Rattle.hrg.specs.Grammars.{Grammar, Graph, ruleOf, planOf, planNode}
-use Rattle.hrg.specs.Trees.{at}
+use Rattle.hrg.specs.Grammars.{Grammar, Graph, ruleOf, rightOf, planOf, planNode}
+use Rattle.hrg.specs.Trees.{at, padded, images}
 use Rattle.hrg.specs.Items.{Item, active, passive}
 use Rattle.hrg.specs.WellFormed.{children}
-use Rattle.hrg.specs.ClosureRun.{guard, eachTo, combine, rootAt, nonterminalAt, joinAt}
+use Rattle.hrg.specs.ClosureRun.{guard, eachTo, combine, rootAt, nonterminalAt, joinAt, binaryOf}
 use Rattle.hrg.specs.AgendaRun.{Conclusion}
 use Rattle.agenda.specs.Records.{chartItem, itemOf, plus}
 use Rattle.agenda.specs.Consequences.{terminalAt}
 use Rattle.agenda.specs.declared.ChartItem.{ChartItem}
 use Rattle.agenda.specs.declared.Record.{Record}
-use Rattle.questions.specs.Layout.{ruleNodes, rulePlan, planFirst}
-use Rattle.questions.specs.Abstract.{grammarOf}
-use Rattle.joins.specs.Joins.{Accepted, KnownNode, BareFrom, Plain}
+use Rattle.questions.specs.Layout.{ruleNodes, rulePlan, planFirst, graphNodes}
+use Rattle.questions.specs.Abstract.{grammarOf, graphOf}
+use Rattle.joins.specs.Joins.{Accepted, KnownNode, BareFrom, Into}
 use Rattle.rules.specs.Coverage.{Shown, Covering}
 use Rattle.rules.specs.declared.Place.{Place}
 use Rattle.rules.specs.declared.Made.{Made}
@@ -43,6 +43,29 @@ binaryAt G H (active r p m f) (passive s m′ L) q = nonterminalAt H (ruleOf G r
 binaryAt G H (active r p m f) (active r′ p′ m′ k) q = guard (eqb r r′) (joinAt H (ruleOf G r) r p m f p′ m′ k q (planNode (planOf G r) q))
 binaryAt G H (passive s m L) b q = []
 
+-- what two items of a chart make, and what one makes with graph edge e
+abbrev pub pairItems : List ℕ → List ℕ → ChartItem → ChartItem → List Item
+pairItems g h x y = binaryOf (grammarOf g) (graphOf g h) (itemOf (grammarOf g) x) (itemOf (grammarOf g) y)
+
+abbrev pub edgeItems : List ℕ → List ℕ → ChartItem → ℕ → List Item
+edgeItems g h x e = terminalItems (grammarOf g) (graphOf g h) (itemOf (grammarOf g) x) e
+
+-- the list of the passive item that the root rule makes: the images of the external nodes of rule r by the map f
+abbrev pub rootList : List ℕ → ℕ → List ℕ → List ℕ
+rootList g r f = padded (images (take (ruleNodes g r) f) (rightOf (grammarOf g) r .externals))
+
+-- an item that a rule takes: its places hold nodes of the graph, an active one's none past its rule's nodes; and it
+-- covers its open nodes where that is sure
+pub record Usable (g h : List ℕ) (sure : Bool) (x : ChartItem) : Type 0 where
+  pub into : Into (graphNodes h) (x .nodes)
+  pub bare : x .kind ≡ 0 → BareFrom (ruleNodes g (x .of)) (x .nodes)
+  pub covering : sure ≡ true → Covering g h x
+
+-- an item that stands for graph edge e: a rule takes it, and with it an item makes what it makes with the edge
+pub record StandsFor (g h : List ℕ) (e : ℕ) (y : ChartItem) : Type 0 where
+  pub usable : (sure : Bool) → Usable g h sure y
+  pub pairs : (x : ChartItem) → pairItems g h x y ≡ edgeItems g h x e
+
 -- whether item y can be the second at plan node q of rule r, where t has its map: with an item at the first child it makes what two sets and maps make, else nothing
 pub record Second (g : List ℕ) (r q : ℕ) (y : ChartItem) (t : List ℕ) (b : Bool) : Type 0 where
   pub none : b ≡ false → (H : Graph) (p m : ℕ) (f : List ℕ) → binaryAt (grammarOf g) H (active r p m f) (itemOf (grammarOf g) y) q ≡ []
@@ -50,7 +73,7 @@ pub record Second (g : List ℕ) (r q : ℕ) (y : ChartItem) (t : List ℕ) (b :
       → binaryAt (grammarOf g) H (active r p m f) (itemOf (grammarOf g) y) q ≡ combine H (ruleOf (grammarOf g) r) r q m (y .edges) f (take (ruleNodes g r) t)
   pub bare : b ≡ true → BareFrom (ruleNodes g r) t
   pub held : b ≡ true → (v : ℕ) → Shown g y v → (i : ℕ) × (i < ruleNodes g r) × (at t i ≡ v)
-  pub plain : b ≡ true → Plain (y .nodes) → Plain t
+  pub into : b ≡ true → (n : ℕ) → Into n (y .nodes) → Into n t
 
 -- ---- the item that a rule makes
 -- whether a list of items has one, and that item with the count n. Where it is sure that what makes the item covers its open nodes, the item does

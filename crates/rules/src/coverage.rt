@@ -5,33 +5,25 @@ ghost use Prim.Native.Nat.{ℕ, _≤_, _<_};
 ghost use Rattle.masks.specs.Masks.{member};
 ghost use Rattle.hrg.specs.Trees.{at};
 ghost use Rattle.questions.specs.Checking.{checkGrammar};
-ghost use Rattle.joins.specs.Joins.{Accepted, Plain};
-ghost use Rattle.joins.specs.Graphs.{GraphTable};
-ghost use Rattle.rules.specs.Plans.{PlanTable};
+ghost use Rattle.rules.specs.Plans.{PlanTable, RunTables};
 ghost use Rattle.rules.specs.Coverage.{Shown, Covering};
 use crate::plans;
 use crate::plans::PLAN_TABLE_WORDS;
 use agenda::ChartItem;
-
-// Whether no place has a number above 64.
-fn plain(l: [u64; 8]) -> bool
-    ensures { λ r. ⌜ (r ≡ true → Plain l) ⌝ }
-{
-    let low = (l[0] <= 64) & (l[1] <= 64) & (l[2] <= 64) & (l[3] <= 64);
-    let high = (l[4] <= 64) & (l[5] <= 64) & (l[6] <= 64) & (l[7] <= 64);
-    low & high
-}
+use joins::graphs::GRAPH_TABLE_WORDS;
+use places::PLACES;
 
 // The graph nodes at those of the first n places that are in the set `chosen`.
-fn images(n: u64, chosen: u64, l: [u64; 8]) -> u64
+fn images(n: u64, chosen: u64, l: [u8; PLACES]) -> u64
     requires { ⌜ n ≤ 8 ⌝ }
     ensures { λ r. ⌜ ((v : ℕ) → v < 64 → member r v ≡ true → (i : ℕ) × (i < n) × (member chosen i ≡ true) × (at l i ≡ v)) ⌝ }
 {
+    let map = places::word_of(l);
     let mut set: u64 = 0;
     let mut i: u64 = 0;
     while i < n {
         if masks::has(chosen, i) {
-            set = masks::with(set, l[i as usize]);
+            set = masks::with(set, places::node_at(map, i));
         }
         i += 1;
     }
@@ -43,7 +35,7 @@ fn shown(g: &[u64], plans: &[u32; PLAN_TABLE_WORDS], x: ChartItem) -> u64
     requires { ⌜ (checkGrammar (now g) ≡ true) × PlanTable (now g) (now plans) ⌝ }
     ensures { λ r. ⌜ ((v : ℕ) → v < 64 → member r v ≡ true → Shown (now (g .entry)) x v) ⌝ }
 {
-    let of = x.of;
+    let of = x.of as u64;
     let l = x.nodes;
     if of >= 64 {
         return 0;
@@ -54,7 +46,7 @@ fn shown(g: &[u64], plans: &[u32; PLAN_TABLE_WORDS], x: ChartItem) -> u64
     if of >= layout::rule_count(g) {
         return 0;
     }
-    let p = x.plan;
+    let p = x.plan as u64;
     if p >= layout::rule_plan(g, of) {
         return 0;
     }
@@ -71,16 +63,12 @@ pub fn covers(
     g: &[u64],
     h: &[u64],
     plans: &[u32; PLAN_TABLE_WORDS],
-    graph: &[u64; 577],
+    graph: &[u64; GRAPH_TABLE_WORDS],
     x: ChartItem,
 ) -> bool
-    requires { ⌜ Accepted (now g) (now h) × PlanTable (now g) (now plans) × GraphTable (now g) (now h) (now graph) ⌝ }
+    requires { ⌜ RunTables (now g) (now h) (now plans) (now graph) ⌝ }
     ensures { λ r. ⌜ (r ≡ true → Covering (now (g .entry)) (now (h .entry)) x) ⌝ }
 {
-    let l = x.nodes;
-    if !plain(l) {
-        return false;
-    }
     if x.edges == 0 {
         return true;
     }

@@ -19,8 +19,9 @@ use Rattle.rules.proofs.CandidateLaws.{no-terminal}
 use Rattle.records.specs.Words.{Fits, recordAt, grownBy}
 use Rattle.records.proofs.Grown.{Whole, whole-gather}
 use Rattle.steps.specs.Ready.{Tables, Ready, Handled}
+use Rattle.steps.proofs.KnownLaws.{edge-whole}
 use Rattle.steps.proofs.ReadyLaws.{stays-record, stays-handled}
-use Rattle.steps.proofs.StepLaws.{Gathered, nothing-added, terminal-whole, gathered-none, gathered-next, gathered-skip, gathered-all}
+use Rattle.steps.proofs.StepLaws.{Gathered, nothing-added, gathered-none, gathered-next, gathered-skip, gathered-all}
 
 module _ (g h : List ℕ) (x : ChartItem) (m : ℕ) (C : Candidates g h x m) (w : List ℕ) (o : Fits w) (j : ℕ) where
   abbrev made : ℕ → List Record
@@ -31,9 +32,8 @@ module _ (g h : List ℕ) (x : ChartItem) (m : ℕ) (C : Candidates g h x m) (w 
 
   pub candidates-none : m ≡ 0 → (n : ℕ) → n ≡ graphEdges h → w ≡ grownBy w (gather n made)
   candidates-none z n q =
-      let whole : (e : ℕ) → Whole (made e) = λ e. terminal-whole (grammarOf g) (graphOf g h) (itemOf (grammarOf g) x) (x .count) j e in
-      gathered-all w o made whole w n n refl
-      (gathered-skip w o made whole w 0 n (λ e a b. no-terminal g h x m C (x .count) j e (omega arith) (subst-member e)) (omega arith) (gathered-none w o made whole))
+      gathered-all w o made w n n refl
+      (gathered-skip w o made w 0 n (λ e a b. no-terminal g h x m C (x .count) j e (omega arith) (subst-member e)) (omega arith) (gathered-none w o made))
     where
       subst-member : (e : ℕ) → member m e ≡ false
       subst-member e = rw z (member-none e)
@@ -43,6 +43,7 @@ module _ (g h : List ℕ) (x : ChartItem) (m : ℕ) (C : Candidates g h x m) (w 
 pub record Edging (g h keys w : List ℕ) (j : ℕ) (v jx ms : List ℕ) (e : ℕ) : Type 0 where
   pub gathered : Gathered w (λ i. withTerminal (grammarOf g) (graphOf g h) (itemOf (grammarOf g) (recordAt w j .item)) (recordAt w j .item .count) j i) v e
   pub ready : Ready g h keys v jx ms
+  pub within : e ≤ length (graphOf g h .edges)
 
 module _ {g h plans keys graph w ix ls : List ℕ} {j : ℕ} (P : Tables g h plans keys graph × Ready g h keys w ix ls × Handled w j) where
   abbrev own : ChartItem
@@ -51,8 +52,11 @@ module _ {g h plans keys graph w ix ls : List ℕ} {j : ℕ} (P : Tables g h pla
   abbrev with : ℕ → List Record
   with e = withTerminal (grammarOf g) (graphOf g h) (itemOf (grammarOf g) own) (own .count) j e
 
-  with-whole : (e : ℕ) → Whole (with e)
-  with-whole e = terminal-whole (grammarOf g) (graphOf g h) (itemOf (grammarOf g) own) (own .count) j e
+  with-whole : (e : ℕ) → e < length (graphOf g h .edges) → Whole (with e)
+  with-whole e = edge-whole g h (P .0 .accepted) w (P .1 .known) (P .1 .small) j (P .2 .there) (own .count) e
+
+  edges-whole : (n : ℕ) → n ≤ length (graphOf g h .edges) → Whole (gather n with)
+  edges-whole n l = whole-gather n with (λ e h. with-whole e (omega arith))
 
   pub edges-skipped : {y : ChartItem} {m : ℕ} → y ≡ own → Candidates g h y m → m ≡ 0
       → (w ≡ grownBy w (gather (length (graphOf g h .edges)) with)) × Ready g h keys w ix ls
@@ -60,28 +64,29 @@ module _ {g h plans keys graph w ix ls : List ℕ} {j : ℕ} (P : Tables g h pla
       (candidates-none g h own m (subst (λ (y : ChartItem). Candidates g h y m) q C) w (P .1 .fits) j z (length (graphOf g h .edges)) (graph-size g h), P .1)
 
   pub edge-start : Edging g h keys w j w ix ls 0
-  edge-start = record { gathered = gathered-none w (P .1 .fits) with with-whole; ready = P .1 }
+  edge-start = record { gathered = gathered-none w (P .1 .fits) with; ready = P .1; within = omega arith }
 
   module _ {v jx ms : List ℕ} {e : ℕ} (E : Edging g h keys w j v jx ms e) where
     edge-item : recordAt v j .item ≡ own
-    edge-item = ap (λ (y : Record). y .item) (stays-record w v j (gather e with) (P .1 .fits) (whole-gather e with with-whole) (E .gathered .is) (P .2))
+    edge-item = ap (λ (y : Record). y .item) (stays-record w v j (gather e with) (P .1 .fits) (edges-whole e (E .within)) (E .gathered .is) (P .2))
 
     pub edge-handled : Handled v j
-    edge-handled = stays-handled w v j (gather e with) (P .1 .fits) (whole-gather e with with-whole) (E .gathered .is) (P .2)
+    edge-handled = stays-handled w v j (gather e with) (P .1 .fits) (edges-whole e (E .within)) (E .gathered .is) (P .2)
 
     pub edge-candidates : {y : ChartItem} {m : ℕ} → y ≡ own → Candidates g h y m → Candidates g h (recordAt v j .item) m
     edge-candidates {m = m} q C = subst (λ (y : ChartItem). Candidates g h y m) (q ∙ sym edge-item) C
 
-    pub edge-next : {u kx ns : List ℕ}
+    pub edge-next : {u kx ns : List ℕ} → e < graphEdges h
         → (u ≡ grownBy v (withTerminal (grammarOf g) (graphOf g h) (itemOf (grammarOf g) (recordAt v j .item)) (recordAt v j .item .count) j e)) × Ready g h keys u kx ns
         → Edging g h keys w j u kx ns (e + 1)
-    edge-next {u} made = record {
+    edge-next {u} l made = record {
       gathered =
-          gathered-next w (P .1 .fits) with with-whole v u e (e + 1) (omega arith) (E .gathered)
+          gathered-next w (P .1 .fits) with v u e (e + 1) (omega arith) (λ n d. with-whole n (omega (arith, graph-size g h))) (E .gathered)
           (made .0 ∙ ap (λ (y : ChartItem). grownBy v (withTerminal (grammarOf g) (graphOf g h) (itemOf (grammarOf g) y) (y .count) j e)) edge-item);
       ready = made .1;
+      within = omega (arith, graph-size g h);
     }
 
     pub edge-end : {n : ℕ} → n ≡ graphEdges h → e ≤ n → n ≤ e → (v ≡ grownBy w (gather (length (graphOf g h .edges)) with)) × Ready g h keys v jx ms
     edge-end q a b =
-        (gathered-all w (P .1 .fits) with with-whole v e (length (graphOf g h .edges)) (omega (arith, q, graph-size g h)) (E .gathered), E .ready)
+        (gathered-all w (P .1 .fits) with v e (length (graphOf g h .edges)) (omega (arith, q, graph-size g h)) (E .gathered), E .ready)

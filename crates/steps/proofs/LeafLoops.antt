@@ -1,8 +1,9 @@
 -- The loops over leaf items: what is left to add gives the whole.
 use Prim.Native.Nat.{ℕ, zero, suc, _+_, _-_, _<_}
-use mathlib.Core.Path.{_≡_, refl, sym, ap, _∙_}
+use mathlib.Core.Path.{_≡_, refl, sym, ap, _∙_, subst}
+use native.Mathlib.Omega.{arith}
 use mathlib.Core.Bool.{Bool, true, false, cond}
-use mathlib.Core.List.{List, [], _∷_, _++_, map, map-append}
+use mathlib.Core.List.{List, [], _∷_, _++_, map, map-append, List·Memᴰ as In, List·Memᴰ·head as here, List·Memᴰ·tail as there, List·Memᴰ·not-nil as in-nil}
 use lib.Dec.{eqb}
 use lib.ListN.{length, replicate, length-replicate}
 use borrow.Author.Tests.{eq-eqb, ne-eqb}
@@ -10,6 +11,7 @@ use Rattle.hrg.specs.Counts.{tabulate}
 use Rattle.hrg.specs.Grammars.{Grammar, PlanNode, leaf, introduce, join, planOf, planNode, rightOf}
 use Rattle.hrg.specs.Trees.{unplaced, at, padded}
 use Rattle.hrg.specs.Items.{Item}
+use Rattle.hrg.specs.WellFormed.{GrammarOk}
 use Rattle.hrg.specs.ClosureRun.{eachTo, leafAt, leaves}
 use Rattle.agenda.specs.declared.ChartItem.{ChartItem}
 use Rattle.agenda.specs.declared.Record.{Record}
@@ -22,8 +24,9 @@ use Rattle.questions.proofs.WellFormedAccepted.{rules-length}
 use Rattle.joins.specs.Joins.{KnownNode}
 use Rattle.joins.proofs.Known.{plan-size, plan-node}
 use Rattle.joins.proofs.EdgeMaps.{is-padded, at-none}
-use Rattle.records.specs.Words.{Fits, addedTo, grownBy}
-use Rattle.records.proofs.Grown.{Whole, whole-items, whole-each, grown-none, grown-one, grown-fits, grown-more}
+use Rattle.records.specs.Words.{Fits, Compact, addedTo, grownBy}
+use Rattle.records.proofs.Packing.{compact-new, compact-active}
+use Rattle.records.proofs.Grown.{Whole, whole-map, whole-each, grown-none, grown-one, grown-fits, grown-more}
 use Rattle.steps.specs.Leaves.{leafItem, leafRecord, ruleLeaves}
 
 -- ---- a loop from the last number on
@@ -32,29 +35,45 @@ pub record Left (w : List ℕ) (n : ℕ) (f : ℕ → List Record) (v : List ℕ
   pub fits : Fits v
   pub whole : grownBy v (eachTo i f) ≡ grownBy w (eachTo n f)
 
-module _ (w : List ℕ) (n : ℕ) (f : ℕ → List Record) (e : (k : ℕ) → Whole (f k)) where
+module _ (w : List ℕ) (n : ℕ) (f : ℕ → List Record) where
   pub left-all : Fits w → (m : ℕ) → m ≡ n → Left w n f w m
   left-all o m q = record { fits = o; whole = ap (λ k. grownBy w (eachTo k f)) q }
 
-  pub left-next : (v u : List ℕ) (i k : ℕ) → i ≡ suc k → Left w n f v i → u ≡ grownBy v (f k) → Left w n f u k
-  left-next v u i k q o p = record {
-    fits = rw p (grown-fits v (o .fits) (f k) (e k));
-    whole = ap (λ (t : List ℕ). grownBy t (eachTo k f)) p ∙ grown-more v (o .fits) (f k) (e k) (eachTo k f) (whole-each k f e) ∙ ap (λ j. grownBy v (eachTo j f)) (sym q) ∙ o .whole;
+  pub left-next : (v u : List ℕ) (i k : ℕ) → i ≡ suc k → ((j : ℕ) → j < i → Whole (f j)) → Left w n f v i → u ≡ grownBy v (f k) → Left w n f u k
+  left-next v u i k q e o p = record {
+    fits = rw p (grown-fits v (o .fits) (f k) (e k (omega arith)));
+    whole = ap (λ (t : List ℕ). grownBy t (eachTo k f)) p ∙ grown-more v (o .fits) (f k) (e k (omega arith)) (eachTo k f) (whole-each k f (λ j l. e j (omega arith))) ∙ ap (λ j. grownBy v (eachTo j f)) (sym q) ∙ o .whole;
   }
 
   pub left-none : (v : List ℕ) (i : ℕ) → i ≡ 0 → Left w n f v i → v ≡ grownBy w (eachTo n f)
   left-none v i q o = sym (grown-none v (o .fits)) ∙ ap (λ k. grownBy v (eachTo k f)) (sym q) ∙ o .whole
 
 -- ---- one plan node
-pub leaf-whole : (G : Grammar) (r p : ℕ) → Whole (leafRecord G r p)
-unfolding leafRecord
-leaf-whole G r p = whole-items (leafAt G r p (planNode (planOf G r) p)) 0 0 0
-
 at-unplaced : (n k : ℕ) → at (tabulate n (λ x. unplaced)) k ≡ unplaced
 unfolding tabulate
 at-unplaced zero k = refl
 at-unplaced (suc n) zero = refl
 at-unplaced (suc n) (suc k) = at-unplaced n k
+
+-- the record of a leaf item can be read again from its words
+module _ (G : Grammar) (ok : GrammarOk G) (r : ℕ) (known : r < length (G .rules)) where
+  module _ (p : ℕ) (inside : p < length (planOf G r)) where
+    leaf-compact : (node : PlanNode) (i : Item) → In i (leafAt G r p node) → Compact (recordOf i 0 0 0)
+    unfolding leafAt
+    leaf-compact leaf i (here q) =
+        subst (λ (j : Item). Compact (recordOf j 0 0 0)) (sym q)
+        (compact-new (compact-active (tabulate (rightOf G r .nodes) (λ x. unplaced)) (λ k l. omega (arith, at-unplaced (rightOf G r .nodes) k)) 0 (omega (arith, ok .rule-count .upper)) (omega (arith, ok .rule r known .plan .size .upper))) (omega arith) (omega arith))
+    leaf-compact leaf i (there m) = absurd (in-nil m)
+    leaf-compact (introduce c e) i m = absurd (in-nil m)
+    leaf-compact (join a b) i m = absurd (in-nil m)
+
+    pub leaf-whole : Whole (leafRecord G r p)
+    unfolding leafRecord
+    leaf-whole = whole-map (λ (i : Item). recordOf i 0 0 0) (leafAt G r p (planNode (planOf G r) p)) (leaf-compact (planNode (planOf G r) p))
+
+  pub rule-whole : Whole (ruleLeaves G r)
+  unfolding ruleLeaves
+  rule-whole = whole-each (length (planOf G r)) (λ p. leafRecord G r p) (λ p l. leaf-whole p l)
 
 no-places : (n : ℕ) → replicate 8 unplaced ≡ padded (tabulate n (λ x. unplaced))
 no-places n = is-padded (replicate 8 unplaced) (tabulate n (λ x. unplaced)) (length-replicate 8 unplaced) (λ x h. at-none 8 x ∙ sym (at-unplaced n x))
@@ -93,13 +112,11 @@ module _ (g : List ℕ) (r p kind : ℕ) (known : KnownNode g r p) (is : kind �
       arm false = leaf-join (grammarOf g) r p (planFirst g r p) (planSecond g r p)
 
   -- what the function does
-  pub leaf-added : (w v : List ℕ) (y : ChartItem) (x : Record) → Fits w → kind ≡ 0 → y ≡ leafItem r p → x ≡ newRecord y 0 0 → v ≡ addedTo w x
+  pub leaf-added : (w v : List ℕ) (y : ChartItem) (x : Record) → Fits w → kind ≡ 0 → y ≡ leafItem r p → (x ≡ newRecord y 0 0) × Compact x → v ≡ addedTo w x
       → v ≡ grownBy w (leafRecord (grammarOf g) r p)
-  leaf-added w v y x o z e n q =
-      q
-      ∙ ap (addedTo w) (n ∙ ap (λ (i : ChartItem). newRecord i 0 0) e)
-      ∙ grown-one w o (newRecord (leafItem r p) 0 0) (length-replicate 8 unplaced)
-      ∙ ap (grownBy w) (leaf-one z)
+  leaf-added w v y x o z e (n, compact) q =
+      let is = n ∙ ap (λ (i : ChartItem). newRecord i 0 0) e in
+      q ∙ grown-one w o x compact ∙ ap (λ (y : Record). grownBy w (y ∷ [])) is ∙ ap (grownBy w) (leaf-one z)
 
   pub leaf-skipped : (w : List ℕ) → Fits w → (kind ≡ 0 → ⊥) → w ≡ grownBy w (leafRecord (grammarOf g) r p)
   leaf-skipped w o z = sym (grown-none w o) ∙ ap (grownBy w) (leaf-none z)
@@ -111,10 +128,6 @@ rule-plan g r n c h q = q ∙ sym (plan-size g r c h)
 pub leaves-rule : (G : Grammar) (r : ℕ) (w v : List ℕ) → v ≡ grownBy w (eachTo (length (planOf G r)) (λ p. leafRecord G r p)) → v ≡ grownBy w (ruleLeaves G r)
 unfolding ruleLeaves
 leaves-rule G r w v q = q
-
-pub rule-whole : (G : Grammar) (r : ℕ) → Whole (ruleLeaves G r)
-unfolding ruleLeaves
-rule-whole G r = whole-each (length (planOf G r)) (λ p. leafRecord G r p) (λ p. leaf-whole G r p)
 
 map-each : {A B : Type 0} (f : A → B) (n : ℕ) (F : ℕ → List A) → map f (eachTo n F) ≡ eachTo n (λ k. map f (F k))
 map-each f zero F = refl
@@ -129,6 +142,9 @@ unfolding leafRecords leaves ruleLeaves leafRecord
 leaves-all G =
     map-each (λ (i : Item). recordOf i 0 0 0) (length (G .rules)) (λ r. eachTo (length (planOf G r)) (λ p. leafAt G r p (planNode (planOf G r) p)))
     ∙ each-same (length (G .rules)) _ _ (λ r. map-each (λ (i : Item). recordOf i 0 0 0) (length (planOf G r)) (λ p. leafAt G r p (planNode (planOf G r) p)))
+
+pub leaves-whole : (G : Grammar) → GrammarOk G → Whole (leafRecords G)
+leaves-whole G ok = subst Whole (sym (leaves-all G)) (whole-each (length (G .rules)) (λ r. ruleLeaves G r) (λ r l. rule-whole G ok r l))
 
 pub rule-number : (g : List ℕ) (n : ℕ) → n ≡ ruleCount g → n ≡ length (grammarOf g .rules)
 rule-number g n q = q ∙ sym (rules-length g)

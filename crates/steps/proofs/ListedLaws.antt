@@ -14,7 +14,7 @@ use Rattle.agenda.specs.declared.ChartItem.{ChartItem}
 use Rattle.agenda.specs.declared.Record.{Record}
 use Rattle.agenda.specs.Records.{isHandled}
 use Rattle.agenda.specs.Consequences.{gather, recordIn}
-use Rattle.questions.specs.Abstract.{grammarOf}
+use Rattle.questions.specs.Abstract.{grammarOf, graphOf}
 use Rattle.questions.specs.Checking.{checkGrammar}
 use Rattle.records.specs.Words.{Fits, capacity, itemCount, recordAt, chartOf, grownBy}
 use Rattle.records.proofs.WordLaws.{length-records, record-in}
@@ -22,18 +22,19 @@ use Rattle.records.proofs.Grown.{Whole, whole-gather, whole-guard, grown-none, 
 use Rattle.lists.specs.Lists.{Within}
 use Rattle.lists.specs.Cursors.{startsOf, leastOf, passedOf, leftAll, Ahead, SkimsAll}
 use Rattle.lists.proofs.CursorLaws.{ahead-start, ahead-within, least-none, ahead-passed, ahead-grown, left-falls, skims-by, ahead-skims, left-skims}
-use Rattle.keys.specs.Keys.{KeyTable, keysOf, queryOf, regularOf}
+use Rattle.keys.specs.Keys.{KeyTable, keysOf, queryOf, AllPlaced}
 use Rattle.keys.proofs.KeyLaws.{query-few}
 use Rattle.keys.proofs.PivotLaws.{keyless}
-use Rattle.index.specs.Index.{markOf, keysFor}
+use Rattle.index.specs.Index.{keysFor}
 use Rattle.index.specs.Quiet.{quietIn}
 use Rattle.index.proofs.KeyLists.{keys-length, keys-at, keys-grown}
 use Rattle.steps.specs.Partners.{withRecord}
 use Rattle.rules.specs.Plans.{Leads}
-use Rattle.steps.specs.Ready.{Ready, Handled, Regular}
+use Rattle.steps.specs.Ready.{Ready, Handled, Joining}
+use Rattle.steps.proofs.KnownLaws.{known-placed, record-whole}
 use Rattle.steps.proofs.PartnerLaws.{unjoined-none, waiting-none, overlap-none}
 use Rattle.steps.proofs.ReadyLaws.{stays-record, stays-handled}
-use Rattle.steps.proofs.StepLaws.{Gathered, nothing-added, added-longer, record-whole, gathered-none, gathered-skip, gathered-all, partners-next}
+use Rattle.steps.proofs.StepLaws.{Gathered, nothing-added, added-longer, partners-whole as gather-whole, again-whole, gathered-none, gathered-skip, gathered-all, partners-next}
 
 -- ---- a record that may be done already
 pub next-done : (w : List ℕ) → Fits w → (done k : ℕ) (xs : List Record) → k < done → w ≡ grownBy w (guard (leb done k) xs)
@@ -43,7 +44,7 @@ pub next-dealt : (w v : List ℕ) (done k : ℕ) (xs : List Record) → done ≤
 next-dealt w v done k xs l p = rw (le-leb done k l) p
 
 -- no chart has more items than it holds
-pub few-items : (w : List ℕ) (n : ℕ) → n ≤ itemCount w → capacity w ≤ 4096 → n ≤ 4096
+few-items : (w : List ℕ) (n : ℕ) → n ≤ itemCount w → capacity w ≤ 4096 → n ≤ 4096
 unfolding itemCount
 few-items w n l h = omega arith
 
@@ -52,7 +53,7 @@ pub query-within : (keys : List ℕ) (x : ChartItem) (q : List ℕ) → q ≡ qu
 query-within keys x q e i h = rw e (query-few keys x i)
 
 -- ---- records that make nothing, whatever their keys
-pub quiet-none : (G : Grammar) (H : Graph) (x : Record) (j : ℕ) (w : List ℕ) (k : ℕ) → quietIn w (x .item .edges) k ≡ true → withRecord G H x j (recordAt w k) k ≡ []
+quiet-none : (G : Grammar) (H : Graph) (x : Record) (j : ℕ) (w : List ℕ) (k : ℕ) → quietIn w (x .item .edges) k ≡ true → withRecord G H x j (recordAt w k) k ≡ []
 unfolding quietIn
 quiet-none G H x j w k = go (disjoint (x .item .edges) (recordAt w k .item .edges)) refl (isHandled (recordAt w k)) refl
   where
@@ -81,7 +82,7 @@ loud-handled w k e b q t = go (disjoint e (recordAt w k .item .edges)) (isHandle
     go false false h = absurd (false≢true (sym h))
 
 -- they are so in words that grew, and no others
-pub quiet-grown : (w v : List ℕ) (xs : List Record) (edges k : ℕ) → Fits w → Whole xs → v ≡ grownBy w xs → k < itemCount w → quietIn v edges k ≡ quietIn w edges k
+quiet-grown : (w v : List ℕ) (xs : List Record) (edges k : ℕ) → Fits w → Whole xs → v ≡ grownBy w xs → k < itemCount w → quietIn v edges k ≡ quietIn w edges k
 unfolding quietIn
 quiet-grown w v xs edges k f e p l = ap (λ (u : List ℕ). quietIn u edges k) p ∙ go (isHandled (recordAt w k)) refl
   where
@@ -94,32 +95,28 @@ quiet-grown w v xs edges k f e p l = ap (λ (u : List ℕ). quietIn u edges k) p
     go false h = rw (grown-flag w f xs e k l ∙ h, h) (waits (disjoint edges (recordAt (grownBy w xs) k .item .edges)) ∙ sym (waits (disjoint edges (recordAt w k .item .edges))))
 
 -- ---- the record at place j is what it was while its partners are dealt with
-module _ (g h w : List ℕ) (H : Graph) (j : ℕ) (f : Fits w) (D : Handled w j) (v : List ℕ) (done : ℕ) (A : Gathered w (λ i. withRecord (grammarOf g) H (recordAt w j) j (recordAt w i) i) v done) where
+module _ (g h w : List ℕ) (H : Graph) (j : ℕ) (f : Fits w) (D : Handled w j) (e : (i : ℕ) → i < itemCount w → Whole (withRecord (grammarOf g) H (recordAt w j) j (recordAt w i) i))
+    (v : List ℕ) (done : ℕ) (low : done ≤ itemCount w) (A : Gathered w (λ i. withRecord (grammarOf g) H (recordAt w j) j (recordAt w i) i) v done) where
   abbrev partners : List Record
   partners = gather done (λ i. withRecord (grammarOf g) H (recordAt w j) j (recordAt w i) i)
 
   partners-whole : Whole partners
-  partners-whole = whole-gather done _ (λ i. record-whole (grammarOf g) H (recordAt w j) j (recordAt w i) i)
+  partners-whole = gather-whole (grammarOf g) H w f (recordAt w j) j e done low
 
-  pub dealt-longer : itemCount w ≤ itemCount v
+  dealt-longer : itemCount w ≤ itemCount v
   dealt-longer = added-longer w v partners f partners-whole (A .is)
 
-  pub dealt-record : recordAt v j ≡ recordAt w j
+  dealt-record : recordAt v j ≡ recordAt w j
   dealt-record = stays-record w v j partners f partners-whole (A .is) D
 
-  pub dealt-handled : Handled v j
+  dealt-handled : Handled v j
   dealt-handled = stays-handled w v j partners f partners-whole (A .is) D
 
-  pub dealt-lead : (lead : Bool) → Leads g (recordAt w j .item) lead → Leads g (recordAt v j .item) lead
+  dealt-lead : (lead : Bool) → Leads g (recordAt w j .item) lead → Leads g (recordAt v j .item) lead
   dealt-lead lead L = subst (λ (y : Record). Leads g (y .item) lead) (sym dealt-record) L
 
   pub dealt-quiet : (edges k : ℕ) → k < itemCount w → quietIn v edges k ≡ quietIn w edges k
   dealt-quiet edges k l = quiet-grown w v partners edges k f partners-whole (A .is) l
-
--- it is regular where none is irregular
-pub regular-own : (g h keys w ix ls : List ℕ) (j : ℕ) → Ready g h keys w ix ls → Handled w j → markOf ix ≡ 0 → regularOf keys (recordAt w j .item) ≡ true
-unfolding chartOf
-regular-own g h keys w ix ls j R D m = subst (λ (y : Record). regularOf keys (y .item) ≡ true) (record-in w (itemCount w) j (D .there)) (R .indexed .regular m j (omega (arith, D .there, length-records w (itemCount w))))
 
 -- ---- the loop
 module _ (g h keys : List ℕ) (H : Graph) (w : List ℕ) (x : Record) (j n : ℕ) where
@@ -153,14 +150,11 @@ module _ (g h keys : List ℕ) (H : Graph) (w : List ℕ) (x : Record) (j n : �
   unfolding chartOf
   in-chart v i l = record-in v (itemCount v) i l
 
-  partner-whole : (i : ℕ) → Whole (partner i)
-  partner-whole i = record-whole G H x j (recordAt w i) i
-
-  module _ (f : Fits w) (all : n ≤ itemCount w) where
+  module _ (f : Fits w) (all : n ≤ itemCount w) (partner-whole : (i : ℕ) → i < itemCount w → Whole (partner i)) where
     pub going-start : (ix ls bs cs : List ℕ) (k : ℕ) → Ready g h keys w ix ls → bs ≡ startsOf ls (queryOf keys (x .item)) → SkimsAll quiet ls n bs cs → k ≡ leastOf cs → k ≤ 4096 → Going w ix ls cs k 0
     going-start ix ls bs cs k R e s q l = record {
       ready = R;
-      gathered = gathered-none w f partner partner-whole;
+      gathered = gathered-none w f partner;
       ahead =
           let first = ahead-start quiet ls (keysIn w) (queryOf keys (x .item)) n bs (R .indexed .listed) (λ i h. query-few keys (x .item) i)
           (omega (arith, keys-length keys (chartOf w .records), counted w)) e in
@@ -171,25 +165,27 @@ module _ (g h keys : List ℕ) (H : Graph) (w : List ℕ) (x : Record) (j n : �
     }
 
     module _ (v ix ls cs : List ℕ) (k done : ℕ) (S : Going v ix ls cs k done) where
+      dealt-whole : (m : ℕ) → m ≤ n → Whole (gather m partner)
+      dealt-whole m l = gather-whole G H w f x j partner-whole m (omega arith)
+
       grown : v ≡ grownBy w (gather done partner)
       grown = S .gathered .is
 
       -- the key of a record of w is where it was
       key-there : (i e : ℕ) → i < itemCount w → e < 5 → getD (keysIn v) (5 * i + e) 0 ≡ getD (keysOf keys (recordAt w i .item)) e 0
       key-there i e l h =
-          let m = keys-grown keys w v (gather done partner) f (whole-gather done partner partner-whole) grown in
+          let m = keys-grown keys w v (gather done partner) f (dealt-whole done (S .low)) grown in
           let size = keys-length keys (chartOf w .records) in
           ap (λ (ks : List ℕ). getD ks (5 * i + e) 0) (m .is)
           ∙ List·getD-append (keysIn w) (m .more) 0 (5 * i + e) (omega (arith, size, counted w))
           ∙ keys-at keys (chartOf w .records) i e (omega (arith, counted w)) h
           ∙ ap (λ (y : Record). getD (keysOf keys (y .item)) e 0) (in-chart w i l)
 
-      module _ (checked : checkGrammar g ≡ true) (keyed : KeyTable g keys) (own : regularOf keys (x .item) ≡ true) (others : Regular keys (chartOf w .records)) where
+      module _ (checked : checkGrammar g ≡ true) (keyed : KeyTable g keys) (own : AllPlaced G (x .item)) (others : (i : ℕ) → i < itemCount w → AllPlaced G (recordAt w i .item)) where
         -- the records that are passed over
         unkeyed : (i : ℕ) → done ≤ i → i < k → i < n → quiet i ≡ false → partner i ≡ []
         unkeyed i a b c s =
-            let u = keyless g keys checked keyed H (x .item) (recordAt w i .item) own
-            (subst (λ (y : Record). regularOf keys (y .item) ≡ true) (in-chart w i (omega arith)) (others i (omega (arith, counted w))))
+            let u = keyless g keys checked keyed H (x .item) (recordAt w i .item) own (others i (omega arith))
             (λ q e p r pos eq. least-none quiet (keysIn v) (queryOf keys (x .item)) n done cs (S .ahead) i a (omega (arith, S .at)) c s (5 * i + e) (omega arith) (omega arith) q p pos
             (key-there i e (omega arith) r ∙ sym eq))
             in
@@ -206,8 +202,8 @@ module _ (g h keys : List ℕ) (H : Graph) (w : List ℕ) (x : Record) (j n : �
         module _ (u jx ms : List ℕ) (later : ℕ) (l : k < n) (p : u ≡ grownBy v (guard (leb done k) (withRecord G H x j (recordAt v k) k))) (R : Ready g h keys u jx ms) (q : later ≡ max done (k + 1)) where
           dealt : (b : Bool) → leb done k ≡ b → u ≡ grownBy v (guard b (withRecord G H x j (recordAt v k) k)) → Gathered w partner u later
           dealt true e h =
-              let skip = gathered-skip w f partner partner-whole v done k (λ i a b. passed-over i a b (omega arith)) (leb-true done k e) (S .gathered) in
-              partners-next G H w f x j v u k later (omega (arith, leb-true done k e)) (omega arith) skip h
+              let skip = gathered-skip w f partner v done k (λ i a b. passed-over i a b (omega arith)) (leb-true done k e) (S .gathered) in
+              partners-next G H w f x j partner-whole v u k later (omega (arith, leb-true done k e)) (omega arith) skip h
           dealt false e h =
               let same : u ≡ v = h ∙ grown-none v (S .ready .fits) in
               subst (λ (t : List ℕ). Gathered w partner t later) (sym same) (subst (Gathered w partner v) (let o : done ≡ later = omega (arith, leb-false done k e) in o) (S .gathered))
@@ -215,7 +211,7 @@ module _ (g h keys : List ℕ) (H : Graph) (w : List ℕ) (x : Record) (j n : �
           grown-ahead : Ahead quiet (keysIn u) (queryOf keys (x .item)) n done cs
           grown-ahead =
               let ys = guard (leb done k) (withRecord G H x j (recordAt v k) k) in
-              let m = keys-grown keys v u ys (S .ready .fits) (whole-guard (leb done k) (withRecord G H x j (recordAt v k) k) (record-whole G H x j (recordAt v k) k)) p in
+              let m = keys-grown keys v u ys (S .ready .fits) (whole-guard (leb done k) (withRecord G H x j (recordAt v k) k) (λ _. again-whole G H w f x j partner-whole v done k (omega (arith, S .low)) (omega arith) (S .gathered))) p in
               subst (λ (ks : List ℕ). Ahead quiet ks (queryOf keys (x .item)) n done cs) (sym (m .is)) (ahead-grown quiet (keysIn v) (m .more) (queryOf keys (x .item)) n done cs (S .ahead))
 
           module _ (bs ds : List ℕ) (e : bs ≡ passedOf ms cs k) (s : SkimsAll (quietIn u (x .item .edges)) ms n bs ds) where
@@ -227,9 +223,9 @@ module _ (g h keys : List ℕ) (H : Graph) (w : List ℕ) (x : Record) (j n : �
             skims i h =
                 let o = dealt (leb done k) refl p in
                 skims-by (quietIn u (x .item .edges)) quiet ms n (getD bs i 0) (getD ds i 0)
-                (λ m a. quiet-grown w u (gather later partner) (x .item .edges) m f (whole-gather later partner partner-whole) (o .is) (omega arith)) (s i h)
+                (λ m a. quiet-grown w u (gather later partner) (x .item .edges) m f (dealt-whole later (omega (arith, S .low))) (o .is) (omega arith)) (s i h)
 
-            pub going-next : (i : ℕ) → i ≡ leastOf ds → i ≤ 4096 → Going u jx ms ds i later
+            going-next : (i : ℕ) → i ≡ leastOf ds → i ≤ 4096 → Going u jx ms ds i later
             going-next i a b = record {
               ready = R;
               gathered = dealt (leb done k) refl p;
@@ -239,7 +235,7 @@ module _ (g h keys : List ℕ) (H : Graph) (w : List ℕ) (x : Record) (j n : �
               low = omega (arith, S .low);
             }
 
-            pub going-less : leftAll ds < leftAll cs
+            going-less : leftAll ds < leftAll cs
             going-less =
                 omega (
                   arith,
@@ -247,10 +243,81 @@ module _ (g h keys : List ℕ) (H : Graph) (w : List ℕ) (x : Record) (j n : �
                   left-falls quiet ms (keysIn u) (queryOf keys (x .item)) n done k cs bs (R .indexed .listed) grown-ahead (S .at) l e,
                 )
 
-          pub next-within : Within 20480 cs
+          next-within : Within 20480 cs
           next-within = ahead-within quiet (keysIn u) (queryOf keys (x .item)) n done cs grown-ahead (R .indexed .listed .few)
 
-        pub going-end : n ≤ k → v ≡ grownBy w (gather n partner)
+        going-end : n ≤ k → v ≡ grownBy w (gather n partner)
         going-end l =
-            gathered-all w f partner partner-whole v n n refl
-            (gathered-skip w f partner partner-whole v done n (λ i a b. passed-over i a (omega arith) b) (S .low) (S .gathered))
+            gathered-all w f partner v n n refl
+            (gathered-skip w f partner v done n (λ i a b. passed-over i a (omega arith) b) (S .low) (S .gathered))
+
+-- ---- the loop over the partners of the record at place j, which stays as it is
+module _ {g h plans keys graph w ix₀ ls₀ : List ℕ} {lead : Bool} {j n : ℕ} (P : Joining g h plans keys graph w ix₀ ls₀ lead j) (all : n ≤ itemCount w) where
+  placed : (i : ℕ) → i < itemCount w → AllPlaced (grammarOf g) (recordAt w i .item)
+  placed = known-placed g h (P .tables .accepted) w (P .ready .known)
+
+  pub partners-each : (i : ℕ) → i < itemCount w → Whole (withRecord (grammarOf g) (graphOf g h) (recordAt w j) j (recordAt w i) i)
+  partners-each = record-whole g h (P .tables .accepted) w (P .ready .known) (P .ready .small) j (P .handled .there)
+
+  pub partners-few : n ≤ 4096
+  partners-few = few-items w n all (P .ready .small)
+
+  low : {v ix ls cs : List ℕ} {k past : ℕ} → Going g h keys (graphOf g h) w (recordAt w j) j n v ix ls cs k past → past ≤ itemCount w
+  low S = omega (arith, S .low)
+
+  -- the records that cursors skim over are quiet still
+  pub partners-quiet : {v ix ls cs : List ℕ} {k past : ℕ} → Going g h keys (graphOf g h) w (recordAt w j) j n v ix ls cs k past → (edges i : ℕ) → i < itemCount w → quietIn v edges i ≡ quietIn w edges i
+  partners-quiet {v = v} {past = past} S = dealt-quiet g h w (graphOf g h) j (P .ready .fits) (P .handled) partners-each v past (low S) (S .gathered)
+
+  module _ {v ix ls cs : List ℕ} {k past : ℕ} (S : Going g h keys (graphOf g h) w (recordAt w j) j n v ix ls cs k past) where
+    pub partners-joining : Joining g h plans keys graph v ix ls lead j
+    partners-joining = record {
+      tables = P .tables;
+      ready = S .ready;
+      handled = dealt-handled g h w (graphOf g h) j (P .ready .fits) (P .handled) partners-each v past (low S) (S .gathered);
+      leads = dealt-lead g h w (graphOf g h) j (P .ready .fits) (P .handled) partners-each v past (low S) (S .gathered) lead (P .leads);
+    }
+
+    longer : itemCount w ≤ itemCount v
+    longer = dealt-longer g h w (graphOf g h) j (P .ready .fits) (P .handled) partners-each v past (low S) (S .gathered)
+
+    pub partners-known : k < n → k < itemCount v
+    partners-known l = omega (arith, longer)
+
+    pub partners-end : n ≤ k → v ≡ grownBy w (gather n (λ i. withRecord (grammarOf g) (graphOf g h) (recordAt w j) j (recordAt w i) i))
+    partners-end l =
+        going-end g h keys (graphOf g h) w (recordAt w j) j n (P .ready .fits) all partners-each v ix ls cs k past S (P .tables .accepted .grammar) (P .tables .keyed) (placed j (P .handled .there)) placed l
+
+    -- one turn: record k is dealt with unless it was, and the cursors at it go on, over quiet records
+    module _ {u jx ms : List ℕ} {later : ℕ} (l : k < n)
+        (p : u ≡ grownBy v (guard (leb past k) (withRecord (grammarOf g) (graphOf g h) (recordAt v j) j (recordAt v k) k))) (R : Ready g h keys u jx ms) (q : later ≡ max past (k + 1)) where
+      made : u ≡ grownBy v (guard (leb past k) (withRecord (grammarOf g) (graphOf g h) (recordAt w j) j (recordAt v k) k))
+      made =
+          p ∙ ap (λ (y : Record). grownBy v (guard (leb past k) (withRecord (grammarOf g) (graphOf g h) y j (recordAt v k) k)))
+          (dealt-record g h w (graphOf g h) j (P .ready .fits) (P .handled) partners-each v past (low S) (S .gathered))
+
+      pub turn-room : n ≤ itemCount u
+      turn-room =
+          omega (
+            arith,
+            longer,
+            added-longer v u _ (S .ready .fits)
+                (whole-guard (leb past k) (withRecord (grammarOf g) (graphOf g h) (recordAt w j) j (recordAt v k) k) (λ _. again-whole (grammarOf g) (graphOf g h) w (P .ready .fits) (recordAt w j) j partners-each v past k (low S) (omega arith) (S .gathered)))
+                made,
+          )
+
+      pub turn-within : Within 20480 cs
+      turn-within =
+          next-within g h keys (graphOf g h) w (recordAt w j) j n (P .ready .fits) all partners-each v ix ls cs k past S (P .tables .accepted .grammar) (P .tables .keyed) (placed j (P .handled .there)) placed u jx ms later l
+          made R q
+
+      module _ (bs ds : List ℕ) (e : bs ≡ passedOf ms cs k) (s : SkimsAll (quietIn u (recordAt w j .item .edges)) ms n bs ds) where
+        pub turn-next : (i : ℕ) → i ≡ leastOf ds → i ≤ 4096 → Going g h keys (graphOf g h) w (recordAt w j) j n u jx ms ds i later
+        turn-next =
+            going-next g h keys (graphOf g h) w (recordAt w j) j n (P .ready .fits) all partners-each v ix ls cs k past S (P .tables .accepted .grammar) (P .tables .keyed) (placed j (P .handled .there)) placed u jx ms later l
+            made R q bs ds e s
+
+        pub turn-less : leftAll ds < leftAll cs
+        turn-less =
+            going-less g h keys (graphOf g h) w (recordAt w j) j n (P .ready .fits) all partners-each v ix ls cs k past S (P .tables .accepted .grammar) (P .tables .keyed) (placed j (P .handled .there)) placed u jx ms later l
+            made R q bs ds e s

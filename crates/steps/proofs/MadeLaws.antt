@@ -1,38 +1,33 @@
 -- What a rule of crate rules answers, and the record of it that is added to the chart.
 use Prim.Native.Nat.{ℕ, _<_}
+use native.Mathlib.Omega.{arith}
 use mathlib.Core.Path.{_≡_, refl, sym, ap, _∙_, subst}
 use mathlib.Core.Bool.{Bool, true, false}
 use mathlib.Core.List.{List, [], _∷_, List·Memᴰ as In, List·Memᴰ·head as here}
 use lib.Dec.{eqb}
-use lib.ListN.{length}
 use borrow.Author.Tests.{eq-eqb}
 use Rattle.hrg.specs.Grammars.{Graph, Grammar}
-use Rattle.hrg.specs.ClosureRun.{binaryOf}
 use Rattle.agenda.specs.declared.ChartItem.{ChartItem}
 use Rattle.agenda.specs.declared.Record.{Record}
 use Rattle.agenda.specs.Records.{newRecord, itemOf, plus}
-use Rattle.agenda.specs.Consequences.{atRoot, withTerminal, pair}
+use Rattle.agenda.specs.Consequences.{atRoot, withTerminal, pair, consequences}
+use Rattle.questions.specs.Layout.{graphEdges}
 use Rattle.questions.specs.Abstract.{grammarOf, graphOf}
+use Rattle.joins.specs.Joins.{Accepted}
+use Rattle.joins.proofs.Known.{graph-size}
 use Rattle.rules.specs.declared.Made.{Made}
 use Rattle.rules.specs.Coverage.{Covering}
-use Rattle.rules.specs.Rules.{terminalItems, Gives, GivesRoot}
-use Rattle.rules.proofs.RuleAnswers.{pair-none, pair-one, terminal-none, terminal-one}
+use Rattle.rules.specs.Rules.{pairItems, terminalItems, StandsFor, Gives, GivesRoot}
+use Rattle.rules.proofs.RuleAnswers.{gives-same, pair-none, pair-one, terminal-none, terminal-one}
 use Rattle.rules.proofs.RootLaws.{root-none, root-one}
-use Rattle.records.specs.Words.{itemCount, recordAt, chartOf, addedTo, grownBy}
-use Rattle.records.proofs.Grown.{Whole, grown-one}
-use Rattle.index.specs.Index.{Indexed, doubtOf, Covered}
-use Rattle.steps.specs.Ready.{Ready}
+use Rattle.records.specs.Words.{itemCount, recordAt, chartOf, grownBy}
+use Rattle.records.proofs.Grown.{grown-one}
+use Rattle.index.specs.Index.{doubtOf, Adds}
+use Rattle.steps.specs.Ready.{Ready, Handled, Joined}
 use Rattle.steps.proofs.ReadyLaws.{added-ready, covering-at}
-use Rattle.steps.proofs.StepLaws.{nothing-added, root-whole, terminal-whole, pair-whole}
+use Rattle.steps.proofs.StepLaws.{nothing-added, among-root, among-edges, among-records}
 
--- the words w with the record z, and their index, as `index::add` leaves them
-abbrev pub Added : List ℕ → List ℕ → List ℕ → List ℕ → List ℕ → List ℕ → Record → Type 0
-Added keys w ix v jx ms z =
-    (v ≡ addedTo w z)
-    × Indexed keys jx ms (chartOf v .records)
-    × ((g h : List ℕ) → Covered g h ix (chartOf w .records) → (doubtOf ix ≡ 0 → Covering g h (z .item)) → Covered g h jx (chartOf v .records))
-
-module _ {g h keys w ix ls : List ℕ} (R : Ready g h keys w ix ls) where
+module _ {g h keys w ix ls : List ℕ} (accepted : Accepted g h) (R : Ready g h keys w ix ls) where
   abbrev G : Grammar
   G = grammarOf g
 
@@ -47,16 +42,20 @@ module _ {g h keys w ix ls : List ℕ} (R : Ready g h keys w ix ls) where
   none : {ys : List Record} → ys ≡ [] → Grows w ix ls ys
   none {ys} e = (nothing-added w ys (R .fits) e, R)
 
-  -- one, as `index::add` adds it
-  module _ {v jx ms : List ℕ} {z : Record} (added : Added keys w ix v jx ms z) where
-    one : {i : ChartItem} {a b : ℕ} {ys : List Record} → z ≡ newRecord i a b → Whole ys → ys ≡ newRecord i a b ∷ [] → (doubtOf ix ≡ 0 → Covering g h i) → Grows v jx ms ys
-    one {ys = ys} new whole e covers =
-        let is = e ∙ ap (λ (y : Record). y ∷ []) (sym new) in
-        let eight : length (z .item .nodes) ≡ 8 = whole z (subst (In z) (sym is) (here refl)) in
-        let covered = added .2 g h (R .covered) (λ d. subst (λ (y : Record). Covering g h (y .item)) (sym new) (covers d)) in (
-          added .0 ∙ grown-one w (R .fits) z eight ∙ ap (grownBy w) (sym is),
-          added-ready g h keys w ix ls R v jx ms (added .1) covered z eight (added .0),
-        )
+  -- nothing was added
+  kept : {v jx ms : List ℕ} {ys : List Record} → (v ≡ w) × (jx ≡ ix) × (ms ≡ ls) → ys ≡ [] → Grows v jx ms ys
+  kept {v} {jx} {ms} {ys} (p, q, r) e =
+      subst (λ v. Grows v jx ms ys) (sym p) (subst (λ jx. Grows w jx ms ys) (sym q) (subst (λ ms. Grows w ix ms ys) (sym r) (none e)))
+
+  -- one that the record at place j makes
+  one : {v jx ms : List ℕ} {i : ChartItem} {a b j : ℕ} {ys : List Record} → Adds keys w ix v jx ms (newRecord i a b) → ys ≡ newRecord i a b ∷ []
+      → (doubtOf ix ≡ 0 → Covering g h i) → j < itemCount w → ((y : Record) → In y ys → In y (consequences G H (chartOf w .records) j)) → Grows v jx ms ys
+  one {v} {jx} {ms} {i} {a} {b} {j} {ys} added e covers l among =
+      let z : Record = newRecord i a b in
+      let own : In z ys = subst (In z) (sym e) (here refl) in (
+        added .chart ∙ grown-one w (R .fits) z (added .compact) ∙ ap (grownBy w) (sym e),
+        added-ready g h keys w ix ls R v jx ms (added .indexed) (added .covered g h (R .covered) covers) accepted j l z (added .compact) refl (among z own) (added .chart),
+      )
 
   -- ---- the root rule
   module _ (j : ℕ) {x : ChartItem} (own : x ≡ recordAt w j .item) {m : Made} (answer : GivesRoot g x m) where
@@ -66,47 +65,51 @@ module _ {g h keys w ix ls : List ℕ} (R : Ready g h keys w ix ls) where
     pub root-missed : m .ok ≡ false → Grows w ix ls (rootRecords (recordAt w j .item))
     root-missed not-made = none (ap rootRecords (sym own) ∙ root-none g x j m answer not-made)
 
-    pub root-added : m .ok ≡ true → j < itemCount w → {v jx ms : List ℕ} {z : Record} → z ≡ newRecord (m .item) j 0
-        → Added keys w ix v jx ms z
+    pub root-added : m .ok ≡ true → j < itemCount w → {v jx ms : List ℕ} → Adds keys w ix v jx ms (newRecord (m .item) j 0)
         → Grows v jx ms (rootRecords (recordAt w j .item))
-    root-added made l new added =
-        one added new (root-whole G H _ _ j) (ap rootRecords (sym own) ∙ root-one g x j m answer made)
-        (λ d. answer .covering h (subst (Covering g h) (sym own) (covering-at g h w ix j (R .covered) l d)) made)
+    root-added made l added =
+        one added (ap rootRecords (sym own) ∙ root-one g x j m answer made)
+        (λ d. answer .covering h (subst (Covering g h) (sym own) (covering-at g h w ix j (R .covered) l d)) made) l (among-root G H w j l)
 
   -- ---- the rules that may be sure
-  module _ {sure : Bool} (known : sure ≡ eqb (doubtOf ix) 0) {m : Made} where
-    -- with a graph edge
-    module _ (j e : ℕ) {x : ChartItem} (own : x ≡ recordAt w j .item) (answer : Gives g h sure (terminalItems G H (itemOf G x) e) (x .count) m) where
+  module _ {sure : Bool} (known : sure ≡ eqb (doubtOf ix) 0) {v jx ms : List ℕ} where
+    -- with a graph edge, for which the item y stands
+    module _ (j e : ℕ) {x y : ChartItem} (own : x ≡ recordAt w j .item) (edge : StandsFor g h e y)
+        (joined : Joined g h sure (pairItems g h x y) (x .count) j e keys w ix ls v jx ms) where
       abbrev edgeRecords : ChartItem → List Record
       edgeRecords y = withTerminal G H (itemOf G y) (y .count) j e
 
-      pub edge-missed : m .ok ≡ false → Grows w ix ls (edgeRecords (recordAt w j .item))
-      edge-missed not-made = none (ap edgeRecords (sym own) ∙ terminal-none g h sure m x (x .count) j e answer not-made)
+      of-edge : Gives g h sure (terminalItems G H (itemOf G x) e) (x .count) (joined .made)
+      of-edge = gives-same g h sure (pairItems g h x y) (terminalItems G H (itemOf G x) e) (x .count) (joined .made) (edge .pairs x) (joined .gives)
 
-      pub edge-added : m .ok ≡ true → {v jx ms : List ℕ} {z : Record} → z ≡ newRecord (m .item) j e
-          → Added keys w ix v jx ms z
-          → Grows v jx ms (edgeRecords (recordAt w j .item))
-      edge-added made new added =
-          one added new (terminal-whole G H _ _ j e) (ap edgeRecords (sym own) ∙ terminal-one g h sure m x (x .count) j e answer made)
-          (λ d. answer .covering (known ∙ eq-eqb (doubtOf ix) 0 d) made)
+      pub edge-grown : j < itemCount w → e < graphEdges h → Grows v jx ms (edgeRecords (recordAt w j .item))
+      edge-grown l d = by (joined .made .ok) refl
+        where
+          by : (b : Bool) → joined .made .ok ≡ b → Grows v jx ms (edgeRecords (recordAt w j .item))
+          by false p = kept (joined .missed p) (ap edgeRecords (sym own) ∙ terminal-none g h sure (joined .made) x (x .count) j e of-edge p)
+          by true p =
+              one (joined .added p) (ap edgeRecords (sym own) ∙ terminal-one g h sure (joined .made) x (x .count) j e of-edge p)
+              (λ z. of-edge .covering (known ∙ eq-eqb (doubtOf ix) 0 z) p) l (among-edges G H w j l e (omega (arith, graph-size g h)))
 
     -- with another record
     module _ (j k : ℕ) {x y : ChartItem} (first : x ≡ recordAt w j .item) (second : y ≡ recordAt w k .item)
-        (answer : Gives g h sure (binaryOf G H (itemOf G x) (itemOf G y)) (plus (x .count) (y .count)) m) where
+        (joined : Joined g h sure (pairItems g h x y) (plus (x .count) (y .count)) j k keys w ix ls v jx ms) where
       abbrev both : List Record
       both = pair G H (recordAt w j) j (recordAt w k) k
 
-      of-records : Gives g h sure (binaryOf G H (itemOf G (recordAt w j .item)) (itemOf G (recordAt w k .item))) (plus (recordAt w j .item .count) (recordAt w k .item .count)) m
+      abbrev m : Made
+      m = joined .made
+
+      of-records : Gives g h sure (pairItems g h (recordAt w j .item) (recordAt w k .item)) (plus (recordAt w j .item .count) (recordAt w k .item .count)) m
       of-records =
-          subst (λ (t : ChartItem). Gives g h sure (binaryOf G H (itemOf G (recordAt w j .item)) (itemOf G t)) (plus (recordAt w j .item .count) (t .count)) m) second
-          (subst (λ (s : ChartItem). Gives g h sure (binaryOf G H (itemOf G s) (itemOf G y)) (plus (s .count) (y .count)) m) first answer)
+          subst (λ (t : ChartItem). Gives g h sure (pairItems g h (recordAt w j .item) t) (plus (recordAt w j .item .count) (t .count)) m) second
+          (subst (λ (s : ChartItem). Gives g h sure (pairItems g h s y) (plus (s .count) (y .count)) m) first (joined .gives))
 
-      pub pair-missed : m .ok ≡ false → Grows w ix ls both
-      pair-missed not-made = none (pair-none g h sure m (recordAt w j) (recordAt w k) j k of-records not-made)
-
-      pub pair-added : m .ok ≡ true → {v jx ms : List ℕ} {z : Record} → z ≡ newRecord (m .item) j k
-          → Added keys w ix v jx ms z
-          → Grows v jx ms both
-      pair-added made new added =
-          one added new (pair-whole G H (recordAt w j) j (recordAt w k) k) (pair-one g h sure m (recordAt w j) (recordAt w k) j k of-records made)
-          (λ d. of-records .covering (known ∙ eq-eqb (doubtOf ix) 0 d) made)
+      pub pair-grown : Handled w j → Handled w k → Grows v jx ms both
+      pair-grown at other = by (m .ok) refl
+        where
+          by : (b : Bool) → m .ok ≡ b → Grows v jx ms both
+          by false p = kept (joined .missed p) (pair-none g h sure m (recordAt w j) (recordAt w k) j k of-records p)
+          by true p =
+              one (joined .added p) (pair-one g h sure m (recordAt w j) (recordAt w k) j k of-records p)
+              (λ d. of-records .covering (known ∙ eq-eqb (doubtOf ix) 0 d) p) (at .there) (among-records G H w j (at .there) k (other .there) (other .done))

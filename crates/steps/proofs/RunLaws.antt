@@ -5,23 +5,26 @@ use mathlib.Core.Bool.{Bool, true, false, not, cond}
 use mathlib.Core.List.{List, [], _∷_}
 use native.Mathlib.Omega.{arith}
 use lib.Dec.{eqb}
-use lib.ListN.{length, getD, set}
+use lib.ListN.{length, getD, set, length-set}
 use borrow.Author.Tests.{eq-eqb, ne-eqb, eqb-false}
 use Rattle.hrg.specs.Grammars.{Graph, Grammar}
-use Rattle.hrg.specs.ClosureRun.{leaves}
+use Rattle.hrg.specs.WellFormed.{GrammarOk, GraphOk}
 use Rattle.agenda.specs.declared.Found.{Found}
 use Rattle.agenda.specs.declared.Found.the-variants.{At, Nowhere}
-use Rattle.agenda.specs.Consequences.{consequences, leafRecords}
-use Rattle.agenda.specs.Steps.{Chart, addedAll, leastWaiting, handledAt, stepWith, stepChart, runChart, startChart}
+use Rattle.agenda.specs.Consequences.{recordIn, consequences, leafRecords}
+use Rattle.agenda.specs.Steps.{Chart, addedAll, leastWaiting, handledNow, handledAt, stepWith, stepChart, runChart, startChart}
 use Rattle.agenda.proofs.Adding.{cond-by}
 use Rattle.agenda.proofs.Runs.{again, run-none, run-more, run-split, marked-run, idle-run}
 use Rattle.records.specs.Words.{Fits, capacity, itemCount, chartOf, allWords, written, markedAt, grownBy}
 use Rattle.records.proofs.WordLaws.{length-records, Below, none, one, least-below}
 use Rattle.records.proofs.Written.{Holds, chart-written, chart-of-written, capacity-written, fits-written, written-over}
 use Rattle.records.proofs.Rewritten.{Grown, handledIn, grown-handled}
-use Rattle.records.proofs.Grown.{Whole, whole-items, holds-own, grown-all}
+use Rattle.records.proofs.Grown.{holds-own, grown-all}
 use Rattle.steps.specs.Runs.{nextIn, isSome, markedBy}
-use Rattle.steps.proofs.StepLaws.{consequences-whole}
+use Rattle.validity.proofs.KnownCharts.{AllKnown}
+use Rattle.validity.proofs.Own.{handled-known, run-known}
+use Rattle.validity.proofs.Made.{consequences-sound, sound-whole}
+use Rattle.steps.proofs.LeafLoops.{leaves-whole}
 
 -- ---- the record that a step takes
 module _ (w : List ℕ) (m : ℕ) (is : m ≡ getD w 1 0) where
@@ -85,11 +88,7 @@ header-words (a ∷ []) h = absurd (omega arith)
 header-words (a ∷ b ∷ w) h = refl
 
 empty-holds : (w : List ℕ) → 2 ≤ length w → Holds w emptyChart
-empty-holds w h = record { header = h; number = omega arith; places = λ k l. absurd (omega arith) }
-
-leaves-whole : (G : Grammar) → Whole (leafRecords G)
-unfolding leafRecords
-leaves-whole G = whole-items (leaves G) 0 0 0
+empty-holds w h = record { header = h; number = omega arith; compact = λ k l. absurd (omega arith) }
 
 module _ (w : List ℕ) (h : 2 ≤ length w) where
   pub start-fits : (v : List ℕ) → v ≡ set (set w 0 0) 1 0 → Fits v
@@ -104,9 +103,9 @@ module _ (w : List ℕ) (h : 2 ≤ length w) where
       ∙ ap (λ (c : Chart). written (written w emptyChart) (addedAll (capacity w) (leafRecords G) c)) (chart-of-written w emptyChart o)
       ∙ written-over w emptyChart o (addedAll (capacity w) (leafRecords G) emptyChart) (omega arith)
 
-  pub start-holds : (G : Grammar) → Holds w (startChart G (capacity w))
+  pub start-holds : (G : Grammar) → GrammarOk G → Holds w (startChart G (capacity w))
   unfolding startChart
-  start-holds G = grown-all w (leafRecords G) emptyChart (empty-holds w h) (leaves-whole G) .holds
+  start-holds G ok = grown-all w (leafRecords G) emptyChart (empty-holds w h) (leaves-whole G ok) .holds
 
   pub started : (G : Grammar) (v u : List ℕ) → v ≡ set (set w 0 0) 1 0 → u ≡ grownBy v (leafRecords G) → u ≡ written w (startChart G (capacity w))
   started G v u q p = p ∙ start-by G v (q ∙ header-words w h)
@@ -129,30 +128,35 @@ module _ (G : Grammar) (H : Graph) where
       go true m e = idle-run G H cap k d (sym e)
       go false m e = marked-run G H cap k d (eqb-false (d .mark) 0 m)
 
-  handled-grown : (w : List ℕ) (d : Chart) (j : ℕ) → Holds w d → Grown w d (handledAt G H (capacity w) j d)
-  unfolding handledAt
-  handled-grown w d j o =
-      let one = grown-handled w d o j in
-      let rest = grown-all w (consequences G H (handledIn j d .records) j) (handledIn j d) (one .holds) (consequences-whole G H (handledIn j d .records) j) in
-      record { holds = rest .holds; longer = omega (arith, one .longer, rest .longer) }
+  -- a run on known records that keeps to the words' capacity stays within the words, and loses no record
+  module _ (ok : GrammarOk G) (good : GraphOk G H) (w : List ℕ) (small : capacity w ≤ 4096) where
+    handled-grown : (d : Chart) (j : ℕ) → Holds w d → AllKnown G H (d .records) → j < length (d .records) → Grown w d (handledAt G H (capacity w) j d)
+    unfolding handledAt
+    handled-grown d j o all l =
+        let one = grown-handled w d o j in
+        let rs = handledIn j d .records in
+        let size : length rs ≡ length (d .records) = length-set (d .records) j (handledNow (recordIn (d .records) j)) in
+        let whole = consequences-sound G H ok good (length rs) (omega (arith, o .number)) rs (handled-known G H (d .records) j l all) refl j (omega arith) in
+        let rest = grown-all w (consequences G H rs j) (handledIn j d) (one .holds) (sound-whole whole) in
+        record { holds = rest .holds; longer = omega (arith, one .longer, rest .longer) }
 
-  -- a run that keeps to the words' capacity stays within the words, and loses no record
-  step-grown : (w : List ℕ) (d : Chart) → Holds w d → (f : Found) → Grown w d (stepWith G H (capacity w) d f)
-  step-grown w d o Nowhere = record { holds = o; longer = omega arith }
-  step-grown w d o (At j) = handled-grown w d j o
+    pub step-grown : (d : Chart) → Holds w d → AllKnown G H (d .records) → (f : Found) → Below (length (d .records)) f → Grown w d (stepWith G H (capacity w) d f)
+    step-grown d o all Nowhere b = record { holds = o; longer = omega arith }
+    step-grown d o all (At j) b = handled-grown d j o all (below-at b)
 
-  again-grown : (w : List ℕ) (d : Chart) → Holds w d → Grown w d (again G H (capacity w) d)
-  unfolding stepChart
-  again-grown w d o =
-      cond-by (Grown w d) (eqb (d .mark) 0) {x = stepChart G H (capacity w) d} {y = d} (λ t. step-grown w d o (leastWaiting (d .records) (length (d .records))))
-      (λ t. record { holds = o; longer = omega arith })
+    again-grown : (d : Chart) → Holds w d → AllKnown G H (d .records) → Grown w d (again G H (capacity w) d)
+    unfolding stepChart
+    again-grown d o all =
+        cond-by (Grown w d) (eqb (d .mark) 0) {x = stepChart G H (capacity w) d} {y = d}
+        (λ t. step-grown d o all (leastWaiting (d .records) (length (d .records))) (least-below (d .records) (length (d .records))))
+        (λ t. record { holds = o; longer = omega arith })
 
-  pub run-grown : (w : List ℕ) (c : Chart) → Holds w c → (k : ℕ) → Grown w c (runChart G H (capacity w) k c)
-  run-grown w c o zero = subst (Grown w c) (sym (run-none G H (capacity w) c)) (record { holds = o; longer = omega arith })
-  run-grown w c o (suc k) =
-      let one = run-grown w c o k in
-      let rest = again-grown w (runChart G H (capacity w) k c) (one .holds) in
-      subst (Grown w c) (sym (run-more G H (capacity w) k c)) (record { holds = rest .holds; longer = omega (arith, one .longer, rest .longer) })
+    pub run-grown : (c : Chart) → Holds w c → AllKnown G H (c .records) → (k : ℕ) → Grown w c (runChart G H (capacity w) k c)
+    run-grown c o all zero = subst (Grown w c) (sym (run-none G H (capacity w) c)) (record { holds = o; longer = omega arith })
+    run-grown c o all (suc k) =
+        let one = run-grown c o all k in
+        let rest = again-grown (runChart G H (capacity w) k c) (one .holds) (run-known G H ok good (capacity w) k c all) in
+        subst (Grown w c) (sym (run-more G H (capacity w) k c)) (record { holds = rest .holds; longer = omega (arith, one .longer, rest .longer) })
 
   -- v are the words w after k steps
   pub record Ran (w : List ℕ) (k : ℕ) (v : List ℕ) : Type 0 where
@@ -178,11 +182,11 @@ module _ (G : Grammar) (H : Graph) where
       capacity-is : capacity v ≡ capacity w
       capacity-is = ap capacity (r .is) ∙ capacity-written w d (r .holds)
 
-      pub ran-step : (m : ℕ) (u : List ℕ) → m ≡ suc k → u ≡ written v (stepWith G H (capacity v) (chartOf v) (nextIn (chartOf v))) → Ran w m u
-      ran-step m u q p =
+      pub ran-step : GrammarOk G → GraphOk G H → capacity w ≤ 4096 → AllKnown G H (chartOf v .records) → (m : ℕ) (u : List ℕ) → m ≡ suc k → u ≡ written v (stepWith G H (capacity v) (chartOf v) (nextIn (chartOf v))) → Ran w m u
+      ran-step ok good small all m u q p =
           let e : runChart G H (capacity w) m (chartOf w) ≡ stepWith G H (capacity w) d (nextIn d) =
           ap (λ n. runChart G H (capacity w) n (chartOf w)) q ∙ run-more G H (capacity w) k (chartOf w) ∙ next-again (capacity w) d in
-          let g = step-grown w d (r .holds) (nextIn d) in
+          let g = step-grown ok good w small d (r .holds) (subst (λ (c : Chart). AllKnown G H (c .records)) chart-is all) (nextIn d) (next-below d) in
           record {
             is =
                 p ∙ ap (λ n. written v (stepWith G H n (chartOf v) (nextIn (chartOf v)))) capacity-is ∙ ap (λ (c : Chart). written v (stepWith G H (capacity w) c (nextIn c))) chart-is

@@ -14,16 +14,15 @@ use Rattle.hrg.specs.ClosureRun.{guard}
 use Rattle.agenda.specs.declared.Record.{Record}
 use Rattle.agenda.specs.Consequences.{gather}
 use Rattle.questions.specs.Abstract.{grammarOf, graphOf}
-use Rattle.rules.specs.Plans.{Leads}
 use Rattle.records.specs.Words.{itemCount, recordAt, grownBy}
-use Rattle.lists.specs.Cursors.{alone, startsOf, leastOf, passedOf, leftAll}
+use Rattle.lists.specs.Lists.{listWords}
+use Rattle.lists.specs.Cursors.{alone, startsOf, leastOf, afterOf, passedOf, leftAll}
 use Rattle.lists.proofs.CursorLaws.{least-few, left-falls, ahead-skims, skims-none, alone-passed, alone-least, alone-past, alone-skims}
-use Rattle.keys.specs.Keys.{regularOf}
+use Rattle.keys.specs.Keys.{queryOf}
 use Rattle.index.specs.Quiet.{quietIn}
 use Rattle.steps.specs.Partners.{withRecord}
-use Rattle.steps.specs.Ready.{Tables, Ready, Handled}
-use Rattle.steps.specs.Ways.{Single}
-use Rattle.steps.proofs.ListedLaws.{few-items, query-within, dealt-longer, dealt-record, dealt-handled, dealt-lead, dealt-quiet, regular-own, Going, going-start, going-next, going-less, going-end}
+use Rattle.steps.specs.Ready.{Ready, Joining}
+use Rattle.steps.proofs.ListedLaws.{query-within, Going, going-start, partners-each, partners-quiet, partners-few, partners-joining, partners-known, partners-end, turn-next, turn-less}
 
 -- the test of the loop
 test-yes : (c m : ℕ) → not (eqb c 0) && leb c m ≡ true → (c ≢ 0) × (c ≤ m)
@@ -50,7 +49,7 @@ module _ (g h keys w : List ℕ) (j n : ℕ) where
         → t ≡ grownBy v (guard (leb past ((c - 1) / 5)) (withRecord (grammarOf g) (graphOf g h) (recordAt v j) j (recordAt v ((c - 1) / 5)) ((c - 1) / 5))) → Ready g h keys t kx ns → m ≡ max past ((c - 1) / 5 + 1)
         → Met v ix ls c past u jx ms later
 
-module _ {g h plans keys graph w ix₀ ls₀ : List ℕ} {j n key : ℕ} {lead : Bool} (P : Tables g h plans keys graph × Ready g h keys w ix₀ ls₀ × Handled w j × Leads g (recordAt w j .item) lead × (n ≤ itemCount w) × Single keys w ix₀ j key) where
+module _ {g h plans keys graph w ix₀ ls₀ : List ℕ} {lead : Bool} {j n key : ℕ} (P : Joining g h plans keys graph w ix₀ ls₀ lead j × (n ≤ itemCount w) × (alone key ≡ queryOf keys (recordAt w j .item))) where
   abbrev H : Graph
   H = graphOf g h
 
@@ -58,31 +57,23 @@ module _ {g h plans keys graph w ix₀ ls₀ : List ℕ} {j n key : ℕ} {lead :
   x = recordAt w j
 
   pub single-key : key ≤ 2048
-  single-key = query-within keys (x .item) (alone key) (P .5 .only) 0 (omega arith)
+  single-key = query-within keys (x .item) (alone key) (P .2) 0 (omega arith)
 
   pub single-few : n ≤ 4096
-  single-few = few-items w n (P .4) (P .1 .small)
+  single-few = partners-few (P .0) (P .1)
 
   pub single-start : (c : ℕ) → c ≡ getD ls₀ key 0 → Along g h keys w j n w ix₀ ls₀ c 0
   single-start c e =
-      going-start g h keys H w x j n (P .1 .fits) (P .4) ix₀ ls₀ (alone c) (alone c) (leastOf (alone c)) (P .1)
-      (start-alone ls₀ key c (P .1 .indexed .listed .none) e ∙ ap (startsOf ls₀) (P .5 .only))
+      going-start g h keys H w x j n (P .0 .ready .fits) (P .1) (partners-each (P .0) (P .1)) ix₀ ls₀ (alone c) (alone c) (leastOf (alone c)) (P .0 .ready)
+      (start-alone ls₀ key c (P .0 .ready .indexed .listed .none) e ∙ ap (startsOf ls₀) (P .2))
       (skims-none (quietIn w (x .item .edges)) ls₀ n (alone c)) refl (least-few (alone c))
 
   module _ {v ix ls : List ℕ} {c past : ℕ} (S : Along g h keys w j n v ix ls c past) where
-    pub single-handled : Handled v j
-    single-handled = dealt-handled g h w H j (P .1 .fits) (P .2) v past (S .gathered)
-
-    pub single-lead : Leads g (recordAt v j .item) lead
-    single-lead = dealt-lead g h w H j (P .1 .fits) (P .2) v past (S .gathered) lead (P .3)
-
-    own : regularOf keys (x .item) ≡ true
-    own = regular-own g h keys w ix₀ ls₀ j (P .1) (P .2) (P .5 .regular)
+    pub single-joining : Joining g h plans keys graph v ix ls lead j
+    single-joining = partners-joining (P .0) (P .1) S
 
     pub single-end : not (eqb c 0) && leb c (5 * n) ≡ false → v ≡ grownBy w (gather n (λ k. withRecord (grammarOf g) H x j (recordAt w k) k))
-    single-end t =
-        going-end g h keys H w x j n (P .1 .fits) (P .4) v ix ls (alone c) (leastOf (alone c)) past S (P .0 .accepted .grammar) (P .0 .keyed) own (P .1 .indexed .regular (P .5 .regular))
-        (alone-past c n single-few (test-no c (5 * n) t))
+    single-end t = partners-end (P .0) (P .1) S (alone-past c n single-few (test-no c (5 * n) t))
 
     module _ (t : not (eqb c 0) && leb c (5 * n) ≡ true) where
       abbrev k : ℕ
@@ -101,15 +92,15 @@ module _ {g h plans keys graph w ix₀ ls₀ : List ℕ} {j n key : ℕ} {lead :
       here = subst (λ i. Going g h keys H w x j n v ix ls (alone c) i past) (sym (alone-least c z (omega (arith, single-low, single-few)))) S
 
       pub single-known : k < itemCount v
-      single-known = omega (arith, z, single-low, P .4, dealt-longer g h w H j (P .1 .fits) (P .2) v past (S .gathered))
+      single-known = partners-known (P .0) (P .1) here (omega (arith, z, single-low))
 
-      passed : (ws : List ℕ) (d : ℕ) → d ≡ getD ws (4097 + c) 0 → alone d ≡ passedOf ws (alone c) k
+      passed : (ws : List ℕ) (d : ℕ) → d ≡ afterOf ws c → alone d ≡ passedOf ws (alone c) k
       passed ws d e = alone-passed ws c k d (omega (arith, z, single-low)) (omega (arith, z, single-low)) e
 
       -- past a quiet record
-      module _ (s : quietIn v (x .item .edges) k ≡ true) (d : ℕ) (e : d ≡ getD ls (4097 + c) 0) where
+      module _ (s : quietIn v (x .item .edges) k ≡ true) (d : ℕ) (e : d ≡ afterOf ls c) where
         hushed : quietIn w (x .item .edges) k ≡ true
-        hushed = sym (dealt-quiet g h w H j (P .1 .fits) (P .2) v past (S .gathered) (x .item .edges) k (omega (arith, z, single-low, P .4))) ∙ s
+        hushed = sym (partners-quiet (P .0) (P .1) S (x .item .edges) k (omega (arith, z, single-low, P .1))) ∙ s
 
         quiet-next : Along g h keys w j n v ix ls d past
         quiet-next = record {
@@ -125,27 +116,22 @@ module _ {g h plans keys graph w ix₀ ls₀ : List ℕ} {j n key : ℕ} {lead :
         quiet-less = left-falls _ ls _ _ n past k (alone c) (alone d) (S .ready .indexed .listed) (S .ahead) (here .at) (omega (arith, z, single-low)) (passed ls d e)
 
       -- past one that is dealt with
-      module _ (u jx ms : List ℕ) (later : ℕ) (p : u ≡ grownBy v (guard (leb past k) (withRecord (grammarOf g) H (recordAt v j) j (recordAt v k) k))) (R : Ready g h keys u jx ms) (q : later ≡ max past (k + 1)) (d : ℕ) (e : d ≡ getD ms (4097 + c) 0) where
-        made : u ≡ grownBy v (guard (leb past k) (withRecord (grammarOf g) H x j (recordAt v k) k))
-        made = p ∙ ap (λ (y : Record). grownBy v (guard (leb past k) (withRecord (grammarOf g) H y j (recordAt v k) k))) (dealt-record g h w H j (P .1 .fits) (P .2) v past (S .gathered))
-
+      module _ (u jx ms : List ℕ) (later : ℕ) (p : u ≡ grownBy v (guard (leb past k) (withRecord (grammarOf g) H (recordAt v j) j (recordAt v k) k))) (R : Ready g h keys u jx ms) (q : later ≡ max past (k + 1)) (d : ℕ) (e : d ≡ afterOf ms c) where
         loud-next : Along g h keys w j n u jx ms d later
         loud-next =
-            going-next g h keys H w x j n (P .1 .fits) (P .4) v ix ls (alone c) k past here (P .0 .accepted .grammar) (P .0 .keyed) own (P .1 .indexed .regular (P .5 .regular)) u jx ms later (omega (arith, z, single-low)) made R q
-            (alone d) (alone d) (passed ms d e) (skims-none (quietIn u (x .item .edges)) ms n (alone d)) (leastOf (alone d)) refl (least-few (alone d))
+            turn-next (P .0) (P .1) here (omega (arith, z, single-low)) p R q (alone d) (alone d) (passed ms d e) (skims-none (quietIn u (x .item .edges)) ms n (alone d)) (leastOf (alone d)) refl
+            (least-few (alone d))
 
         loud-less : leftAll (alone d) < leftAll (alone c)
-        loud-less =
-            going-less g h keys H w x j n (P .1 .fits) (P .4) v ix ls (alone c) k past here (P .0 .accepted .grammar) (P .0 .keyed) own (P .1 .indexed .regular (P .5 .regular)) u jx ms later (omega (arith, z, single-low)) made R q
-            (alone d) (alone d) (passed ms d e) (skims-none (quietIn u (x .item .edges)) ms n (alone d))
+        loud-less = turn-less (P .0) (P .1) here (omega (arith, z, single-low)) p R q (alone d) (alone d) (passed ms d e) (skims-none (quietIn u (x .item .edges)) ms n (alone d))
 
       -- past either
-      pub single-size : {u jx ms : List ℕ} {later : ℕ} → Met g h keys w j n v ix ls c past u jx ms later → length ms ≡ 24578
+      pub single-size : {u jx ms : List ℕ} {later : ℕ} → Met g h keys w j n v ix ls c past u jx ms later → length ms ≡ listWords
       single-size (quiet _ _ _ e _) = ap length e ∙ S .ready .indexed .listed .size
       single-size (loud _ _ _ _ _ _ e _ _ R _) = ap length e ∙ R .indexed .listed .size
 
-      reading : (ms ns : List ℕ) (d : ℕ) → ms ≡ ns → d ≡ getD ms (4097 + c) 0 → d ≡ getD ns (4097 + c) 0
-      reading ms ns d b e = e ∙ ap (λ (t : List ℕ). getD t (4097 + c) 0) b
+      reading : (ms ns : List ℕ) (d : ℕ) → ms ≡ ns → d ≡ afterOf ms c → d ≡ afterOf ns c
+      reading ms ns d b e = e ∙ ap (λ (t : List ℕ). afterOf t c) b
 
       along : (u jx ms t kx ns : List ℕ) (d later m : ℕ) → u ≡ t → jx ≡ kx → ms ≡ ns → later ≡ m → Along g h keys w j n t kx ns d m → Along g h keys w j n u jx ms d later
       along u jx ms t kx ns d later m a b l o A =
@@ -153,7 +139,7 @@ module _ {g h plans keys graph w ix₀ ls₀ : List ℕ} {j n key : ℕ} {lead :
           (subst (λ (y : List ℕ). Along g h keys w j n t y ms d later) (sym b)
           (subst (λ (y : List ℕ). Along g h keys w j n t kx y d later) (sym l) (subst (Along g h keys w j n t kx ns d) (sym o) A)))
 
-      module _ {u jx ms : List ℕ} {later : ℕ} (d : ℕ) (e : d ≡ getD ms (4097 + c) 0) where
+      module _ {u jx ms : List ℕ} {later : ℕ} (d : ℕ) (e : d ≡ afterOf ms c) where
         pub single-next : Met g h keys w j n v ix ls c past u jx ms later → Along g h keys w j n u jx ms d later
         single-next (quiet s a b l o) = along u jx ms v ix ls d later past a b l o (quiet-next s d (reading ms ls d l e))
         single-next (loud t kx ns m a b l o p R q) = along u jx ms t kx ns d later m a b l o (loud-next t kx ns m p R q d (reading ms ns d l e))

@@ -1,26 +1,22 @@
 -- One step on words: the loops over graph edges and partners, and the step as the model's.
-use Prim.Native.Nat.{ℕ, zero, suc, _+_, _-_, _≤_, _<_}
+use Prim.Native.Nat.{ℕ, zero, suc, _≤_, _<_}
 use mathlib.Core.Path.{_≡_, refl, sym, ap, ap₂, _∙_, subst}
 use mathlib.Core.Bool.{Bool, true, false}
-use mathlib.Core.List.{List, [], _++_}
+use mathlib.Core.List.{List, [], _++_, List·Memᴰ as In, Memᴰ·append-left as in-left, Memᴰ·append-right as in-right}
 use native.Mathlib.Omega.{arith}
 use native.Mathlib.Decide.{decLt}
 use lib.ListN.{length}
-use Rattle.hrg.specs.Grammars.{Graph, Grammar, ruleOf, planOf, planNode}
-use Rattle.hrg.specs.Items.{Item, active, passive}
-use Rattle.hrg.specs.ClosureRun.{guard, binaryOf, eachTo, rootAt}
-use Rattle.hrg.specs.AgendaRun.{Conclusion}
+use Rattle.hrg.specs.Grammars.{Graph, Grammar}
+use Rattle.hrg.specs.ClosureRun.{guard}
 use Rattle.agenda.specs.declared.Record.{Record}
-use Rattle.agenda.specs.Records.{recordOf, itemOf, isHandled, plus}
-use Rattle.agenda.specs.Consequences.{gather, recordIn, atRoot, terminalAt, withTerminal, pair, withPartner, consequences}
+use Rattle.agenda.specs.Records.{itemOf, isHandled}
+use Rattle.agenda.specs.Consequences.{gather, recordIn, atRoot, withTerminal, pair, withPartner, consequences}
 use Rattle.agenda.specs.Steps.{Chart, addedAll, handledAt}
-use Rattle.agenda.proofs.Records.{item-eight}
-use Rattle.agenda.proofs.Consequences.{in-consequence}
 use Rattle.records.specs.Words.{Fits, capacity, itemCount, recordAt, recordsAt, chartOf, written, markedAt, grownBy}
 use Rattle.records.proofs.WordLaws.{length-records, record-in}
 use Rattle.records.proofs.Written.{handle-written, chart-of-written, written-over}
 use Rattle.records.proofs.Rewritten.{Grown, handledIn, grown-handled, capacity-on}
-use Rattle.records.proofs.Grown.{Whole, whole-none, whole-guard, whole-append, whole-map, whole-items, whole-gather, holds-own, grown-all, grown-none, grown-fits, grown-more, grown-longer, grown-flag, grown-record}
+use Rattle.records.proofs.Grown.{Whole, whole-gather, holds-own, grown-all, grown-none, grown-fits, grown-more, grown-longer, grown-flag, grown-record}
 use Rattle.steps.specs.Partners.{withRecord}
 use Rattle.steps.proofs.PartnerLaws.{append-nil}
 
@@ -29,7 +25,7 @@ use Rattle.steps.proofs.PartnerLaws.{append-nil}
 pub record Gathered (w : List ℕ) (f : ℕ → List Record) (v : List ℕ) (i : ℕ) : Type 0 where
   pub is : v ≡ grownBy w (gather i f)
 
-module _ (w : List ℕ) (o : Fits w) (f : ℕ → List Record) (e : (k : ℕ) → Whole (f k)) where
+module _ (w : List ℕ) (o : Fits w) (f : ℕ → List Record) where
   pub gathered-none : Gathered w f w 0
   unfolding gather
   gathered-none = record { is = sym (grown-none w o) }
@@ -38,10 +34,10 @@ module _ (w : List ℕ) (o : Fits w) (f : ℕ → List Record) (e : (k : ℕ) �
   unfolding gather
   gather-next i = refl
 
-  pub gathered-next : (v u : List ℕ) (i k : ℕ) → k ≡ suc i → Gathered w f v i → u ≡ grownBy v (f i) → Gathered w f u k
-  gathered-next v u i k q g p = record {
+  pub gathered-next : (v u : List ℕ) (i k : ℕ) → k ≡ suc i → ((n : ℕ) → n < k → Whole (f n)) → Gathered w f v i → u ≡ grownBy v (f i) → Gathered w f u k
+  gathered-next v u i k q e g p = record {
     is =
-        p ∙ ap (λ (t : List ℕ). grownBy t (f i)) (g .is) ∙ grown-more w o (gather i f) (whole-gather i f e) (f i) (e i) ∙ ap (grownBy w) (sym (gather-next i))
+        p ∙ ap (λ (t : List ℕ). grownBy t (f i)) (g .is) ∙ grown-more w o (gather i f) (whole-gather i f (λ n l. e n (omega arith))) (f i) (e i (omega arith)) ∙ ap (grownBy w) (sym (gather-next i))
         ∙ ap (λ n. grownBy w (gather n f)) (sym q);
   }
 
@@ -83,29 +79,16 @@ unfolding gather
 gather-empty f none zero = refl
 gather-empty f none (suc n) = ap₂ (λ (a b : List Record). a ++ b) (gather-empty f none n) (none n)
 
--- ---- eight places
+in-gather : {z : Record} (n : ℕ) (f : ℕ → List Record) (k : ℕ) → k < n → In z (f k) → In z (gather n f)
+unfolding gather
+in-gather zero f k l m = absurd (omega arith)
+in-gather {z} (suc n) f k l m = go (decLt k n) (λ h. in-gather n f k h m)
+  where
+    go : Dec (k < n) → (k < n → In z (gather n f)) → In z (gather n f ++ f n)
+    go (yes h) below = in-left (f n) (below h)
+    go (no h) below = in-right (gather n f) (subst (λ i. In z (f i)) (let e : k ≡ n = omega arith in e) m)
+
 module _ (G : Grammar) (H : Graph) where
-  pub root-whole : (i : Item) (n j : ℕ) → Whole (atRoot G i n j)
-  unfolding atRoot
-  root-whole (active r p m f) n j = whole-map (λ (c : Conclusion Item). recordOf (c .item) (plus n (c .constant)) j 0) (λ c. item-eight (c .item) (plus n (c .constant))) (rootAt (ruleOf G r) p m f)
-  root-whole (passive s m L) n j = whole-none
-
-  pub terminal-whole : (i : Item) (n j e : ℕ) → Whole (withTerminal G H i n j e)
-  unfolding withTerminal
-  terminal-whole (active r p m f) n j e = whole-items (eachTo (length (planOf G r)) (λ q. terminalAt G H r p m f e q (planNode (planOf G r) q))) n j e
-  terminal-whole (passive s m L) n j e = whole-none
-
-  pub pair-whole : (x : Record) (j : ℕ) (y : Record) (k : ℕ) → Whole (pair G H x j y k)
-  unfolding pair
-  pair-whole x j y k = whole-items (binaryOf G H (itemOf G (x .item)) (itemOf G (y .item))) (plus (x .item .count) (y .item .count)) j k
-
-  pub record-whole : (x : Record) (j : ℕ) (y : Record) (k : ℕ) → Whole (withRecord G H x j y k)
-  unfolding withRecord
-  record-whole x j y k = whole-guard (isHandled y) (pair G H x j y k ++ pair G H y k x j) (whole-append (pair G H x j y k) (pair G H y k x j) (pair-whole x j y k) (pair-whole y k x j))
-
-  pub consequences-whole : (rs : List Record) (j : ℕ) → Whole (consequences G H rs j)
-  consequences-whole rs j x m = let t = in-consequence G H rs j x m in rw (t .is) (item-eight (t .item) (t .count))
-
   -- ---- a partner that is read again: handled records stay, and others make nothing
   record-same : (x : Record) (j : ℕ) (y z : Record) (k : ℕ) → isHandled y ≡ isHandled z → (isHandled z ≡ true → y ≡ z) → withRecord G H x j y k ≡ withRecord G H x j z k
   unfolding withRecord
@@ -126,14 +109,20 @@ module _ (G : Grammar) (H : Graph) where
   no-partners w f n o none = nothing-added w (gather n f) o (gather-empty f none n)
 
   -- the loop over partners
-  module _ (w : List ℕ) (o : Fits w) (x : Record) (j : ℕ) where
+  module _ (w : List ℕ) (o : Fits w) (x : Record) (j : ℕ) (e : (i : ℕ) → i < itemCount w → Whole (withRecord G H x j (recordAt w i) i)) where
     abbrev pub partners : ℕ → List Record
     partners k = withRecord G H x j (recordAt w k) k
 
+    pub partners-whole : (n : ℕ) → n ≤ itemCount w → Whole (gather n partners)
+    partners-whole n l = whole-gather n partners (λ i h. e i (omega arith))
+
+    -- a partner that is read again, after some were dealt with
+    pub again-whole : (v : List ℕ) (n k : ℕ) → n ≤ itemCount w → k < itemCount w → Gathered w partners v n → Whole (withRecord G H x j (recordAt v k) k)
+    again-whole v n k few l g = subst Whole (sym (partner-same w (gather n partners) v x j k o (partners-whole n few) (g .is) l)) (e k l)
+
     pub partners-next : (v u : List ℕ) (k m : ℕ) → m ≡ suc k → k < itemCount w → Gathered w partners v k → u ≡ grownBy v (withRecord G H x j (recordAt v k) k) → Gathered w partners u m
     partners-next v u k m q l g p =
-        let e : (i : ℕ) → Whole (partners i) = λ i. record-whole x j (recordAt w i) i in
-        gathered-next w o partners e v u k m q g (p ∙ ap (grownBy v) (partner-same w (gather k partners) v x j k o (whole-gather k partners e) (g .is) l))
+        gathered-next w o partners v u k m q (λ i h. e i (omega arith)) g (p ∙ ap (grownBy v) (partner-same w (gather k partners) v x j k o (partners-whole k (omega arith)) (g .is) l))
 
   -- ---- all that a record makes
   gather-same : (n : ℕ) (f g : ℕ → List Record) → ((k : ℕ) → k < n → f k ≡ g k) → gather n f ≡ gather n g
@@ -148,14 +137,9 @@ module _ (G : Grammar) (H : Graph) where
   abbrev pub withEdges : Record → ℕ → List Record
   withEdges x j = gather (length (H .edges)) (λ e. withTerminal G H (itemOf G (x .item)) (x .item .count) j e)
 
-  edges-whole : (x : Record) (j : ℕ) → Whole (withEdges x j)
-  edges-whole x j = whole-gather (length (H .edges)) (λ e. withTerminal G H (itemOf G (x .item)) (x .item .count) j e) (λ e. terminal-whole (itemOf G (x .item)) (x .item .count) j e)
-
-  pub alone-whole : (x : Record) (j : ℕ) → Whole (byRoot x j ++ withEdges x j)
-  alone-whole x j = whole-append (byRoot x j) (withEdges x j) (root-whole (itemOf G (x .item)) (x .item .count) j) (edges-whole x j)
-
-  pub alone-added : (w v u : List ℕ) (x : Record) (j : ℕ) → Fits w → v ≡ grownBy w (byRoot x j) → u ≡ grownBy v (withEdges x j) → u ≡ grownBy w (byRoot x j ++ withEdges x j)
-  alone-added w v u x j o = added-then w v u (byRoot x j) (withEdges x j) o (root-whole (itemOf G (x .item)) (x .item .count) j) (edges-whole x j)
+  pub alone-added : (w v u : List ℕ) (x : Record) (j : ℕ) → Fits w → Whole (byRoot x j) → Whole (withEdges x j) → v ≡ grownBy w (byRoot x j) → u ≡ grownBy v (withEdges x j)
+      → u ≡ grownBy w (byRoot x j ++ withEdges x j)
+  alone-added w v u x j o a b = added-then w v u (byRoot x j) (withEdges x j) o a b
 
   -- .. and then with records, in words that have those
   module _ (w : List ℕ) (j : ℕ) (l : j < itemCount w) where
@@ -174,15 +158,30 @@ module _ (G : Grammar) (H : Graph) where
         (gather-same (length rs) (λ k. withRecord G H y j (recordAt w k) k) (λ k. withPartner G H rs j k)
         (λ k h. ap (λ (z : Record). withRecord G H y j z k) (sym (record-in w (itemCount w) k (omega arith)))))
 
-    pub all-added : (v u : List ℕ) → Fits w → v ≡ grownBy w (byRoot x j ++ withEdges x j) → (n : ℕ) → n ≡ itemCount w → u ≡ grownBy v (gather n (λ k. withRecord G H x j (recordAt v k) k))
+    -- a record that it makes by one rule is among them
+    abbrev Among : Record → Type 0
+    Among z = In z (consequences G H (chartOf w .records) j)
+
+    pub among-root : (z : Record) → In z (byRoot x j) → Among z
+    among-root z m = subst (In z) read-consequences (in-left _ (in-left _ m))
+
+    pub among-edges : (e : ℕ) → e < length (H .edges) → (z : Record) → In z (withTerminal G H (itemOf G (x .item)) (x .item .count) j e) → Among z
+    among-edges e h z m = subst (In z) read-consequences (in-left _ (in-right (byRoot x j) (in-gather (length (H .edges)) _ e h m)))
+
+    pub among-records : (k : ℕ) → k < itemCount w → isHandled (recordAt w k) ≡ true → (z : Record) → In z (pair G H x j (recordAt w k) k) → Among z
+    unfolding withRecord
+    among-records k h t z m =
+        subst (In z) read-consequences (in-right (byRoot x j ++ withEdges x j) (in-gather (itemCount w) (λ i. withRecord G H x j (recordAt w i) i) k h (rw t (in-left _ m))))
+
+    pub all-added : (v u : List ℕ) → Fits w → Whole (byRoot x j ++ withEdges x j) → ((k : ℕ) → k < itemCount w → Whole (withRecord G H x j (recordAt w k) k)) → v ≡ grownBy w (byRoot x j ++ withEdges x j) → (n : ℕ) → n ≡ itemCount w → u ≡ grownBy v (gather n (λ k. withRecord G H x j (recordAt v k) k))
         → u ≡ grownBy w (consequences G H (chartOf w .records) j)
-    all-added v u o p n q r =
+    all-added v u o a e p n q r =
         let xs = byRoot x j ++ withEdges x j in
         let ys = gather n (λ k. withRecord G H x j (recordAt w k) k) in
         let same : gather n (λ k. withRecord G H x j (recordAt v k) k) ≡ ys =
         gather-same n (λ k. withRecord G H x j (recordAt v k) k) (λ k. withRecord G H x j (recordAt w k) k)
-        (λ k h. partner-same w xs v x j k o (alone-whole x j) p (omega arith)) in
-        added-then w v u xs ys o (alone-whole x j) (whole-gather n (λ k. withRecord G H x j (recordAt w k) k) (λ k. record-whole x j (recordAt w k) k)) p (r ∙ ap (grownBy v) same)
+        (λ k h. partner-same w xs v x j k o a p (omega arith)) in
+        added-then w v u xs ys o a (whole-gather n (λ k. withRecord G H x j (recordAt w k) k) (λ k h. e k (omega arith))) p (r ∙ ap (grownBy v) same)
         ∙ ap (λ m. grownBy w (xs ++ gather m (λ k. withRecord G H x j (recordAt w k) k))) q
         ∙ ap (grownBy w) read-consequences
 
@@ -194,13 +193,13 @@ module _ (G : Grammar) (H : Graph) where
     held : Grown w (chartOf w) c
     held = grown-handled w (chartOf w) (holds-own w o) j
 
-    pub step-by : (v u : List ℕ) → v ≡ markedAt w j → u ≡ grownBy v (consequences G H (chartOf v .records) j) → u ≡ written w (handledAt G H (capacity w) j (chartOf w))
+    pub step-by : Whole (consequences G H (handledIn j (chartOf w) .records) j) → (v u : List ℕ) → v ≡ markedAt w j → u ≡ grownBy v (consequences G H (chartOf v .records) j) → u ≡ written w (handledAt G H (capacity w) j (chartOf w))
     unfolding grownBy handledAt
-    step-by v u is p =
+    step-by whole v u is p =
         let cs = consequences G H (c .records) j in
         let v-is : v ≡ written w c = is ∙ handle-written w j o l in
         p
         ∙ ap (λ (n : ℕ). written v (addedAll n (consequences G H (chartOf v .records) j) (chartOf v))) (capacity-on w c (held .holds) v v-is)
         ∙ ap (λ (d : Chart). written v (addedAll (capacity w) (consequences G H (d .records) j) d)) (ap chartOf v-is ∙ chart-of-written w c (held .holds))
         ∙ ap (λ (t : List ℕ). written t (addedAll (capacity w) cs c)) v-is
-        ∙ written-over w c (held .holds) (addedAll (capacity w) cs c) (grown-all w cs c (held .holds) (consequences-whole (c .records) j) .longer)
+        ∙ written-over w c (held .holds) (addedAll (capacity w) cs c) (grown-all w cs c (held .holds) whole .longer)

@@ -11,18 +11,20 @@ ghost use Rattle.joins.specs.Joins.{KnownNode};
 ghost use Rattle.records.specs.Words.{Fits, grownBy};
 ghost use Rattle.steps.specs.Leaves.{leafItem, leafRecord, ruleLeaves};
 use agenda::ChartItem;
+use places::PLACES;
 
 // The item of a leaf.
 fn leaf(r: u64, p: u64) -> ChartItem
+    requires { ⌜ (r < 256) × (p < 256) ⌝ }
     ensures { λ x. ⌜ x ≡ leafItem r p ⌝ }
 {
     ChartItem {
         kind: 0,
-        of: r,
-        plan: p,
-        edges: 0,
+        of: r as u8,
+        plan: p as u8,
         count: 0,
-        nodes: [64u64; 8],
+        edges: 0,
+        nodes: [64u8; PLACES],
     }
 }
 

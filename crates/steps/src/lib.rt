@@ -8,13 +8,17 @@ ghost use Rattle.agenda.specs.declared.Found.the-variants.{Nowhere};
 ghost use Rattle.agenda.specs.Steps.{startChart, stepWith, runChart};
 ghost use Rattle.questions.specs.Checking.{checkGrammar};
 ghost use Rattle.questions.specs.Abstract.{grammarOf, graphOf};
-ghost use Rattle.joins.specs.Joins.{Accepted};
-ghost use Rattle.records.specs.Words.{headerWords, Fits, capacity, chartOf, written};
+ghost use Rattle.records.specs.Words.{headerWords, capacity, chartOf, written};
 ghost use Rattle.steps.specs.Runs.{nextIn, isSome, markedBy};
 ghost use Rattle.ranking.specs.Ranking.{Ranked};
 ghost use Rattle.index.specs.Index.{indexWords, ranksOf};
-ghost use Rattle.steps.specs.Ready.{Tables, Ready};
+ghost use Rattle.steps.specs.Ready.{Tables, Ready, Runnable};
 use agenda::Found;
+use index::INDEX_WORDS;
+use joins::graphs::GRAPH_TABLE_WORDS;
+use lists::LIST_WORDS;
+use pivots::KEY_TABLE_WORDS;
+use rules::plans::PLAN_TABLE_WORDS;
 
 mod consequences;
 mod leaves;
@@ -49,9 +53,9 @@ fn take(chart: &mut [u64], index: &mut [u32]) -> Found
 fn step(
     g: &[u64],
     h: &[u64],
-    plans: &[u32; 2048],
-    keys: &[u32; 2240],
-    graph: &[u64; 577],
+    plans: &[u32; PLAN_TABLE_WORDS],
+    keys: &[u32; KEY_TABLE_WORDS],
+    graph: &[u64; GRAPH_TABLE_WORDS],
     chart: &mut [u64],
     lists: &mut [u16],
     index: &mut [u32],
@@ -72,9 +76,9 @@ fn step(
 fn advance_by(
     g: &[u64],
     h: &[u64],
-    plans: &[u32; 2048],
-    keys: &[u32; 2240],
-    graph: &[u64; 577],
+    plans: &[u32; PLAN_TABLE_WORDS],
+    keys: &[u32; KEY_TABLE_WORDS],
+    graph: &[u64; GRAPH_TABLE_WORDS],
     chart: &mut [u64],
     lists: &mut [u16],
     index: &mut [u32],
@@ -94,23 +98,27 @@ fn advance_by(
 }
 
 // So many steps, or as many as are left; true only where none is left. What hangs on the tables alone and the index are made once for all of them.
-pub fn advance(g: &[u64], h: &[u64], chart: &mut [u64], steps: u64) -> bool
-    requires { ⌜ Accepted (now g) (now h) × Fits (now chart) × (capacity (now chart) ≤ 4096) ⌝ }
+pub fn advance(
+    g: &[u64],
+    h: &[u64],
+    plans: &[u32; PLAN_TABLE_WORDS],
+    chart: &mut [u64],
+    steps: u64,
+) -> bool
+    requires { ⌜ Runnable (now g) (now h) (now plans) (now chart) ⌝ }
     ensures { λ r. ⌜ (now (chart .exit) ≡ written (now (chart .entry)) (runChart (grammarOf (now (g .entry))) (graphOf (now (g .entry)) (now (h .entry))) (capacity (now (chart .entry))) steps (chartOf (now (chart .entry))))) × (r ≡ true → nextIn (chartOf (now (chart .exit))) ≡ Nowhere) ⌝ }
 {
-    let mut plans = [0u32; 2048];
-    rules::plans::fill(g, &mut plans);
-    let mut keys = [0u32; 2240];
-    pivots::fill(g, &plans, &mut keys);
-    let mut graph = [0u64; 577];
+    let mut keys = [0u32; KEY_TABLE_WORDS];
+    pivots::fill(g, plans, &mut keys);
+    let mut graph = [0u64; GRAPH_TABLE_WORDS];
     joins::graphs::fill(g, h, &mut graph);
-    let mut lists = [0u16; 24578];
-    let mut index = [0u32; 12425];
-    index::build(g, h, &plans, &graph, &keys, chart, &mut lists, &mut index);
+    let mut lists = [0u16; LIST_WORDS];
+    let mut index = [0u32; INDEX_WORDS];
+    index::build(g, h, plans, &graph, &keys, chart, &mut lists, &mut index);
     advance_by(
         g,
         h,
-        &plans,
+        plans,
         &keys,
         &graph,
         chart,

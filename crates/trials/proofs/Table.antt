@@ -13,10 +13,11 @@ use Rattle.hrg.specs.Trees.{padded, internals, edgesOf, innerOf, applications}
 use Rattle.hrg.specs.ClosureRun.{sameList, sameItem, agree, oneToOne, covering, combine, leafAt, leaves, withEdge, terminalAt, rootAt, unaryOf, nonterminalAt, joinAt, binaryOf}
 use Rattle.hrg.specs.WellFormedTest.{every, some, each, listedTest, edgeTest, onEdgeTest, sideTest, planTest, ruleTest, symbolTest, grammarTest, graphTest}
 use Rattle.hrg.specs.Grammars.{touches, cost}
+use Rattle.places.specs.Words.{wordBy, wordOf, bytesAnd, placesOf}
 use Rattle.agenda.specs.Records.{itemOf, sameChartItem, plus}
 use Rattle.agenda.specs.Consequences.{gather, atRoot, terminalAt as terminalAt-agenda, withTerminal, pair, withPartner, consequences, leafRecords}
 use Rattle.agenda.specs.Steps.{lastSame, placed, added, addedAll, lesser, leastWaiting, handledAt, stepChart, runChart, startChart, runsChart, handledCount, sumOf}
-use Rattle.records.specs.Words.{capacity, itemCount, fieldAt, blockAt, itemWords, ofWords, recordAt, recordsAt, lesserAt, chartOf, wordsOf, pasted, saved, allWords, written, improvedAt, appendedTo, placedIn, addedTo, markedAt, grownBy}
+use Rattle.records.specs.Words.{wordsFor, capacity, itemCount, wordAt, itemFrom, recordFrom, recordAt, recordsAt, lesserAt, chartOf, headOf, tailOf, wordsOf, put, saved, allWords, written, improvedAt, appendedTo, placedIn, addedTo, markedAt, grownBy}
 use Rattle.validity.specs.Checking.{holds, knownEdges, knownPlace, knownPlaces, inGraph, knownSecond, knownPartners, knownActive, knownPassive, knownRecord, knownChart}
 use Rattle.charting.specs.Calls.{fit, fitChart, answerOf, startAnswer, startOf, runOf, standingOf, runsOf}
 use Rattle.scripts.specs.Scripts.{rowLines, rowsText, rowBytes, hasLetter, opens, rowsFrom, scriptOf, rowsIn}
@@ -26,7 +27,6 @@ use Rattle.derivation.specs.Derivations.{derivationText, replayText}
 use Rattle.extraction.specs.Extraction.{partnersWithin, partnersAt, partNodes, placedBy, placeAt, partsBy, treeAt}
 use Rattle.writing.specs.Writing.{writeText, derives, lastOf, goalIn, writeOf}
 use Rattle.hrg.specs.Cases.{Case, k1, k2, k3, k4, k5, k6}
-use Prim.Native.Nat.{_+_, _*_}
 use lib.ListN.{replicate}
 use Rattle.trials.specs.Trials.{Trial, Told, told}
 use Rattle.trials.specs.Table.{bytesOf, Row, table}
@@ -35,7 +35,7 @@ use Rattle.trials.proofs.Readings.{rowAt, reading-K1, reading-K2, readi
 
 -- what a case tells with a row's chart, runs and output
 abbrev tells : Case → Trial → Told
-tells k t = toldBy (k .grammar) (k .graph) (replicate (2 + 16 * t .items) 0) (replicate (t .room) 0) (t .runs)
+tells k t = toldBy (k .grammar) (k .graph) (replicate (wordsFor (t .items)) 0) (replicate (t .room) 0) (t .runs)
 
 -- a row whose texts are those of a case
 by-case : (k : Case) (r : Row) → Reading (r .trial .grammar) (r .trial .graph) (k .grammar) (k .graph) → told (r .trial) ≡ tells k (r .trial)
@@ -52,7 +52,7 @@ by-cases =
     ∷ tells k2 (rowAt 7 .trial) ∷ tells k2 (rowAt 8 .trial) ∷ tells k2 (rowAt 9 .trial) ∷ tells k2 (rowAt 10 .trial) ∷ tells k2 (rowAt 11 .trial) ∷ tells k2 (rowAt 12 .trial) ∷ []
 
 cases-tell : by-cases ≡ map (λ (r : Row). r .told) table
-unfolding startBy runBy runsBy answersBy standingBy writingBy toldBy bytesOf bit member _∪_ disjoint single full within ofBits allBelow sameBytes withByte linesOf lineBytes textOf lineLen lineOf lineStart lineEnd isEnded afterLine countingStart countingOf column fieldText digitOf valueFrom valueOf cellOf fieldCount fieldBytes fieldOf numberOf numbersFrom fieldsOf letterOf letterKind kindLetter isCapital shapeOf fieldsText lineBody lineText writable fieldFits lineFits hit occurs tabulate upTo select belowWithin below isBoundary isOpen isOpenAt joined restrict nodeFor attach padded internals edgesOf innerOf applications sameList sameItem agree oneToOne covering combine leafAt leaves withEdge terminalAt rootAt unaryOf nonterminalAt joinAt binaryOf every some each listedTest edgeTest onEdgeTest sideTest planTest ruleTest symbolTest grammarTest graphTest touches cost itemOf sameChartItem plus gather atRoot terminalAt-agenda withTerminal pair withPartner consequences leafRecords lastSame placed added addedAll lesser leastWaiting handledAt stepChart runChart startChart runsChart handledCount sumOf capacity itemCount fieldAt blockAt itemWords ofWords recordAt recordsAt lesserAt chartOf wordsOf pasted saved allWords written improvedAt appendedTo placedIn addedTo markedAt grownBy holds knownEdges knownPlace knownPlaces inGraph knownSecond knownPartners knownActive knownPassive knownRecord knownChart fit fitChart answerOf startAnswer startOf runOf standingOf runsOf rowLines rowsText rowBytes hasLetter opens rowsFrom scriptOf rowsIn partNumbers rowsOf size treeRows fresh newNodes rowTest edgeTest-preorder whole replayed replays replayAt derivationText replayText partnersWithin partnersAt partNodes placedBy placeAt partsBy treeAt writeText derives lastOf goalIn writeOf
+unfolding startBy runBy runsBy answersBy standingBy writingBy toldBy bytesOf bit member _∪_ disjoint single full within ofBits allBelow sameBytes withByte linesOf lineBytes textOf lineLen lineOf lineStart lineEnd isEnded afterLine countingStart countingOf column fieldText digitOf valueFrom valueOf cellOf fieldCount fieldBytes fieldOf numberOf numbersFrom fieldsOf letterOf letterKind kindLetter isCapital shapeOf fieldsText lineBody lineText writable fieldFits lineFits hit occurs tabulate upTo select belowWithin below isBoundary isOpen isOpenAt joined restrict nodeFor attach padded internals edgesOf innerOf applications sameList sameItem agree oneToOne covering combine leafAt leaves withEdge terminalAt rootAt unaryOf nonterminalAt joinAt binaryOf every some each listedTest edgeTest onEdgeTest sideTest planTest ruleTest symbolTest grammarTest graphTest touches cost itemOf sameChartItem plus gather atRoot terminalAt-agenda withTerminal pair withPartner consequences leafRecords lastSame placed added addedAll lesser leastWaiting handledAt stepChart runChart startChart runsChart handledCount sumOf capacity itemCount wordBy wordOf bytesAnd placesOf wordAt itemFrom recordFrom recordAt recordsAt lesserAt chartOf headOf tailOf wordsOf put saved allWords written improvedAt appendedTo placedIn addedTo markedAt grownBy holds knownEdges knownPlace knownPlaces inGraph knownSecond knownPartners knownActive knownPassive knownRecord knownChart fit fitChart answerOf startAnswer startOf runOf standingOf runsOf rowLines rowsText rowBytes hasLetter opens rowsFrom scriptOf rowsIn partNumbers rowsOf size treeRows fresh newNodes rowTest edgeTest-preorder whole replayed replays replayAt derivationText replayText partnersWithin partnersAt partNodes placedBy placeAt partsBy treeAt writeText derives lastOf goalIn writeOf
 cases-tell = refl
 
 pub table-holds : map (λ (r : Row). told (r .trial)) table ≡ map (λ (r : Row). r .told) table

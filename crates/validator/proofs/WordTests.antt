@@ -5,42 +5,42 @@ use mathlib.Core.List.{List, [], _∷_}
 use Prim.Native.Nat.{ℕ, _+_, _≤_, _<_, min}
 use native.Mathlib.Omega.{arith}
 use native.Mathlib.Decide.{decLt}
-use lib.ListN.{length, getD}
+use lib.ListN.{length}
 use lib.Dec.{eqb, ltb, leb}
 use lib.Bits.{bitAnd}
 use borrow.Author.Tests.{eq-eqb, ne-eqb, lt-ltb, le-ltb, le-leb, lt-leb}
-use Rattle.masks.specs.Masks.{member, full, within, Filled, Found}
+use Rattle.masks.specs.Masks.{member, full, within, Filled}
 use Rattle.hrg.specs.Counts.{occurs}
 use Rattle.hrg.specs.Grammars.{terminal, nonterminal, Edge, Rule, PlanNode, leaf, introduce, join, kindOf, rankOf, rightOf, planOf, planNode, edgeAt}
-use Rattle.hrg.specs.Trees.{unplaced, at}
+use Rattle.hrg.specs.Trees.{at}
 use Rattle.hrg.specs.Items.{below}
 use Rattle.hrg.specs.ClosureRun.{isTerminal}
 use Rattle.hrg.specs.WellFormedTest.{every}
 use Rattle.hrg.proofs.Sums.{occurs-append}
 use Rattle.hrg.proofs.Plans.{below-introduce, below-known}
 use Rattle.hrg.proofs.WellFormedTest.{every-false}
+use Rattle.places.specs.Words.{placesOf, Packed}
+use Rattle.places.specs.Maps.{fits}
+use Rattle.places.proofs.Reading.{places-packed}
 use Rattle.questions.specs.Layout.{symbolPlace, rulePlace, symbolCount, kindField, rankAt, ruleEdges, rulePlan, edgeLabel, planKind, planFirst, planSecond, graphEdges}
 use Rattle.questions.specs.Abstract.{planFrom, grammarOf, graphOf}
 use Rattle.questions.specs.Checking.{checkGrammar}
 use Rattle.questions.proofs.WellFormedLent.{checked-grammar-ok}
 use Rattle.questions.proofs.WellFormedAccepted.{symbols-length, rules-length, kind-is, rank-is, rule-is, edge-is}
 use Rattle.joins.specs.Joins.{KnownNode, KnownEdge, Accepted, OpenAt}
-use Rattle.joins.proofs.Known.{rule-ok, right-edges, plan-size, plan-ok, plan-node, graph-size, graph-nodes, graph-edges-few, symbol-there, rule-there}
+use Rattle.joins.proofs.Known.{rule-ok, right-edges, plan-size, plan-ok, plan-node, graph-size, graph-nodes, graph-edges-few, graph-nodes-few, symbol-there, rule-there}
 use Rattle.joins.proofs.PlanMasks.{alone}
-use Rattle.joins.proofs.MapLaws.{getD-any, every-true, every-same}
+use Rattle.joins.proofs.MapLaws.{every-true, every-same}
 use Rattle.agenda.specs.declared.Record.{Record}
 use Rattle.agenda.specs.Records.{isHandled}
 use Rattle.agenda.specs.Steps.{handledCount}
+use Rattle.records.specs.Numbers.{numberIn}
 use Rattle.records.specs.Words.{capacity, itemCount, recordAt, recordsAt}
 use Rattle.records.proofs.WordLaws.{handled-more, handled-same}
 use Rattle.validity.specs.Checking.{knownEdges, knownPlace, knownPlaces, inGraph, knownSecond, knownPartners, knownActive, knownPassive, knownRecord, knownChart}
 use Rattle.validity.specs.Existing.{openPlace, listedPlace}
 use Rattle.validator.specs.Sizes.{Sized}
 use Rattle.validator.specs.declared.Sizes.{Sizes}
-
-pub getD-past : (w : List ℕ) → length w ≡ 0 → 0 ≡ getD w 0 0
-getD-past [] e = refl
-getD-past (a ∷ w) e = absurd (omega arith)
 
 -- ---- bounds
 pub below-equal : (x a b : ℕ) → a ≡ b → x < a → x < b
@@ -78,32 +78,10 @@ pub all-graph-edges : (g h : List ℕ) → Accepted g h → (n all : ℕ) → n 
 all-graph-edges g h ok n all e f = f .value ∙ ap full (let whole : min n 64 ≡ graphEdges h = omega (arith, graph-edges-few g h ok) in whole)
 
 -- ---- edges and places
-pub place-used : (n v : ℕ) (used : Bool) → used ≡ true → ltb v n ≡ knownPlace n used v
-unfolding knownPlace
-place-used n v used e = rw e
-
-pub place-unused : (n v : ℕ) (used : Bool) → used ≡ false → eqb v 64 ≡ knownPlace n used v
-unfolding knownPlace
-place-unused n v used e = rw e
-
--- the test of place k of a map, of which the places in a set are used
-abbrev pub placeTest : ℕ → ℕ → List ℕ → ℕ → Bool
-placeTest n used ns k = knownPlace n (member used k) (at ns k)
-
-module _ (n used : ℕ) (ns : List ℕ) (size : length ns ≡ 8) (k : ℕ) (l : k < 8) (here b : Bool) (f : Found used k here) (t : b ≡ knownPlace n here (getD ns k 0)) where
-  place-by : placeTest n used ns k ≡ b
-  place-by = ap₂ (knownPlace n) (sym (f .value)) (sym (getD-any ns k 0 unplaced (omega arith))) ∙ sym t
-
-  pub places-not : b ≡ false → false ≡ knownPlaces n (λ i. member used i) ns
-  unfolding knownPlaces
-  places-not e = every-false 8 (placeTest n used ns) k l (place-by ∙ e)
-
-  pub places-next : b ≡ true → Passed (placeTest n used ns) k → Passed (placeTest n used ns) (k + 1)
-  places-next e p = passed-next (placeTest n used ns) k (place-by ∙ e) p
-
-pub places-all : (n used : ℕ) (ns : List ℕ) (k : ℕ) → 8 ≤ k → Passed (placeTest n used ns) k → true ≡ knownPlaces n (λ i. member used i) ns
-unfolding knownPlaces
-places-all n used ns k l p = passed-all 8 k (placeTest n used ns) l p
+-- the eight places tested at once
+pub places-by : (n used w : ℕ) (ns : List ℕ) (b : Bool) → Packed ns w → b ≡ fits n used (placesOf w) → b ≡ knownPlaces n (λ k. member used k) ns
+unfolding knownPlaces knownPlace fits
+places-by n used w ns b p e = e ∙ ap (fits n used) (places-packed p)
 
 -- only the eight places are asked
 places-same : (n : ℕ) (a b : ℕ → Bool) (ns : List ℕ) → ((k : ℕ) → k < 8 → a k ≡ b k) → knownPlaces n a ns ≡ knownPlaces n b ns
@@ -245,8 +223,9 @@ module _ (g h : List ℕ) (s : Sizes) (sized : Sized g h s) where
   pub symbol-known : (i : ℕ) → i < s .symbols → symbolPlace i < length g
   symbol-known i l = symbol-inside g (sized .tables .grammar) i (omega (arith, sized .symbols))
 
-  pub all-edges : s .all ≡ full (s .edges)
-  all-edges = sized .all ∙ ap full (sym (sized .edges))
+  -- all graph edges as a set, and a bound that no node's number reaches
+  pub in-sizes : (s .all ≡ full (s .edges)) × (s .nodes ≤ 64)
+  in-sizes = (sized .all ∙ ap full (sym (sized .edges)), omega (arith, sized .nodes, graph-nodes-few g h (sized .tables)))
 
 module _ (g h : List ℕ) (s : Sizes) (sized : Sized g h s) (n : ℕ) (x : Record) where
   -- a set of places, and the places that the item uses
@@ -344,7 +323,7 @@ module _ (g h : List ℕ) (n : ℕ) (x : Record) where
 abbrev pub recordTest : List ℕ → List ℕ → ℕ → List ℕ → ℕ → Bool
 recordTest g h n w j = knownRecord (grammarOf g) (graphOf g h) n (recordAt w j)
 
-module _ (g h w : List ℕ) (n : ℕ) (e : n ≡ getD w 0 0) where
+module _ (g h w : List ℕ) (n : ℕ) (e : n ≡ numberIn w) where
   chart-by : knownChart (grammarOf g) (graphOf g h) w ≡ leb n (capacity w) && every n (recordTest g h n w)
   unfolding knownChart
   chart-by = ap (λ m. leb m (capacity w) && every m (recordTest g h m w)) (sym e)
@@ -376,7 +355,7 @@ module _ (w : List ℕ) (j d : ℕ) (x : Record) (e : x ≡ recordAt w j) where
   count-same h = handled-same w j d (ap (λ (y : Record). isHandled y) (sym e) ∙ ap not (eq-eqb (x .handled) 0 h))
 
 -- the records passed in the end are all items that a chart has which holds as many as it names
-module _ (w : List ℕ) (n cap j : ℕ) (e : n ≡ getD w 0 0) (c : cap ≡ capacity w) (l : n ≤ cap) (few : j ≤ n) (all : n ≤ j) where
+module _ (w : List ℕ) (n cap j : ℕ) (e : n ≡ numberIn w) (c : cap ≡ capacity w) (l : n ≤ cap) (few : j ≤ n) (all : n ≤ j) where
   all-items : j ≡ itemCount w
   unfolding itemCount
   all-items = omega arith

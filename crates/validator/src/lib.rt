@@ -1,7 +1,7 @@
 // Question 8 for a lent chart: how many items it holds, and whether each of its records is the image of an item that names what exists.
 ghost use mathlib.Core.Path.{_≡_};
 ghost use mathlib.Core.Bool.{true, false};
-ghost use lib.ListN.{getD};
+ghost use Prim.Native.Nat.{_≤_};
 ghost use Rattle.masks.specs.Masks.{member, full};
 ghost use Rattle.hrg.specs.Grammars.{planOf, planNode};
 ghost use Rattle.questions.specs.Abstract.{grammarOf, graphOf};
@@ -9,9 +9,11 @@ ghost use Rattle.joins.specs.Joins.{KnownNode, KnownEdge, Accepted};
 ghost use Rattle.rules.specs.Plans.{PlanTable};
 ghost use Rattle.agenda.specs.Steps.{handledCount};
 ghost use Rattle.records.specs.Words.{recordsAt, itemCount};
-ghost use Rattle.validity.specs.Checking.{holds, knownPlace, knownPlaces, inGraph, knownSecond, knownPartners, knownActive, knownPassive, knownRecord, knownChart};
+ghost use Rattle.validity.specs.Checking.{holds, knownPlaces, inGraph, knownSecond, knownPartners, knownActive, knownPassive, knownRecord, knownChart};
 ghost use Rattle.validator.specs.Sizes.{Sized};
 use agenda::Record;
+use places::PLACES;
+use rules::plans::PLAN_TABLE_WORDS;
 
 // What is asked of accepted tables once for all items: how many rules, symbols, graph nodes and graph edges there are, and all graph edges as a set.
 struct Sizes {
@@ -51,33 +53,17 @@ fn sizes_of(g: &[u64], h: &[u64]) -> Sizes
 }
 
 // ---- edges and places
-// Whether a place has what it should: a node below n where it is used, and none elsewhere.
-fn known_place(n: u64, used: bool, v: u64) -> bool
-    ensures { λ r. ⌜ r ≡ knownPlace n used v ⌝ }
-{
-    if used {
-        return v < n;
-    }
-    v == 64
-}
-
-// Whether that holds of all eight places, of which those in a set are used.
-fn known_places(n: u64, used: u64, ns: [u64; 8]) -> bool
+// Whether each of the eight places has what it should: a node below n where it is used, and none elsewhere.
+fn known_places(n: u64, used: u64, ns: [u8; PLACES]) -> bool
+    requires { ⌜ n ≤ 64 ⌝ }
     ensures { λ r. ⌜ r ≡ knownPlaces n (λ k. member used k) ns ⌝ }
 {
-    let mut k: u64 = 0;
-    while k < 8 {
-        if !known_place(n, masks::has(used, k), ns[k as usize]) {
-            return false;
-        }
-        k += 1;
-    }
-    true
+    places::testing::fits(places::word_of(ns), used, n)
 }
 
 // Whether the graph has the edges and the nodes that a record names, by the set of places that its item uses.
 fn in_graph(s: Sizes, used: u64, x: Record) -> bool
-    requires { ⌜ s .all ≡ full (s .edges) ⌝ }
+    requires { ⌜ (s .all ≡ full (s .edges)) × (s .nodes ≤ 64) ⌝ }
     ensures { λ r. ⌜ r ≡ inGraph (s .nodes) (s .edges) (λ k. member used k) x ⌝ }
 {
     let item = x.item;
@@ -96,11 +82,12 @@ fn known_second(g: &[u64], h: &[u64], s: Sizes, n: u64, x: Record, i: u64) -> bo
     ensures { λ r. ⌜ r ≡ knownSecond (grammarOf (now (g .entry))) (graphOf (now (g .entry)) (now (h .entry))) n x i ⌝ }
 {
     let item = x.item;
-    let label = layout::edge_label_in(g, item.of, i);
+    let label = layout::edge_label_in(g, item.of as u64, i);
     let kind = layout::symbol_kind_in(g, label);
+    let second = x.second as u64;
     match kind {
-        0 => x.second < s.edges,
-        _ => x.second < n,
+        0 => second < s.edges,
+        _ => second < n,
     }
 }
 
@@ -110,29 +97,41 @@ fn known_partners(g: &[u64], h: &[u64], s: Sizes, n: u64, x: Record) -> bool
     ensures { λ r. ⌜ r ≡ knownPartners (grammarOf (now (g .entry))) (graphOf (now (g .entry)) (now (h .entry))) n x (planNode (planOf (grammarOf (now (g .entry))) (x .item .of)) (x .item .plan)) ⌝ }
 {
     let item = x.item;
-    let kind = layout::plan_kind_in(g, item.of, item.plan);
+    let of = item.of as u64;
+    let plan = item.plan as u64;
+    let first = x.first as u64;
+    let second = x.second as u64;
+    let kind = layout::plan_kind_in(g, of, plan);
     match kind {
-        0 => (x.first == 0) & (x.second == 0),
-        1 => (x.first < n)
-            & known_second(g, h, s, n, x, layout::plan_second_in(g, item.of, item.plan)),
-        _ => (x.first < n) & (x.second < n),
+        0 => (first == 0) & (second == 0),
+        1 => (first < n) & known_second(g, h, s, n, x, layout::plan_second_in(g, of, plan)),
+        _ => (first < n) & (second < n),
     }
 }
 
 // ---- records
 // The places of an active item are the open rule nodes at its plan node.
-fn known_active(g: &[u64], h: &[u64], plans: &[u32; 2048], s: Sizes, n: u64, x: Record) -> bool
+fn known_active(
+    g: &[u64],
+    h: &[u64],
+    plans: &[u32; PLAN_TABLE_WORDS],
+    s: Sizes,
+    n: u64,
+    x: Record,
+) -> bool
     requires { ⌜ Sized (now g) (now h) s × PlanTable (now g) (now plans) ⌝ }
     ensures { λ r. ⌜ r ≡ knownActive (grammarOf (now (g .entry))) (graphOf (now (g .entry)) (now (h .entry))) n x ⌝ }
 {
     let item = x.item;
-    if s.rules <= item.of {
+    let of = item.of as u64;
+    let plan = item.plan as u64;
+    if s.rules <= of {
         return false;
     }
-    if layout::rule_plan_in(g, item.of) <= item.plan {
+    if layout::rule_plan_in(g, of) <= plan {
         return false;
     }
-    let open = rules::plans::open_at(g, plans, item.of, item.plan);
+    let open = rules::plans::open_at(g, plans, of, plan);
     if !in_graph(s, open, x) {
         return false;
     }
@@ -145,20 +144,29 @@ fn known_passive(g: &[u64], h: &[u64], s: Sizes, n: u64, x: Record) -> bool
     ensures { λ r. ⌜ r ≡ knownPassive (grammarOf (now (g .entry))) (graphOf (now (g .entry)) (now (h .entry))) n x ⌝ }
 {
     let item = x.item;
-    if s.symbols <= item.of {
+    let of = item.of as u64;
+    if s.symbols <= of {
         return false;
     }
-    if layout::symbol_kind_in(g, item.of) == 0 {
+    if layout::symbol_kind_in(g, of) == 0 {
         return false;
     }
-    let listed = masks::full(layout::symbol_rank_in(g, item.of));
+    let listed = masks::full(layout::symbol_rank_in(g, of));
     if !in_graph(s, listed, x) {
         return false;
     }
-    (x.first < n) & (item.plan == 0) & (x.second == 0)
+    let first = x.first as u64;
+    (first < n) & (item.plan == 0) & (x.second == 0)
 }
 
-fn known_record(g: &[u64], h: &[u64], plans: &[u32; 2048], s: Sizes, n: u64, x: Record) -> bool
+fn known_record(
+    g: &[u64],
+    h: &[u64],
+    plans: &[u32; PLAN_TABLE_WORDS],
+    s: Sizes,
+    n: u64,
+    x: Record,
+) -> bool
     requires { ⌜ Sized (now g) (now h) s × PlanTable (now g) (now plans) ⌝ }
     ensures { λ r. ⌜ r ≡ knownRecord (grammarOf (now (g .entry))) (graphOf (now (g .entry)) (now (h .entry))) n x ⌝ }
 {
@@ -172,24 +180,14 @@ fn known_record(g: &[u64], h: &[u64], plans: &[u32; 2048], s: Sizes, n: u64, x: 
 }
 
 // ---- the chart
-// The number of items that a chart's header names, which may be more than it holds.
-fn number_of(chart: &[u64]) -> u64
-    ensures { λ r. ⌜ r ≡ getD (now (chart .entry)) 0 0 ⌝ }
-{
-    if chart.len() == 0 {
-        return 0;
-    }
-    chart[0]
-}
-
 // Is each record the image of an item that names a rule, plan node, symbol, graph nodes, edges and partner items that exist, with no more items
 // than the chart holds? The plan table is that of the grammar (`rules::plans::fill`). The handled ones are counted in the same walk, so that
 // whoever asks how the chart stands needs no other.
-pub fn known(g: &[u64], h: &[u64], plans: &[u32; 2048], chart: &[u64]) -> Tested
+pub fn known(g: &[u64], h: &[u64], plans: &[u32; PLAN_TABLE_WORDS], chart: &[u64]) -> Tested
     requires { ⌜ Accepted (now g) (now h) × PlanTable (now g) (now plans) ⌝ }
     ensures { λ t. ⌜ (t .known ≡ knownChart (grammarOf (now (g .entry))) (graphOf (now (g .entry)) (now (h .entry))) (now (chart .entry))) × (t .known ≡ true → t .handled ≡ handledCount (recordsAt (now (chart .entry)) (itemCount (now (chart .entry))))) × (t .known ≡ false → t .handled ≡ 0) ⌝ }
 {
-    let n = number_of(chart);
+    let n = records::telling::number_of(chart);
     if records::capacity_of(chart) < n {
         return Tested {
             known: false,

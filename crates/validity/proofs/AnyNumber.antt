@@ -3,11 +3,12 @@ use mathlib.Core.Path.{_≡_, refl}
 use mathlib.Core.List.{List}
 use Prim.Native.Nat.{ℕ}
 use native.Mathlib.Omega.{arith}
-use lib.ListN.{getD, set, length-set}
+use lib.ListN.{set, length-set}
 use lib.Seq.{getD-set-other}
 use Rattle.hrg.specs.Grammars.{Graph, PlanNode, leaf, introduce, join, Grammar, planOf, planNode}
 use Rattle.agenda.specs.Steps.{withCount}
 use Rattle.agenda.specs.declared.Record.{Record}
+use Rattle.records.specs.Numbers.{numberIn}
 use Rattle.records.specs.Words.{capacity, recordAt}
 use Rattle.records.proofs.Written.{header-records}
 use Rattle.validity.specs.Checking.{knownPartners, knownActive, knownRecord, knownChart}
@@ -32,6 +33,6 @@ module _ (G : Grammar) (H : Graph) (n : ℕ) (x : Record) (c d : ℕ) where
 pub mark-free : (G : Grammar) (H : Graph) (w : List ℕ) (v : ℕ) → knownChart G H (set w 1 v) ≡ knownChart G H w
 unfolding knownChart capacity
 mark-free G H w v =
-    let number : getD (set w 1 v) 0 0 ≡ getD w 0 0 = getD-set-other w 1 0 v 0 (λ z. omega arith) in
+    let number : numberIn (set w 1 v) ≡ numberIn w = getD-set-other w 1 0 v 0 (λ z. omega arith) in
     let same : (j : ℕ) → recordAt (set w 1 v) j ≡ recordAt w j = λ j. header-records w 1 v j (omega arith) in
     simp (number, length-set w 1 v, same)

@@ -6,7 +6,7 @@ use mathlib.Core.Bool.{Bool, true, false, not, cond, false≢true}
 use mathlib.Core.List.{List}
 use Prim.Native.Nat.{ℕ, suc, _≤_, _<_}
 use native.Mathlib.Omega.{arith}
-use lib.ListN.{length, getD}
+use lib.ListN.{length}
 use lib.Dec.{T, eqb}
 use borrow.Author.Tests.{ltb-true, lt-ltb, eqb-true, eq-eqb, ne-eqb}
 use Rattle.masks.specs.Masks.{bit, member, full}
@@ -18,6 +18,7 @@ use Rattle.hrg.specs.WellFormedTest.{Decides}
 use Rattle.hrg.proofs.Degrees.{test-T}
 use Rattle.hrg.proofs.WellFormedTest.{decides-map, _and_, decides-le, decides-eq, decides-every}
 use Rattle.agenda.specs.declared.Record.{Record}
+use Rattle.records.specs.Numbers.{numberIn}
 use Rattle.records.specs.Words.{capacity, recordAt}
 use Rattle.validity.specs.Checking.{knownEdges, knownPlace, knownPlaces, inGraph, knownSecond, knownPartners, knownActive, knownPassive, knownRecord, knownChart}
 use Rattle.validity.specs.Existing.{openPlace, listedPlace, NoneElse, ImageOfItem, active-image, passive-image, ExistingParts, ExistingPartners, no-partner, edge-partner, item-partner, join-partners, ExistingRecord, an-active, a-passive, ExistingChart}
@@ -191,5 +192,5 @@ module _ (G : Grammar) (H : Graph) (n : ℕ) (x : Record) where
 pub chart-decides : (G : Grammar) (H : Graph) (w : List ℕ) → Decides (knownChart G H w) (ExistingChart G H w)
 unfolding knownChart
 chart-decides G H w =
-    decides-map (decides-le (getD w 0 0) (capacity w) and decides-every (getD w 0 0) (λ j. record-decides G H (getD w 0 0) (recordAt w j)))
+    decides-map (decides-le (numberIn w) (capacity w) and decides-every (numberIn w) (λ j. record-decides G H (numberIn w) (recordAt w j)))
     (λ t. record { number = t .0; image = λ j l. t .1 j l .0; each = λ j l. t .1 j l .1 }) (λ r. (r .number, λ j l. (r .image j l, r .each j l)))

@@ -1,6 +1,6 @@
 -- Records that pass question 8 and items are one to one, and what the places of such a record hold.
-use mathlib.Core.Path.{_≡_, refl, sym, ap, _∙_}
-use mathlib.Core.Logic.{_↔_}
+use mathlib.Core.Path.{_≡_, refl, sym, ap, _∙_, subst}
+use mathlib.Core.Logic.{_⊎_, inl, inr, _↔_}
 use mathlib.Core.Bool.{Bool, true, false}
 use mathlib.Core.List.{List}
 use Prim.Native.Nat.{ℕ, _≤_, _<_}
@@ -13,12 +13,12 @@ use Rattle.hrg.specs.Grammars.{Graph, Grammar, rankOf, ruleOf, rightOf, planOf}
 use Rattle.hrg.specs.Trees.{unplaced, at, padded}
 use Rattle.hrg.specs.WellFormed.{GrammarOk, GraphOk}
 use Rattle.hrg.proofs.Degrees.{by-test}
-use Rattle.questions.specs.Layout.{ruleNodes}
+use Rattle.questions.specs.Layout.{ruleNodes, graphNodes}
 use Rattle.questions.specs.Abstract.{grammarOf, graphOf}
 use Rattle.questions.proofs.WellFormedLent.{checked-grammar-ok}
 use Rattle.questions.proofs.WellFormedAccepted.{rules-length}
-use Rattle.joins.specs.Joins.{Accepted, BareFrom, Plain}
-use Rattle.joins.proofs.Known.{right-nodes, graph-ok}
+use Rattle.joins.specs.Joins.{Accepted, BareFrom, Into}
+use Rattle.joins.proofs.Known.{right-nodes, graph-nodes}
 use Rattle.joins.proofs.EdgeMaps.{is-padded, at-past, same-bare as bare-equal}
 use Rattle.agenda.specs.Records.{chartItem, itemOf, sameChartItem}
 use Rattle.agenda.specs.Steps.{withCount}
@@ -50,12 +50,12 @@ module _ (k : ℕ) (ns : List ℕ) (used : ℕ → Bool) (size : length ns ≡ 8
   places-bare : BareFrom k ns
   places-bare = record { past = else-none }
 
-  places-plain : (n : ℕ) → n ≤ unplaced → ((i : ℕ) → i < 8 → used i ≡ true → at ns i < n) → Plain ns
-  places-plain n few node i = go (decLt i 8)
+  places-into : (n : ℕ) → ((i : ℕ) → i < 8 → used i ≡ true → at ns i < n) → Into n ns
+  places-into n node i = go (decLt i 8)
     where
-      go : Dec (i < 8) → at ns i ≤ unplaced
-      go (yes d) = by-test (used i) (λ e. omega (arith, node i d e)) (λ e. omega (arith, none .none i d e))
-      go (no d) = omega (arith, at-past ns i (omega arith))
+      go : Dec (i < 8) → (at ns i ≡ unplaced) ⊎ (at ns i < n)
+      go (yes d) = by-test (used i) (λ e. inr (node i d e)) (λ e. inl (none .none i d e))
+      go (no d) = inl (at-past ns i (omega arith))
 
 -- ---- a known record of eight places
 -- by its kind: what both clauses say of it
@@ -129,18 +129,18 @@ module _ (G : Grammar) (H : Graph) (ok : GrammarOk G) (n : ℕ) (x : Record) (si
       go (as-active k r p a s) = absurd (omega arith)
       go (as-passive k r p a s) = s .node i (omega (arith, ok .symbol (x .item .of) r .upper)) (lt-ltb i (rankOf G (x .item .of)) l)
 
+  -- each place has none or a node of the graph
+  pub known-into : Into (H .nodes) (x .item .nodes)
+  known-into = go (known-as G H n x known)
+    where
+      go : KnownAs G H x → Into (H .nodes) (x .item .nodes)
+      go (as-active k r p a s) = places-into (rightOf G (x .item .of) .nodes) (x .item .nodes) (openPlace G (x .item)) size (open-few r p) a (H .nodes) (s .node)
+      go (as-passive k r p a s) =
+          places-into (rankOf G (x .item .of)) (x .item .nodes) (listedPlace G (x .item)) size (λ i. ltb-true i (rankOf G (x .item .of))) a (H .nodes) (s .node)
+
   module _ (good : GraphOk G H) where
     few : H .nodes ≤ unplaced
     few = good .side .node-count .upper
-
-    -- no place has a number above 64
-    pub known-plain : Plain (x .item .nodes)
-    known-plain = go (known-as G H n x known)
-      where
-        go : KnownAs G H x → Plain (x .item .nodes)
-        go (as-active k r p a s) = places-plain (rightOf G (x .item .of) .nodes) (x .item .nodes) (openPlace G (x .item)) size (open-few r p) a (H .nodes) few (s .node)
-        go (as-passive k r p a s) =
-            places-plain (rankOf G (x .item .of)) (x .item .nodes) (listedPlace G (x .item)) size (λ i. ltb-true i (rankOf G (x .item .of))) a (H .nodes) few (s .node)
 
     -- every place that is used has a number below 64
     pub open-placed : x .item .kind ≡ 0 → (i : ℕ) → openPlace G (x .item) i ≡ true → at (x .item .nodes) i < unplaced
@@ -161,8 +161,8 @@ module _ (G : Grammar) (H : Graph) (ok : GrammarOk G) (n m : ℕ) (x y : Record)
 
 -- ---- over accepted tables
 module _ (g h : List ℕ) (accepted : Accepted g h) (n : ℕ) (x : Record) (size : length (x .item .nodes) ≡ 8) (known : knownRecord (grammarOf g) (graphOf g h) n x ≡ true) where
-  pub table-plain : Plain (x .item .nodes)
-  table-plain = known-plain (grammarOf g) (graphOf g h) (checked-grammar-ok g (accepted .grammar)) n x size known (graph-ok g h accepted)
+  pub table-into : Into (graphNodes h) (x .item .nodes)
+  table-into = subst (λ k. Into k (x .item .nodes)) (graph-nodes g h) (known-into (grammarOf g) (graphOf g h) (checked-grammar-ok g (accepted .grammar)) n x size known)
 
   pub table-bare : x .item .kind ≡ 0 → BareFrom (ruleNodes g (x .item .of)) (x .item .nodes)
   table-bare e = go (known-as (grammarOf g) (graphOf g h) n x known)

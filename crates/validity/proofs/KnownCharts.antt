@@ -4,7 +4,7 @@ use mathlib.Core.Bool.{true}
 use mathlib.Core.List.{List}
 use Prim.Native.Nat.{ℕ, _≤_, _<_}
 use native.Mathlib.Omega.{arith}
-use lib.ListN.{length, getD}
+use lib.ListN.{length}
 use lib.Dec.{leb}
 use borrow.Author.Tests.{leb-true}
 use Rattle.hrg.specs.Grammars.{Graph, Grammar}
@@ -13,6 +13,7 @@ use Rattle.hrg.proofs.Degrees.{test-T}
 use Rattle.agenda.specs.Consequences.{recordIn}
 use Rattle.agenda.specs.Steps.{Chart}
 use Rattle.agenda.specs.declared.Record.{Record}
+use Rattle.records.specs.Numbers.{numberIn}
 use Rattle.records.specs.Words.{capacity, itemCount, recordAt, recordsAt, chartOf, written, Fits}
 use Rattle.records.proofs.WordLaws.{length-records, record-in}
 use Rattle.records.proofs.Written.{Holds, count-is, fits-written, chart-of-written}
@@ -34,11 +35,11 @@ module _ (G : Grammar) (H : Graph) where
   known-chart w e = chart-decides G H w .sound (test-T (knownChart G H w) e)
 
   -- each of its items is known
-  pub known-each : (w : List ℕ) → knownChart G H w ≡ true → (k : ℕ) → k < itemCount w → knownRecord G H (getD w 0 0) (recordAt w k) ≡ true
+  pub known-each : (w : List ℕ) → knownChart G H w ≡ true → (k : ℕ) → k < itemCount w → knownRecord G H (numberIn w) (recordAt w k) ≡ true
   unfolding itemCount
   known-each w e k l =
       let c = known-chart w e in
-      existing-known G H (getD w 0 0) (recordAt w k) (c .image k (omega arith)) (c .each k (omega arith))
+      existing-known G H (numberIn w) (recordAt w k) (c .image k (omega arith)) (c .each k (omega arith))
 
   pub known-fits : (w : List ℕ) → 2 ≤ length w → knownChart G H w ≡ true → Fits w
   known-fits w l e = record { header = l; number = known-chart w e .number }
@@ -49,7 +50,7 @@ module _ (G : Grammar) (H : Graph) where
   AllKnown rs = (k : ℕ) → k < length rs → knownRecord G H (length rs) (recordIn rs k) ≡ true
 
   module _ (w : List ℕ) (f : Fits w) where
-    size-is : length (recordsAt w (itemCount w)) ≡ getD w 0 0
+    size-is : length (recordsAt w (itemCount w)) ≡ numberIn w
     size-is = length-records w (itemCount w) ∙ count-is w f
 
     pub known-records : knownChart G H w ≡ true → AllKnown (chartOf w .records)
@@ -57,8 +58,8 @@ module _ (G : Grammar) (H : Graph) where
     known-records e k l =
         let b : k < itemCount w = omega (arith, length-records w (itemCount w)) in
         ap (λ n. knownRecord G H n (recordIn (recordsAt w (itemCount w)) k)) size-is
-        ∙ ap (knownRecord G H (getD w 0 0)) (record-in w (itemCount w) k b)
-        ∙ existing-known G H (getD w 0 0) (recordAt w k) (known-chart w e .image k (omega (arith, count-is w f))) (known-chart w e .each k (omega (arith, count-is w f)))
+        ∙ ap (knownRecord G H (numberIn w)) (record-in w (itemCount w) k b)
+        ∙ existing-known G H (numberIn w) (recordAt w k) (known-chart w e .image k (omega (arith, count-is w f))) (known-chart w e .each k (omega (arith, count-is w f)))
 
     pub records-known : AllKnown (chartOf w .records) → knownChart G H w ≡ true
     unfolding chartOf
@@ -67,14 +68,14 @@ module _ (G : Grammar) (H : Graph) where
         (chart-decides G H w .complete
         (record {
           number = f .number;
-          image = λ j l. known-image G H (getD w 0 0) (recordAt w j) (known j l);
-          each = λ j l. known-existing G H (getD w 0 0) (recordAt w j) (known j l);
+          image = λ j l. known-image G H (numberIn w) (recordAt w j) (known j l);
+          each = λ j l. known-existing G H (numberIn w) (recordAt w j) (known j l);
         }))
       where
-        known : (j : ℕ) → j < getD w 0 0 → knownRecord G H (getD w 0 0) (recordAt w j) ≡ true
+        known : (j : ℕ) → j < numberIn w → knownRecord G H (numberIn w) (recordAt w j) ≡ true
         known j l =
             let b : j < itemCount w = omega (arith, count-is w f) in
-            ap (knownRecord G H (getD w 0 0)) (sym (record-in w (itemCount w) j b))
+            ap (knownRecord G H (numberIn w)) (sym (record-in w (itemCount w) j b))
             ∙ ap (λ n. knownRecord G H n (recordIn (recordsAt w (itemCount w)) j)) (sym size-is)
             ∙ all j (omega (arith, length-records w (itemCount w)))
 

@@ -10,3 +10,6 @@ pub mod KnownItems
 pub mod Own
 -- records and items are one to one
 pub mod Images
+-- what they make is small
+pub mod Compactness
+pub mod Made

@@ -47,7 +47,7 @@ module _ (G : Grammar) (H : Graph) (x : Record) {n m : ℕ} (more : n ≤ m) whe
 -- ---- a record of a known item with partners that exist
 module _ (G : Grammar) (H : Graph) where
   -- both clauses of question 8
-  abbrev Known : ℕ → Record → Type 0
+  abbrev pub Known : ℕ → Record → Type 0
   Known n x = ImageOfItem G x × ExistingRecord G H n x
 
   -- partners by a plan node: those that exist, and both fields 0 at a leaf
@@ -61,7 +61,7 @@ module _ (G : Grammar) (H : Graph) where
       let used : ℕ → Bool = isOpenAt (ruleOf G r) p in
       (active-image refl (padded-none (H .nodes) used f (w .3)) (q .0), an-active refl (w .0) (w .1) (item-parts H used x f refl (w .2) (w .3)) (q .1))
 
-  passive-existing : (n s m : ℕ) (L : List ℕ) (c a : ℕ) → KnownItem G H (passive s m L) → a < n → Known n (recordOf (passive s m L) c a 0)
+  pub passive-existing : (n s m : ℕ) (L : List ℕ) (c a : ℕ) → KnownItem G H (passive s m L) → a < n → Known n (recordOf (passive s m L) c a 0)
   passive-existing n s m L c a w l =
       let x = recordOf (passive s m L) c a 0 in
       let used : ℕ → Bool = λ k. ltb k (rankOf G s) in
@@ -76,15 +76,33 @@ module _ (G : Grammar) (H : Graph) where
   by-join : {n a b : ℕ} {x : Record} {p : PlanNode} → p ≡ join a b → ExistingPartners G H n x (join a b) → Partners n x p
   by-join {n} {a} {b} {x} e q = (λ d. let z : _≡_ {A = ℕ} 0 1 = cc in absurd (omega arith), subst (ExistingPartners G H n x) (sym e) q)
 
+-- ---- a record handled
+abbrev handledIn : List Record → ℕ → List Record
+handledIn rs j = set rs j (handledNow (recordIn rs j))
+
+module _ (G : Grammar) (H : Graph) where
+  pub handled-known : (rs : List Record) (j : ℕ) → j < length rs → AllKnown G H rs → AllKnown G H (handledIn rs j)
+  handled-known rs j l all k h = go (set-at rs j (handledNow (recordIn rs j)) k l)
+    where
+      size : length (handledIn rs j) ≡ length rs
+      size = length-set rs j (handledNow (recordIn rs j))
+
+      old : (i : ℕ) → i < length rs → knownRecord G H (length (handledIn rs j)) (recordIn rs i) ≡ true
+      old i b = ap (λ n. knownRecord G H n (recordIn rs i)) size ∙ all i b
+
+      go : SetAt rs j (handledNow (recordIn rs j)) k → knownRecord G H (length (handledIn rs j)) (recordIn (handledIn rs j) k) ≡ true
+      go (changed q p) = ap (knownRecord G H (length (handledIn rs j))) p ∙ count-free G H (length (handledIn rs j)) (recordIn rs j) (recordIn rs j .item .count) 1 ∙ old j l
+      go (other n p) = ap (knownRecord G H (length (handledIn rs j))) p ∙ old k (omega (arith, size))
+
 module _ (G : Grammar) (H : Graph) (ok : GrammarOk G) (good : GraphOk G H) where
-  leaf-existing : {i : Item} (n : ℕ) → LeafRule G i → Known G H n (recordOf i 0 0 0)
+  pub leaf-existing : {i : Item} (n : ℕ) → LeafRule G i → Known G H n (recordOf i 0 0 0)
   leaf-existing n (leaf-rule r p k l e) = active-existing G H n r p 0 _ 0 0 0 (leaf-item G H ok good (leaf-rule r p k l e)) (by-leaf G H e refl refl)
 
-  terminal-existing : {g : ℕ} {a i : Item} (n c j : ℕ) → TerminalRule G H g a i → KnownItem G H a → j < n → Known G H n (recordOf i c j g)
+  pub terminal-existing : {g : ℕ} {a i : Item} (n c j : ℕ) → TerminalRule G H g a i → KnownItem G H a → j < n → Known G H n (recordOf i c j g)
   terminal-existing {g} n c j (terminal-with r p k i m₁ m f h l e w v) a d =
       active-existing G H n r p m h c j g (unary-item G H ok good (terminal-unary G H (terminal-with r p k i m₁ m f h l e w v)) a) (by-introduce G H e (edge-partner d (w .kind) (w .known)))
 
-  binary-existing : {a b i : Item} (n c j k : ℕ) → BinaryRule G H a b i → KnownItem G H a → KnownItem G H b → j < n → k < n → Known G H n (recordOf i c j k)
+  pub binary-existing : {a b i : Item} (n c j k : ℕ) → BinaryRule G H a b i → KnownItem G H a → KnownItem G H b → j < n → k < n → Known G H n (recordOf i c j k)
   binary-existing n c j k (nonterminal-rule r p d i m₁ m₂ m f L h l e v) a b x y =
       active-existing G H n r p m h c j k (binary-item G H ok good (nonterminal-rule r p d i m₁ m₂ m f L h l e v) a b) (by-introduce G H e (item-partner x (b .1) y))
   binary-existing n c j k (join-rule r p d q m₁ m₂ m f g h l e v) a b x y =
@@ -132,7 +150,7 @@ module _ (G : Grammar) (H : Graph) (ok : GrammarOk G) (good : GraphOk G H) where
         go (inl o) = ap (knownRecord G H (length ts)) (o .1) ∙ known-more (recordIn rs k) longer (all k (o .0))
         go (inr i) = h (length ts) (recordIn ts k) longer i
 
-    added-known : (xs : List Record) (c : Chart) → ((x : Record) → In x xs → Fresh x)
+    pub added-known : (xs : List Record) (c : Chart) → ((x : Record) → In x xs → Fresh x)
         → ((m : ℕ) (x : Record) → length (c .records) ≤ m → In x xs → knownRecord G H m x ≡ true) → AllKnown G H (c .records) → AllKnown G H (addedAll cap xs c .records)
     added-known xs c f h all = go (eqb (c .mark) 0) refl
       where
@@ -145,22 +163,6 @@ module _ (G : Grammar) (H : Graph) (ok : GrammarOk G) (good : GraphOk G H) where
         go false e = subst (λ (d : Chart). AllKnown G H (d .records)) (sym (marked-all cap xs c (eqb-false (c .mark) 0 e))) all
 
     -- ---- a start, a step, and runs
-    abbrev handledIn : List Record → ℕ → List Record
-    handledIn rs j = set rs j (handledNow (recordIn rs j))
-
-    handled-known : (rs : List Record) (j : ℕ) → j < length rs → AllKnown G H rs → AllKnown G H (handledIn rs j)
-    handled-known rs j l all k h = go (set-at rs j (handledNow (recordIn rs j)) k l)
-      where
-        size : length (handledIn rs j) ≡ length rs
-        size = length-set rs j (handledNow (recordIn rs j))
-
-        old : (i : ℕ) → i < length rs → knownRecord G H (length (handledIn rs j)) (recordIn rs i) ≡ true
-        old i b = ap (λ n. knownRecord G H n (recordIn rs i)) size ∙ all i b
-
-        go : SetAt rs j (handledNow (recordIn rs j)) k → knownRecord G H (length (handledIn rs j)) (recordIn (handledIn rs j) k) ≡ true
-        go (changed q p) = ap (knownRecord G H (length (handledIn rs j))) p ∙ count-free G H (length (handledIn rs j)) (recordIn rs j) (recordIn rs j .item .count) 1 ∙ old j l
-        go (other n p) = ap (knownRecord G H (length (handledIn rs j))) p ∙ old k (omega (arith, size))
-
     step-known : (c : Chart) → AllKnown G H (c .records) → AllKnown G H (stepChart G H cap c .records)
     unfolding stepChart handledAt
     step-known c all = go (leastWaiting (c .records) (length (c .records))) (chosen (c .records) (length (c .records)))
@@ -169,7 +171,7 @@ module _ (G : Grammar) (H : Graph) (ok : GrammarOk G) (good : GraphOk G H) where
         go Nowhere (nothing h) = all
         go (At j) (waits l w m) =
             let rs = handledIn (c .records) j in
-            let now = handled-known (c .records) j l all in
+            let now = handled-known G H (c .records) j l all in
             let b : j < length rs = omega (arith, length-set (c .records) j (handledNow (recordIn (c .records) j))) in
             added-known (consequences G H rs j) (record { mark = c .mark; records = rs }) (consequence-fresh rs now j b) (consequence-known rs now j b) now
 

@@ -2,7 +2,7 @@
 use mathlib.Core.Bool.{Bool, false, _&&_, not, cond}
 use mathlib.Core.List.{List}
 use Prim.Native.Nat.{ℕ}
-use lib.ListN.{length, getD}
+use lib.ListN.{length}
 use lib.Dec.{eqb, ltb, leb}
 use Rattle.masks.specs.Masks.{full, within}
 use Rattle.hrg.specs.Grammars.{Graph, PlanNode, leaf, introduce, join, Grammar, kindOf, rightOf, planOf, planNode, edgeAt}
@@ -10,6 +10,7 @@ use Rattle.hrg.specs.Trees.{unplaced, at}
 use Rattle.hrg.specs.ClosureRun.{isTerminal}
 use Rattle.hrg.specs.WellFormedTest.{every}
 use Rattle.agenda.specs.declared.Record.{Record}
+use Rattle.records.specs.Numbers.{numberIn}
 use Rattle.records.specs.Words.{capacity, recordAt}
 use Rattle.validity.specs.Existing.{openPlace, listedPlace}
 
@@ -76,4 +77,4 @@ knownRecord G H n x = cond (eqb (x .item .kind) 0) (knownActive G H n x) (cond (
 -- no more items than the chart holds, and each of them known; the mark is not asked
 unfoldable pub knownChart : Grammar → Graph → List ℕ → Bool
 unfolding every knownRecord
-knownChart G H w = leb (getD w 0 0) (capacity w) && every (getD w 0 0) (λ j. knownRecord G H (getD w 0 0) (recordAt w j))
+knownChart G H w = leb (numberIn w) (capacity w) && every (numberIn w) (λ j. knownRecord G H (numberIn w) (recordAt w j))

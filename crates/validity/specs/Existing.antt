@@ -3,7 +3,7 @@ use mathlib.Core.Path.{_≡_}
 use mathlib.Core.Bool.{Bool, true, false}
 use mathlib.Core.List.{List}
 use Prim.Native.Nat.{ℕ, _≤_, _<_}
-use lib.ListN.{length, getD}
+use lib.ListN.{length}
 use lib.Dec.{ltb}
 use Rattle.masks.specs.Masks.{member}
 use Rattle.hrg.specs.Grammars.{terminal, nonterminal, Graph, PlanNode, leaf, introduce, join, Grammar, kindOf, rankOf, ruleOf, rightOf, planOf, planNode, edgeAt}
@@ -11,6 +11,7 @@ use Rattle.hrg.specs.Trees.{unplaced, at}
 use Rattle.hrg.specs.Items.{isOpenAt}
 use Rattle.agenda.specs.declared.ChartItem.{ChartItem}
 use Rattle.agenda.specs.declared.Record.{Record}
+use Rattle.records.specs.Numbers.{numberIn}
 use Rattle.records.specs.Words.{capacity, recordAt}
 
 -- ---- the places that an item uses
@@ -55,6 +56,6 @@ pub data ExistingRecord (G : Grammar) (H : Graph) (n : ℕ) (x : Record) : Type 
 
 -- 'with no more items than it holds'; each record up to their number is the image of an item, and that item names what exists
 pub record ExistingChart (G : Grammar) (H : Graph) (w : List ℕ) : Type 0 where
-  pub number : getD w 0 0 ≤ capacity w
-  pub image : (j : ℕ) → j < getD w 0 0 → ImageOfItem G (recordAt w j)
-  pub each : (j : ℕ) → j < getD w 0 0 → ExistingRecord G H (getD w 0 0) (recordAt w j)
+  pub number : numberIn w ≤ capacity w
+  pub image : (j : ℕ) → j < numberIn w → ImageOfItem G (recordAt w j)
+  pub each : (j : ℕ) → j < numberIn w → ExistingRecord G H (numberIn w) (recordAt w j)

@@ -4,13 +4,14 @@ use mathlib.Core.List.{List}
 use mathlib.Core.Bool.{Bool, true, false}
 use Prim.Native.Nat.{ℕ, zero, suc, _≤_, _<_, min}
 use native.Mathlib.Omega.{arith}
-use lib.ListN.{length, getD}
+use lib.ListN.{length}
 use Rattle.masks.specs.Masks.{full}
-use Rattle.hrg.specs.Trees.{padded}
+use Rattle.hrg.specs.Trees.{at, padded}
 use Rattle.hrg.specs.Items.{Item, goal}
 use Rattle.hrg.specs.Grammars.{Grammar, Graph}
 use Rattle.hrg.specs.WellFormed.{GrammarOk}
 use Rattle.hrg.specs.ClosureRun.{sameItem}
+use Rattle.hrg.proofs.Sums.{occurs-at, length-tabulate, at-tabulate}
 use Rattle.hrg.proofs.ClosureRun.{same-eq, same-refl}
 use Rattle.agenda.specs.Records.{chartItem, itemOf, sameChartItem}
 use Rattle.agenda.specs.Consequences.{recordIn}
@@ -24,7 +25,9 @@ use Rattle.questions.specs.Abstract.{grammarOf, graphOf}
 use Rattle.questions.proofs.WellFormedLists.{length-build}
 use Rattle.questions.proofs.WellFormedLent.{checked-grammar-ok, checked-graph-ok}
 use Rattle.joins.specs.Joins.{Accepted}
+use Rattle.joins.proofs.Known.{graph-ok, graph-nodes, graph-nodes-few}
 use Rattle.joins.proofs.MapLaws.{Placed, placed-all}
+use Rattle.records.specs.Numbers.{numberIn}
 use Rattle.records.specs.Words.{itemCount, recordsAt, chartOf}
 use Rattle.records.proofs.WordLaws.{length-records, record-in}
 use Rattle.records.proofs.Written.{eight-nodes}
@@ -35,6 +38,15 @@ use Rattle.validity.proofs.KnownCharts.{known-each}
 use Rattle.writing.specs.Writing.{lastOf, goalIn}
 
 module _ (g h : List ℕ) where
+  pub external-few : (k x : ℕ) → Accepted g h → k < rankAt g (startSymbol g) → x ≡ graphExternal h k → x < 64
+  unfolding graphOf
+  external-few k x a l e =
+      let externals = graphOf g h .externals in
+      let rank = rankAt g (startSymbol g) in
+      let there : at externals k ≡ graphExternal h k = at-tabulate rank (λ k. graphExternal h k) k l in
+      let found = rw there at (occurs-at externals k (omega (arith, length-tabulate rank (λ k. graphExternal h k)))) in
+      omega (arith, graph-nodes g h, graph-nodes-few g h a, graph-ok g h a .side .externals .inside (graphExternal h k) found)
+
   pub externals-all : (k : ℕ) (l : List ℕ) → k ≤ rankAt g (startSymbol g) → rankAt g (startSymbol g) ≤ k → Placed (λ k. graphExternal h k) k l → l ≡ padded (graphOf g h .externals)
   unfolding graphOf
   externals-all k l a b p = placed-all (λ k. graphExternal h k) (rankAt g (startSymbol g)) k l a b p
@@ -47,6 +59,13 @@ module _ (g h : List ℕ) where
   pub edges-number : length (graphOf g h .edges) ≡ graphEdges h
   unfolding graphOf
   edges-number = length-build (graphEdges h) _
+
+  -- a symbol's number fits its field
+  pub start-few : (s : ℕ) → Accepted g h → s ≡ startSymbol g → s < 64
+  unfolding grammarOf
+  start-few s a e =
+      let ok = checked-grammar-ok g (a .grammar) in
+      omega (arith, ok .start-known, ok .symbol-count .upper)
 
   -- an accepted graph has at most 64 edges
   pub goal-edges : (n m : ℕ) → Accepted g h → n ≡ graphEdges h → m ≡ full (min n 64) → m ≡ full (length (graphOf g h .edges))
@@ -103,9 +122,9 @@ module _ (g h : List ℕ) (a : Accepted g h) where
       e
       ∙ ap (λ (k : ℕ). lastSame x (recordsAt w k) k) p
       ∙ ap (λ (y : ChartItem). lastSame y rs (itemCount w)) q
-      ∙ last-image G (graphOf g h) (checked-grammar-ok g (a .grammar)) i goal-fits rs (getD w 0 0) (itemCount w)
+      ∙ last-image G (graphOf g h) (checked-grammar-ok g (a .grammar)) i goal-fits rs (numberIn w) (itemCount w)
       (λ k l. (
         ap (λ (y : Record). length (y .item .nodes)) (record-in w (itemCount w) k l) ∙ eight-nodes w k,
-        ap (λ (y : Record). knownRecord G (graphOf g h) (getD w 0 0) y) (record-in w (itemCount w) k l) ∙ known-each G (graphOf g h) w known k l,
+        ap (λ (y : Record). knownRecord G (graphOf g h) (numberIn w) y) (record-in w (itemCount w) k l) ∙ known-each G (graphOf g h) w known k l,
       ))
       ∙ ap (λ (k : ℕ). lastOf G i rs k) (sym (length-records w (itemCount w)))

@@ -20,21 +20,24 @@ ghost use Rattle.writer.specs.Delivering.{Leaves, delivered};
 use agenda::ChartItem;
 use agenda::Found;
 use charting::Outcome;
+use places::NONE;
+use places::PLACES;
 use writing::Answer;
 
 // ---- question 11
 // The graph's external nodes in eight places, 64 where there is none.
-fn external_nodes(grammar: &[u64], graph: &[u64]) -> [u64; 8]
+fn external_nodes(grammar: &[u64], graph: &[u64]) -> [u8; PLACES]
+    requires { ⌜ Accepted (now grammar) (now graph) ⌝ }
     ensures { λ r. ⌜ r ≡ padded (graphOf (now (grammar .entry)) (now (graph .entry)) .externals) ⌝ }
 {
     let rank = layout::rank_at(grammar, layout::start_symbol(grammar));
-    let mut l = [64u64; 8];
+    let mut l = NONE;
     let mut k: u64 = 0;
     while k < rank {
-        l[k as usize] = layout::graph_external(graph, k);
+        l = places::with_node(l, k, layout::graph_external(graph, k));
         k += 1;
     }
-    l
+    places::nodes_of(l)
 }
 
 // The goal: the start symbol, all edges, the external nodes in order.
@@ -45,10 +48,10 @@ fn goal_item(grammar: &[u64], graph: &[u64]) -> ChartItem
     let nodes = external_nodes(grammar, graph);
     ChartItem {
         kind: 1,
-        of: layout::start_symbol(grammar),
+        of: layout::start_symbol(grammar) as u8,
         plan: 0,
-        edges: masks::full(layout::graph_edges(graph)),
         count: 0,
+        edges: masks::full(layout::graph_edges(graph)),
         nodes,
     }
 }

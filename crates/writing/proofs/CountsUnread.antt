@@ -20,8 +20,9 @@ use Rattle.agenda.specs.declared.Found.the-variants.{At, Nowhere}
 use Rattle.agenda.proofs.Choice.{Chosen, waits, nothing, chosen}
 use Rattle.questions.specs.Abstract.{grammarOf, graphOf}
 use Rattle.joins.proofs.MapLaws.{every-same}
+use Rattle.records.specs.Numbers.{numberIn}
 use Rattle.records.specs.Words.{capacity, itemCount, recordAt, recordsAt, chartOf}
-use Rattle.records.proofs.WordLaws.{length-records, record-in}
+use Rattle.records.proofs.WordLaws.{length-records, record-in, same-capacity as capacity-by}
 use Rattle.validity.specs.Checking.{knownRecord, knownChart}
 use Rattle.validity.proofs.AnyNumber.{counted, count-free}
 use Rattle.charting.specs.Calls.{fitChart, whenWaiting, answerOf, standingOf}
@@ -107,14 +108,13 @@ last-same G i rs ss (suc n) same = rw (same n (omega arith), last-same G i rs ss
 -- ---- charts that differ in counts alone
 pub record SameButCounts (w v : List ℕ) : Type 0 where
   pub long : length w ≡ length v
-  pub items : getD w 0 0 ≡ getD v 0 0
+  pub items : numberIn w ≡ numberIn v
   pub mark : getD w 1 0 ≡ getD v 1 0
   pub records : (j : ℕ) → uncounted (recordAt w j) ≡ uncounted (recordAt v j)
 
 module _ (w v : List ℕ) (s : SameButCounts w v) where
   same-capacity : capacity w ≡ capacity v
-  unfolding capacity
-  same-capacity = ap (λ (n : ℕ). (n - 2) / 16) (s .long)
+  same-capacity = capacity-by w v (s .long)
 
   same-count : itemCount w ≡ itemCount v
   unfolding itemCount
@@ -148,7 +148,7 @@ module _ (w v : List ℕ) (s : SameButCounts w v) where
     same-known =
         let G = grammarOf g in
         let H = graphOf g h in
-        let n = getD v 0 0 in
+        let n = numberIn v in
         rw (s .items, same-capacity)
         (ap (λ (b : Bool). leb n (capacity v) && b)
         (every-same n (λ j. knownRecord G H n (recordAt w j)) (λ j. knownRecord G H n (recordAt v j))

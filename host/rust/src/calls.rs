@@ -4,6 +4,7 @@
 //! [`write()`], [`fill`] and [`replay`] may take up to [`STACK_BYTES`](crate::STACK_BYTES) of stack, more than a thread of Rust has by default;
 //! the others take less than 512 KiB, nearly all of it for [`run`]. Where the stack ends too early the process ends, as with any function of Rust.
 
+use crate::items::Item;
 use std::mem::{align_of, size_of};
 
 /// The functions of include/bobbinmarl.h.
@@ -52,6 +53,14 @@ mod ffi {
             chart_len: usize,
             steps: u64,
             done: *mut u64,
+        ) -> u64;
+        pub fn bobbinmarl_items(chart: *const u64, chart_len: usize) -> u64;
+        pub fn bobbinmarl_item(
+            chart: *const u64,
+            chart_len: usize,
+            place: u64,
+            fields: *mut u64,
+            fields_len: usize,
         ) -> u64;
         pub fn bobbinmarl_write(
             grammar: *const u64,
@@ -284,6 +293,24 @@ pub fn run(grammar: &[u64], graph: &[u64], chart: &mut [u64], steps: u64) -> Out
         )
     };
     outcome(number, done)
+}
+
+/// How many items the chart has, whatever wrote it: those at the places below that number, in the order in which they were found.
+pub fn items(chart: &[u64]) -> u64 {
+    // SAFETY: as said at `ffi`.
+    unsafe { ffi::bobbinmarl_items(chart.as_ptr(), chart.len()) }
+}
+
+/// The item at a place, if the chart has one there.
+pub fn item(chart: &[u64], place: u64) -> Option<Item> {
+    let mut fields = [0; Item::FIELDS];
+    // SAFETY: as said at `ffi`.
+    let number = unsafe { ffi::bobbinmarl_item(chart.as_ptr(), chart.len(), place, fields.as_mut_ptr(), fields.len()) };
+    match number {
+        0 => Some(Item::from(fields)),
+        8 => None,
+        other => unknown(other),
+    }
 }
 
 /// Writes the derivation of the graph that the chart holds to the front of `out`. A refusal changes no byte of it.

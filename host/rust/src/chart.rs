@@ -2,6 +2,7 @@
 
 use crate::applications::MOST_APPLICATIONS;
 use crate::calls::{self, Application};
+use crate::items::Item;
 use crate::refusal::{of_answer, of_outcome, Refusal};
 use crate::stack::with_stack;
 use crate::texts::Graph;
@@ -115,6 +116,16 @@ impl<'a> Chart<'a> {
     /// How many items it holds.
     pub fn items(&self) -> usize {
         self.items
+    }
+
+    /// How many items it has by now: those at the places below that number, in the order in which they were found.
+    pub fn item_count(&self) -> u64 {
+        calls::items(&self.words)
+    }
+
+    /// The item at a place, if it has one there.
+    pub fn item(&self, place: u64) -> Option<Item> {
+        calls::item(&self.words, place)
     }
 
     /// Its words, for [`calls`].

@@ -51,6 +51,10 @@
 //! assert_eq!((rows[0].rule, rows[0].nodes(), rows[0].parts()), (1, &[0, 2, 1][..], &[0, 1][..]));
 //! assert_eq!((rows[1].rule, rows[1].nodes(), rows[1].parts()), (0, &[1, 2][..], &[1][..]));
 //! assert_eq!(text_of(&rows), derivation);
+//!
+//! // The chart's items, in the order in which they were found: the goal is the passive item with both edges.
+//! let goal = (0..chart.item_count()).filter_map(|place| chart.item(place)).find(|item| (item.kind, item.edges) == (1, 3));
+//! assert_eq!(goal.map(|item| (item.of, item.count, item.nodes[0], item.nodes[1])), Some((1, 2, 0, 2)));
 //! # Ok::<(), Box<dyn std::error::Error>>(())
 //! ```
 //!
@@ -73,6 +77,7 @@
 mod applications;
 pub mod calls;
 mod chart;
+mod items;
 mod refusal;
 mod stack;
 mod texts;
@@ -80,6 +85,7 @@ mod texts;
 pub use applications::{text_of, MOST_APPLICATIONS};
 pub use calls::{Application, Fault};
 pub use chart::{Chart, DERIVATION_BYTES, MOST_ITEMS};
+pub use items::Item;
 pub use refusal::Refusal;
 pub use stack::{with_stack, STACK_BYTES};
 pub use texts::{Grammar, Graph};

@@ -26,7 +26,7 @@ impl Fault {
 }
 
 const UNFIT: &str =
-    "the chart does not hold 1 to 4,096 items, no accepted texts could have filled the tables, or the chart holds what does not exist";
+    "the chart does not hold 1 to 4,096 items, no accepted texts could have filled the tables, or a record is not the image of an item that names what exists";
 
 impl fmt::Display for Fault {
     fn fmt(&self, f: &mut fmt::Formatter<'_>) -> fmt::Result {

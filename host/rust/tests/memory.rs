@@ -3,7 +3,8 @@
 mod common;
 
 use bobbinmarl::calls::{self, Answer, Fault, Outcome, Verdict};
-use bobbinmarl::DERIVATION_BYTES;
+use bobbinmarl::{Item, DERIVATION_BYTES};
+use common::layout::{words_for, Layout, Part, COUNT, EDGES, FIRST, HANDLED, KIND, NODES, OF, PLAN, SECOND};
 use common::{example, stored, texts, unchanged, with_line, Lent};
 
 const K2_BYTES: usize = 58;
@@ -11,16 +12,26 @@ const K2_BYTES: usize = 58;
 #[test]
 fn words_to_lend() {
     assert_eq!((calls::grammar_words(), calls::graph_words()), (1665, 65));
-    let words = [0, 1, 2, 4096, 4097, usize::MAX].map(calls::chart_words);
-    assert_eq!(words, [None, Some(18), Some(34), Some(65538), None, None]);
+    assert_eq!([0, 4097, usize::MAX].map(calls::chart_words), [None; 3]);
     assert_eq!(DERIVATION_BYTES, 303_110);
+}
+
+/// So many words hold so many items, and one word less holds one item less. Words whose bits are all 1 name more items than they hold.
+#[test]
+fn words_of_a_chart() {
+    for items in [1, 2, 3, 10, 2048, 4095, 4096] {
+        let words = calls::chart_words(items).unwrap();
+        assert_eq!(words, words_for(items));
+        assert_eq!(calls::items(&vec![u64::MAX; words]), items as u64);
+        assert_eq!(calls::items(&vec![u64::MAX; words - 1]), items as u64 - 1);
+    }
 }
 
 #[test]
 fn short_tables_are_refused() {
     let (grammar, graph) = texts("k2");
     for words in [0, 1, 100, 1664] {
-        let mut lent = Lent::new(words, 65, 18, 0);
+        let mut lent = Lent::new(words, 65, words_for(1), 0);
         assert_eq!(
             unchanged(&mut lent, |lent| lent.read_grammar(&grammar)),
             Err(Fault::Table)
@@ -28,7 +39,7 @@ fn short_tables_are_refused() {
         assert_eq!(unchanged(&mut lent, |lent| lent.read_graph(&graph)), Err(Fault::Table));
     }
     for words in [0, 1, 10, 64] {
-        let mut lent = Lent::new(1665, words, 18, 0);
+        let mut lent = Lent::new(1665, words, words_for(1), 0);
         assert_eq!(lent.read_grammar(&grammar), Ok(()));
         assert_eq!(unchanged(&mut lent, |lent| lent.read_graph(&graph)), Err(Fault::Table));
     }
@@ -40,7 +51,7 @@ fn order_of_the_questions() {
     let (grammar, graph) = texts("k2");
     let bad_grammar = with_line(&grammar, "P   1   1   1", "P   1   0   1\n");
     let bad_graph = with_line(&graph, "E   0   1   2", "E   0   1   3\n");
-    let mut lent = Lent::new(1664, 64, 18, 0);
+    let mut lent = Lent::new(1664, 64, words_for(1), 0);
     assert_eq!(
         unchanged(&mut lent, |lent| lent.read_grammar(&bad_grammar)),
         Err(Fault::Plan)
@@ -49,7 +60,7 @@ fn order_of_the_questions() {
         unchanged(&mut lent, |lent| lent.read_graph(&bad_graph)),
         Err(Fault::Table)
     );
-    let mut lent = Lent::new(1665, 64, 18, 0);
+    let mut lent = Lent::new(1665, 64, words_for(1), 0);
     assert_eq!(lent.read_grammar(&grammar), Ok(()));
     assert_eq!(
         unchanged(&mut lent, |lent| lent.read_graph(&bad_graph)),
@@ -61,7 +72,7 @@ fn order_of_the_questions() {
 #[test]
 fn words_behind_the_tables_stay() {
     let (grammar, graph) = (stored("g-big.txt"), stored("h-big.txt"));
-    let mut lent = Lent::new(1665 + 7, 65 + 7, 18, 0);
+    let mut lent = Lent::new(1665 + 7, 65 + 7, words_for(1), 0);
     let mut before = lent.clone();
     assert_eq!(lent.read_grammar(&grammar), Ok(()));
     assert!(lent.grammar()[..1665] != before.grammar()[..1665]);
@@ -71,7 +82,7 @@ fn words_behind_the_tables_stay() {
     assert!(lent.graph()[..65] != before.graph()[..65]);
     before.graph()[..65].copy_from_slice(&lent.graph()[..65]);
     assert!(lent == before, "only the graph table changed");
-    let mut exact = Lent::new(1665, 65, 18, 0);
+    let mut exact = Lent::new(1665, 65, words_for(1), 0);
     assert_eq!(
         (exact.read_grammar(&grammar), exact.read_graph(&graph)),
         (Ok(()), Ok(()))
@@ -118,7 +129,7 @@ fn unread_tables_are_refused() {
 #[test]
 fn charts_of_no_size_are_refused() {
     let derivation = example("k2", "derivation.txt");
-    for words in [0, 1, 2, 17, 2 + 16 * 4097, 2 + 16 * 4097 + 1] {
+    for words in [0, 1, 2, words_for(1) - 1, words_for(4097), words_for(4097) + 1] {
         let mut lent = Lent::new(1665, 65, words, K2_BYTES);
         let (grammar, graph) = texts("k2");
         assert_eq!((lent.read_grammar(&grammar), lent.read_graph(&graph)), (Ok(()), Ok(())));
@@ -145,11 +156,11 @@ fn charts_of_no_size_are_refused() {
 #[test]
 fn words_behind_the_last_item_stay() {
     for (words, items) in [
-        (18, 1),
-        (33, 1),
-        (2 + 16 * 10, 10),
-        (2 + 16 * 10 + 15, 10),
-        (2 + 16 * 4097 - 1, 4096),
+        (words_for(1), 1),
+        (words_for(2) - 1, 1),
+        (words_for(10), 10),
+        (words_for(11) - 1, 10),
+        (words_for(4097) - 1, 4096),
     ] {
         let mut lent = Lent::new(1665, 65, words, K2_BYTES);
         let (grammar, graph) = texts("k2");
@@ -161,7 +172,8 @@ fn words_behind_the_last_item_stay() {
         } else {
             assert_eq!((started, ran), (Outcome::Done(0), Outcome::Done(10)));
         }
-        assert_eq!(lent.chart()[2 + 16 * items..], before.chart()[2 + 16 * items..]);
+        let behind = words_for(items);
+        assert_eq!(lent.chart()[behind..], before.chart()[behind..]);
         assert!(lent.same_but_chart(&before));
     }
 }
@@ -212,9 +224,8 @@ fn charts_that_are_too_small() {
         let before = lent.clone();
         assert_eq!(lent.run(100), Outcome::TooSmall, "{items} items");
         assert!(lent.same_but_chart(&before));
-        // The first word counts the items, and the sixth of each item says whether it is handled.
-        assert_eq!(lent.chart()[0], items as u64);
-        assert!(lent.chart()[2..].chunks_exact(16).any(|item| item[5] == 1));
+        assert_eq!(lent.items().len(), items);
+        assert!(lent.items().iter().any(|item| item.handled == 1));
         for _ in 0..2 {
             assert_eq!(unchanged(&mut lent, |lent| lent.run(100)), Outcome::TooSmall);
             assert_eq!(unchanged(&mut lent, |lent| lent.write()), Answer::TooSmall);
@@ -300,26 +311,27 @@ fn underivable_graphs() {
 /// Charts that something else has written to: 8 where an item names what does not exist, else by what stands there.
 #[test]
 fn touched_charts() {
-    // (word, value, what a run of no steps says): as in tests/cases/expected.
+    // (part, value, what a run of no steps says): as in tests/cases/expected.
     let cases = [
-        (2, 2, Outcome::Unfit),
-        (3, 2, Outcome::Unfit),
-        (4, 3, Outcome::Unfit),
-        (5, 4, Outcome::Unfit),
-        (8, 3, Outcome::Unfit),
-        (48, 10, Outcome::Unfit),
-        (0, 11, Outcome::Unfit),
-        (6, 99, Outcome::Done(10)),
-        (7, 0, Outcome::Unfinished(9)),
-        (1, 5, Outcome::TooSmall),
+        (Part::Field(0, KIND), 2, Outcome::Unfit),
+        (Part::Field(0, OF), 2, Outcome::Unfit),
+        (Part::Field(0, PLAN), 3, Outcome::Unfit),
+        (Part::Field(0, EDGES), 4, Outcome::Unfit),
+        (Part::Field(0, NODES), 3, Outcome::Unfit),
+        (Part::Field(2, FIRST), 10, Outcome::Unfit),
+        (Part::Number, 11, Outcome::Unfit),
+        (Part::Field(0, COUNT), 99, Outcome::Done(10)),
+        (Part::Field(0, HANDLED), 0, Outcome::Unfinished(9)),
+        (Part::Mark, 5, Outcome::TooSmall),
     ];
-    for (at, value, outcome) in cases {
+    let layout = Layout::learn();
+    for (part, value, outcome) in cases {
         let mut lent = Lent::run_for("k2", 10, K2_BYTES, 10);
-        lent.chart()[at] = value;
+        lent.touch(&layout, part, value);
         assert_eq!(
             unchanged(&mut lent, |lent| lent.run(0)),
             outcome,
-            "word {at} set to {value}"
+            "{part:?} set to {value}"
         );
         let answer = match outcome {
             Outcome::Unfit => Answer::Unfit,
@@ -328,7 +340,7 @@ fn touched_charts() {
             Outcome::Done(_) => Answer::Written(K2_BYTES),
         };
         let before = lent.clone();
-        assert_eq!(lent.write(), answer, "word {at} set to {value}");
+        assert_eq!(lent.write(), answer, "{part:?} set to {value}");
         assert!((lent == before) == !matches!(answer, Answer::Written(_)));
     }
 }
@@ -337,14 +349,11 @@ fn touched_charts() {
 #[test]
 fn a_chart_that_leads_to_no_derivation() {
     let mut lent = Lent::run_for("k2", 10, K2_BYTES, 10);
-    let items: Vec<Vec<u64>> = lent.chart()[2..].chunks_exact(16).map(<[u64]>::to_vec).collect();
     // Of the goal: kind 1, symbol 1, both edges. Its first partner is the root item it was made from.
-    let goal = items
-        .iter()
-        .position(|item| item[..2] == [1, 1] && item[3] == 3)
-        .unwrap();
-    let root = items[goal][14] as usize;
-    lent.chart()[2 + 16 * root + 15] = goal as u64;
+    let is_goal = |item: &Item| (item.kind, item.of, item.edges) == (1, 1, 3);
+    let goal = lent.items().iter().position(is_goal).unwrap();
+    let root = lent.items()[goal].first as usize;
+    lent.touch(&Layout::learn(), Part::Field(root, SECOND), goal as u64);
     assert_eq!(unchanged(&mut lent, |lent| lent.run(0)), Outcome::Done(10));
     assert_eq!(unchanged(&mut lent, |lent| lent.write()), Answer::Unfit);
 }

@@ -3,7 +3,8 @@
 mod common;
 
 use bobbinmarl::calls::{self, Answer, Application, Outcome, Verdict};
-use bobbinmarl::{text_of, Chart, Grammar, Graph, Refusal, DERIVATION_BYTES, MOST_APPLICATIONS};
+use bobbinmarl::{text_of, Chart, Grammar, Graph, Item, Refusal, DERIVATION_BYTES, MOST_APPLICATIONS};
+use common::layout::{words_for, Layout, Part, SECOND};
 use common::{example, names, root, texts, unchanged, Lent};
 use std::collections::BTreeSet;
 use std::mem::{offset_of, size_of};
@@ -147,7 +148,7 @@ fn refused_tables_and_charts_leave_the_row() {
         assert_eq!(unchanged(&mut lent, |lent| lent.fill()), Answer::Unfit, "word {at}");
     }
     let (grammar, graph) = texts("k2");
-    for words in [0, 1, 2, 17, 2 + 16 * 4097] {
+    for words in [0, 1, 2, words_for(1) - 1, words_for(4097)] {
         let mut lent = Lent::new(1665, 65, words, 0).with_rows(3);
         assert_eq!(unchanged(&mut lent, |lent| lent.fill()), Answer::Unfit);
         assert_eq!((lent.read_grammar(&grammar), lent.read_graph(&graph)), (Ok(()), Ok(())));
@@ -203,14 +204,13 @@ fn rows_of_length_zero() {
 /// A chart whose goal is its own part: it leads to no derivation, and that comes ahead of a short row.
 #[test]
 fn a_chart_that_leads_to_no_derivation() {
+    let layout = Layout::learn();
     for length in [0, 3] {
         let mut lent = finished_k2(length);
-        let goal = lent.chart()[2..]
-            .chunks_exact(16)
-            .position(|item| item[..2] == [1, 1] && item[3] == 3)
-            .unwrap();
-        let root = lent.chart()[2 + 16 * goal + 14] as usize;
-        lent.chart()[2 + 16 * root + 15] = goal as u64;
+        let is_goal = |item: &Item| (item.kind, item.of, item.edges) == (1, 1, 3);
+        let goal = lent.items().iter().position(is_goal).unwrap();
+        let root = lent.items()[goal].first as usize;
+        lent.touch(&layout, Part::Field(root, SECOND), goal as u64);
         assert_eq!(unchanged(&mut lent, |lent| lent.run(0)), Outcome::Done(10));
         assert_eq!(
             unchanged(&mut lent, |lent| lent.fill()),
@@ -235,21 +235,42 @@ fn written_and_filled(lent: &mut Lent) -> Answer {
     filled
 }
 
-/// Every word of small finished charts set to values in and out of its range.
+/// Finished charts that are small, each with as many items as it holds.
+const SMALL: [(&str, usize); 4] = [("k2", 10), ("renaming", 8), ("rank0", 14), ("pump", 15)];
+
+fn finished(folder: &str, items: usize) -> Lent {
+    Lent::run_for(folder, items, 1000, items as u64).with_rows(40)
+}
+
+/// Every field, the number of items and the mark set to values in and out of their ranges.
 #[test]
 fn touched_charts_are_filled_as_they_are_written() {
+    let layout = Layout::learn();
     let mut seen = BTreeSet::new();
-    for (folder, items) in [("k2", 10), ("renaming", 8), ("rank0", 14), ("pump", 15)] {
-        let finished = Lent::run_for(folder, items, 1000, items as u64).with_rows(40);
-        for at in 0..2 + 16 * items {
-            for value in [0, 1, 2, 3, 4, 5, 7, 8, 10, 14, 63, 64, 65, u64::MAX] {
+    for (folder, items) in SMALL {
+        let finished = finished(folder, items);
+        for part in layout.parts(items) {
+            for value in [0, 1, 2, 3, 4, 5, 7, 8, 10, 14, 63, 64, 65, layout.most(part)] {
                 let mut lent = finished.clone();
-                lent.chart()[at] = value;
+                lent.touch(&layout, part, value);
                 seen.insert(written_and_filled(&mut lent).number());
             }
         }
     }
     assert_eq!(seen, BTreeSet::from([0, 8, 9, 10, 11]));
+}
+
+/// Every bit of their words changed.
+#[test]
+fn changed_bits_are_filled_as_they_are_written() {
+    for (folder, items) in SMALL {
+        let mut lent = finished(folder, items);
+        for bit in 0..64 * words_for(items) {
+            lent.chart()[bit / 64] ^= 1 << (bit % 64);
+            written_and_filled(&mut lent);
+            lent.chart()[bit / 64] ^= 1 << (bit % 64);
+        }
+    }
 }
 
 /// Slices that are only read may be one and the same.

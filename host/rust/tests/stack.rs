@@ -3,8 +3,9 @@
 mod common;
 
 use bobbinmarl::calls::{self, Answer, Application, Verdict};
-use bobbinmarl::{text_of, with_stack, Chart, Grammar, Graph, Refusal, STACK_BYTES};
+use bobbinmarl::{text_of, with_stack, Chart, Grammar, Graph, Item, Refusal, STACK_BYTES};
 use common::example;
+use common::layout::{words_for, Layout, Part};
 use std::thread;
 
 /// The stack of the tests' own threads where nothing else is said.
@@ -101,18 +102,31 @@ fn owned_charts_need_little_stack() {
 /// A chart of 4,096 items that spells the deepest derivation a chart can: leaves (which have no nodes), rule 0 on the graph's
 /// edge, and above it each passive item by rule 1 for the one below it.
 fn deepest_chart() -> Vec<u64> {
-    let mut words = vec![4096, 0];
-    let mut put = |kind: u64, of: u64, plan: u64, first: u64, second: u64| {
+    let layout = Layout::learn();
+    let mut words = vec![0; words_for(4096)];
+    layout.put(&mut words, Part::Number, 4096);
+    let mut put = |place: usize, kind: u64, of: u64, plan: u64, first: usize, second: usize| {
         let (a, b) = if (kind, plan) == (0, 0) { (64, 64) } else { (0, 1) };
-        words.extend([kind, of, plan, 1, 1, 1, a, b, 64, 64, 64, 64, 64, 64, first, second]);
+        let item = Item {
+            kind,
+            of,
+            plan,
+            edges: 1,
+            count: 1,
+            handled: 1,
+            nodes: [a, b, 64, 64, 64, 64, 64, 64],
+            first: first as u64,
+            second: second as u64,
+        };
+        layout.put_item(&mut words, place, item);
     };
-    put(0, 0, 0, 0, 0);
-    put(0, 1, 0, 0, 0);
-    put(0, 0, 1, 0, 0);
-    put(1, 1, 0, 2, 0);
+    put(0, 0, 0, 0, 0, 0);
+    put(1, 0, 1, 0, 0, 0);
+    put(2, 0, 0, 1, 0, 0);
+    put(3, 1, 1, 0, 2, 0);
     for j in (4..4096).step_by(2) {
-        put(0, 1, 1, 1, j - 1);
-        put(1, 1, 0, j, 0);
+        put(j, 0, 1, 1, 1, j - 1);
+        put(j + 1, 1, 1, 0, j, 0);
     }
     words
 }

@@ -2,10 +2,13 @@
 //! `cases DATA TEXTS`: the folder of the files, and the list of those that are read.
 
 mod charts;
+#[path = "../../../host/rust/tests/common/layout.rs"]
+mod layout;
 mod texts;
 mod writings;
 
 use bobbinmarl::calls;
+use layout::Layout;
 use std::path::PathBuf;
 
 /// The files of the cases, by name.
@@ -46,8 +49,9 @@ pub fn kept(same: bool) -> &'static str {
 
 fn print_all(data: &Data, texts: &str) {
     texts::print_all(data, texts);
-    charts::print_all(data);
-    writings::print_all(data);
+    let layout = Layout::learn();
+    charts::print_all(data, &layout);
+    writings::print_all(data, &layout);
 }
 
 fn main() {

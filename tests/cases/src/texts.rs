@@ -1,5 +1,6 @@
 //! Texts through the readers: each one's refusal, or 0 and a checksum of its table; then short and touched tables.
 
+use crate::charts::lent;
 use crate::{checksum, kept, Data};
 use bobbinmarl::calls::{self, Fault, Outcome};
 
@@ -104,7 +105,7 @@ impl Texts<'_> {
     /// A node and the label of edge 0, an unused field, an unused bit, and none: whether a start passes question 8.
     fn touched_graphs(&self, grammar: &[u64], graph: &[u64]) {
         for (case, at) in [(1, 1), (1, 0), (1, 3), (1, 9), (65, 0)].into_iter().enumerate() {
-            let mut chart = vec![7; 162];
+            let mut chart = lent(10);
             let passes = calls::start(grammar, &touched(graph, at), &mut chart) != Outcome::Unfit;
             println!("check-graph {case} {}", u64::from(passes));
         }

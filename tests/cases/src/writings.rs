@@ -1,8 +1,10 @@
 //! K1 to K6 and K10 through the writer and the replay; then touched charts, partners in a circle, shared partners, and derivations as deep as
 //! they can be.
 
+use crate::layout::{words_for, Layout, Part, FIRST, SECOND};
 use crate::{charts::finished, kept, Data};
 use bobbinmarl::calls::{self, Answer};
+use bobbinmarl::Item;
 
 fn replay_number(grammar: &[u64], graph: &[u64], text: &[u8]) -> u64 {
     calls::replay(grammar, graph, text).number()
@@ -69,55 +71,83 @@ impl Tally {
         }
     }
 
-    fn print(&self, name: &str, value: u64) {
+    fn print(&self, name: &str) {
         let counts: Vec<String> = self.0.iter().map(u64::to_string).collect();
-        println!("{name} {value} {}", counts.join(" "));
+        println!("{name} {}", counts.join(" "));
     }
 }
 
-/// Each word of the chart in turn.
-fn touch_words(grammar: &[u64], graph: &[u64], done: &[u64], text: &[u8], change: impl Fn(u64) -> u64) -> Tally {
-    let mut tally = Tally::default();
-    for at in 0..done.len() {
-        let mut chart = done.to_vec();
-        chart[at] = change(chart[at]);
-        tally.add(grammar, graph, &chart, text);
-    }
-    tally
+/// A finished chart of ten items, and the text that is written for it.
+struct Finished<'a> {
+    grammar: &'a [u64],
+    graph: &'a [u64],
+    layout: &'a Layout,
+    chart: Vec<u64>,
+    text: Vec<u8>,
 }
 
-/// The first partner of one record and the second one of another, each a number below ten: the digits of i.
-fn touch_pairs(grammar: &[u64], graph: &[u64], done: &[u64], text: &[u8]) -> Tally {
-    let mut tally = Tally::default();
-    for i in 0..10_000 {
-        let mut chart = done.to_vec();
-        chart[16 + i % 10 * 16] = (i / 10 % 10) as u64;
-        chart[17 + i / 100 % 10 * 16] = (i / 1000) as u64;
-        tally.add(grammar, graph, &chart, text);
+impl Finished<'_> {
+    fn add(&self, tally: &mut Tally, touches: &[(Part, u64)]) {
+        let mut chart = self.chart.clone();
+        for (part, value) in touches {
+            self.layout.put(&mut chart, *part, *value);
+        }
+        tally.add(self.grammar, self.graph, &chart, &self.text);
     }
-    tally
+
+    /// The number of items, the mark and each field of ten items in turn, also of those that the chart has not.
+    fn touch_parts(&self, change: impl Fn(Part) -> u64) -> Tally {
+        let mut tally = Tally::default();
+        for part in self.layout.parts(10) {
+            self.add(&mut tally, &[(part, change(part))]);
+        }
+        tally
+    }
+
+    /// The first partner of one item and the second one of another, each a number below ten: the digits of i.
+    fn touch_pairs(&self) -> Tally {
+        let mut tally = Tally::default();
+        for i in 0..10_000 {
+            let first = (Part::Field(i % 10, FIRST), (i / 10 % 10) as u64);
+            let second = (Part::Field(i / 100 % 10, SECOND), (i / 1000) as u64);
+            self.add(&mut tally, &[first, second]);
+        }
+        tally
+    }
 }
 
-fn touched_charts(name: &str, grammar: &[u64], graph: &[u64]) {
-    let done = finished(grammar, graph);
-    let text = case(name, grammar, graph, &done, 64);
-    for value in [0, 1, 2, 5, 9, 10, 64, u64::MAX] {
-        touch_words(grammar, graph, &done, &text, |_| value).print("set", value);
+fn touched_charts(name: &str, grammar: &[u64], graph: &[u64], layout: &Layout) {
+    let chart = finished(grammar, graph);
+    let text = case(name, grammar, graph, &chart, 64);
+    let finished = Finished {
+        grammar,
+        graph,
+        layout,
+        chart,
+        text,
+    };
+    for value in [0, 1, 2, 5, 9, 10, 64] {
+        finished.touch_parts(|_| value).print(&format!("set {value}"));
     }
-    touch_words(grammar, graph, &done, &text, |word| word % 1_000_000 + 1).print("add", 1);
-    touch_pairs(grammar, graph, &done, &text).print("pairs", 10_000);
+    finished.touch_parts(|part| layout.most(part)).print("set most");
+    finished.touch_parts(|part| layout.get(&finished.chart, part) + 1).print("add 1");
+    finished.touch_pairs().print("pairs 10000");
 }
 
 // ------------------------------------------------------------------------------ charts made by hand, for a graph of one edge
 
-/// A chart's words: the number of items, the mark, and sixteen words for each item.
-struct Chart(Vec<u64>);
+/// A chart that is filled item by item.
+struct Chart<'a> {
+    layout: &'a Layout,
+    words: Vec<u64>,
+}
 
-impl Chart {
+impl Chart<'_> {
     /// A leaf of rule 0 and one of rule `rule`, then rule 0 on the graph's edge and its passive item, in a chart of 4,096 items.
-    fn new(rule: u64) -> Chart {
-        let mut chart = Chart(vec![0; 65538]);
-        chart.0[0] = 4096;
+    fn new(layout: &Layout, rule: u64) -> Chart<'_> {
+        let words = vec![0; words_for(4096)];
+        let mut chart = Chart { layout, words };
+        chart.put(Part::Number, 4096);
         chart.set(0, [0, 0, 0], 0, 0);
         chart.set(1, [0, rule, 0], 0, 0);
         chart.set(2, [0, 0, 1], 0, 0);
@@ -125,19 +155,33 @@ impl Chart {
         chart
     }
 
-    /// A handled record: kind, rule or symbol, plan node, and its partners; its edges and nodes are the graph's, but a leaf has no nodes.
+    fn put(&mut self, part: Part, value: u64) {
+        self.layout.put(&mut self.words, part, value);
+    }
+
+    /// A handled item: kind, rule or symbol, plan node, and its partners; its edges and nodes are the graph's, but a leaf has no nodes.
     fn set(&mut self, j: usize, [kind, of, plan]: [u64; 3], first: usize, second: usize) {
         // The last places are outside the chart: a level that is not whole.
         if j < 4096 {
             let (a, b) = if kind == 0 && plan == 0 { (64, 64) } else { (0, 1) };
-            let words = [kind, of, plan, 1, 1, 1, a, b, 64, 64, 64, 64, 64, 64, first as u64, second as u64];
-            self.0[2 + 16 * j..18 + 16 * j].copy_from_slice(&words);
+            let item = Item {
+                kind,
+                of,
+                plan,
+                edges: 1,
+                count: 1,
+                handled: 1,
+                nodes: [a, b, 64, 64, 64, 64, 64, 64],
+                first: first as u64,
+                second: second as u64,
+            };
+            self.layout.put_item(&mut self.words, j, item);
         }
     }
 
     /// Each passive item stands by rule 1 for the one below it.
-    fn nested() -> Chart {
-        let mut chart = Chart::new(1);
+    fn nested(layout: &Layout) -> Chart<'_> {
+        let mut chart = Chart::new(layout, 1);
         for j in (4..4096).step_by(2) {
             chart.set(j, [0, 1, 1], 1, j - 1);
             chart.set(j + 1, [1, 1, 0], j, 0);
@@ -146,8 +190,8 @@ impl Chart {
     }
 
     /// Each passive item has by rule 2 the one below it twice.
-    fn doubled() -> Chart {
-        let mut chart = Chart::new(2);
+    fn doubled(layout: &Layout) -> Chart<'_> {
+        let mut chart = Chart::new(layout, 2);
         for j in (4..4096).step_by(3) {
             chart.set(j, [0, 2, 1], 1, j - 1);
             chart.set(j + 1, [0, 2, 2], j, j - 1);
@@ -160,24 +204,24 @@ impl Chart {
 const ROOM: usize = 65_536;
 
 /// All 4,096 items; then with the last passive item under the lowest renaming; then of six items, with the passive one above that renaming under it.
-fn nested_charts(grammar: &[u64], graph: &[u64]) {
-    let mut chart = Chart::nested().0;
-    case("nested-4096", grammar, graph, &chart, ROOM);
-    chart[81] = 4095;
-    case("circle-4096", grammar, graph, &chart, ROOM);
-    chart[81] = 5;
-    chart[0] = 6;
-    case("circle-6", grammar, graph, &chart, ROOM);
+fn nested_charts(grammar: &[u64], graph: &[u64], layout: &Layout) {
+    let mut chart = Chart::nested(layout);
+    case("nested-4096", grammar, graph, &chart.words, ROOM);
+    chart.put(Part::Field(4, SECOND), 4095);
+    case("circle-4096", grammar, graph, &chart.words, ROOM);
+    chart.put(Part::Field(4, SECOND), 5);
+    chart.put(Part::Number, 6);
+    case("circle-6", grammar, graph, &chart.words, ROOM);
 }
 
 /// All 4,096 items, 1,364 levels; then 12 levels with 8,191 applications, and 11 with 4,095.
-fn doubled_charts(grammar: &[u64], graph: &[u64]) {
-    let mut chart = Chart::doubled().0;
-    case("doubled-4096", grammar, graph, &chart, ROOM);
-    chart[0] = 40;
-    case("doubled-40", grammar, graph, &chart, ROOM);
-    chart[0] = 37;
-    case("doubled-37", grammar, graph, &chart, ROOM);
+fn doubled_charts(grammar: &[u64], graph: &[u64], layout: &Layout) {
+    let mut chart = Chart::doubled(layout);
+    case("doubled-4096", grammar, graph, &chart.words, ROOM);
+    chart.put(Part::Number, 40);
+    case("doubled-40", grammar, graph, &chart.words, ROOM);
+    chart.put(Part::Number, 37);
+    case("doubled-37", grammar, graph, &chart.words, ROOM);
 }
 
 /// A derivation of n applications, each but the last one a renaming of the next.
@@ -190,7 +234,7 @@ fn nested_file(grammar: &[u64], graph: &[u64], n: usize) {
     println!("nested-file {n} {}", replay_number(grammar, graph, text.as_bytes()));
 }
 
-pub fn print_all(data: &Data) {
+pub fn print_all(data: &Data, layout: &Layout) {
     let a = data.grammar("g-a.txt");
     for name in ["k1", "k3", "k4", "k6"] {
         let graph = data.graph(&a, &format!("h-{name}.txt"));
@@ -199,17 +243,17 @@ pub fn print_all(data: &Data) {
     let k2 = data.graph(&a, "h-k2.txt");
     case("k10-58", &a, &k2, &finished(&a, &k2), 58);
     case("k10-57", &a, &k2, &finished(&a, &k2), 57);
-    touched_charts("write-k2", &a, &k2);
+    touched_charts("write-k2", &a, &k2, layout);
     let b = data.grammar("g-b.txt");
-    touched_charts("write-k5", &b, &data.graph(&b, "h-k5.txt"));
+    touched_charts("write-k5", &b, &data.graph(&b, "h-k5.txt"), layout);
     // With this grammar K6's graph has two derivations.
     let two = data.grammar("g-two.txt");
-    touched_charts("write-two", &two, &data.graph(&two, "h-k6.txt"));
+    touched_charts("write-two", &two, &data.graph(&two, "h-k6.txt"), layout);
     // Rule 1 renames, rule 2 has two nonterminal edges.
     let nested = data.grammar("g-nested.txt");
     let k1 = data.graph(&nested, "h-k1.txt");
-    nested_charts(&nested, &k1);
-    doubled_charts(&nested, &k1);
+    nested_charts(&nested, &k1, layout);
+    doubled_charts(&nested, &k1, layout);
     nested_file(&nested, &k1, 4096);
     nested_file(&nested, &k1, 4097);
 }

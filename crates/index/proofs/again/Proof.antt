@@ -1,5 +1,5 @@
 use mathlib.Core.Path.{refl, sym, _∙_}
-use mathlib.Core.Path.{refl}
+use borrow.Author.Needs.{needs}
 use Rattle.records.specs.Words.{chartOf}
 use Rattle.index.proofs.AddLaws.{inside, is-waiting, has-count, again-handled, again-less, again-more}
 use Rattle.index.proofs.CoverLaws.{doubt-same}
@@ -35,4 +35,4 @@ returns-3 : tie.Need-returns-3
 returns-3 c = let s = c .before .before .before .before .before .before .before .before .before .before .before .before .before .before .before .before .before .before .args in let p = c .before .before .before .before .before .before .before .before .before .before .before .before .before .before .before .before .before .before .pre in let z = sym (c .before .before .before .before .before .before .before .before .before .before .before .before .before .before .is-handled .ensures) ∙ c .before .before .before .before .before .before .before .before .before .before .before .before .before .if1 .left in let m = c .before .before .before .before .before .before .before .before .before .before .count-at in let t = c .before .before .before .before .before .before .recount in (c .before .before .improve .ensures, λ keys ls I. again-more (s .chart .now) (s .index .now) (s .j) (s .x) (p .1) z (m .result) (m .ensures) keys (t .last .0) ls (c .before .before .before .before .before .before .before .before .if2 .left) (t .ensures .0 keys ls (chartOf (s .chart .now) .records) (s .x) I (inside (s .chart .now) (s .j) (p .1)) (is-waiting (s .chart .now) (s .j) (p .1) z) (has-count (s .chart .now) (s .j) (p .1) (m .result) (m .ensures)) refl), t .ensures .1)
 
 pub again-spec : {M : Type 1} → statement M
-again-spec = tie.close (tie.spec is-handled-requires (λ c. refl) returns count-at-requires (λ c. refl) returns-2 recount-requires improve-requires same-length-3 same-length-4 returns-3)
+again-spec = tie.close (tie.spec is-handled-requires (λ c. refl) returns count-at-requires (λ c. search needs) (λ c. refl) returns-2 recount-requires improve-requires same-length-3 same-length-4 returns-3)

@@ -9,7 +9,7 @@ use lib.ListN.{length, length-set}
 use Rattle.agenda.specs.declared.Record.{Record}
 use Rattle.records.specs.Words.{recordsAt, chartOf}
 use Rattle.records.proofs.WordLaws.{item-inside}
-use Rattle.index.specs.Index.{indexWords, Indexed, Covered}
+use Rattle.index.specs.Index.{indexWords, doubtPlace, Indexed, Covered}
 use Rattle.index.proofs.CoverLaws.{indexed-doubted, covered-doubted, covered-first, covered-next, covered-all}
 use borrow.Author.Tests.{not-false}
 use Rattle.index.proofs.cover_all.Statement.{statement}
@@ -31,13 +31,13 @@ item-at-requires : tie.Need-item-at-requires Inv-loop μ-loop
 item-at-requires c κs = item-inside (c .before .before .before .before .before .before .before .args .chart .now) (c .before .loop .j) (omega (arith, c .loop-test .taken, c .before .before .item-count .ensures))
 
 covers-requires : tie.Need-covers-requires Inv-loop μ-loop
-covers-requires c κs = (c .before .before .before .before .before .before .before .before .pre .2, c .before .before .before .before .before .before .before .before .pre .3, c .before .before .before .before .before .before .before .before .pre .4)
+covers-requires c κs = c .before .before .before .before .before .before .before .before .pre .2
 
 slice-write-index : tie.Need-slice-write-index Inv-loop μ-loop
 slice-write-index c = omega (arith, c .before .before .before .before .loop .inv .1)
 
 same-length : tie.Need-same-length Inv-loop μ-loop
-same-length c = length-set (c .before .before .before .before .loop .index) 12424 1 ∙ c .before .before .before .before .loop .inv .1 ∙ sym (c .before .before .before .before .before .before .before .before .before .before .pre .0)
+same-length c = length-set (c .before .before .before .before .loop .index) doubtPlace 1 ∙ c .before .before .before .before .loop .inv .1 ∙ sym (c .before .before .before .before .before .before .before .before .before .before .pre .0)
 
 returns : tie.Need-returns Inv-loop μ-loop
 returns c = let l = c .before .before .before .before .loop in

@@ -1,6 +1,6 @@
 -- The cursor has come along its list, over quiet records only.
 use native.Mathlib.Omega.{arith}
-use Prim.Native.Nat.{_+_, _-_, _*_, _≤_, _<_}
+use Prim.Native.Nat.{_-_, _*_, _<_}
 use mathlib.Core.Path.{_≡_, refl, sym}
 use borrow.Author.Tests.{not-false}
 use Rattle.lists.specs.Cursors.{Skims, stays}
@@ -33,22 +33,14 @@ quiet-requires c κs = (omega (arith, c .before .loop .inv .0, c .before .loop .
 returns-2 : tie.Need-returns-2 Inv-loop μ-loop
 returns-2 c = c .before .before .before .loop .inv .2
 
-add-d : tie.Need-add-d Inv-loop μ-loop
-add-d c = omega (arith, c .before .before .before .loop .inv .0, c .before .before .before .loop .inv .1, c .before .before .loop-test .taken, c .before .before .before .before .before .before .before .pre .2)
-
-mul-d : tie.Need-mul-d Inv-loop μ-loop
-mul-d c = omega (arith, c .before .before .before .loop .inv .0, c .before .before .before .loop .inv .1, c .before .before .loop-test .taken, c .before .before .before .before .before .before .before .pre .2)
-
-shared-slice-read-d : tie.Need-shared-slice-read-d Inv-loop μ-loop
-shared-slice-read-d c = omega (arith, c .before .before .before .before .loop .inv .0, c .before .before .before .before .loop .inv .1, c .before .before .before .loop-test .taken, c .before .before .before .before .before .before .before .before .pre .2, c .before .before .before .before .before .before .before .before .pre .0)
-
-cast-d : tie.Need-cast-d Inv-loop μ-loop
-cast-d c = omega (arith, c .shared-slice-known3 .given (4097 + c .before .before .before .before .loop .c))
+after-requires : tie.Need-after-requires Inv-loop μ-loop
+after-requires c κs = (c .before .before .before .before .before .before .before .pre .0, omega (arith, c .before .before .before .loop .inv .1, c .before .before .loop-test .taken, c .before .before .before .before .before .before .before .pre .2))
 
 returns-3 : tie.Need-returns-3 Inv-loop μ-loop
 returns-3 c =
     let s = c .before .before .before .before .before .before .before .before .before .args in
-    skim-on (quietIn (s .chart .now) (s .edges)) (s .ws .now) (s .n) (s .from) (c .before .before .before .before .before .loop .c) _ _ (c .before .before .before .before .before .loop .inv .2) (c .before .before .before .before .before .loop .inv .0) (omega (arith, c .before .before .before .before .before .loop .inv .1, c .before .before .before .before .loop-test .taken)) (c .before .before .before .quiet .ensures) (not-false _ (c .before .before .if2 .left)) refl
+    let l = c .before .before .before .before .before .loop in
+    skim-on (quietIn (s .chart .now) (s .edges)) (s .ws .now) (s .n) (s .from) (l .c) _ _ (l .inv .2) (l .inv .0) (omega (arith, l .inv .1, c .before .before .before .before .loop-test .taken)) (c .before .before .before .quiet .ensures) (not-false _ (c .before .before .if2 .left)) (c .before .after .ensures)
 
 loop-less : tie.Need-loop-less Inv-loop μ-loop
 loop-less c = omega (arith, c .before .before .before .before .before .loop .inv .0, c .before .before .before .before .before .loop .inv .1, c .before .before .before .before .loop-test .taken, c .before .before .before .before .before .before .before .before .before .pre .2, c .if3 .left)
@@ -56,7 +48,11 @@ loop-less c = omega (arith, c .before .before .before .before .before .loop .inv
 loop-again : tie.Need-loop-again Inv-loop μ-loop
 loop-again c =
     let s = c .before .before .before .before .before .before .before .before .before .args in
-    (omega (arith, c .if3 .left), c .before .before .before .before .before .loop .inv .1, skim-on (quietIn (s .chart .now) (s .edges)) (s .ws .now) (s .n) (s .from) (c .before .before .before .before .before .loop .c) _ _ (c .before .before .before .before .before .loop .inv .2) (c .before .before .before .before .before .loop .inv .0) (omega (arith, c .before .before .before .before .before .loop .inv .1, c .before .before .before .before .loop-test .taken)) (c .before .before .before .quiet .ensures) (not-false _ (c .before .before .if2 .left)) refl)
+    let l = c .before .before .before .before .before .loop in (
+      omega (arith, c .if3 .left),
+      l .inv .1,
+      skim-on (quietIn (s .chart .now) (s .edges)) (s .ws .now) (s .n) (s .from) (l .c) _ _ (l .inv .2) (l .inv .0) (omega (arith, l .inv .1, c .before .before .before .before .loop-test .taken)) (c .before .before .before .quiet .ensures) (not-false _ (c .before .before .if2 .left)) (c .before .after .ensures),
+    )
 
 returns-4 : tie.Need-returns-4 Inv-loop μ-loop
 returns-4 c = c .before .loop .inv .2
@@ -73,10 +69,7 @@ skim-spec =
     sub-quiet
     quiet-requires
     returns-2
-    add-d
-    mul-d
-    shared-slice-read-d
-    cast-d
+    after-requires
     returns-3
     loop-less
     loop-again

@@ -5,18 +5,8 @@ use Rattle.joins.proofs.Touching.{listed-rank}
 use Rattle.joins.proofs.graph_externals.Statement.{statement}
 use Rattle.joins.proofs.graph_externals.Tie as tie
 
-start-symbol-requires : tie.Need-start-symbol-requires
-start-symbol-requires c κs = search needs
-
-rank-at-requires : tie.Need-rank-at-requires
-rank-at-requires c κs = search needs
-
-listed-requires : tie.Need-listed-requires
-listed-requires c κs = search needs
-
 returns : tie.Need-returns
 returns c = listed-rank (c .before .before .before .before .before .args .g .now) (λ k. graphExternal (c .before .before .before .before .before .args .h .now) k) _ _ _ _ (c .before .before .start-symbol .ensures) (c .before .rank-at .ensures .0) (c .listed .ensures)
 
 pub graph-externals-spec : {M : Type 1} → statement M
-graph-externals-spec =
-    tie.close (tie.spec start-symbol-requires rank-at-requires listed-requires returns)
+graph-externals-spec = tie.close (tie.spec (λ c κs. search needs) (λ c κs. search needs) (λ c κs. search needs) returns)

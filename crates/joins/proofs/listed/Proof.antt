@@ -18,21 +18,6 @@ abbrev μ-loop : tie.MeasureT-loop
 loop-holds : tie.Need-loop-holds Inv-loop μ-loop
 loop-holds c = (omega arith, listed-none (λ j. lineField (c .before .args .t .now) (c .before .args .p) (c .before .args .from + j)))
 
-add-field-at : tie.Need-add-field-at Inv-loop μ-loop
-add-field-at c = search needs
-
-field-at-requires : tie.Need-field-at-requires Inv-loop μ-loop
-field-at-requires c κs = search needs
-
-with-requires : tie.Need-with-requires Inv-loop μ-loop
-with-requires c κs = search needs
-
-add-k : tie.Need-add-k Inv-loop μ-loop
-add-k c = search needs
-
-loop-less : tie.Need-loop-less Inv-loop μ-loop
-loop-less c = search needs
-
 loop-again : tie.Need-loop-again Inv-loop μ-loop
 loop-again c = (omega arith, listed-next (λ j. lineField (c .before .before .before .before .before .args .t .now) (c .before .before .before .before .before .args .p) (c .before .before .before .before .before .args .from + j)) _ _ _ _ (c .before .field-at .ensures) (c .with .ensures) (c .before .before .before .loop .inv .1))
 
@@ -40,16 +25,4 @@ returns : tie.Need-returns Inv-loop μ-loop
 returns c = listed-done (λ j. lineField (c .before .before .before .args .t .now) (c .before .before .before .args .p) (c .before .before .before .args .from + j)) _ _ _ (c .before .loop .inv .0) (c .loop-test .left) (c .before .loop .inv .1)
 
 pub listed-spec : {M : Type 1} → statement M
-listed-spec =
-    tie.close
-    (tie.spec
-    Inv-loop
-    μ-loop
-    loop-holds
-    add-field-at
-    field-at-requires
-    with-requires
-    add-k
-    loop-less
-    loop-again
-    returns)
+listed-spec = tie.close (tie.spec Inv-loop μ-loop loop-holds (λ c. search needs) (λ c κs. search needs) (λ c κs. search needs) (λ c. search needs) (λ c. search needs) loop-again returns)

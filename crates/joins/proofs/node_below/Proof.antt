@@ -5,23 +5,11 @@ use Rattle.joins.proofs.PlanMasks.{below-few, leaf-mask, introduce-firs
 use Rattle.joins.proofs.node_below.Statement.{statement}
 use Rattle.joins.proofs.node_below.Tie as tie
 
-plan-kind-requires : tie.Need-plan-kind-requires
-plan-kind-requires c κs = search needs
-
-plan-first-requires : tie.Need-plan-first-requires
-plan-first-requires c κs = search needs
-
-plan-second-requires : tie.Need-plan-second-requires
-plan-second-requires c κs = search needs
-
 mul-with : tie.Need-mul-with
 mul-with c = omega (arith, below-few _ _ _ (c .before .before .before .before .before .pre .0), introduce-first _ _ _ (c .before .before .before .before .before .pre .0) _ _ _ (c .before .before .before .plan-kind .ensures) (c .before .before .plan-first .ensures) (c .before .plan-second .ensures) (c .match .keys2))
 
 element-copy-out-with : tie.Need-element-copy-out-with
 element-copy-out-with c = omega (arith, below-few _ _ _ (c .before .before .before .before .before .pre .0), introduce-first _ _ _ (c .before .before .before .before .before .pre .0) _ _ _ (c .before .before .before .plan-kind .ensures) (c .before .before .plan-first .ensures) (c .before .plan-second .ensures) (c .match .keys2))
-
-with-requires : tie.Need-with-requires
-with-requires c κs = search needs
 
 mul-union : tie.Need-mul-union
 mul-union c = omega (arith, below-few _ _ _ (c .before .before .before .before .before .pre .0), join-both _ _ _ (c .before .before .before .before .before .pre .0) _ _ _ (c .before .before .before .plan-kind .ensures) (c .before .before .plan-first .ensures) (c .before .plan-second .ensures) (c .match .rest .0 .1) (c .match .rest .1))
@@ -35,9 +23,6 @@ mul-union-2 c = omega (arith, below-few _ _ _ (c .before .before .before .before
 element-copy-out-union-2 : tie.Need-element-copy-out-union-2
 element-copy-out-union-2 c = omega (arith, below-few _ _ _ (c .before .before .before .before .before .before .pre .0), join-both _ _ _ (c .before .before .before .before .before .before .pre .0) _ _ _ (c .before .before .before .before .plan-kind .ensures) (c .before .before .before .plan-first .ensures) (c .before .before .plan-second .ensures) (c .before .match .rest .0 .1) (c .before .match .rest .1))
 
-union-requires : tie.Need-union-requires
-union-requires c κs = search needs
-
 returns : tie.Need-returns
 returns c = leaf-mask _ _ _ (c .before .before .before .before .before .pre .0) _ (c .before .before .before .plan-kind .ensures) (c .match .keys1)
 
@@ -48,20 +33,4 @@ returns-3 : tie.Need-returns-3
 returns-3 c = join-mask _ _ _ (c .before .before .before .before .before .before .before .before .pre .0) _ _ _ (c .before .before .before .before .before .before .plan-kind .ensures) (c .before .before .before .before .before .plan-first .ensures) (c .before .before .before .before .plan-second .ensures) _ (c .before .before .before .before .before .before .before .before .pre .1) _ (c .before .before .before .match .rest .0 .1) (c .before .before .before .match .rest .1) (c .union .ensures)
 
 pub node-below-spec : {M : Type 1} → statement M
-node-below-spec =
-    tie.close
-    (tie.spec
-    plan-kind-requires
-    plan-first-requires
-    plan-second-requires
-    mul-with
-    element-copy-out-with
-    with-requires
-    mul-union
-    element-copy-out-union
-    mul-union-2
-    element-copy-out-union-2
-    union-requires
-    returns
-    returns-2
-    returns-3)
+node-below-spec = tie.close (tie.spec (λ c κs. search needs) (λ c κs. search needs) (λ c κs. search needs) mul-with element-copy-out-with (λ c κs. search needs) mul-union element-copy-out-union mul-union-2 element-copy-out-union-2 (λ c κs. search needs) returns returns-2 returns-3)

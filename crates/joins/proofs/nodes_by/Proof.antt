@@ -16,33 +16,6 @@ abbrev μ-loop : tie.MeasureT-loop
 loop-holds : tie.Need-loop-holds Inv-loop μ-loop
 loop-holds c = (omega arith, sides-none _ _ _ _)
 
-add-field-at : tie.Need-add-field-at Inv-loop μ-loop
-add-field-at c = search needs
-
-field-at-requires : tie.Need-field-at-requires Inv-loop μ-loop
-field-at-requires c κs = search needs
-
-rank-at-requires : tie.Need-rank-at-requires Inv-loop μ-loop
-rank-at-requires c κs = search needs
-
-add-listed : tie.Need-add-listed Inv-loop μ-loop
-add-listed c = search needs
-
-listed-requires : tie.Need-listed-requires Inv-loop μ-loop
-listed-requires c κs = search needs
-
-has-requires : tie.Need-has-requires Inv-loop μ-loop
-has-requires c κs = search needs
-
-with-edge-requires : tie.Need-with-edge-requires Inv-loop μ-loop
-with-edge-requires c κs = search needs
-
-add-i : tie.Need-add-i Inv-loop μ-loop
-add-i c = search needs
-
-loop-less : tie.Need-loop-less Inv-loop μ-loop
-loop-less c = search needs
-
 loop-again : tie.Need-loop-again Inv-loop μ-loop
 loop-again c = (omega arith, sides-next _ _ _ _ _ _ _ _ _ _ _ (c .before .before .before .before .field-at .ensures) (c .before .before .before .rank-at .ensures .0) (c .before .before .listed .ensures) (c .before .has .ensures .value) (c .with-edge .ensures) (c .before .before .before .before .before .before .loop .inv .1))
 
@@ -50,20 +23,4 @@ returns : tie.Need-returns Inv-loop μ-loop
 returns c = sides-done _ _ _ _ _ _ _ (c .before .loop .inv .0) (c .loop-test .left) (c .before .loop .inv .1)
 
 pub nodes-by-spec : {M : Type 1} → statement M
-nodes-by-spec =
-    tie.close
-    (tie.spec
-    Inv-loop
-    μ-loop
-    loop-holds
-    add-field-at
-    field-at-requires
-    rank-at-requires
-    add-listed
-    listed-requires
-    has-requires
-    with-edge-requires
-    add-i
-    loop-less
-    loop-again
-    returns)
+nodes-by-spec = tie.close (tie.spec Inv-loop μ-loop loop-holds (λ c. search needs) (λ c κs. search needs) (λ c κs. search needs) (λ c. search needs) (λ c κs. search needs) (λ c κs. search needs) (λ c κs. search needs) (λ c. search needs) (λ c. search needs) loop-again returns)

@@ -36,9 +36,6 @@ add-w c = let loop = c .before .before .loop in let pre = c .before .before .bef
 add-k : tie.Need-add-k Inv-loop μ-loop
 add-k c = omega (arith, c .before .before .before .rank-of .ensures .1)
 
-loop-less : tie.Need-loop-less Inv-loop μ-loop
-loop-less c = omega arith
-
 loop-again : tie.Need-loop-again Inv-loop μ-loop
 loop-again c = let loop = c .before .before .loop in (omega arith, loop .inv .1, digits-next _ _ _ (c .before .before .before .before .before .before .pre) _ _ _ (loop .inv .2) (c .edge-node-in .ensures))
 
@@ -52,20 +49,4 @@ returns : tie.Need-returns Inv-loop μ-loop
 returns c = let loop = c .before .loop in digits-all _ _ _ (c .before .before .before .before .before .pre) _ _ _ (loop .inv .0) (loop .inv .1) (c .loop-test .left) (loop .inv .2)
 
 pub nodes-word-spec : {M : Type 1} → statement M
-nodes-word-spec =
-    tie.close
-    (tie.spec
-    Inv-loop
-    μ-loop
-    edge-label-in-requires
-    rank-of-requires
-    loop-holds
-    mul-w
-    edge-node-in-requires
-    add-w
-    add-k
-    loop-less
-    loop-again
-    mul-result
-    add-result
-    returns)
+nodes-word-spec = tie.close (tie.spec Inv-loop μ-loop edge-label-in-requires rank-of-requires loop-holds mul-w edge-node-in-requires add-w add-k (λ c. omega arith) loop-again mul-result add-result returns)

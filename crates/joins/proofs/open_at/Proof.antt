@@ -19,12 +19,4 @@ returns : tie.Need-returns
 returns c = let pre = c .before .before .before .before .before .before .pre in open-rule _ _ _ _ _ _ _ _ (pre .0) (c .before .before .before .rule-edges .ensures) (pre .1) (sides-at _ _ _ _ _ _ _ (c .before .before .before .before .edges-from .ensures) (c .before .before .nodes-by .ensures)) (c .before .rule-externals .ensures) (c .boundary .ensures)
 
 pub open-at-spec : {M : Type 1} → statement M
-open-at-spec =
-    tie.close
-    (tie.spec
-    edges-from-requires
-    (λ c κs. search needs)
-    nodes-by-requires
-    rule-externals-requires
-    (λ c κs. search needs)
-    returns)
+open-at-spec = tie.close (tie.spec edges-from-requires (λ c κs. search needs) nodes-by-requires rule-externals-requires (λ c κs. search needs) returns)

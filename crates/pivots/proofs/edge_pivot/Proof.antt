@@ -1,4 +1,4 @@
--- Any position of the edge will do.
+-- Any position of the edge whose node is open will do.
 use native.Mathlib.Omega.{arith}
 use Prim.Native.Nat.{_-_, _≤_}
 use borrow.Author.Needs.{needs}
@@ -37,7 +37,7 @@ add-result : tie.Need-add-result Inv-loop μ-loop
 add-result c = omega (arith, c .before .before .before .before .before .rank-at .ensures .1, c .before .before .before .loop-test .taken, node-few _ _ _ (c .before .before .before .before .before .before .before .before .before .pre .1) _ _ (c .before .before .before .before .before .before .edge-label .ensures) (c .before .before .before .before .before .rank-at .ensures .0) _ _ (c .before .before .before .loop-test .taken) (c .before .before .edge-node .ensures))
 
 returns : tie.Need-returns Inv-loop μ-loop
-returns c = edge-pivot _ _ _ (c .before .before .before .before .before .before .before .before .before .pre .1) _ _ (c .before .before .before .before .before .before .edge-label .ensures) (c .before .before .before .before .before .rank-at .ensures .0) _ _ (c .before .before .before .loop-test .taken) (c .before .before .edge-node .ensures)
+returns c = edge-pivot _ _ _ (c .before .before .before .before .before .before .before .before .before .pre .1) _ _ (c .before .before .before .before .before .before .edge-label .ensures) (c .before .before .before .before .before .rank-at .ensures .0) _ _ (c .before .before .before .before .before .before .before .open-at .ensures) _ _ _ (c .before .before .before .loop-test .taken) (c .before .before .edge-node .ensures) (c .before .has .ensures .value) (c .if1 .taken)
 
 add-k : tie.Need-add-k Inv-loop μ-loop
 add-k c = omega (arith, c .before .before .before .before .before .rank-at .ensures .1, c .before .before .before .loop-test .taken)
@@ -49,7 +49,7 @@ loop-again : tie.Need-loop-again Inv-loop μ-loop
 loop-again c = omega (arith, c .before .before .before .loop-test .taken)
 
 returns-2 : tie.Need-returns-2 Inv-loop μ-loop
-returns-2 c = no-edge-pivot _
+returns-2 c = no-edge-pivot _ _ _
 
 pub edge-pivot-spec : {M : Type 1} → statement M
 edge-pivot-spec =

@@ -8,12 +8,7 @@ returns : tie.Need-returns
 returns c = uses-active _ _ (c .if1 .taken)
 
 returns-2 : tie.Need-returns-2
-returns-2 c = uses-passive _ _ _ (c .before .if1 .left) (c .symbol-word .ensures .0)
+returns-2 c = uses-passive _ _ _ (c .before .before .if1 .left) (c .symbol-word .ensures .0)
 
 pub uses-of-spec : {M : Type 1} → statement M
-uses-of-spec =
-    tie.close
-    (tie.spec
-    returns
-    (λ c κs. search needs)
-    returns-2)
+uses-of-spec = tie.close (tie.spec returns (λ c. search needs) (λ c κs. search needs) returns-2)

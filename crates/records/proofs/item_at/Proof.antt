@@ -1,12 +1,16 @@
-use mathlib.Core.Path.{refl, ap, _∙_}
+use mathlib.Core.Path.{_∙_}
 use borrow.Author.Needs.{needs}
-use Rattle.agenda.specs.declared.Record.{Record}
-use Rattle.records.proofs.WordLaws.{record-of-block}
+use Rattle.records.specs.Words.{wordAt, recordFrom, recordAt}
 use Rattle.records.proofs.item_at.Statement.{statement}
 use Rattle.records.proofs.item_at.Tie as tie
 
 returns : tie.Need-returns
-returns c = c .item-of .ensures ∙ ap (λ (z : Record). z .item) (record-of-block _ _ _ _ (c .before .words-in .ensures) refl)
+unfolding recordAt recordFrom wordAt
+returns c = c .item-of .ensures ∙ rw (c .before .before .before .before .before .place .ensures .0)
 
 pub item-at-spec : {M : Type 1} → statement M
-item-at-spec = tie.close (tie.spec (λ c κs. search needs) (λ c κs. search needs) returns)
+item-at-spec =
+    tie.close
+    (tie.spec (λ c κs. search needs) (λ c. search needs) (λ c. search needs) (λ c. search needs) (λ c. search needs)
+    (λ c. search needs) (λ c. search needs) (λ c. search needs) (λ c. search needs) (λ c. search needs)
+    (λ c. search needs) (λ c. search needs) (λ c. search needs) (λ c κs. search needs) returns)

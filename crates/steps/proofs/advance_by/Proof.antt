@@ -6,6 +6,9 @@ use mathlib.Core.Bool.{false≢true}
 use lib.ListN.{length}
 use Rattle.questions.specs.Abstract.{grammarOf, graphOf}
 use Rattle.steps.specs.Ready.{Ready}
+use Rattle.questions.proofs.WellFormedLent.{checked-grammar-ok}
+use Rattle.joins.proofs.Known.{graph-ok}
+use Rattle.validity.proofs.KnownCharts.{known-records}
 use Rattle.steps.proofs.RunLaws.{Ran, ran-none, ran-step, ran-idle, ran-all, step-idle}
 use Rattle.steps.proofs.advance_by.Statement.{statement}
 use Rattle.steps.proofs.advance_by.Tie as tie
@@ -53,7 +56,9 @@ loop-again c =
     let s = c .before .before .before .before .before .before .before .before .before .before .before .before .before .before .before .before .before .before .args in
     let G = grammarOf (s .g .now) in
     let H = graphOf (s .g .now) (s .h .now) in
-    (omega (arith, c .before .before .before .before .before .before .before .before .before .before .before .loop-test .taken), c .before .before .before .before .before .before .before .step .kept .1 .1 .1 .1 .1 .0 ∙ c .before .before .before .before .before .before .before .before .before .before .before .before .loop .inv .1, ran-step G H (s .chart .now) (c .before .before .before .before .before .before .before .before .before .before .before .before .loop .i) (c .before .before .before .before .before .before .before .before .before .before .before .before .loop .chart) (c .before .before .before .before .before .before .before .before .before .before .before .before .loop .inv .2) _ _ (omega arith) (c .before .before .before .before .before .before .before .step .ensures .1), c .before .before .before .before .before .before .before .step .kept .1 .1 .1 .1 .1 .1 .1 .0 ∙ c .before .before .before .before .before .before .before .before .before .before .before .before .loop .inv .3, c .before .before .before .before .before .before .before .step .ensures .2, c .before .before .before .before .before .before .before .step .kept .1 .1 .1 .1 .1 .1 .0 ∙ c .before .before .before .before .before .before .before .before .before .before .before .before .loop .inv .5)
+    let A = c .before .before .before .before .before .before .before .before .before .before .before .before .before .before .before .before .before .before .pre .0 .accepted in
+    let R = c .before .before .before .before .before .before .before .before .before .before .before .before .loop .inv .4 in
+    (omega (arith, c .before .before .before .before .before .before .before .before .before .before .before .loop-test .taken), c .before .before .before .before .before .before .before .step .kept .1 .1 .1 .1 .1 .0 ∙ c .before .before .before .before .before .before .before .before .before .before .before .before .loop .inv .1, ran-step G H (s .chart .now) (c .before .before .before .before .before .before .before .before .before .before .before .before .loop .i) (c .before .before .before .before .before .before .before .before .before .before .before .before .loop .chart) (c .before .before .before .before .before .before .before .before .before .before .before .before .loop .inv .2) (checked-grammar-ok (s .g .now) (A .grammar)) (graph-ok (s .g .now) (s .h .now) A) ((c .before .before .before .before .before .before .before .before .before .before .before .before .before .before .before .before .before .before .pre .1 .small)) (known-records G H _ (R .fits) (R .known)) _ _ (omega arith) (c .before .before .before .before .before .before .before .step .ensures .1), c .before .before .before .before .before .before .before .step .kept .1 .1 .1 .1 .1 .1 .1 .0 ∙ c .before .before .before .before .before .before .before .before .before .before .before .before .loop .inv .3, c .before .before .before .before .before .before .before .step .ensures .2, c .before .before .before .before .before .before .before .step .kept .1 .1 .1 .1 .1 .1 .0 ∙ c .before .before .before .before .before .before .before .before .before .before .before .before .loop .inv .5)
 
 same-length-4 : tie.Need-same-length-4 Inv-loop μ-loop
 same-length-4 c = c .before .loop .inv .1

@@ -2,6 +2,7 @@
 use mathlib.Core.Path.{_∙_}
 use Rattle.questions.specs.Abstract.{grammarOf, graphOf}
 use Rattle.steps.proofs.ReadyLaws.{records-small, handled-now}
+use Rattle.steps.proofs.KnownLaws.{step-whole}
 use Rattle.steps.proofs.StepLaws.{step-by}
 use Rattle.steps.proofs.RunLaws.{next-known, step-marked, step-some, step-none}
 use Rattle.steps.proofs.step.Statement.{statement}
@@ -59,7 +60,8 @@ returns-2 c =
     let l = next-known (s .chart .now) _ (t .result) e (t .ensures .0) in
     let G = grammarOf (s .g .now) in
     let H = graphOf (s .g .now) (s .h .now) in
-    let done = step-by G H (s .chart .now) (c .before .before .before .before .before .before .before .before .before .before .before .before .before .before .before .before .before .before .before .before .before .before .before .before .before .pre .1 .fits) _ l _ _ (step-marked (s .chart .now) _ (t .result) _ e (t .ensures .1)) (c .before .before .before .before .before .before .add-all .ensures .0) in
+    let p = c .before .before .before .before .before .before .before .before .before .before .before .before .before .before .before .before .before .before .before .before .before .before .before .before .before .pre in
+    let done = step-by G H (s .chart .now) (p .1 .fits) _ l (step-whole (s .g .now) (s .h .now) (p .0 .accepted) (s .chart .now) (p .1 .known) (p .1 .small) (p .1 .fits) _ l) _ _ (step-marked (s .chart .now) _ (t .result) _ e (t .ensures .1)) (c .before .before .before .before .before .before .add-all .ensures .0) in
     let r = step-some G H (s .chart .now) _ (t .result) (t .ensures .0) _ e done in
     (r .0, r .1, c .before .before .before .before .before .before .add-all .ensures .1)
 

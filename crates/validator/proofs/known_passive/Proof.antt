@@ -1,7 +1,7 @@
 -- The tests in the order of the definition.
 use borrow.Author.Needs.{needs}
 use borrow.Author.Tests.{not-true, not-false}
-use Rattle.validator.proofs.WordTests.{symbol-known, all-edges, passive-no-symbol, passive-terminal, passive-outside, passive-by}
+use Rattle.validator.proofs.WordTests.{symbol-known, in-sizes, passive-no-symbol, passive-terminal, passive-outside, passive-by}
 use Rattle.validator.proofs.known_passive.Statement.{statement}
 use Rattle.validator.proofs.known_passive.Tie as tie
 
@@ -22,7 +22,7 @@ symbol-rank-in-requires : tie.Need-symbol-rank-in-requires
 symbol-rank-in-requires c κs = symbol-known _ _ _ (c .before .before .before .before .before .before .before .before .pre) _ (c .before .before .if1 .left)
 
 in-graph-requires : tie.Need-in-graph-requires
-in-graph-requires c κs = all-edges _ _ _ (c .before .before .before .before .before .before .before .before .before .before .pre)
+in-graph-requires c κs = in-sizes _ _ _ (c .before .before .before .before .before .before .before .before .before .before .pre)
 
 returns-3 : tie.Need-returns-3
 returns-3 c =
@@ -52,4 +52,5 @@ returns-4 c =
 pub known-passive-spec : {M : Type 1} → statement M
 known-passive-spec =
     tie.close
-    (tie.spec returns symbol-kind-in-requires returns-2 symbol-rank-in-requires (λ c κs. search needs) in-graph-requires returns-3 returns-4)
+    (tie.spec (λ c. search needs) returns symbol-kind-in-requires returns-2 symbol-rank-in-requires (λ c κs. search needs) in-graph-requires returns-3
+    (λ c. search needs) returns-4)

@@ -1,7 +1,11 @@
 //! Texts that the tests read, and memory that they lend.
 #![allow(dead_code)]
 
+pub mod layout;
+
 use bobbinmarl::calls::{self, Answer, Application, Fault, Outcome, Verdict};
+use bobbinmarl::Item;
+use layout::{Layout, Part};
 use std::fs;
 use std::ops::Range;
 use std::path::{Path, PathBuf};
@@ -171,6 +175,18 @@ impl Lent {
 
     pub fn chart(&mut self) -> &mut [u64] {
         &mut self.words[self.chart.clone()]
+    }
+
+    /// The items that the chart has.
+    pub fn items(&self) -> Vec<Item> {
+        let chart = &self.words[self.chart.clone()];
+        let item = |place| calls::item(chart, place).expect("an item below their number");
+        (0..calls::items(chart)).map(item).collect()
+    }
+
+    /// Sets a part of the chart.
+    pub fn touch(&mut self, layout: &Layout, part: Part, value: u64) {
+        layout.put(self.chart(), part, value);
     }
 
     pub fn out(&mut self) -> &mut [u8] {

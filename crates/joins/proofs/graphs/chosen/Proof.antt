@@ -4,9 +4,6 @@ use Rattle.joins.proofs.GraphLaws.{chosen-in, chosen-out}
 use Rattle.joins.proofs.graphs.chosen.Statement.{statement}
 use Rattle.joins.proofs.graphs.chosen.Tie as tie
 
-has-requires : tie.Need-has-requires
-has-requires c κs = search needs
-
 returns : tie.Need-returns
 returns c = chosen-in _ _ _ _ (c .before .has .ensures) (c .if1 .taken)
 
@@ -14,4 +11,4 @@ returns-2 : tie.Need-returns-2
 returns-2 c = chosen-out _ _ _ _ (c .before .has .ensures) (c .if1 .left)
 
 pub chosen-spec : {M : Type 1} → statement M
-chosen-spec = tie.close (tie.spec has-requires returns returns-2)
+chosen-spec = tie.close (tie.spec (λ c κs. search needs) returns returns-2)

@@ -20,9 +20,6 @@ edge-sets-requires c κs = graph-edges-few _ _ (c .before .before .before .befor
 put-groups-requires : tie.Need-put-groups-requires
 put-groups-requires c κs = (graph-edges-few _ _ (c .before .before .before .before .before .before .before .before .before .before .pre .0), c .before .before .before .before .before .mark-edges .ensures .size)
 
-graph-externals-requires : tie.Need-graph-externals-requires
-graph-externals-requires c κs = search needs
-
 slice-write-t : tie.Need-slice-write-t
 slice-write-t c = omega (arith, c .before .before .before .put-groups .ensures .size)
 
@@ -33,13 +30,4 @@ returns : tie.Need-returns
 returns c = table-is _ _ _ _ _ _ (c .before .before .before .before .before .before .before .before .before .before .before .before .before .before .pre .0) (c .before .before .before .before .before .before .before .before .before .mark-edges .ensures) (c .before .before .before .before .before .before .edge-sets .ensures) (c .before .before .before .put-groups .ensures) (c .graph-externals .ensures)
 
 pub fill-spec : {M : Type 1} → statement M
-fill-spec =
-    tie.close
-    (tie.spec
-    mark-edges-requires
-    edge-sets-requires
-    put-groups-requires
-    graph-externals-requires
-    slice-write-t
-    same-length
-    returns)
+fill-spec = tie.close (tie.spec mark-edges-requires edge-sets-requires put-groups-requires (λ c κs. search needs) slice-write-t same-length returns)

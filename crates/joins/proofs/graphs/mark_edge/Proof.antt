@@ -12,9 +12,6 @@ Inv-loop g h e t₀ label first w rank k₀ t k = (k ≤ rank) × MarkedTo g h t
 abbrev μ-loop : tie.MeasureT-loop
 μ-loop g h e t₀ label first w rank k₀ t k = rank - k
 
-graph-label-requires : tie.Need-graph-label-requires Inv-loop μ-loop
-graph-label-requires c κs = search needs
-
 add-first : tie.Need-add-first Inv-loop μ-loop
 add-first c = omega (arith, label-few _ _ (c .before .before .before .before .pre .0) _ (c .before .before .before .before .pre .1) _ (c .graph-label .ensures))
 
@@ -24,17 +21,11 @@ mul-with c = omega (arith, label-few _ _ (c .before .before .before .before .pre
 slice-read-with : tie.Need-slice-read-with Inv-loop μ-loop
 slice-read-with c = omega (arith, label-few _ _ (c .before .before .before .before .before .pre .0) _ (c .before .before .before .before .before .pre .1) _ (c .before .graph-label .ensures), c .before .before .before .before .before .pre .2 .size)
 
-with-requires : tie.Need-with-requires Inv-loop μ-loop
-with-requires c κs = search needs
-
 mul-t : tie.Need-mul-t Inv-loop μ-loop
 mul-t c = omega (arith, label-few _ _ (c .before .before .before .before .before .before .pre .0) _ (c .before .before .before .before .before .before .pre .1) _ (c .before .before .graph-label .ensures))
 
 slice-write-t : tie.Need-slice-write-t Inv-loop μ-loop
 slice-write-t c = omega (arith, label-few _ _ (c .before .before .before .before .before .before .pre .0) _ (c .before .before .before .before .before .before .pre .1) _ (c .before .before .graph-label .ensures), c .before .before .before .before .before .before .pre .2 .size)
-
-rank-at-requires : tie.Need-rank-at-requires Inv-loop μ-loop
-rank-at-requires c κs = search needs
 
 loop-holds : tie.Need-loop-holds Inv-loop μ-loop
 loop-holds c = (omega arith, marked-label _ _ _ _ _ _ (label-few _ _ (c .before .before .before .before .before .before .before .pre .0) _ (c .before .before .before .before .before .before .before .pre .1) _ (c .before .before .before .graph-label .ensures)) (c .before .before .before .graph-label .ensures) (c .before .with .ensures) (c .before .before .before .before .before .before .before .pre .2))
@@ -45,9 +36,6 @@ mul-i c = omega (arith, c .before .before .rank-at .ensures .1)
 add-i : tie.Need-add-i Inv-loop μ-loop
 add-i c = omega (arith, c .before .before .rank-at .ensures .1)
 
-graph-node-requires : tie.Need-graph-node-requires Inv-loop μ-loop
-graph-node-requires c κs = search needs
-
 add-i-2 : tie.Need-add-i-2 Inv-loop μ-loop
 add-i-2 c = omega (arith, c .before .before .before .rank-at .ensures .1, node-few _ _ (c .before .before .before .before .before .before .before .before .before .before .pre .0) _ (c .before .before .before .before .before .before .before .before .before .before .pre .1) _ _ (place-in _ _ _ _ _ _ (c .before .before .before .before .before .before .graph-label .ensures) (c .before .before .before .rank-at .ensures .0) (c .before .loop-test .taken)) (c .graph-node .ensures))
 
@@ -57,20 +45,11 @@ mul-with-2 c = omega (arith, c .before .before .before .rank-at .ensures .1, nod
 slice-read-with-2 : tie.Need-slice-read-with-2 Inv-loop μ-loop
 slice-read-with-2 c = omega (arith, c .before .before .before .before .rank-at .ensures .1, c .before .before .before .loop .inv .1 .size, node-few _ _ (c .before .before .before .before .before .before .before .before .before .before .before .pre .0) _ (c .before .before .before .before .before .before .before .before .before .before .before .pre .1) _ _ (place-in _ _ _ _ _ _ (c .before .before .before .before .before .before .before .graph-label .ensures) (c .before .before .before .before .rank-at .ensures .0) (c .before .before .loop-test .taken)) (c .before .graph-node .ensures))
 
-with-requires-2 : tie.Need-with-requires-2 Inv-loop μ-loop
-with-requires-2 c κs = search needs
-
 mul-t-2 : tie.Need-mul-t-2 Inv-loop μ-loop
 mul-t-2 c = omega (arith, c .before .before .before .before .before .rank-at .ensures .1, node-few _ _ (c .before .before .before .before .before .before .before .before .before .before .before .before .pre .0) _ (c .before .before .before .before .before .before .before .before .before .before .before .before .pre .1) _ _ (place-in _ _ _ _ _ _ (c .before .before .before .before .before .before .before .before .graph-label .ensures) (c .before .before .before .before .before .rank-at .ensures .0) (c .before .before .before .loop-test .taken)) (c .before .before .graph-node .ensures))
 
 slice-write-t-2 : tie.Need-slice-write-t-2 Inv-loop μ-loop
 slice-write-t-2 c = omega (arith, c .before .before .before .before .before .rank-at .ensures .1, c .before .before .before .before .loop .inv .1 .size, node-few _ _ (c .before .before .before .before .before .before .before .before .before .before .before .before .pre .0) _ (c .before .before .before .before .before .before .before .before .before .before .before .before .pre .1) _ _ (place-in _ _ _ _ _ _ (c .before .before .before .before .before .before .before .before .graph-label .ensures) (c .before .before .before .before .before .rank-at .ensures .0) (c .before .before .before .loop-test .taken)) (c .before .before .graph-node .ensures))
-
-add-k : tie.Need-add-k Inv-loop μ-loop
-add-k c = search needs
-
-loop-less : tie.Need-loop-less Inv-loop μ-loop
-loop-less c = omega arith
 
 loop-again : tie.Need-loop-again Inv-loop μ-loop
 loop-again c = (omega arith, marked-place _ _ _ _ _ _ _ (omega (arith, c .before .before .before .before .before .rank-at .ensures .1)) (node-few _ _ (c .before .before .before .before .before .before .before .before .before .before .before .before .pre .0) _ (c .before .before .before .before .before .before .before .before .before .before .before .before .pre .1) _ _ (place-in _ _ _ _ _ _ (c .before .before .before .before .before .before .before .before .graph-label .ensures) (c .before .before .before .before .before .rank-at .ensures .0) (c .before .before .before .loop-test .taken)) (c .before .before .graph-node .ensures)) (c .before .before .graph-node .ensures) (c .with2 .ensures) (c .before .before .before .before .loop .inv .1))
@@ -82,31 +61,4 @@ returns : tie.Need-returns Inv-loop μ-loop
 returns c = marked-edge _ _ _ _ _ _ _ (c .before .before .before .before .before .graph-label .ensures) (c .before .before .rank-at .ensures .0) (c .before .loop .inv .0) (c .loop-test .left) (c .before .loop .inv .1)
 
 pub mark-edge-spec : {M : Type 1} → statement M
-mark-edge-spec =
-    tie.close
-    (tie.spec
-    Inv-loop
-    μ-loop
-    graph-label-requires
-    add-first
-    mul-with
-    slice-read-with
-    with-requires
-    mul-t
-    slice-write-t
-    rank-at-requires
-    loop-holds
-    mul-i
-    add-i
-    graph-node-requires
-    add-i-2
-    mul-with-2
-    slice-read-with-2
-    with-requires-2
-    mul-t-2
-    slice-write-t-2
-    add-k
-    loop-less
-    loop-again
-    same-length
-    returns)
+mark-edge-spec = tie.close (tie.spec Inv-loop μ-loop (λ c κs. search needs) add-first mul-with slice-read-with (λ c κs. search needs) mul-t slice-write-t (λ c κs. search needs) loop-holds mul-i add-i (λ c κs. search needs) add-i-2 mul-with-2 slice-read-with-2 (λ c κs. search needs) mul-t-2 slice-write-t-2 (λ c. search needs) (λ c. omega arith) loop-again same-length returns)

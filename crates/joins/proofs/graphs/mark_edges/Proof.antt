@@ -13,20 +13,11 @@ Inv-loop g h t₀ n e₀ t e = (e ≤ n) × Indexed g h t e
 abbrev μ-loop : tie.MeasureT-loop
 μ-loop g h t₀ n e₀ t e = n - e
 
-graph-edges-requires : tie.Need-graph-edges-requires Inv-loop μ-loop
-graph-edges-requires c κs = search needs
-
 loop-holds : tie.Need-loop-holds Inv-loop μ-loop
 loop-holds c = (omega arith, c .before .before .before .before .pre .1)
 
 mark-edge-requires : tie.Need-mark-edge-requires Inv-loop μ-loop
 mark-edge-requires c κs = (c .before .before .before .before .before .before .before .pre .0, omega (arith, c .before .before .before .graph-edges .ensures, c .before .loop-test .taken), c .before .before .loop .inv .1)
-
-add-e : tie.Need-add-e Inv-loop μ-loop
-add-e c = search needs
-
-loop-less : tie.Need-loop-less Inv-loop μ-loop
-loop-less c = omega arith
 
 loop-again : tie.Need-loop-again Inv-loop μ-loop
 loop-again c = (omega arith, c .before .before .mark-edge .ensures)
@@ -38,16 +29,4 @@ returns : tie.Need-returns Inv-loop μ-loop
 returns c = indexed-all _ _ _ _ _ (c .before .before .graph-edges .ensures) (c .before .loop .inv .0) (c .loop-test .left) (c .before .loop .inv .1)
 
 pub mark-edges-spec : {M : Type 1} → statement M
-mark-edges-spec =
-    tie.close
-    (tie.spec
-    Inv-loop
-    μ-loop
-    graph-edges-requires
-    loop-holds
-    mark-edge-requires
-    add-e
-    loop-less
-    loop-again
-    same-length
-    returns)
+mark-edges-spec = tie.close (tie.spec Inv-loop μ-loop (λ c κs. search needs) loop-holds mark-edge-requires (λ c. search needs) (λ c. omega arith) loop-again same-length returns)

@@ -12,9 +12,6 @@ Inv-loop h sets t₀ n i₀ t i = (i ≤ n) × (n ≤ 256) × GroupsTo sets t₀
 abbrev μ-loop : tie.MeasureT-loop
 μ-loop h sets t₀ n i₀ t i = n - i
 
-graph-edges-requires : tie.Need-graph-edges-requires Inv-loop μ-loop
-graph-edges-requires c κs = search needs
-
 add-n : tie.Need-add-n Inv-loop μ-loop
 add-n c = omega (arith, c .graph-edges .ensures, c .before .before .before .pre .0)
 
@@ -27,17 +24,8 @@ loop-holds c = (omega arith, omega (arith, c .graph-edges .ensures, c .before .b
 group-requires : tie.Need-group-requires Inv-loop μ-loop
 group-requires c κs = omega (arith, c .before .loop .inv .1)
 
-mul-t : tie.Need-mul-t Inv-loop μ-loop
-mul-t c = search needs
-
 slice-write-t : tie.Need-slice-write-t Inv-loop μ-loop
 slice-write-t c = omega (arith, c .before .before .loop .inv .1, c .before .before .loop .inv .2 .size)
-
-add-i : tie.Need-add-i Inv-loop μ-loop
-add-i c = search needs
-
-loop-less : tie.Need-loop-less Inv-loop μ-loop
-loop-less c = omega arith
 
 loop-again : tie.Need-loop-again Inv-loop μ-loop
 loop-again c = (omega arith, c .before .before .loop .inv .1, groups-next _ _ _ _ _ (omega (arith, c .before .before .loop .inv .1)) (c .group .ensures) (c .before .before .loop .inv .2))
@@ -49,20 +37,4 @@ returns : tie.Need-returns Inv-loop μ-loop
 returns c = groups-all _ _ _ _ _ _ (c .before .before .graph-edges .ensures) (c .loop-test .left) (c .before .loop .inv .2)
 
 pub put-groups-spec : {M : Type 1} → statement M
-put-groups-spec =
-    tie.close
-    (tie.spec
-    Inv-loop
-    μ-loop
-    graph-edges-requires
-    add-n
-    mul-n
-    loop-holds
-    group-requires
-    mul-t
-    slice-write-t
-    add-i
-    loop-less
-    loop-again
-    same-length
-    returns)
+put-groups-spec = tie.close (tie.spec Inv-loop μ-loop (λ c κs. search needs) add-n mul-n loop-holds group-requires (λ c. search needs) slice-write-t (λ c. search needs) (λ c. omega arith) loop-again same-length returns)

@@ -7,7 +7,7 @@ use borrow.Author.Tests.{not-true, not-false}
 use Rattle.lists.specs.Cursors.{alone, leftAll}
 use Rattle.records.proofs.WordLaws.{item-inside}
 use Rattle.steps.proofs.ListedLaws.{quiet-by, loud-handled}
-use Rattle.steps.proofs.SingleLaws.{Along, quiet, loud, single-key, single-few, single-start, single-handled, single-lead, single-end, single-low, single-some, single-known, single-size, single-next, single-less}
+use Rattle.steps.proofs.SingleLaws.{Along, quiet, loud, single-key, single-few, single-start, single-joining, single-end, single-low, single-some, single-known, single-size, single-next, single-less}
 use Rattle.steps.proofs.consequences.add_listed.Statement.{statement}
 use Rattle.steps.proofs.consequences.add_listed.Tie as tie
 
@@ -19,13 +19,13 @@ abbrev μ-loop : tie.MeasureT-loop
 μ-loop g h plans keys graph chart₀ lists₀ index₀ lead j n key edges end c₀ past₀ chart lists index c past = leftAll (alone c)
 
 edges-at-requires : tie.Need-edges-at-requires Inv-loop μ-loop
-edges-at-requires c κs = item-inside _ _ (c .before .before .before .before .before .before .pre .2 .there)
+edges-at-requires c κs = item-inside _ _ (c .before .before .before .before .before .before .pre .0 .handled .there)
 
 mul-end : tie.Need-mul-end Inv-loop μ-loop
 mul-end c = omega (arith, single-few (c .before .before .before .before .before .before .before .pre))
 
 first-requires : tie.Need-first-requires Inv-loop μ-loop
-first-requires c κs = (c .before .before .before .before .before .before .before .before .pre .1 .indexed .listed .size, single-key (c .before .before .before .before .before .before .before .before .pre))
+first-requires c κs = (c .before .before .before .before .before .before .before .before .pre .0 .ready .indexed .listed .size, single-key (c .before .before .before .before .before .before .before .before .pre))
 
 loop-holds : tie.Need-loop-holds Inv-loop μ-loop
 loop-holds c = (refl, refl, refl, single-start (c .before .before .before .before .before .before .before .before .before .pre) _ (c .first .ensures))
@@ -44,7 +44,7 @@ add-met-requires : tie.Need-add-met-requires Inv-loop μ-loop
 add-met-requires c κs =
     let p = c .before .before .before .before .before .before .before .before .before .before .before .before .before .before .before .before .before .pre in
     let A = c .before .before .before .before .before .before .before .loop .inv .3 in
-    (p .0, A .ready, single-handled p A, single-lead p A, single-known p A (c .before .before .before .before .before .before .loop-test .taken), loud-handled _ _ _ _ (c .before .before .before .before .quiet .ensures) (not-true _ (c .before .before .before .if1 .taken)))
+    (single-joining p A, record { there = single-known p A (c .before .before .before .before .before .before .loop-test .taken); done = loud-handled _ _ _ _ (c .before .before .before .before .quiet .ensures) (not-true _ (c .before .before .before .if1 .taken)) })
 
 after-requires : tie.Need-after-requires Inv-loop μ-loop
 after-requires c κs =

@@ -6,6 +6,8 @@ use lib.ListN.{length}
 use Rattle.questions.specs.Layout.{ruleCount}
 use Rattle.questions.specs.Abstract.{grammarOf}
 use Rattle.records.specs.Words.{grownBy}
+use Rattle.questions.proofs.WellFormedLent.{checked-grammar-ok}
+use Rattle.questions.proofs.WellFormedAccepted.{rules-length}
 use Rattle.steps.specs.Leaves.{ruleLeaves}
 use Rattle.steps.proofs.LeafLoops.{Left, left-all, left-next, left-none, rule-whole, rule-number, leaves-all}
 use Rattle.steps.proofs.leaves.add_leaves.Statement.{statement}
@@ -23,7 +25,7 @@ rule-count-requires c κs = tt
 loop-holds : tie.Need-loop-holds Inv-loop μ-loop
 loop-holds c =
     let s = c .before .before .before .args in
-    (omega (arith, c .rule-count .ensures), refl, left-all (s .chart .now) _ (λ q. ruleLeaves (grammarOf (s .g .now)) q) (λ q. rule-whole (grammarOf (s .g .now)) q) (c .before .before .before .pre .1) _ (rule-number (s .g .now) _ (c .rule-count .ensures)))
+    (omega (arith, c .rule-count .ensures), refl, left-all (s .chart .now) _ (λ q. ruleLeaves (grammarOf (s .g .now)) q) (c .before .before .before .pre .1) _ (rule-number (s .g .now) _ (c .rule-count .ensures)))
 
 sub-r : tie.Need-sub-r Inv-loop μ-loop
 sub-r c = c .loop-test .taken
@@ -40,7 +42,7 @@ loop-again : tie.Need-loop-again Inv-loop μ-loop
 loop-again c =
     let s = c .before .before .before .before .before .before .before .before .before .args in
     let i = c .before .before .before .before .before .loop .inv in
-    (omega (arith, i .0), c .before .before .add-rule .kept .1 .0 ∙ i .1, left-next (s .chart .now) _ (λ q. ruleLeaves (grammarOf (s .g .now)) q) (λ q. rule-whole (grammarOf (s .g .now)) q) (c .before .before .before .before .before .loop .chart) _ (c .before .before .before .before .before .loop .r) _ (omega (arith, c .before .before .before .before .loop-test .taken)) (i .2) (c .before .before .add-rule .ensures))
+    (omega (arith, i .0), c .before .before .add-rule .kept .1 .0 ∙ i .1, left-next (s .chart .now) _ (λ q. ruleLeaves (grammarOf (s .g .now)) q) (c .before .before .before .before .before .loop .chart) _ (c .before .before .before .before .before .loop .r) _ (omega (arith, c .before .before .before .before .loop-test .taken)) (λ q l. rule-whole (grammarOf (s .g .now)) (checked-grammar-ok (s .g .now) (c .before .before .before .before .before .before .before .before .before .pre .0)) q (omega (arith, i .0, rules-length (s .g .now)))) (i .2) (c .before .before .add-rule .ensures))
 
 same-length : tie.Need-same-length Inv-loop μ-loop
 same-length c = c .before .loop .inv .1
@@ -48,7 +50,7 @@ same-length c = c .before .loop .inv .1
 returns : tie.Need-returns Inv-loop μ-loop
 returns c =
     let s = c .before .before .before .before .before .args in
-    left-none (s .chart .now) _ (λ q. ruleLeaves (grammarOf (s .g .now)) q) (λ q. rule-whole (grammarOf (s .g .now)) q) _ (c .before .loop .r) (omega (arith, c .loop-test .left)) (c .before .loop .inv .2) ∙ ap (grownBy (s .chart .now)) (sym (leaves-all (grammarOf (s .g .now))))
+    left-none (s .chart .now) _ (λ q. ruleLeaves (grammarOf (s .g .now)) q) _ (c .before .loop .r) (omega (arith, c .loop-test .left)) (c .before .loop .inv .2) ∙ ap (grownBy (s .chart .now)) (sym (leaves-all (grammarOf (s .g .now))))
 
 pub add-leaves-spec : {M : Type 1} → statement M
 add-leaves-spec =

@@ -6,6 +6,9 @@ use lib.ListN.{length}
 use Rattle.hrg.specs.Grammars.{planOf}
 use Rattle.questions.specs.Layout.{rulePlan}
 use Rattle.questions.specs.Abstract.{grammarOf}
+use Rattle.questions.proofs.WellFormedLent.{checked-grammar-ok}
+use Rattle.questions.proofs.WellFormedAccepted.{rules-length}
+use Rattle.joins.proofs.Known.{plan-size}
 use Rattle.steps.specs.Leaves.{leafRecord}
 use Rattle.steps.proofs.LeafLoops.{Left, left-all, left-next, left-none, leaf-whole, rule-plan, leaves-rule}
 use Rattle.steps.proofs.leaves.add_rule.Statement.{statement}
@@ -24,7 +27,7 @@ loop-holds : tie.Need-loop-holds Inv-loop μ-loop
 loop-holds c =
     let s = c .before .before .before .args in
     let pre = c .before .before .before .pre in
-    (omega (arith, c .rule-plan .ensures), refl, left-all (s .chart .now) _ (λ q. leafRecord (grammarOf (s .g .now)) (s .r) q) (λ q. leaf-whole (grammarOf (s .g .now)) (s .r) q) (pre .2) _ (rule-plan (s .g .now) (s .r) _ (pre .0) (pre .1) (c .rule-plan .ensures)))
+    (omega (arith, c .rule-plan .ensures), refl, left-all (s .chart .now) _ (λ q. leafRecord (grammarOf (s .g .now)) (s .r) q) (pre .2) _ (rule-plan (s .g .now) (s .r) _ (pre .0) (pre .1) (c .rule-plan .ensures)))
 
 sub-p : tie.Need-sub-p Inv-loop μ-loop
 sub-p c = c .loop-test .taken
@@ -41,7 +44,7 @@ loop-again : tie.Need-loop-again Inv-loop μ-loop
 loop-again c =
     let s = c .before .before .before .before .before .before .before .before .before .args in
     let i = c .before .before .before .before .before .loop .inv in
-    (omega (arith, i .0), c .before .before .add-leaf .kept .1 .0 ∙ i .1, left-next (s .chart .now) _ (λ q. leafRecord (grammarOf (s .g .now)) (s .r) q) (λ q. leaf-whole (grammarOf (s .g .now)) (s .r) q) (c .before .before .before .before .before .loop .chart) _ (c .before .before .before .before .before .loop .p) _ (omega (arith, c .before .before .before .before .loop-test .taken)) (i .2) (c .before .before .add-leaf .ensures))
+    (omega (arith, i .0), c .before .before .add-leaf .kept .1 .0 ∙ i .1, left-next (s .chart .now) _ (λ q. leafRecord (grammarOf (s .g .now)) (s .r) q) (c .before .before .before .before .before .loop .chart) _ (c .before .before .before .before .before .loop .p) _ (omega (arith, c .before .before .before .before .loop-test .taken)) (λ q l. leaf-whole (grammarOf (s .g .now)) (checked-grammar-ok (s .g .now) (c .before .before .before .before .before .before .before .before .before .pre .0)) (s .r) (omega (arith, c .before .before .before .before .before .before .before .before .before .pre .1, rules-length (s .g .now))) q (omega (arith, i .0, plan-size (s .g .now) (s .r) (c .before .before .before .before .before .before .before .before .before .pre .0) (c .before .before .before .before .before .before .before .before .before .pre .1)))) (i .2) (c .before .before .add-leaf .ensures))
 
 same-length : tie.Need-same-length Inv-loop μ-loop
 same-length c = c .before .loop .inv .1
@@ -49,7 +52,7 @@ same-length c = c .before .loop .inv .1
 returns : tie.Need-returns Inv-loop μ-loop
 returns c =
     let s = c .before .before .before .before .before .args in
-    leaves-rule (grammarOf (s .g .now)) (s .r) (s .chart .now) _ (left-none (s .chart .now) _ (λ q. leafRecord (grammarOf (s .g .now)) (s .r) q) (λ q. leaf-whole (grammarOf (s .g .now)) (s .r) q) _ (c .before .loop .p) (omega (arith, c .loop-test .left)) (c .before .loop .inv .2))
+    leaves-rule (grammarOf (s .g .now)) (s .r) (s .chart .now) _ (left-none (s .chart .now) _ (λ q. leafRecord (grammarOf (s .g .now)) (s .r) q) _ (c .before .loop .p) (omega (arith, c .loop-test .left)) (c .before .loop .inv .2))
 
 pub add-rule-spec : {M : Type 1} → statement M
 add-rule-spec =
