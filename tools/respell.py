@@ -39,6 +39,18 @@ def declared():
     return found
 
 
+def nested():
+    """What is declared inside of another declaration or module, by its name."""
+    found = set()
+    files = glob.glob("crates/*/specs/**/*.antt", recursive=True) + glob.glob("crates/*/proofs/*.antt")
+    for path in sorted(files):
+        with open(path, encoding="utf-8") as f:
+            text = re.sub(r"(?m)--(?=\s).*$", "", f.read())
+        inner = rf"^ +((?:(?:unfoldable|abbrev|pub|record|data) )*)({WORD}) ?(?=[:(\[{{]|.*:)"
+        found |= {m[2] for m in re.finditer(inner, text, re.M)}
+    return found - NOT_NAMES - {"let", "in", "do", "elim", "cond", "λ"}
+
+
 def snake(name):
     if name in PORTED:
         return PORTED[name]
@@ -81,8 +93,21 @@ def rename(table):
     part = re.compile(r"\"(?:\\.|[^\"\\\n])*\"|[^\s(){}\[\].;,@\"«»:`]+")
     step = re.compile(r" in\b| ?\.(ensures|result|last|kept|given|auto|new|now|requires)(?![\w'-])")
     changed = 0
+    own = set(os.listdir("crates"))
+    uses = re.compile(r"^(?:pub |ghost )*use ([^\s{;]+)\.\{([^}]*)\}", re.M)
+
+    def of_library(text):
+        """What a file takes from a library that is not the repository's: it keeps its spelling there."""
+        names = set()
+        for m in uses.finditer(text):
+            crate = re.match(r"Rattle.(\w+)", m[1])
+            if not (crate and crate[1] in own):
+                names |= {n.strip().split(" as ")[0] for n in m[2].split(",")}
+        return names
 
     def turn(m):
+        if m[0] in kept:
+            return m[0]
         made = of_proof and m.start() > 0 and m.string[m.start() - 1] == "." and step.match(m.string, m.end())
         return m[0] if made else table.get(m[0], m[0])
 
@@ -91,6 +116,7 @@ def rename(table):
             text = f.read()
         # There a name behind a dot and before .ensures is a call's, which Rattle makes.
         of_proof = path.endswith("/Proof.antt")
+        kept = of_library(text)
         if path.endswith(".md"):
             out = re.sub(r"`[^`\n]*`", lambda m: part.sub(turn, m[0]), text)
         else:
@@ -118,6 +144,12 @@ def main(argv):
         for name in sorted(table):
             if taken[table[name]] > 1 or table[name] in found:
                 print(f"left: {name} and another name fall together at {table[name]}")
+        inner = {n for n in nested() - set(found) if snake(n) != n}
+        others = set(found) | set(table.values())
+        for name in sorted(inner):
+            new = snake(name)
+            table[name] = new + "_lem" if new in others else new
+            others.add(table[name])
         rename(table)
         return 0
     print(__doc__)

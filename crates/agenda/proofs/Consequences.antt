@@ -148,21 +148,21 @@ module _ (G : Grammar) (H : Graph) where
     abbrev with_edges : List Record
     with_edges = gather (length H.edges) (λ e. with_terminal G H (item_of G (record_in rs j).item) (record_in rs j).item.count j e)
 
-    partner-in : {x : Record} (k : ℕ) → k < length rs → is_handled (record_in rs k) ≡ true
+    partner_in : {x : Record} (k : ℕ) → k < length rs → is_handled (record_in rs k) ≡ true
         → In x (pair G H (record_in rs j) j (record_in rs k) k ++ pair G H (record_in rs k) k (record_in rs j) j) → In x (consequences G H rs j)
     unfolding consequences with_partner
-    partner-in k l h m = in_right (roots ++ with_edges) (in_gather (length rs) (λ k. with_partner G H rs j k) k l (in_guard (is_handled (record_in rs k)) (to_test h) m))
+    partner_in k l h m = in_right (roots ++ with_edges) (in_gather (length rs) (λ k. with_partner G H rs j k) k l (in_guard (is_handled (record_in rs k)) (to_test h) m))
 
-    pub consequence-in : {i : Item} {n a b : ℕ} → Consequence G H rs j i n a b → In (record_of i n a b) (consequences G H rs j)
+    pub consequence_in : {i : Item} {n a b : ℕ} → Consequence G H rs j i n a b → In (record_of i n a b) (consequences G H rs j)
     unfolding consequences
-    consequence-in (from_root u) = in_left _ (in_left with_edges (root_in _ j u))
-    consequence-in (from_edge {g = g} l t) = in_left _ (in_right roots (in_gather (length H.edges) (λ e. with_terminal G H (item_of G (record_in rs j).item) (record_in rs j).item.count j e) g l (terminal_in _ j t)))
-    consequence-in (from_first {k = k} l h b) = partner-in k l h (in_left (pair G H (record_in rs k) k (record_in rs j) j) (pair_in (record_in rs j) (record_in rs k) j k b))
-    consequence-in (from_second {k = k} l h b) = partner-in k l h (in_right (pair G H (record_in rs j) j (record_in rs k) k) (pair_in (record_in rs k) (record_in rs j) k j b))
+    consequence_in (from_root u) = in_left _ (in_left with_edges (root_in _ j u))
+    consequence_in (from_edge {g = g} l t) = in_left _ (in_right roots (in_gather (length H.edges) (λ e. with_terminal G H (item_of G (record_in rs j).item) (record_in rs j).item.count j e) g l (terminal_in _ j t)))
+    consequence_in (from_first {k = k} l h b) = partner_in k l h (in_left (pair G H (record_in rs k) k (record_in rs j) j) (pair_in (record_in rs j) (record_in rs k) j k b))
+    consequence_in (from_second {k = k} l h b) = partner_in k l h (in_right (pair G H (record_in rs j) j (record_in rs k) k) (pair_in (record_in rs k) (record_in rs j) k j b))
 
-    pub in-consequence : (x : Record) → In x (consequences G H rs j) → MadeBy G H rs j x
+    pub in_consequence : (x : Record) → In x (consequences G H rs j) → MadeBy G H rs j x
     unfolding consequences with_partner
-    in-consequence x m = go (in-append (roots ++ with_edges) m)
+    in_consequence x m = go (in-append (roots ++ with_edges) m)
       where
         rest : List Record
         rest = gather (length rs) (λ k. with_partner G H rs j k)
@@ -189,8 +189,8 @@ module _ (G : Grammar) (H : Graph) where
         of_test true t = refl
         of_test false t = absurd t
 
-        by-partner : In x rest → MadeBy G H rs j x
-        by-partner m =
+        by_partner : In x rest → MadeBy G H rs j x
+        by_partner m =
             let t = of_gather (length rs) (λ k. with_partner G H rs j k) m in
             let u = of_guard (is_handled (record_in rs t.0)) t.2 in
             by_pair t.0 t.1 (of_test _ u.0) (in-append (pair G H (record_in rs j) j (record_in rs t.0) t.0) u.1)
@@ -201,7 +201,7 @@ module _ (G : Grammar) (H : Graph) where
 
         go : In x (roots ++ with_edges) ⊎ In x rest → MadeBy G H rs j x
         go (inl m) = next (in-append roots m)
-        go (inr m) = by-partner m
+        go (inr m) = by_partner m
 
   pub leaf_record_in : {i : Item} → LeafRule G i → In (record_of i 0 0 0) (leaf_records G)
   unfolding leaf_records

@@ -80,14 +80,14 @@ pub grew_trans : {rs ss ts : List Record} → Grew rs ss → Grew ss ts → Grew
 grew_trans {rs} {ss} {ts} g h =
     record {
       longer = omega (arith, g.longer, h.longer);
-      item = λ k l. h.item k (in-ss k l) ∙ g.item k l;
-      mark = λ k l. h.mark k (in-ss k l) ∙ g.mark k l;
-      count = λ k l. omega (arith, h.count k (in-ss k l), g.count k l);
-      stays = λ k l e. h.stays k (in-ss k l) (g.mark k l ∙ e) ∙ g.stays k l e;
+      item = λ k l. h.item k (in_ss k l) ∙ g.item k l;
+      mark = λ k l. h.mark k (in_ss k l) ∙ g.mark k l;
+      count = λ k l. omega (arith, h.count k (in_ss k l), g.count k l);
+      stays = λ k l e. h.stays k (in_ss k l) (g.mark k l ∙ e) ∙ g.stays k l e;
     }
   where
-    in-ss : (k : ℕ) → k < length rs → k < length ss
-    in-ss k l = omega (arith, g.longer)
+    in_ss : (k : ℕ) → k < length rs → k < length ss
+    in_ss k l = omega (arith, g.longer)
 
 adds_grew : {cap : ℕ} {x : Record} {rs ts : List Record} → Adds cap x rs ts → Grew rs ts
 adds_grew {rs = rs} (kept k l e c) = grew_refl rs

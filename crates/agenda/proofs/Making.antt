@@ -16,7 +16,7 @@ use Rattle.agenda.specs.Records.{record_of, item_of, is_handled, plus}
 use Rattle.agenda.specs.Consequences.{record_in, consequences, leaf_records}
 use Rattle.agenda.specs.declared.Record.{Record}
 use Rattle.agenda.proofs.Records.{Formed, reached_fits}
-use Rattle.agenda.proofs.Consequences.{TerminalRule, terminal_with, terminal_unary, Consequence, from_root, from_edge, from_first, from_second, in-consequence, in_leaf_record}
+use Rattle.agenda.proofs.Consequences.{TerminalRule, terminal_with, terminal_unary, Consequence, from_root, from_edge, from_first, from_second, in_consequence, in_leaf_record}
 use Rattle.agenda.proofs.Growth.{Fresh}
 use Rattle.agenda.proofs.Spelling.{HandledAt, Spells, spelt_leaf, spelt_root, spelt_edge, spelt_pair, EntryOf, Shown, Is, is_record}
 
@@ -72,20 +72,20 @@ module _ (G : Grammar) (H : Graph) (ok : GrammarOk G) where
 
   module _ {rs : List Record} {hs : List (Entry Item)} (shown : Shown G H rs true hs) (reached : (e : Entry Item) → In e hs → Reachable (closure G H) e.item e.count)
       (small : (k : ℕ) → k < length rs → is_handled (record_in rs k) ≡ true → (record_in rs k).item.count ≤ 4097) where
-    handled-at : {a b : ℕ} → a ≡ b → b < length rs → is_handled (record_in rs b) ≡ true → HandledAt rs a (record_in rs b)
-    handled-at {a} {b} e l h = record { known = subst (λ (k : ℕ). k < length rs) (sym e) l; is = ap (λ (k : ℕ). record_in rs k) e; handled = h }
+    handled_at_lem : {a b : ℕ} → a ≡ b → b < length rs → is_handled (record_in rs b) ≡ true → HandledAt rs a (record_in rs b)
+    handled_at_lem {a} {b} e l h = record { known = subst (λ (k : ℕ). k < length rs) (sym e) l; is = ap (λ (k : ℕ). record_in rs k) e; handled = h }
 
     -- the record of an item that is reached
-    is-of : (x : Record) (i : Item) (n a b k : ℕ) → x ≡ record_of i n a b → Reachable (closure G H) i k → Is G x i n a b
-    is-of x i n a b k e r = subst (λ (z : Record). Is G z i n a b) (sym e) (is_record G i n a b (reached_fits G H ok r))
+    is_of : (x : Record) (i : Item) (n a b k : ℕ) → x ≡ record_of i n a b → Reachable (closure G H) i k → Is G x i n a b
+    is_of x i n a b k e r = subst (λ (z : Record). Is G z i n a b) (sym e) (is_record G i n a b (reached_fits G H ok r))
 
-    pair-making : {i : Item} (x : Record) (a b : ℕ) → a < length rs → is_handled (record_in rs a) ≡ true → b < length rs → is_handled (record_in rs b) ≡ true
+    pair_making : {i : Item} (x : Record) (a b : ℕ) → a < length rs → is_handled (record_in rs a) ≡ true → b < length rs → is_handled (record_in rs b) ≡ true
         → BinaryRule G H (item_of G (record_in rs a).item) (item_of G (record_in rs b).item) i → x ≡ record_of i (plus (record_in rs a).item.count (record_in rs b).item.count) a b → Making G H rs hs x
-    pair-making {i} x a b l h m k r e =
+    pair_making {i} x a b l h m k r e =
         let o = shown.entry a l h in
         let p = shown.entry b m k in
         let s : BinaryRule G H o.0.item p.0.item i = subst₂ (λ (u v : Item). BinaryRule G H u v i) o.2.item p.2.item r in
-        let is = is-of x i _ a b _ e (by_binary (reached o.0 o.1) (reached p.0 p.1) s) in
+        let is = is_of x i _ a b _ e (by_binary (reached o.0 o.1) (reached p.0 p.1) s) in
         let sum = plus_exact (record_in rs a).item.count (record_in rs b).item.count (omega (arith, small a l h, small b m k)) in
         record {
           entry = record { item = i; count = o.0.count + p.0.count; how = from₂ i o.0.how p.0.how };
@@ -96,7 +96,7 @@ module _ (G : Grammar) (H : Graph) (ok : GrammarOk G) where
                 count = omega (arith, is.count, sum, o.2.count, p.2.count);
                 how =
                     subst (λ (z : Item). Spells G H rs x (from₂ z o.0.how p.0.how)) is.item
-                    (spelt_pair (handled-at is.first l h) (handled-at is.second m k) (rw is.item r) (is.count ∙ sum) o.2.how p.2.how);
+                    (spelt_pair (handled_at_lem is.first l h) (handled_at_lem is.second m k) (rw is.item r) (is.count ∙ sum) o.2.how p.2.how);
               };
           formed = is.formed;
           fresh = is.fresh;
@@ -107,7 +107,7 @@ module _ (G : Grammar) (H : Graph) (ok : GrammarOk G) where
       made_by x (from_root {k = k} {s = s} {m = m} {L = L} u) e =
           let o = shown.entry j l h in
           let v : UnaryRule G H o.0.item k (passive s m L) = subst (λ (z : Item). UnaryRule G H z k (passive s m L)) o.2.item u in
-          let is = is-of x (passive s m L) _ j 0 _ e (by_unary (reached o.0 o.1) v) in
+          let is = is_of x (passive s m L) _ j 0 _ e (by_unary (reached o.0 o.1) v) in
           let sum = plus_exact (record_in rs j).item.count k (omega (arith, small j l h, unary_small u)) in
           record {
             entry = record { item = passive s m L; count = o.0.count + k; how = from (passive s m L) o.0.how };
@@ -118,7 +118,7 @@ module _ (G : Grammar) (H : Graph) (ok : GrammarOk G) where
                   count = omega (arith, is.count, sum, o.2.count);
                   how =
                       subst (λ (z : Item). Spells G H rs x (from z o.0.how)) is.item
-                      (spelt_root (handled-at is.first l h) is.item (rw is.item u) (is.count ∙ sum) o.2.how);
+                      (spelt_root (handled_at_lem is.first l h) is.item (rw is.item u) (is.count ∙ sum) o.2.how);
                 };
             formed = is.formed;
             fresh = is.fresh;
@@ -126,7 +126,7 @@ module _ (G : Grammar) (H : Graph) (ok : GrammarOk G) where
       made_by x (from_edge {i = i} {g = g} b u) e =
           let o = shown.entry j l h in
           let v : UnaryRule G H o.0.item 0 i = subst (λ (z : Item). UnaryRule G H z 0 i) o.2.item (terminal_unary G H u) in
-          let is = is-of x i _ j g _ e (by_unary (reached o.0 o.1) v) in
+          let is = is_of x i _ j g _ e (by_unary (reached o.0 o.1) v) in
           record {
             entry = record { item = i; count = o.0.count + 0; how = from i o.0.how };
             made = unary_made o.1 v;
@@ -136,22 +136,22 @@ module _ (G : Grammar) (H : Graph) (ok : GrammarOk G) where
                   count = omega (arith, is.count, o.2.count);
                   how =
                       subst (λ (z : Item). Spells G H rs x (from z o.0.how)) is.item
-                      (spelt_edge (handled-at is.first l h) (rw is.second b) (rw (is.item, is.second) u) is.count o.2.how);
+                      (spelt_edge (handled_at_lem is.first l h) (rw is.second b) (rw (is.item, is.second) u) is.count o.2.how);
                 };
             formed = is.formed;
             fresh = is.fresh;
           }
-      made_by x (from_first {k = k} m q r) e = pair-making x j k l h m q r e
-      made_by x (from_second {k = k} m q r) e = pair-making x k j m q l h r e
+      made_by x (from_first {k = k} m q r) e = pair_making x j k l h m q r e
+      made_by x (from_second {k = k} m q r) e = pair_making x k j m q l h r e
 
       pub making : (x : Record) → In x (consequences G H rs j) → Making G H rs hs x
-      making x m = let t = in-consequence G H rs j x m in made_by x t.by t.is
+      making x m = let t = in_consequence G H rs j x m in made_by x t.by t.is
 
       -- ---- and what one rule makes of handled entries without the last one, or the record at j makes it
-      unary-at : (a : Entry Item) {k : ℕ} {i : Item} → EntryOf G H rs (record_in rs j) a → Split G H a.item k i → MadeAt G H rs j (record { item = i; count = a.count + k; how = from i a.how })
-      unary-at a {i = i} o (by_edge {g = g} b t) =
+      unary_at : (a : Entry Item) {k : ℕ} {i : Item} → EntryOf G H rs (record_in rs j) a → Split G H a.item k i → MadeAt G H rs j (record { item = i; count = a.count + k; how = from i a.how })
+      unary_at a {i = i} o (by_edge {g = g} b t) =
           record { count = (record_in rs j).item.count; first = j; second = g; by = from_edge b (subst (λ (z : Item). TerminalRule G H g z i) (sym o.item) t); exact = omega (arith, o.count) }
-      unary-at a o (by_root_is {k = k} {s = s} {m = m} {L = L} u) =
+      unary_at a o (by_root_is {k = k} {s = s} {m = m} {L = L} u) =
           let sum = plus_exact (record_in rs j).item.count k (omega (arith, small j l h, unary_small u)) in
           record { count = plus (record_in rs j).item.count k; first = j; second = 0; by = from_root (subst (λ (z : Item). UnaryRule G H z k (passive s m L)) (sym o.item) u); exact = omega (arith, o.count) }
 
@@ -161,7 +161,7 @@ module _ (G : Grammar) (H : Graph) (ok : GrammarOk G) where
       made_at x ks o f (unary_made {a = a} {k = k} {i = i} m u) = go (f a m)
         where
           go : (a ≡ x) ⊎ In a ks → MadeAt G H rs j (record { item = i; count = a.count + k; how = from i a.how }) ⊎ Made (closure G H) ks (record { item = i; count = a.count + k; how = from i a.how })
-          go (inl q) = inl (unary-at a (subst (λ (z : Entry Item). EntryOf G H rs (record_in rs j) z) (sym q) o) (split u))
+          go (inl q) = inl (unary_at a (subst (λ (z : Entry Item). EntryOf G H rs (record_in rs j) z) (sym q) o) (split u))
           go (inr n) = inr (unary_made n u)
       made_at x ks o f (binary_made {a = a} {b = b} {i = i} m n r) = go (f a m) (f b n)
         where

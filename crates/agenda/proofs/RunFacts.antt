@@ -5,7 +5,7 @@ use mathlib.Core.Bool.{Bool, true, false}
 use mathlib.Core.List.Memᴰ.{append_cases as in-append}
 use mathlib.Core.List.Memᴰ.{append_left as in_left}
 use mathlib.Core.List.Memᴰ.{append_right as in_right}
-use mathlib.Core.List.Memᴰ.{cast as in-cast}
+use mathlib.Core.List.Memᴰ.{cast as in_cast}
 use mathlib.Core.List.Memᴰ.{not-nil as in-nil}
 use mathlib.Core.List.{List, [], ◌++◌, Memᴰ as In}
 use Prim.Native.Nat.{ℕ, ◌+◌, ◌≤◌, ◌<◌}
@@ -24,7 +24,7 @@ use Rattle.hrg.proofs.CountBound.{start_every, run_every, counted_kept, within_l
 use Rattle.hrg.proofs.Plans.{introduce_lower, join_lower}
 use Rattle.hrg.proofs.AgendaInvariant.{of_items, in_items}
 use Rattle.hrg.proofs.ClosureSize.{closure_unique}
-use Rattle.hrg.proofs.ClosureAgenda.{closure_size, closure_finite, closure_size_is, run-correct, run-finishes}
+use Rattle.hrg.proofs.ClosureAgenda.{closure_size, closure_finite, closure_size_is, run_correct, run_finishes}
 use Rattle.hrg.proofs.ReplacementTruth.{handled_by_replacement}
 use Rattle.agenda.specs.Records.{item_of, is_handled}
 use Rattle.agenda.specs.Consequences.{record_in, no_record}
@@ -37,7 +37,7 @@ use Rattle.agenda.proofs.Growth.{count_set, count_le}
 use Rattle.agenda.proofs.Choice.{Chosen, waits, nothing, chosen}
 use Rattle.agenda.proofs.Spelling.{Spells, EntryOf}
 use Rattle.agenda.proofs.Simulation.{one_place}
-use Rattle.agenda.proofs.Runs.{Reached, Fate, fits, over, runs_fate, nothing-waits, start_held, runs_held, start_none, runs_steps_most}
+use Rattle.agenda.proofs.Runs.{Reached, Fate, fits, over, runs_fate, nothing_waits, start_held, runs_held, start_none, runs_steps_most}
 
 -- one that waits is not counted
 unhandled_less : (rs : List Record) (j : ℕ) → j < length rs → is_handled (record_in rs j) ≡ false → handled_count rs < length rs
@@ -77,24 +77,24 @@ pub record Spelt (G : Grammar) (H : Graph) (rs : List Record) (k : ℕ) : Type 0
 module _ (G : Grammar) (H : Graph) (ok : GrammarOk G) (hok : GraphOk G H) where
   module _ {cap n : ℕ} {rs : List Record} (r : Reached G H cap n rs) where
     correct : Correct G H n r.state
-    correct = run-correct G H ok hok r.starts r.run
+    correct = run_correct G H ok hok r.starts r.run
 
     abbrev hs : List (Entry Item)
     hs = r.state.handled
 
     -- ---- items of records and of entries
-    to-handled : {i : Item} → In i (items_of hs) → Handled G rs i
-    to-handled m =
+    to_handled : {i : Item} → In i (items_of hs) → Handled G rs i
+    to_handled m =
         let o = of_items hs m in
         let p = r.shows.handled.place o.0 o.1 in
         record { at = p.0; known = p.1; handled = p.2; item = p.3.item ∙ o.2 }
 
     -- the entry of a handled item
-    of-handled : {a : Item} → Handled G rs a → (e : Entry Item) × In e hs × (e.item ≡ a)
-    of-handled h = let o = r.shows.handled.entry h.at h.known h.handled in (o.0, o.1, sym o.2.item ∙ h.item)
+    of_handled : {a : Item} → Handled G rs a → (e : Entry Item) × In e hs × (e.item ≡ a)
+    of_handled h = let o = r.shows.handled.entry h.at h.known h.handled in (o.0, o.1, sym o.2.item ∙ h.item)
 
-    to-present : {i : Item} → In i (items_of (hs ++ r.state.waiting)) → Present G rs i
-    to-present {i} m = go (in-append hs o.1)
+    to_present : {i : Item} → In i (items_of (hs ++ r.state.waiting)) → Present G rs i
+    to_present {i} m = go (in-append hs o.1)
       where
         o : (e : Entry Item) × In e (hs ++ r.state.waiting) × (e.item ≡ i)
         o = of_items (hs ++ r.state.waiting) m
@@ -103,77 +103,77 @@ module _ (G : Grammar) (H : Graph) (ok : GrammarOk G) (hok : GraphOk G H) where
         go (inl k) = let p = r.shows.handled.place o.0 k in record { at = p.0; known = p.1; item = p.3.item ∙ o.2 }
         go (inr k) = let p = r.shows.waiting.place o.0 k in record { at = p.0; known = p.1; item = p.3.item ∙ o.2 }
 
-    of-present : {i : Item} → Present G rs i → In i (items_of (hs ++ r.state.waiting))
-    of-present {i} p = go (is_handled (record_in rs p.at)) refl
+    of_present : {i : Item} → Present G rs i → In i (items_of (hs ++ r.state.waiting))
+    of_present {i} p = go (is_handled (record_in rs p.at)) refl
       where
         go : (b : Bool) → is_handled (record_in rs p.at) ≡ b → In i (items_of (hs ++ r.state.waiting))
-        go true h = let o = r.shows.handled.entry p.at p.known h in in-cast (sym p.item ∙ o.2.item) (in_items (in_left r.state.waiting o.1))
-        go false h = let o = r.shows.waiting.entry p.at p.known h in in-cast (sym p.item ∙ o.2.item) (in_items (in_right hs o.1))
+        go true h = let o = r.shows.handled.entry p.at p.known h in in_cast (sym p.item ∙ o.2.item) (in_items (in_left r.state.waiting o.1))
+        go false h = let o = r.shows.waiting.entry p.at p.known h in in_cast (sym p.item ∙ o.2.item) (in_items (in_right hs o.1))
 
-    to-rule : {e : Entry Item} → Made (closure G H) hs e → OneRule G H rs e.item
-    to-rule (axiom_made x) = by_leaf x
-    to-rule (unary_made m u) = by_one (to-handled (in_items m)) u
-    to-rule (binary_made m k b) = by_two (to-handled (in_items m)) (to-handled (in_items k)) b
+    to_rule : {e : Entry Item} → Made (closure G H) hs e → OneRule G H rs e.item
+    to_rule (axiom_made x) = by_leaf x
+    to_rule (unary_made m u) = by_one (to_handled (in_items m)) u
+    to_rule (binary_made m k b) = by_two (to_handled (in_items m)) (to_handled (in_items k)) b
 
-    of-rule : {i : Item} → OneRule G H rs i → (e : Entry Item) × Made (closure G H) hs e × (e.item ≡ i)
-    of-rule {i} (by_leaf x) = (record { item = i; count = 0; how = given i }, axiom_made x, refl)
-    of-rule {i} (by_one {a = a} {k = k} h u) =
-        let o = of-handled h in
+    of_rule : {i : Item} → OneRule G H rs i → (e : Entry Item) × Made (closure G H) hs e × (e.item ≡ i)
+    of_rule {i} (by_leaf x) = (record { item = i; count = 0; how = given i }, axiom_made x, refl)
+    of_rule {i} (by_one {a = a} {k = k} h u) =
+        let o = of_handled h in
         (record { item = i; count = o.0.count + k; how = from i o.0.how }, unary_made o.1 (subst (λ (z : Item). UnaryRule G H z k i) (sym o.2) u), refl)
-    of-rule {i} (by_two {a = a} {b = b} g h x) =
-        let o = of-handled g in
-        let p = of-handled h in (
+    of_rule {i} (by_two {a = a} {b = b} g h x) =
+        let o = of_handled g in
+        let p = of_handled h in (
           record { item = i; count = o.0.count + p.0.count; how = from₂ i o.0.how p.0.how },
           binary_made o.1 p.1 (subst₂ (λ (y z : Item). BinaryRule G H y z i) (sym o.2) (sym p.2) x),
           refl,
         )
 
-    reached-correct : ChartCorrect G H n rs
-    reached-correct =
+    reached_correct : ChartCorrect G H n rs
+    reached_correct =
         record {
           fewest = λ j l h. let o = r.shows.handled.entry j l h in rw (o.2.item, o.2.count) (correct.fewest o.0 o.1);
           replaced = λ j l h. let o = r.shows.handled.entry j l h in rw (o.2.item, o.2.count) (handled_by_replacement G H ok hok r.starts r.run o.0 o.1);
-          order = λ j l h i k t out. let o = r.shows.handled.entry j l h in rw o.2.count (correct.order o.0 o.1 i k t (λ m. out (to-handled m)));
+          order = λ j l h i k t out. let o = r.shows.handled.entry j l h in rw o.2.count (correct.order o.0 o.1 i k t (λ m. out (to_handled m)));
           distinct = one_place G H rs r.shows.formed r.shows.differ;
           steps = λ is c. r.shows.steps ∙ correct.steps is c;
           present = λ i. (
-            λ p. let o = (correct.present i).0 (of-present p) in subst (λ (z : Item). OneRule G H rs z) o.2 (to-rule o.1),
-            λ q. to-present ((correct.present i).1 (of-rule q)),
+            λ p. let o = (correct.present i).0 (of_present p) in subst (λ (z : Item). OneRule G H rs z) o.2 (to_rule o.1),
+            λ q. to_present ((correct.present i).1 (of_rule q)),
           );
         }
 
     -- while one waits, the closure has more items than steps were given
-    reached-more : (j : ℕ) → j < length rs → is_handled (record_in rs j) ≡ false → n < closure_size G H ok hok
-    reached-more j l w = go (dec_le (closure_size G H ok hok) n)
+    reached_more : (j : ℕ) → j < length rs → is_handled (record_in rs j) ≡ false → n < closure_size G H ok hok
+    reached_more j l w = go (dec_le (closure_size G H ok hok) n)
       where
         go : Dec (closure_size G H ok hok ≤ n) → n < closure_size G H ok hok
         go (yes h) =
             let o = r.shows.waiting.entry j l w in
-            absurd (in-nil (subst (λ (ws : List (Entry Item)). In o.0 ws) (run-finishes G H ok hok r.starts r.run h) o.1))
+            absurd (in-nil (subst (λ (ws : List (Entry Item)). In o.0 ws) (run_finishes G H ok hok r.starts r.run h) o.1))
         go (no g) = omega arith
 
     -- once as many steps are given as there are places, none waits
-    reached-full : cap ≤ n → (j : ℕ) → j < length rs → is_handled (record_in rs j) ≡ false → ⊥
-    reached-full c j l w =
+    reached_full : cap ≤ n → (j : ℕ) → j < length rs → is_handled (record_in rs j) ≡ false → ⊥
+    reached_full c j l w =
         let z = closure_finite G H ok hok in
-        omega (arith, reached-more j l w, reached-correct.steps z.0 z.1, closure_size_is G H ok hok z.0 z.1, unhandled_less rs j l w, r.held)
+        omega (arith, reached_more j l w, reached_correct.steps z.0 z.1, closure_size_is G H ok hok z.0 z.1, unhandled_less rs j l w, r.held)
 
     -- ---- what partners spell
-    entry-spelt : (k : ℕ) (e : Entry Item) → In e (hs ++ r.state.waiting) → EntryOf G H rs (record_in rs k) e → Spelt G H rs k
-    entry-spelt k e m o =
+    entry_spelt : (k : ℕ) (e : Entry Item) → In e (hs ++ r.state.waiting) → EntryOf G H rs (record_in rs k) e → Spelt G H rs k
+    entry_spelt k e m o =
         let u = run_uses_once G H ok r.starts r.run in
         let c = run_every counted_kept r.run (start_every counted_kept r.starts) e m in
         record { how = e.how; spells = o.how; concludes = u.concludes e m ∙ sym o.item; once = u.once e m; count = sym c ∙ sym o.count }
 
-    reached-spell : (k : ℕ) → k < length rs → Spelt G H rs k
-    reached-spell k l = go (is_handled (record_in rs k)) refl
+    reached_spell : (k : ℕ) → k < length rs → Spelt G H rs k
+    reached_spell k l = go (is_handled (record_in rs k)) refl
       where
         go : (b : Bool) → is_handled (record_in rs k) ≡ b → Spelt G H rs k
-        go true h = let o = r.shows.handled.entry k l h in entry-spelt k o.0 (in_left r.state.waiting o.1) o.2
-        go false h = let o = r.shows.waiting.entry k l h in entry-spelt k o.0 (in_right hs o.1) o.2
+        go true h = let o = r.shows.handled.entry k l h in entry_spelt k o.0 (in_left r.state.waiting o.1) o.2
+        go false h = let o = r.shows.waiting.entry k l h in entry_spelt k o.0 (in_right hs o.1) o.2
 
-    reached-count : (k : ℕ) → k < length rs → is_handled (record_in rs k) ≡ true → (record_in rs k).item.count ≤ handled_count rs
-    reached-count k l h =
+    reached_count : (k : ℕ) → k < length rs → is_handled (record_in rs k) ≡ true → (record_in rs k).item.count ≤ handled_count rs
+    reached_count k l h =
         let o = r.shows.handled.entry k l h in
         omega (arith, (bounded G H ok r.starts r.run).count.handled o.0 o.1, within_le (edges_of_item o.0.item) hs, o.2.count, r.shows.steps)
 
@@ -183,43 +183,43 @@ module _ (G : Grammar) (H : Graph) (ok : GrammarOk G) (hok : GraphOk G H) where
     fate = subst (λ (d : Chart). Fate G H cap (sum_of ks) d) (sym is) (runs_fate G H ok most ks)
 
     -- while the chart is not found too small, it stands for a run of the agenda over the closure
-    pub runs-reached : c.mark ≡ 0 → Reached G H cap (sum_of ks) c.records
-    runs-reached m = go fate
+    pub runs_reached : c.mark ≡ 0 → Reached G H cap (sum_of ks) c.records
+    runs_reached m = go fate
       where
         go : Fate G H cap (sum_of ks) c → Reached G H cap (sum_of ks) c.records
         go (fits e r) = r
         go (over n f) = absurd (n m)
 
-    pub runs-correct : c.mark ≡ 0 → ChartCorrect G H (sum_of ks) c.records
-    runs-correct m = reached-correct (runs-reached m)
+    pub runs_correct : c.mark ≡ 0 → ChartCorrect G H (sum_of ks) c.records
+    runs_correct m = reached_correct (runs_reached m)
 
     -- found too small only if the closure has more items than the chart holds
-    pub marked-small : c.mark ≢ 0 → (is : List Item) → Closure (closure G H) is → cap < length is
-    marked-small m = go fate
+    pub marked_small : c.mark ≢ 0 → (is : List Item) → Closure (closure G H) is → cap < length is
+    marked_small m = go fate
       where
         go : Fate G H cap (sum_of ks) c → (is : List Item) → Closure (closure G H) is → cap < length is
         go (fits e r) = absurd (m e)
         go (over n f) = f
 
     -- an untouched chart of k items never gives 10 once k steps are done
-    pub full-run : cap ≤ sum_of ks → c.mark ≡ 0 → least_waiting c.records (length c.records) ≡ Nowhere
-    full-run l m = go (least_waiting c.records (length c.records)) (chosen c.records (length c.records))
+    pub full_run : cap ≤ sum_of ks → c.mark ≡ 0 → least_waiting c.records (length c.records) ≡ Nowhere
+    full_run l m = go (least_waiting c.records (length c.records)) (chosen c.records (length c.records))
       where
         go : (f : Found) → Chosen c.records (length c.records) f → f ≡ Nowhere
         go Nowhere (nothing h) = refl
-        go (At j) (waits i w h) = absurd (reached-full (runs-reached m) l j i w)
+        go (At j) (waits i w h) = absurd (reached_full (runs_reached m) l j i w)
 
     -- while something waits, the closure has more items than steps were given
-    pub waiting-more : c.mark ≡ 0 → least_waiting c.records (length c.records) ≢ Nowhere → (is : List Item) → Closure (closure G H) is → sum_of ks < length is
-    waiting-more m x is d = go (least_waiting c.records (length c.records)) (chosen c.records (length c.records)) x
+    pub waiting_more : c.mark ≡ 0 → least_waiting c.records (length c.records) ≢ Nowhere → (is : List Item) → Closure (closure G H) is → sum_of ks < length is
+    waiting_more m x is d = go (least_waiting c.records (length c.records)) (chosen c.records (length c.records)) x
       where
         go : (f : Found) → Chosen c.records (length c.records) f → f ≢ Nowhere → sum_of ks < length is
         go Nowhere (nothing h) q = absurd (q refl)
-        go (At j) (waits l w h) q = omega (arith, reached-more (runs-reached m) j l w, closure_size_is G H ok hok is d)
+        go (At j) (waits l w h) q = omega (arith, reached_more (runs_reached m) j l w, closure_size_is G H ok hok is d)
 
     -- where nothing waits, every record is handled
-    pub all-handled : least_waiting c.records (length c.records) ≡ Nowhere → (k : ℕ) → k < length c.records → is_handled (record_in c.records k) ≡ true
-    all-handled e = go (least_waiting c.records (length c.records)) (chosen c.records (length c.records)) e
+    pub all_handled : least_waiting c.records (length c.records) ≡ Nowhere → (k : ℕ) → k < length c.records → is_handled (record_in c.records k) ≡ true
+    all_handled e = go (least_waiting c.records (length c.records)) (chosen c.records (length c.records)) e
       where
         go : (f : Found) → Chosen c.records (length c.records) f → f ≡ Nowhere → (k : ℕ) → k < length c.records → is_handled (record_in c.records k) ≡ true
         go Nowhere (nothing h) q = h
@@ -227,45 +227,45 @@ module _ (G : Grammar) (H : Graph) (ok : GrammarOk G) (hok : GraphOk G H) where
 
     -- then the steps done are the closure's size, and every item of the closure is handled
     module _ (m : c.mark ≡ 0) (e : least_waiting c.records (length c.records) ≡ Nowhere) where
-      waits-not : (r : Reached G H cap (sum_of ks) c.records) → r.state.waiting ≡ []
-      waits-not r = nothing-waits G H ok most r (all-handled e)
+      waits_not : (r : Reached G H cap (sum_of ks) c.records) → r.state.waiting ≡ []
+      waits_not r = nothing_waits G H ok most r (all_handled e)
 
-      pub done-size : (is : List Item) → Closure (closure G H) is → handled_count c.records ≡ length is
-      done-size is d =
-          let r = runs-reached m in
-          r.shows.steps ∙ sym (length-map r.state.handled (λ (z : Entry Item). z.item)) ∙ closure_unique ((correct r).done (waits-not r)) d
+      pub done_size : (is : List Item) → Closure (closure G H) is → handled_count c.records ≡ length is
+      done_size is d =
+          let r = runs_reached m in
+          r.shows.steps ∙ sym (length-map r.state.handled (λ (z : Entry Item). z.item)) ∙ closure_unique ((correct r).done (waits_not r)) d
 
-      pub done-handled : (i : Item) (n : ℕ) → Reachable (closure G H) i n → Handled G c.records i
-      done-handled i n x = let r = runs-reached m in to-handled r (((correct r).done (waits-not r)).present i n x)
+      pub done_handled : (i : Item) (n : ℕ) → Reachable (closure G H) i n → Handled G c.records i
+      done_handled i n x = let r = runs_reached m in to_handled r (((correct r).done (waits_not r)).present i n x)
 
     -- never more records than the chart holds
     pub records_held : length c.records ≤ cap
     records_held = rw is (runs_held G H cap ks (start_chart G cap) (start_held G H cap))
 
     -- the steps done are at most those given, also where the chart was found too small
-    pub steps-most : handled_count c.records ≤ sum_of ks
-    steps-most = rw is (omega (arith, runs_steps_most G H cap ks (start_chart G cap), start_none G H cap))
+    pub steps_most : handled_count c.records ≤ sum_of ks
+    steps_most = rw is (omega (arith, runs_steps_most G H cap ks (start_chart G cap), start_none G H cap))
 
     -- the partners of every record spell a derivation of its item from handled records
-    pub records-spell : c.mark ≡ 0 → (k : ℕ) → k < length c.records → Spelt G H c.records k
-    records-spell m k l = reached-spell (runs-reached m) k l
+    pub records_spell : c.mark ≡ 0 → (k : ℕ) → k < length c.records → Spelt G H c.records k
+    records_spell m k l = reached_spell (runs_reached m) k l
 
     -- a handled record's count, the passive items of what it spells, is at most the steps done
     pub count_most : c.mark ≡ 0 → (k : ℕ) → k < length c.records → is_handled (record_in c.records k) ≡ true → (record_in c.records k).item.count ≤ handled_count c.records
-    count_most m k l h = reached-count (runs-reached m) k l h
+    count_most m k l h = reached_count (runs_reached m) k l h
 
   -- on a fresh chart something waits: a leaf item
   module _ (cap : ℕ) (most : cap ≤ 4096) (m : (start_chart G cap).mark ≡ 0) where
     abbrev fresh : List Record
     fresh = (start_chart G cap).records
 
-    leaf-present : (i : Item) × Present G fresh i
+    leaf_present : (i : Item) × Present G fresh i
     unfolding runs_chart sum_of
-    leaf-present = let o = some_leaf G ok in (o.0, ((runs-correct cap most [] (start_chart G cap) refl m).present o.0).1 (by_leaf o.1))
+    leaf_present = let o = some_leaf G ok in (o.0, ((runs_correct cap most [] (start_chart G cap) refl m).present o.0).1 (by_leaf o.1))
 
-    pub start-waits : (j : ℕ) × (least_waiting fresh (length fresh) ≡ At j)
-    start-waits = go (least_waiting fresh (length fresh)) (chosen fresh (length fresh))
+    pub start_waits : (j : ℕ) × (least_waiting fresh (length fresh) ≡ At j)
+    start_waits = go (least_waiting fresh (length fresh)) (chosen fresh (length fresh))
       where
         go : (f : Found) → Chosen fresh (length fresh) f → (j : ℕ) × (f ≡ At j)
         go (At j) (waits l w h) = (j, refl)
-        go Nowhere (nothing h) = let p = leaf-present.1 in absurd (omega (arith, handled_some fresh p.at p.known (h p.at p.known), start_none G H cap))
+        go Nowhere (nothing h) = let p = leaf_present.1 in absurd (omega (arith, handled_some fresh p.at p.known (h p.at p.known), start_none G H cap))

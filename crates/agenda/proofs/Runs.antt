@@ -27,12 +27,12 @@ use Rattle.agenda.specs.Steps.{Chart, least_waiting, handled_now, handled_at, st
 use Rattle.agenda.specs.declared.Record.{Record}
 use Rattle.agenda.specs.declared.Found.{Found}
 use Rattle.agenda.specs.declared.Found.TheVariants.{At, Nowhere}
-use Rattle.agenda.proofs.Consequences.{in-consequence, in_leaf_record}
+use Rattle.agenda.proofs.Consequences.{in_consequence, in_leaf_record}
 use Rattle.agenda.proofs.Adding.{apart, cond_by, AddsAll, done, Ends, held, full, all_ends, marked_all}
 use Rattle.agenda.proofs.Growth.{SetAt, changed, other, set_at, Fresh, all_grew, all_held, all_count, count_set, count_le}
 use Rattle.agenda.proofs.Choice.{Chosen, waits, nothing, chosen}
 use Rattle.agenda.proofs.Spelling.{Shows, Stays}
-use Rattle.agenda.proofs.Simulation.{start-shown, start_full, step-shown, step-full}
+use Rattle.agenda.proofs.Simulation.{start_shown, start_full, step_shown, step_full}
 
 -- ---- what start and step add
 -- the records when the one at j has become handled
@@ -121,7 +121,7 @@ module _ (G : Grammar) (H : Graph) (cap : ℕ) where
       rs = handled_in c.records j
 
       fresh : (x : Record) → In x (consequences G H rs j) → Fresh x
-      fresh x m = let t = in-consequence G H rs j x m in subst (λ (y : Record). Fresh y) (sym t.is) refl
+      fresh x m = let t = in_consequence G H rs j x m in subst (λ (y : Record). Fresh y) (sym t.is) refl
 
       ended : {d : Chart} → Ends cap (consequences G H rs j) rs d → Moved c d
       ended (held m a) = moved j (consequences G H rs j) fresh l w a
@@ -141,22 +141,22 @@ module _ (G : Grammar) (H : Graph) (cap : ℕ) where
 
   -- a property of charts that steps keep holds after every run
   module _ (P : Chart → Type 0) (kept : (c d : Chart) → Moved c d → P c → P d) where
-    run-keeps : (k : ℕ) (c : Chart) → P c → P (run_chart G H cap k c)
+    run_keeps : (k : ℕ) (c : Chart) → P c → P (run_chart G H cap k c)
     unfolding run_chart
-    run-keeps zero c p = p
-    run-keeps (suc k) c p =
-        let q = run-keeps k c p in
+    run_keeps zero c p = p
+    run_keeps (suc k) c p =
+        let q = run_keeps k c p in
         let d = run_chart G H cap k c in
         cond_by P (eqb d.mark 0) {x = step_chart G H cap d} {y = d} (λ e. kept d (step_chart G H cap d) (step_moved d) q) (λ e. q)
 
-    runs-keep : (ks : List ℕ) (c : Chart) → P c → P (runs_chart G H cap ks c)
+    runs_keep : (ks : List ℕ) (c : Chart) → P c → P (runs_chart G H cap ks c)
     unfolding runs_chart
-    runs-keep [] c p = p
-    runs-keep (k ∷ ks) c p = runs-keep ks (run_chart G H cap k c) (run-keeps k c p)
+    runs_keep [] c p = p
+    runs_keep (k ∷ ks) c p = runs_keep ks (run_chart G H cap k c) (run_keeps k c p)
 
   -- handled records stay handled, with their counts and partners, also when the chart becomes marked
   pub handled_kept : (ks : List ℕ) (c : Chart) → Stays c.records (runs_chart G H cap ks c).records
-  handled_kept ks c = runs-keep (λ d. Stays c.records d.records) kept ks c (λ k l h. (l, refl))
+  handled_kept ks c = runs_keep (λ d. Stays c.records d.records) kept ks c (λ k l h. (l, refl))
     where
       one : (d e : Chart) → Moved d e → Stays d.records e.records
       one d e unmoved k l h = (l, refl)
@@ -183,7 +183,7 @@ module _ (G : Grammar) (H : Graph) (cap : ℕ) where
 
   -- records never exceed what the chart holds
   pub runs_held : (ks : List ℕ) (c : Chart) → length c.records ≤ cap → length (runs_chart G H cap ks c).records ≤ cap
-  runs_held ks c l = runs-keep (λ d. length d.records ≤ cap) kept ks c l
+  runs_held ks c l = runs_keep (λ d. length d.records ≤ cap) kept ks c l
     where
       kept : (d e : Chart) → Moved d e → length d.records ≤ cap → length e.records ≤ cap
       kept d e unmoved l = l
@@ -249,7 +249,7 @@ module _ (G : Grammar) (H : Graph) (ok : GrammarOk G) {cap : ℕ} (most : cap �
   start_fate = go (start_ends G cap)
     where
       go : {d : Chart} → Ends cap (leaf_records G) [] d → Fate G H cap 0 d
-      go (held m a) = let o = start-shown G H ok a in fits m (record { start = o.0; state = o.0; starts = o.1; run = stop; shows = o.2; held = all_held a (omega arith) })
+      go (held m a) = let o = start_shown G H ok a in fits m (record { start = o.0; state = o.0; starts = o.1; run = stop; shows = o.2; held = all_held a (omega arith) })
       go (full m ys x sub i a n l) = over m (λ is c. omega (arith, start_full G H ok x sub i a n is c))
 
   module _ {n : ℕ} {rs : List Record} (r : Reached G H cap n rs) where
@@ -274,26 +274,26 @@ module _ (G : Grammar) (H : Graph) (ok : GrammarOk G) {cap : ℕ} (most : cap �
     invariant : Invariant (closure G H) r.state
     invariant = run_invariant r.run (start_invariant r.starts)
 
-    pub nothing-waits : ((k : ℕ) → k < length rs → is_handled (record_in rs k) ≡ true) → r.state.waiting ≡ []
-    nothing-waits h = no_entries r.state.waiting (λ e m. let o = r.shows.waiting.place e m in apart (h o.0 o.1) o.2)
+    pub nothing_waits : ((k : ℕ) → k < length rs → is_handled (record_in rs k) ≡ true) → r.state.waiting ≡ []
+    nothing_waits h = no_entries r.state.waiting (λ e m. let o = r.shows.waiting.place e m in apart (h o.0 o.1) o.2)
 
     -- The chart d is what a step of the agenda leaves, or the closure has more items than it holds.
     data Stepped (d : Chart) : Type 0 where
       stepped : d.mark ≡ 0 → (t : State Item) → Step (closure G H) r.state t → Shows G H d.records t → length d.records ≤ cap → Stepped d
       too_small : d.mark ≢ 0 → ((is : List Item) → Closure (closure G H) is → cap < length is) → Stepped d
 
-    handled-stepped : (m j : ℕ) → m ≡ 0 → j < length rs → is_handled (record_in rs j) ≡ false
+    handled_stepped : (m j : ℕ) → m ≡ 0 → j < length rs → is_handled (record_in rs j) ≡ false
         → ((k : ℕ) → k < length rs → is_handled (record_in rs k) ≡ false → (record_in rs j).item.count ≤ (record_in rs k).item.count) → Stepped (handled_at G H cap j (record { mark = m; records = rs }))
-    handled-stepped m j e l w h = go (handled_ends G H cap j (record { mark = m; records = rs }) e)
+    handled_stepped m j e l w h = go (handled_ends G H cap j (record { mark = m; records = rs }) e)
       where
         ss : List Record
         ss = handled_in rs j
 
         go : {d : Chart} → Ends cap (consequences G H ss j) ss d → Stepped d
         go (held m a) =
-            let o = step-shown G H ok r.shows invariant small j l w h a in
+            let o = step_shown G H ok r.shows invariant small j l w h a in
             stepped m o.0 o.1 o.2 (all_held a (omega (arith, length-set rs j (handled_now (record_in rs j)), r.held)))
-        go (full m ys x sub i a k b) = too_small m (λ is c. omega (arith, step-full G H ok r.shows invariant small j l w h x sub i a k is c))
+        go (full m ys x sub i a k b) = too_small m (λ is c. omega (arith, step_full G H ok r.shows invariant small j l w h x sub i a k is c))
 
   step_fate : {n : ℕ} (c : Chart) → c.mark ≡ 0 → Reached G H cap n c.records → Fate G H cap (n + 1) (step_chart G H cap c)
   unfolding step_chart
@@ -304,15 +304,15 @@ module _ (G : Grammar) (H : Graph) (ok : GrammarOk G) {cap : ℕ} (most : cap �
       after (too_small m f) = over m f
 
       go : (f : Found) → Chosen c.records (length c.records) f → Fate G H cap (n + 1) (step_with G H cap c f)
-      go Nowhere (nothing h) = fits e (record { start = r.start; state = r.state; starts = r.starts; run = run_append r.run (idle (nothing-waits r h)); shows = r.shows; held = r.held })
-      go (At j) (waits l w h) = after (handled-stepped r c.mark j e l w h)
+      go Nowhere (nothing h) = fits e (record { start = r.start; state = r.state; starts = r.starts; run = run_append r.run (idle (nothing_waits r h)); shows = r.shows; held = r.held })
+      go (At j) (waits l w h) = after (handled_stepped r c.mark j e l w h)
 
   -- a start of the chart is one of the agenda, and a step where something waits is one of its steps
   pub start_simulates : (start_chart G cap).mark ≡ 0 → (s : State Item) × Start (closure G H) s × Shows G H (start_chart G cap).records s
   start_simulates m = go (start_ends G cap) m
     where
       go : {d : Chart} → Ends cap (leaf_records G) [] d → d.mark ≡ 0 → (s : State Item) × Start (closure G H) s × Shows G H d.records s
-      go (held e a) m = start-shown G H ok a
+      go (held e a) m = start_shown G H ok a
       go (full n ys x sub i a k l) m = absurd (n m)
 
   pub step_simulates : {n : ℕ} (c : Chart) (r : Reached G H cap n c.records) → c.mark ≡ 0 → least_waiting c.records (length c.records) ≢ Nowhere → (step_chart G H cap c).mark ≡ 0
@@ -326,7 +326,7 @@ module _ (G : Grammar) (H : Graph) (ok : GrammarOk G) {cap : ℕ} (most : cap �
 
       go : (f : Found) → Chosen c.records (length c.records) f → f ≢ Nowhere → (step_with G H cap c f).mark ≡ 0 → (t : State Item) × Step (closure G H) r.state t × Shows G H (step_with G H cap c f).records t
       go Nowhere (nothing h) x m = absurd (x refl)
-      go (At j) (waits l w h) x m = after (handled-stepped r c.mark j e l w h) m
+      go (At j) (waits l w h) x m = after (handled_stepped r c.mark j e l w h) m
 
   again_fate : {n : ℕ} (d : Chart) → Fate G H cap n d → Fate G H cap (n + 1) (again G H cap d)
   again_fate {n} d (fits e r) = cond_by (Fate G H cap (n + 1)) _ (λ t. step_fate d e r) (λ t. absurd (eqb-false _ _ t e))

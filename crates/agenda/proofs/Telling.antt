@@ -44,17 +44,17 @@ module _ (n : ℕ) (records : ℕ → Record) (j : ℕ) (out : List ℕ) where
   item_past h = rw (le-ltb _ _ h)
 
   module _ (there : j < n) where
-    pub item-short : length out < 16 → tell_item n records j out ≡ record { number = 12; words = out }
+    pub item_short : length out < 16 → tell_item n records j out ≡ record { number = 12; words = out }
     unfolding tell_item tell_record untold
-    item-short l = rw (lt-ltb _ _ there, lt-leb _ _ l)
+    item_short l = rw (lt-ltb _ _ there, lt-leb _ _ l)
 
-    pub item-full : 16 ≤ length out → tell_item n records j out ≡ record { number = 0; words = fields_of (records j) ++ drop 16 out }
+    pub item_full : 16 ≤ length out → tell_item n records j out ≡ record { number = 0; words = fields_of (records j) ++ drop 16 out }
     unfolding tell_item tell_record untold
-    item-full l = rw (lt-ltb _ _ there, le-leb _ _ l)
+    item_full l = rw (lt-ltb _ _ there, le-leb _ _ l)
 
     -- what is told are the fields by their names
-    pub item-told : 16 ≤ length out → Names (records j) out (tell_item n records j out).words
-    item-told l = rw (item-full l) (names (records j) out)
+    pub item_told : 16 ≤ length out → Names (records j) out (tell_item n records j out).words
+    item_told l = rw (item_full l) (names (records j) out)
 
 -- ---- as facts about a call
 fields_size : (x : Record) → length (fields_of x) ≡ 16
@@ -65,10 +65,10 @@ pub tells_past : (n : ℕ) (records : ℕ → Record) (j : ℕ) (out : List ℕ)
 tells_past n records j out h = rw (item_past n records j out h) (record { answers = refl; leaves = refl })
 
 pub tells_short : (n : ℕ) (records : ℕ → Record) (j : ℕ) (out : List ℕ) → j < n → length out < 16 → TellsItem (tell_item n records j out) 12 out
-tells_short n records j out h l = rw (item-short n records j out h l) (record { answers = refl; leaves = refl })
+tells_short n records j out h l = rw (item_short n records j out h l) (record { answers = refl; leaves = refl })
 
 pub tells_full : (n : ℕ) (records : ℕ → Record) (j : ℕ) (out : List ℕ) → j < n → 16 ≤ length out
     → (x : Record) (told now : List ℕ) → x ≡ records j → told ≡ fields_of x → now ≡ told ++ drop (length told) out → TellsItem (tell_item n records j out) 0 now
 tells_full n records j out h l x told now e f p =
-    rw (item-full n records j out h l)
+    rw (item_full n records j out h l)
     (record { answers = refl; leaves = p ∙ ap (λ (fs : List ℕ). fs ++ drop (length fs) out) (f ∙ ap fields_of e) ∙ rw (fields_size (records j)) })

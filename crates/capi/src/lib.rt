@@ -1,5 +1,8 @@
 // The interface for C (include/bobbinmarl.h): a slice crosses as a pointer and a length, an answer as 01's number,
 // its steps, bytes or records through a lent word.
+
+#![tactic(auto)]
+
 ghost use Rattle.std.specs.Prelude.{◌≡◌, cond, ◌&&◌, ◌+◌, ◌*◌, leb};
 ghost use Rattle.agenda.specs.Telling.{tell_item, TellsItem};
 ghost use Rattle.records.specs.Words.{words_for, item_count, record_at};

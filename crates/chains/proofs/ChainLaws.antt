@@ -274,8 +274,8 @@ module _ (x : ChartItem) (rs : List Record) (i : ℕ) (o : Leads x rs i) (n : i 
     pub chain_next : Leads x rs m
     chain_next = let l = o.at.low in leads x rs (i % 8192 - 1) m c.few (omega arith) (sym (turn false e) ∙ o.at.found) back
 
-    pub chain-less : m % 8192 < i % 8192
-    chain-less =
+    pub chain_less : m % 8192 < i % 8192
+    chain_less =
         let l = o.at.low in
         let f = c.few in
         let b = last_below (bucket_of x) rs (i % 8192 - 1) in

@@ -1,4 +1,7 @@
 // Records chained by hash, in lent words: how an equal record is found without going through all.
+
+#![tactic(auto)]
+
 ghost use Rattle.std.specs.Prelude.{◌≡◌, ◌≤◌, ◌<◌, length};
 ghost use Rattle.agenda.specs.Steps.{last_same};
 ghost use Rattle.records.specs.Words.{item_count, chart_of};

@@ -25,7 +25,7 @@ use Rattle.charting.specs.declared.Outcome.TheVariants.{Unfit, TooSmall, Unfinis
 use Rattle.hrg.proofs.Degrees.{and_true as both}
 use Rattle.validity.proofs.KnownCharts.{holds_header, holds_most, known_fits}
 use Rattle.charting.proofs.Waiting.{none_waits, some_waits, idle_counted}
-use Rattle.charting.proofs.Calls.{and_both, start_is, start_not, run_is, run-not, run_chart_is}
+use Rattle.charting.proofs.Calls.{and_both, start_is, start_not, run_is, run_not, run_chart_is}
 use Rattle.charting.proofs.Demand.{runs_right, start_right}
 
 -- ---- question 8
@@ -92,9 +92,9 @@ module _ (g h w : List ℕ) (b : Bool) (is : b ≡ fit g h w) where
         start_by_is TooSmall (ap (λ (t : Bool). cond t (Done 0) TooSmall) (sym (ne_eqb _ 0 (λ z. n (sym marked ∙ z)))))
         (λ p. record { small = λ e. start_right g h w (sym is ∙ y) (sym p) })
 
-    pub start-done : m ≡ 0 → Started (Done 0) v
+    pub start_done : m ≡ 0 → Started (Done 0) v
     unfolding start_answer
-    start-done z =
+    start_done z =
         start_by_is (Done 0) (ap (λ (t : Bool). cond t (Done 0) TooSmall) (sym (eq-eqb _ 0 (marked ∙ z)))) (λ p. record { small = λ e. absurd (omega arith) })
 
 -- ---- questions 9 and 10
@@ -107,22 +107,22 @@ module _ (w : List ℕ) (m : ℕ) (mark : m ≡ get_or w 1 0) where
     abbrev rs : List Record
     rs = records_at w (item_count w)
 
-    length-here : length rs ≡ n
-    length-here = length_records w (item_count w) ∙ sym number
+    length_here : length rs ≡ n
+    length_here = length_records w (item_count w) ∙ sym number
 
-    outcome-by : (a : Outcome) → a ≡ when_waiting (handled_count rs) (least_waiting rs (length rs)) → a ≡ answer_of (chart_of w)
+    outcome_by : (a : Outcome) → a ≡ when_waiting (handled_count rs) (least_waiting rs (length rs)) → a ≡ answer_of (chart_of w)
     unfolding answer_of chart_of
-    outcome-by a e = rw (eq-eqb (get_or w 1 0) 0 (sym mark ∙ clear)) e
+    outcome_by a e = rw (eq-eqb (get_or w 1 0) 0 (sym mark ∙ clear)) e
 
-    pub outcome-done : d ≡ n → Done d ≡ answer_of (chart_of w)
-    outcome-done e =
-        outcome-by (Done d)
-        (ap Done steps ∙ ap (when_waiting (handled_count rs)) (sym (none_waits rs (sym steps ∙ e ∙ sym length-here))))
+    pub outcome_done : d ≡ n → Done d ≡ answer_of (chart_of w)
+    outcome_done e =
+        outcome_by (Done d)
+        (ap Done steps ∙ ap (when_waiting (handled_count rs)) (sym (none_waits rs (sym steps ∙ e ∙ sym length_here))))
 
-    pub outcome-waits : (d ≡ n → ⊥) → Unfinished d ≡ answer_of (chart_of w)
-    outcome-waits f =
-        let (j, at) = some_waits rs (λ e. f (steps ∙ e ∙ length-here)) in
-        outcome-by (Unfinished d) (ap Unfinished steps ∙ ap (when_waiting (handled_count rs)) (sym at))
+    pub outcome_waits : (d ≡ n → ⊥) → Unfinished d ≡ answer_of (chart_of w)
+    outcome_waits f =
+        let (j, at) = some_waits rs (λ e. f (steps ∙ e ∙ length_here)) in
+        outcome_by (Unfinished d) (ap Unfinished steps ∙ ap (when_waiting (handled_count rs)) (sym at))
 
   -- where no step is left all are handled
   pub outcome_idle : (n : ℕ) → m ≡ 0 → n ≡ item_count w → next_in (chart_of w) ≡ Nowhere → Done n ≡ answer_of (chart_of w)
@@ -131,7 +131,7 @@ module _ (w : List ℕ) (m : ℕ) (mark : m ≡ get_or w 1 0) where
       let rs = records_at w (item_count w) in
       let least : least_waiting rs (length rs) ≡ Nowhere = ap (λ (b : Bool). cond b (least_waiting rs (length rs)) Nowhere) (sym (eq-eqb (get_or w 1 0) 0 (sym mark ∙ clear))) ∙ idle in
       let all : handled_count rs ≡ n = idle_counted rs least ∙ length_records w (item_count w) ∙ sym number in
-      ap Done (sym all) ∙ outcome-done n (handled_count rs) clear number refl all
+      ap Done (sym all) ∙ outcome_done n (handled_count rs) clear number refl all
 
 -- ---- run
 not_by : (g h w : List ℕ) → fit g h w ≡ false → fit_chart g h w ≡ false
@@ -166,15 +166,15 @@ module _ (g h w : List ℕ) (k : ℕ) where
   whole a v p q = (p, q, choices a v p q)
 
   unfit : fit_chart g h w ≡ false → Ran Unfit w
-  unfit n = let q = run-not g h w k n in whole Unfit w (sym (ap (λ (c : Called). c.answer) q)) (sym (ap (λ (c : Called). c.words) q))
+  unfit n = let q = run_not g h w k n in whole Unfit w (sym (ap (λ (c : Called). c.answer) q)) (sym (ap (λ (c : Called). c.words) q))
 
   module _ (b : Bool) (is : b ≡ fit g h w) where
-    pub run-refuses : b ≡ false → Ran Unfit w
-    run-refuses n = unfit (not_by g h w (sym is ∙ n))
+    pub run_refuses : b ≡ false → Ran Unfit w
+    run_refuses n = unfit (not_by g h w (sym is ∙ n))
 
     module _ (y : b ≡ true) (c : Bool) (known : c ≡ known_chart (grammar_of g) (graph_of g h) w) where
-      pub run-unknown : c ≡ false → Ran Unfit w
-      run-unknown n = unfit (unknown_by g h w (sym known ∙ n) (sym is ∙ y))
+      pub run_unknown : c ≡ false → Ran Unfit w
+      run_unknown n = unfit (unknown_by g h w (sym known ∙ n) (sym is ∙ y))
 
       pub run_ran : (a : Outcome) (v : List ℕ) → c ≡ true → v ≡ written w (run_chart (grammar_of g) (graph_of g h) (capacity w) k (chart_of w)) → a ≡ answer_of (chart_of v) → Ran a v
       run_ran a v z made e =
@@ -193,9 +193,9 @@ module _ (g h w : List ℕ) (b : Bool) (is : b ≡ fit g h w) where
   standing_refuses n = unfit_standing (not_by g h w (sym is ∙ n))
 
   module _ (y : b ≡ true) (c : Bool) (known : c ≡ known_chart (grammar_of g) (graph_of g h) w) where
-    pub standing-unknown : c ≡ false → Unfit ≡ standing_of g h w
-    standing-unknown n = unfit_standing (unknown_by g h w (sym known ∙ n) (sym is ∙ y))
+    pub standing_unknown : c ≡ false → Unfit ≡ standing_of g h w
+    standing_unknown n = unfit_standing (unknown_by g h w (sym known ∙ n) (sym is ∙ y))
 
-    pub standing-is : (a : Outcome) → c ≡ true → a ≡ answer_of (chart_of w) → a ≡ standing_of g h w
+    pub standing_is : (a : Outcome) → c ≡ true → a ≡ answer_of (chart_of w) → a ≡ standing_of g h w
     unfolding standing_of
-    standing-is a z e = rw (fits_by g h w (sym is ∙ y) (sym known ∙ z)) e
+    standing_is a z e = rw (fits_by g h w (sym is ∙ y) (sym known ∙ z)) e

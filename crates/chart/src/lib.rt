@@ -1,4 +1,7 @@
 // The chart: start and run on lent memory.
+
+#![tactic(auto)]
+
 ghost use Rattle.std.specs.Prelude.{◌≡◌, true};
 ghost use Rattle.agenda.specs.declared.Found.TheVariants.{Nowhere};
 ghost use Rattle.agenda.specs.Steps.{handled_count};

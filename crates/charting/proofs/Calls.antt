@@ -20,13 +20,13 @@ use Rattle.records.specs.Words.{Fits, capacity, chart_of, written}
 use Rattle.records.proofs.Written.{Holds, chart_written, chart_of_written, capacity_written, written_over}
 use Rattle.records.proofs.Rewritten.{Grown}
 use Rattle.records.proofs.Grown.{holds_own}
-use Rattle.steps.proofs.RunLaws.{run-grown, start_holds}
+use Rattle.steps.proofs.RunLaws.{run_grown, start_holds}
 use Rattle.validity.specs.Checking.{holds, known_chart}
 use Rattle.charting.specs.Calls.{number_of, Called, fit, fit_chart, answer_of, start_answer, refused, start_of, run_of, standing_of}
 use Rattle.charting.specs.declared.Outcome.{Outcome}
 use Rattle.charting.specs.declared.Outcome.TheVariants.{Unfit, TooSmall}
-use Rattle.validity.proofs.KnownCharts.{holds_header, holds_most, known_fits, known-records, written_known}
-use Rattle.validity.proofs.Own.{run-known}
+use Rattle.validity.proofs.KnownCharts.{holds_header, holds_most, known_fits, known_records, written_known}
+use Rattle.validity.proofs.Own.{run_known}
 use Rattle.charting.proofs.Answers.{answer_marked, answer_fit, start_answer_fit}
 
 pub and_both : (a b : Bool) → a ≡ true → b ≡ true → a && b ≡ true
@@ -74,8 +74,8 @@ module _ (g h w : List ℕ) (e : fit_chart g h w ≡ true) where
 
   grown : (k : ℕ) → Grown w (chart_of w) (after_run g h w k)
   grown k =
-      run-grown (grammar_of g) (graph_of g h) (fit_grammar g h w chart_fit) (fit_graph g h w chart_fit) w (fit_most g h w chart_fit) (chart_of w) (holds_own w fitting)
-      (known-records (grammar_of g) (graph_of g h) w fitting chart_known) k
+      run_grown (grammar_of g) (graph_of g h) (fit_grammar g h w chart_fit) (fit_graph g h w chart_fit) w (fit_most g h w chart_fit) (chart_of w) (holds_own w fitting)
+      (known_records (grammar_of g) (graph_of g h) w fitting chart_known) k
 
 -- the size of the chart is all that question 8 asks of words before a start
 pub fit_same : (g h v w : List ℕ) → capacity v ≡ capacity w → fit g h v ≡ fit g h w
@@ -103,9 +103,9 @@ module _ (g h w : List ℕ) where
     unfolding run_of
     run_is e = cond_yes (fit_chart g h w) _ _ e
 
-    pub run-not : fit_chart g h w ≡ false → run_of g h w k ≡ refused w
+    pub run_not : fit_chart g h w ≡ false → run_of g h w k ≡ refused w
     unfolding run_of
-    run-not e = cond_no (fit_chart g h w) _ _ e
+    run_not e = cond_no (fit_chart g h w) _ _ e
 
 -- ---- 8
 -- an answer of 8 comes with the words as they were
@@ -122,15 +122,15 @@ module _ (g h w : List ℕ) where
   start_refused e = ap (λ (c : Called). c.words) (start_not g h w (start_eight.0 e))
 
   module _ (k : ℕ) where
-    pub run-eight : (number_of (run_of g h w k).answer ≡ 8) ↔ (fit_chart g h w ≡ false)
-    run-eight = (λ e. go e (fit_chart g h w) refl, λ e. ap (λ (c : Called). number_of c.answer) (run-not g h w k e))
+    pub run_eight : (number_of (run_of g h w k).answer ≡ 8) ↔ (fit_chart g h w ≡ false)
+    run_eight = (λ e. go e (fit_chart g h w) refl, λ e. ap (λ (c : Called). number_of c.answer) (run_not g h w k e))
       where
         go : number_of (run_of g h w k).answer ≡ 8 → (b : Bool) → fit_chart g h w ≡ b → fit_chart g h w ≡ false
         go e false f = f
         go e true f = absurd (answer_fit (after_run g h w k) (sym (ap (λ (c : Called). number_of c.answer) (run_is g h w k f)) ∙ e))
 
-    pub run-refused : number_of (run_of g h w k).answer ≡ 8 → (run_of g h w k).words ≡ w
-    run-refused e = ap (λ (c : Called). c.words) (run-not g h w k (run-eight.0 e))
+    pub run_refused : number_of (run_of g h w k).answer ≡ 8 → (run_of g h w k).words ≡ w
+    run_refused e = ap (λ (c : Called). c.words) (run_not g h w k (run_eight.0 e))
 
 -- ---- what stays
 chart_mark : (w : List ℕ) → (chart_of w).mark ≡ get_or w 1 0
@@ -173,8 +173,8 @@ module _ (g h w : List ℕ) (e : fit_chart g h w ≡ true) (k : ℕ) where
   run_fit =
       let f = chart_fit g h w e in
       let o = (grown g h w e k).holds in
-      let own = known-records (grammar_of g) (graph_of g h) w (fitting g h w e) (chart_known g h w e) in
-      let all = run-known (grammar_of g) (graph_of g h) (fit_grammar g h w f) (fit_graph g h w f) (capacity w) k (chart_of w) own in
+      let own = known_records (grammar_of g) (graph_of g h) w (fitting g h w e) (chart_known g h w e) in
+      let all = run_known (grammar_of g) (graph_of g h) (fit_grammar g h w f) (fit_graph g h w f) (capacity w) k (chart_of w) own in
       and_both (fit g h (run_of g h w k).words) (known_chart (grammar_of g) (graph_of g h) (run_of g h w k).words) (fit_same g h (run_of g h w k).words w run_capacity ∙ f)
       (ap (known_chart (grammar_of g) (graph_of g h)) run_words ∙ written_known (grammar_of g) (graph_of g h) w (after_run g h w k) o all)
 
@@ -190,12 +190,12 @@ module _ (g h w : List ℕ) (k : ℕ) where
     where
       go : (b : Bool) → fit_chart g h w ≡ b → Stays (chart_of w).records (chart_of (run_of g h w k).words).records
       go true e = subst (λ (c : Chart). Stays (chart_of w).records c.records) (sym (run_chart_is g h w e k)) one_run
-      go false e = subst (λ (c : Called). Stays (chart_of w).records (chart_of c.words).records) (sym (run-not g h w k e)) (λ j l m. (l, refl))
+      go false e = subst (λ (c : Called). Stays (chart_of w).records (chart_of c.words).records) (sym (run_not g h w k e)) (λ j l m. (l, refl))
 
 -- ---- splitting a run changes neither the chart nor the answer
 module _ (g h w : List ℕ) (j k : ℕ) where
   split_not : fit_chart g h w ≡ false → run_of g h (run_of g h w j).words k ≡ run_of g h w (j + k)
-  split_not e = ap (λ (c : Called). run_of g h c.words k) (run-not g h w j e) ∙ run-not g h w k e ∙ sym (run-not g h w (j + k) e)
+  split_not e = ap (λ (c : Called). run_of g h c.words k) (run_not g h w j e) ∙ run_not g h w k e ∙ sym (run_not g h w (j + k) e)
 
   module _ (e : fit_chart g h w ≡ true) where
     -- the second run, on words of which all that is needed is known
@@ -210,20 +210,20 @@ module _ (g h w : List ℕ) (j k : ℕ) where
         ∙ sym (chart-split (grammar_of g) (graph_of g h) (capacity w) j k (chart_of w)) in
         let longer : length d.records ≤ length c.records =
         subst (λ (b : Chart). length d.records ≤ length b.records) (sym (chart-split (grammar_of g) (graph_of g h) (capacity w) j k (chart_of w)))
-        (run-grown (grammar_of g) (graph_of g h) (fit_grammar g h w f') (fit_graph g h w f') w (fit_most g h w f') d (grown g h w e j).holds
-        (run-known (grammar_of g) (graph_of g h) (fit_grammar g h w f') (fit_graph g h w f') (capacity w) j (chart_of w) (known-records (grammar_of g) (graph_of g h) w (fitting g h w e) (chart_known g h w e))) k).longer in
+        (run_grown (grammar_of g) (graph_of g h) (fit_grammar g h w f') (fit_graph g h w f') w (fit_most g h w f') d (grown g h w e j).holds
+        (run_known (grammar_of g) (graph_of g h) (fit_grammar g h w f') (fit_graph g h w f') (capacity w) j (chart_of w) (known_records (grammar_of g) (graph_of g h) w (fitting g h w e) (chart_known g h w e))) k).longer in
         run_is g h v k f ∙ ap (λ (b : Chart). called (answer_of b) v b) same
         ∙ ap (λ (u : List ℕ). called (answer_of c) u c) r
         ∙ ap (λ (u : List ℕ). record { answer = answer_of c; words = u }) (written_over w d (grown g h w e j).holds c longer)
 
-    split-is : run_of g h (run_of g h w j).words k ≡ run_of g h w (j + k)
-    split-is = second (run_of g h w j).words (run_fit g h w e j) (run_capacity g h w e j) (run_chart_is g h w e j) (run_words g h w e j) ∙ sym (run_is g h w (j + k) e)
+    split_is : run_of g h (run_of g h w j).words k ≡ run_of g h w (j + k)
+    split_is = second (run_of g h w j).words (run_fit g h w e j) (run_capacity g h w e j) (run_chart_is g h w e j) (run_words g h w e j) ∙ sym (run_is g h w (j + k) e)
 
   pub run_split : run_of g h (run_of g h w j).words k ≡ run_of g h w (j + k)
   run_split = go (fit_chart g h w) refl
     where
       go : (b : Bool) → fit_chart g h w ≡ b → run_of g h (run_of g h w j).words k ≡ run_of g h w (j + k)
-      go true e = split-is e
+      go true e = split_is e
       go false e = split_not e
 
 -- how a chart stands is what a run of no steps answers, whatever the words

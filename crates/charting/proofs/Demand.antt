@@ -11,7 +11,7 @@ use Rattle.hrg.specs.WellFormed.{GrammarOk, GraphOk}
 use Rattle.agenda.specs.declared.Found.{Found}
 use Rattle.agenda.specs.Steps.{Chart, run_chart, runs_chart, start_chart, handled_count, sum_of}
 use Rattle.agenda.proofs.Runs.{runs_last, sum_last, start_none}
-use Rattle.agenda.proofs.RunFacts.{runs-correct, marked-small, full-run, waiting-more, done-size, steps-most, start-waits}
+use Rattle.agenda.proofs.RunFacts.{runs_correct, marked_small, full_run, waiting_more, done_size, steps_most, start_waits}
 use Rattle.questions.specs.Abstract.{grammar_of, graph_of}
 use Rattle.records.specs.Words.{capacity, chart_of, written}
 use Rattle.records.proofs.Written.{chart_of_written, capacity_written}
@@ -74,24 +74,24 @@ module _ (g h w : List ℕ) (e : fit g h w ≡ true) where
     abbrev after : List ℕ
     after = runs_of g h (start_of g h w).words ks
 
-    pub runs-known : fit_chart g h after ≡ true
-    runs-known = runs_fit g h ks (start_of g h w).words (start_fit g h w e)
+    pub runs_known : fit_chart g h after ≡ true
+    runs_known = runs_fit g h ks (start_of g h w).words (start_fit g h w e)
 
-    pub runs-capacity : capacity after ≡ capacity w
-    runs-capacity = runs_capacity_from g h ks (start_of g h w).words (start_fit g h w e) ∙ start_capacity g h w e
+    pub runs_capacity : capacity after ≡ capacity w
+    runs_capacity = runs_capacity_from g h ks (start_of g h w).words (start_fit g h w e) ∙ start_capacity g h w e
 
-    pub runs-chart : chart_of after ≡ runs_chart (grammar_of g) (graph_of g h) (capacity w) ks (start_chart (grammar_of g) (capacity w))
-    runs-chart =
+    pub runs_chart_lem : chart_of after ≡ runs_chart (grammar_of g) (graph_of g h) (capacity w) ks (start_chart (grammar_of g) (capacity w))
+    runs_chart_lem =
         runs_chart_from g h ks (start_of g h w).words (start_fit g h w e)
         ∙ ap (λ n. runs_chart (grammar_of g) (graph_of g h) n ks (chart_of (start_of g h w).words)) (start_capacity g h w e)
         ∙ ap (runs_chart (grammar_of g) (graph_of g h) (capacity w) ks) (start_chart_is g h w e)
 
     module _ (k : ℕ) where
       -- one run more is a list of runs, one longer
-      last-chart : after_run g h after k ≡ runs_chart (grammar_of g) (graph_of g h) (capacity w) (ks ++ (k ∷ [])) (start_chart (grammar_of g) (capacity w))
-      last-chart =
-          ap (λ n. run_chart (grammar_of g) (graph_of g h) n k (chart_of after)) runs-capacity
-          ∙ ap (run_chart (grammar_of g) (graph_of g h) (capacity w) k) runs-chart
+      last_chart : after_run g h after k ≡ runs_chart (grammar_of g) (graph_of g h) (capacity w) (ks ++ (k ∷ [])) (start_chart (grammar_of g) (capacity w))
+      last_chart =
+          ap (λ n. run_chart (grammar_of g) (graph_of g h) n k (chart_of after)) runs_capacity
+          ∙ ap (run_chart (grammar_of g) (graph_of g h) (capacity w) k) runs_chart_lem
           ∙ sym (runs_last (grammar_of g) (graph_of g h) (capacity w) ks k (start_chart (grammar_of g) (capacity w)))
 
   abbrev ok : GrammarOk (grammar_of g)
@@ -105,17 +105,17 @@ module _ (g h w : List ℕ) (e : fit g h w ≡ true) where
 
   -- what the agenda's theorem says of a chart and of the answer that it gives
   module _ (ks : List ℕ) (c : Chart) (is : c ≡ runs_chart (grammar_of g) (graph_of g h) (capacity w) ks (start_chart (grammar_of g) (capacity w))) where
-    chart-right : RunRight (grammar_of g) (graph_of g h) (capacity w) (sum_of ks) (answer_of c) c
-    chart-right =
+    chart_right : RunRight (grammar_of g) (graph_of g h) (capacity w) (sum_of ks) (answer_of c) c
+    chart_right =
         record {
           fit = answer_fit c;
-          small = λ n. marked-small (grammar_of g) (graph_of g h) ok good (capacity w) most ks c is (answer_nine c n);
-          most = steps-most (grammar_of g) (graph_of g h) ok good (capacity w) most ks c is;
-          right = λ n. runs-correct (grammar_of g) (graph_of g h) ok good (capacity w) most ks c is (answer_other c n);
+          small = λ n. marked_small (grammar_of g) (graph_of g h) ok good (capacity w) most ks c is (answer_nine c n);
+          most = steps_most (grammar_of g) (graph_of g h) ok good (capacity w) most ks c is;
+          right = λ n. runs_correct (grammar_of g) (graph_of g h) ok good (capacity w) most ks c is (answer_other c n);
           steps = λ n. answer_steps c (answer_other c n);
-          done = λ n all d. let (m, f) = answer_done c n in answer_steps c m ∙ done-size (grammar_of g) (graph_of g h) ok good (capacity w) most ks c is m f all d;
-          more = λ n. let (m, f) = answer_ten c n in waiting-more (grammar_of g) (graph_of g h) ok good (capacity w) most ks c is m f;
-          never = λ l n. let (m, f) = answer_ten c n in f (full-run (grammar_of g) (graph_of g h) ok good (capacity w) most ks c is l m);
+          done = λ n all d. let (m, f) = answer_done c n in answer_steps c m ∙ done_size (grammar_of g) (graph_of g h) ok good (capacity w) most ks c is m f all d;
+          more = λ n. let (m, f) = answer_ten c n in waiting_more (grammar_of g) (graph_of g h) ok good (capacity w) most ks c is m f;
+          never = λ l n. let (m, f) = answer_ten c n in f (full_run (grammar_of g) (graph_of g h) ok good (capacity w) most ks c is l m);
         }
 
   -- demand 3 for runs: after the runs ks, a run of k steps
@@ -124,24 +124,24 @@ module _ (g h w : List ℕ) (e : fit g h w ≡ true) where
   runs_right ks k =
       let v = after ks in
       let c = after_run g h v k in
-      let a : answer_of c ≡ (run_of g h v k).answer = sym (ap (λ (d : Called). d.answer) (run_is g h v k (runs-known ks))) in
-      let b : c ≡ chart_of (run_of g h v k).words = sym (run_chart_is g h v (runs-known ks) k) in
+      let a : answer_of c ≡ (run_of g h v k).answer = sym (ap (λ (d : Called). d.answer) (run_is g h v k (runs_known ks))) in
+      let b : c ≡ chart_of (run_of g h v k).words = sym (run_chart_is g h v (runs_known ks) k) in
       let right : RunRight (grammar_of g) (graph_of g h) (capacity w) (sum_of ks + k) (answer_of c) c =
-      subst (λ n. RunRight (grammar_of g) (graph_of g h) (capacity w) n (answer_of c) c) (sum_last ks k) (chart-right (ks ++ (k ∷ [])) c (last-chart ks k)) in
+      subst (λ n. RunRight (grammar_of g) (graph_of g h) (capacity w) n (answer_of c) c) (sum_last ks k) (chart_right (ks ++ (k ∷ [])) c (last_chart ks k)) in
       subst (λ (d : Chart). RunRight (grammar_of g) (graph_of g h) (capacity w) (sum_of ks + k) (run_of g h v k).answer d) b
       (subst (λ (o : Outcome). RunRight (grammar_of g) (graph_of g h) (capacity w) (sum_of ks + k) o c) a right)
 
   -- a start says 9 only if the closure has more items than the chart holds
   pub start_right : (start_of g h w).answer ≡ TooSmall → (is : List Item) → Closure (closure (grammar_of g) (graph_of g h)) is → capacity w < length is
   unfolding runs_chart
-  start_right s = marked-small (grammar_of g) (graph_of g h) ok good (capacity w) most [] (after_start g w) refl (start_answer_nine (after_start g w) (ap number_of (sym (start_answer_is g h w e) ∙ s)))
+  start_right s = marked_small (grammar_of g) (graph_of g h) ok good (capacity w) most [] (after_start g w) refl (start_answer_nine (after_start g w) (ap number_of (sym (start_answer_is g h w e) ∙ s)))
 
   -- 0 steps on a fresh chart say 10 and change nothing
   pub fresh_waits : (start_of g h w).answer ≡ Done 0 → run_of g h (start_of g h w).words 0 ≡ record { answer = Unfinished 0; words = (start_of g h w).words }
   fresh_waits s =
       let c = after_start g w in
       let m : c.mark ≡ 0 = start_answer_done c (ap number_of (sym (start_answer_is g h w e) ∙ s)) in
-      let (j, f) = start-waits (grammar_of g) (graph_of g h) ok good (capacity w) most m in
+      let (j, f) = start_waits (grammar_of g) (graph_of g h) ok good (capacity w) most m in
       let a : answer_of c ≡ Unfinished 0 =
       answer_waiting c m ∙ ap (λ (q : Found). when_waiting (handled_count c.records) q) f ∙ ap Unfinished (start_none (grammar_of g) (graph_of g h) (capacity w)) in
       run_zero g h (start_of g h w).words (start_fit g h w e)

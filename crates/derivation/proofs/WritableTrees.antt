@@ -80,18 +80,18 @@ module _ (G : Grammar) (H : Graph) (ok : GrammarOk G) (hok : GraphOk G H) where
   mutual
     unfolding size tree_rows
 
-    tree-writable : (s : ℕ) (L : List ℕ) (n : ℕ) (t : Tree) → Fits G H s L t → n + size t ≤ 4096 → WritableLines (tree_rows n t)
-    tree-writable s L n (apply r place ps) f h =
-        more (row_writable s n r L place ps f.0 f.1 (omega arith)) (parts-writable place ps (right_of G r).edges (n + 1) f.1 (omega arith))
+    tree_writable : (s : ℕ) (L : List ℕ) (n : ℕ) (t : Tree) → Fits G H s L t → n + size t ≤ 4096 → WritableLines (tree_rows n t)
+    tree_writable s L n (apply r place ps) f h =
+        more (row_writable s n r L place ps f.0 f.1 (omega arith)) (parts_writable place ps (right_of G r).edges (n + 1) f.1 (omega arith))
 
-    parts-writable : (place : List ℕ) (ps : Parts) (rs : List Edge) (n : ℕ) → FitsParts G H place ps rs → n + size_in ps ≤ 4096 → WritableLines (part_rows n ps)
-    parts-writable place end rs n f h = none
-    parts-writable place (edge g ps) [] n f h = absurd f
-    parts-writable place (edge g ps) (r ∷ rs) n f h = parts-writable place ps rs n f.1 h
-    parts-writable place (tree t ps) [] n f h = absurd f
-    parts-writable place (tree t ps) (r ∷ rs) n f h =
+    parts_writable : (place : List ℕ) (ps : Parts) (rs : List Edge) (n : ℕ) → FitsParts G H place ps rs → n + size_in ps ≤ 4096 → WritableLines (part_rows n ps)
+    parts_writable place end rs n f h = none
+    parts_writable place (edge g ps) [] n f h = absurd f
+    parts_writable place (edge g ps) (r ∷ rs) n f h = parts_writable place ps rs n f.1 h
+    parts_writable place (tree t ps) [] n f h = absurd f
+    parts_writable place (tree t ps) (r ∷ rs) n f h =
         writable_append (tree_rows n t) (part_rows (n + size t) ps)
-        (tree-writable r.label (images place r.attachment) n t f.0 (omega arith)) (parts-writable place ps rs (n + size t) f.1 (omega arith))
+        (tree_writable r.label (images place r.attachment) n t f.0 (omega arith)) (parts_writable place ps rs (n + size t) f.1 (omega arith))
 
   pub rows_writable : (t : Tree) → Generates G H t → size t ≤ 4096 → WritableRows (rows_of t)
   unfolding rows_of
@@ -99,5 +99,5 @@ module _ (G : Grammar) (H : Graph) (ok : GrammarOk G) (hok : GraphOk G H) where
       record {
         some = omega (arith, length_rows 0 t, size_positive t);
         few = omega (arith, length_rows 0 t);
-        each = tree-writable G.start H.externals 0 t g.fits (omega arith);
+        each = tree_writable G.start H.externals 0 t g.fits (omega arith);
       }

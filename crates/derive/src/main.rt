@@ -1,6 +1,8 @@
 // Reads grammar.txt and graph.txt, and prints a derivation of the graph with the fewest applications and the steps,
 // or the refusal.
 
+#![tactic(auto)]
+
 // Reads the graph beside a grammar's text. A file that cannot be read is no text: nothing is printed.
 fn derive_with(grammar: &[u8]) {
     let mut text = [0u8; 32769];

@@ -1,6 +1,6 @@
 -- Laws of what is printed: lines of one field, behind a text.
 use mathlib.Core.Path.{◌≡◌, refl, sym, ap, ◌∙◌}
-use mathlib.Core.List.{List, [], ◌∷◌, ◌++◌, append_nil}
+use mathlib.Core.List.{List, [], ◌∷◌, ◌++◌, append-nil}
 use Prim.Native.Nat.{ℕ, ◌+◌, ◌≤◌}
 use native.Mathlib.Omega.{arith}
 use lib.ListN.{length, take, drop, length-append, length-drop, drop_of_length-le}
@@ -44,7 +44,7 @@ pub refusal_line_lem : (former now : List ℕ) (k : ℕ) → length former ≡ 6
 unfolding refusal_line
 refusal_line_lem former now k l p =
     let printed = prints_refusal former now k 6 (omega arith) refl p in
-    printed.contents ∙ ap (λ rest. refusal_line k ++ rest) (drop_of_length-le former {i = length (refusal_line k)} (omega (arith, number_length 78 k))) ∙ append_nil (refusal_line k)
+    printed.contents ∙ ap (λ rest. refusal_line k ++ rest) (drop_of_length-le former {i = length (refusal_line k)} (omega (arith, number_length 78 k))) ∙ append-nil (refusal_line k)
 
 -- what is printed is the front of the output
 pub prints_front : (text former now : List ℕ) (r : ℕ) → Prints text former now r → (r ≤ length now) × (r ≡ length (take r now))

@@ -84,13 +84,13 @@ module _ (g h : List ℕ) (o : Outcome) (k : ℕ) (e : o ≡ (start_of g h (clea
     unfolding derive_tables
     ran = rw (← number, eq-eqb k 0 started, ← left, ← f)
 
-    pub prints-unrun : (j : ℕ) → OneOf (0 ∷ 1 ∷ 2 ∷ []) (tag_of outcome-type a) → j ≡ chartNumber a → Prints (refusal_line j) former now r
+    pub prints_unrun : (j : ℕ) → OneOf (0 ∷ 1 ∷ 2 ∷ []) (tag_of outcome-type a) → j ≡ chartNumber a → Prints (refusal_line j) former now r
         → Prints (derived_text (derive_tables g h)) former now r
-    prints-unrun j h' q p = prints_as _ (refused j) former now r (ran ∙ not_done a _ h' ∙ ap refused (sym q)) p
+    prints_unrun j h' q p = prints_as _ (refused j) former now r (ran ∙ not_done a _ h' ∙ ap refused (sym q)) p
 
-    pub prints-run : (w : List ℕ) (steps : ℕ) → w ≡ (run_of g h v items).words → a ≡ Done steps → Prints (derived_text (write_chart g h w steps)) former now r
+    pub prints_run : (w : List ℕ) (steps : ℕ) → w ≡ (run_of g h v items).words → a ≡ Done steps → Prints (derived_text (write_chart g h w steps)) former now r
         → Prints (derived_text (derive_tables g h)) former now r
-    prints-run w steps q d p =
+    prints_run w steps q d p =
         prints_as _ (write_chart g h w steps) former now r
         (ran ∙ ap (λ x. when_ran x (λ n. write_chart g h (run_of g h v items).words n)) d ∙ ap (λ x. write_chart g h x steps) (sym q)) p
 

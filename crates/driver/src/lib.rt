@@ -1,5 +1,8 @@
 // What the two programs print for the texts of their files: the readers, the chart, the writer and the replay in 01's
 // order.
+
+#![tactic(auto)]
+
 ghost use Rattle.std.specs.Prelude.{◌≡◌, [], ◌∷◌, ◌++◌, ◌+◌, ◌≤◌, length, drop};
 ghost use Rattle.std.proofs.lemmas.List.Edits.{sets};
 ghost use Rattle.format.specs.Writing.{line_text};

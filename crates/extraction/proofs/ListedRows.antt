@@ -1,7 +1,7 @@
 -- The rows that are made of a listing from its end are those of the tree.
 use mathlib.Core.Path.{◌≡◌, refl, sym, ap, ap₂, ◌∙◌, subst}
 use mathlib.Core.Bool.{Bool, true, false, cond}
-use mathlib.Core.List.{List, [], ◌∷◌, ◌++◌, append_assoc, append_nil}
+use mathlib.Core.List.{List, [], ◌∷◌, ◌++◌, append_assoc, append-nil}
 use Prim.Native.Nat.{ℕ, zero, suc, ◌+◌, ◌-◌, ◌≤◌, ◌<◌}
 use native.Mathlib.Omega.{arith}
 use lib.ListN.{length, get_or}
@@ -48,10 +48,10 @@ module _ (look : ℕ → Record) (G : Grammar) (H : Graph) where
           ends = λ sz h. z;
         }
 
-    edge-part : (e : Edge) (es : List Edge) (i : ℕ) (ps : Parts) (ls js : List ℕ) (n : ℕ) → kind_of G e.label ≡ terminal
+    edge_part : (e : Edge) (es : List Edge) (i : ℕ) (ps : Parts) (ls js : List ℕ) (n : ℕ) → kind_of G e.label ≡ terminal
         → PartsListed bs es (i + 1) ps ls js n → PartsListed bs (e ∷ es) i (edge (get_or bs i 0) ps) ls js n
     unfolding size part_numbers part_rows numbers_from end_from
-    edge-part e es i ps ls js n q p =
+    edge_part e es i ps ls js n q p =
         record {
           rows = p.rows;
           later = p.later;
@@ -59,10 +59,10 @@ module _ (look : ℕ → Record) (G : Grammar) (H : Graph) where
           ends = λ sz h. rw q (p.ends sz h);
         }
 
-    tree-part : (e : Edge) (es : List Edge) (i : ℕ) (t : Tree) (ps : Parts) (ls ks js : List ℕ) (n : ℕ) → kind_of G e.label ≡ nonterminal
+    tree_part : (e : Edge) (es : List Edge) (i : ℕ) (t : Tree) (ps : Parts) (ls ks js : List ℕ) (n : ℕ) → kind_of G e.label ≡ nonterminal
         → TreeListed t ls ks n → PartsListed bs es (i + 1) ps ks js (n + size t) → PartsListed bs (e ∷ es) i (tree t ps) ls js n
     unfolding size part_numbers part_rows numbers_from end_from
-    tree-part e es i t ps ls ks js n q x p =
+    tree_part e es i t ps ls ks js n q x p =
         let sum : (n + size t) + size_in ps ≡ n + (size t + size_in ps) = omega arith in
         record {
           rows = x.rows ∙ ap (λ (l : List (List ℕ)). tree_rows n t ++ l) (p.rows ∙ ap (λ (k : ℕ). part_rows (n + size t) ps ++ rows_from look G H k js) sum)
@@ -76,16 +76,16 @@ module _ (look : ℕ → Record) (G : Grammar) (H : Graph) where
               rw q (ap (λ (k : ℕ). end_from G sz es k) next ∙ p.ends sz (λ m l. h m (omega (arith, l)) ∙ x.later m l) ∙ sum);
         }
 
-    parts-listed : (es : List Edge) (i : ℕ) (ps : Parts) → PartsSpelt (λ b. tree_at look G H d b) G bs es i ps → (n : ℕ) (js : List ℕ)
+    parts_listed : (es : List Edge) (i : ℕ) (ps : Parts) → PartsSpelt (λ b. tree_at look G H d b) G bs es i ps → (n : ℕ) (js : List ℕ)
         → PartsListed bs es i ps (under es i ++ js) js n
     unfolding children_from flat
-    parts-listed [] i end no_edges n js = no_parts i n js
-    parts-listed (e ∷ es) i (edge g ps) (an_edge q s) n js =
-        rw q (edge-part e es i ps (under es (i + 1) ++ js) js n q (parts-listed es (i + 1) ps s n js))
-    parts-listed (e ∷ es) i (tree t ps) (a_tree q r s) n js =
+    parts_listed [] i end no_edges n js = no_parts i n js
+    parts_listed (e ∷ es) i (edge g ps) (an_edge q s) n js =
+        rw q (edge_part e es i ps (under es (i + 1) ++ js) js n q (parts_listed es (i + 1) ps s n js))
+    parts_listed (e ∷ es) i (tree t ps) (a_tree q r s) n js =
         rw (q, append_assoc (records_under look G d (get_or bs i 0)) (under es (i + 1)) js)
-        (tree-part e es i t ps (records_under look G d (get_or bs i 0) ++ (under es (i + 1) ++ js)) (under es (i + 1) ++ js) js n q
-        (ih (get_or bs i 0) t r n (under es (i + 1) ++ js)) (parts-listed es (i + 1) ps s (n + size t) js))
+        (tree_part e es i t ps (records_under look G d (get_or bs i 0) ++ (under es (i + 1) ++ js)) (under es (i + 1) ++ js) js n q
+        (ih (get_or bs i 0) t r n (under es (i + 1) ++ js)) (parts_listed es (i + 1) ps s (n + size t) js))
 
   -- an application in front of its parts
   application : (j : ℕ) (ps : Parts) (ls js : List ℕ) (n : ℕ) → PartsListed (partners_at look G j) (right_of G (rule_at look j)).edges 0 ps ls js (n + 1)
@@ -111,9 +111,9 @@ module _ (look : ℕ → Record) (G : Grammar) (H : Graph) where
       let es = (right_of G (rule_at look j)).edges in
       let ls = under d (tree_listed d) bs es 0 ++ js in
       subst (λ (u : Tree). TreeListed u (j ∷ ls) js n) (sym a.whole)
-      (application j a.parts ls js n (parts-listed d (tree_listed d) bs es 0 a.parts a.spelled (n + 1) js))
+      (application j a.parts ls js n (parts_listed d (tree_listed d) bs es 0 a.parts a.spelled (n + 1) js))
 
   pub rows_listed : (d j : ℕ) (t : Tree) → tree_at look G H d j ≡ spelt t → rows_from look G H 0 (records_under look G d j) ≡ rows_of t
   unfolding rows_of rows_from
   rows_listed d j t q =
-      ap (rows_from look G H 0) (sym (append_nil (records_under look G d j))) ∙ (tree_listed d j t q 0 []).rows ∙ append_nil (tree_rows 0 t)
+      ap (rows_from look G H 0) (sym (append-nil (records_under look G d j))) ∙ (tree_listed d j t q 0 []).rows ∙ append-nil (tree_rows 0 t)

@@ -2,7 +2,7 @@
 -- and then has a record for each application.
 use mathlib.Core.Path.{◌≡◌, refl, sym, ap, ◌∙◌, subst}
 use mathlib.Core.Logic.{◌⊎◌, inl, inr}
-use mathlib.Core.List.{List, [], ◌∷◌, ◌++◌, append_assoc, append_nil}
+use mathlib.Core.List.{List, [], ◌∷◌, ◌++◌, append_assoc, append-nil}
 use Prim.Native.Nat.{ℕ, zero, suc, ◌+◌, ◌-◌, ◌≤◌, ◌<◌}
 use native.Mathlib.Nat.{add_assoc, add_comm, add-zero, suc-add}
 use native.Mathlib.Omega.{arith}
@@ -148,16 +148,16 @@ module _ (look : ℕ → Record) (G : Grammar) (H : Graph) where
     abbrev under : List Edge → ℕ → List ℕ
     under es i = flat look G (λ b. records_under look G d b) (children_from G bs es i)
 
-    lists-parts : (es : List Edge) (i : ℕ) (ps : Parts) → PartsSpelt (λ b. tree_at look G H d b) G bs es i ps → (k : ℕ) (js : List ℕ)
+    lists_parts : (es : List Edge) (i : ℕ) (ps : Parts) → PartsSpelt (λ b. tree_at look G H d b) G bs es i ps → (k : ℕ) (js : List ℕ)
         → listing look G (size_in ps + k) (children_from G bs es i ++ js) ≡ before (under es i) (listing look G k js)
     unfolding size children_from flat
-    lists-parts [] i end no_edges k js = ap (λ (n : ℕ). listing look G n js) (omega arith) ∙ sym (before_none (listing look G k js))
-    lists-parts (e ∷ es) i (edge g ps) (an_edge q s) k js = rw q (lists-parts es (i + 1) ps s k js)
-    lists-parts (e ∷ es) i (tree t ps) (a_tree q r s) k js =
+    lists_parts [] i end no_edges k js = ap (λ (n : ℕ). listing look G n js) (omega arith) ∙ sym (before_none (listing look G k js))
+    lists_parts (e ∷ es) i (edge g ps) (an_edge q s) k js = rw q (lists_parts es (i + 1) ps s k js)
+    lists_parts (e ∷ es) i (tree t ps) (a_tree q r s) k js =
         rw q
         (ap (λ (n : ℕ). listing look G n (get_or bs i 0 ∷ (children_from G bs es (i + 1) ++ js))) (add_assoc (size t) (size_in ps) k)
         ∙ ih (get_or bs i 0) t r (size_in ps + k) (children_from G bs es (i + 1) ++ js)
-        ∙ ap (before (records_under look G d (get_or bs i 0))) (lists-parts es (i + 1) ps s k js)
+        ∙ ap (before (records_under look G d (get_or bs i 0))) (lists_parts es (i + 1) ps s k js)
         ∙ before_before (records_under look G d (get_or bs i 0)) (under es (i + 1)) (listing look G k js))
 
   pub lists_tree : (d : ℕ) → Lists d
@@ -168,7 +168,7 @@ module _ (look : ℕ → Record) (G : Grammar) (H : Graph) where
       let es = (right_of G (rule_at look j)).edges in
       let bs = partners_at look G j in
       ap (λ (n : ℕ). listing look G n (j ∷ js)) (ap (λ (u : Tree). size u + k) a.whole ∙ suc-add (size_in a.parts) k)
-      ∙ ap (listed_with j) (lists-parts d (lists_tree d) bs es 0 a.parts a.spelled k js)
+      ∙ ap (listed_with j) (lists_parts d (lists_tree d) bs es 0 a.parts a.spelled k js)
       ∙ before_cons j (under d (lists_tree d) bs es 0) (listing look G k js)
 
 -- ---- where no tree is spelt, the listing is endless
@@ -235,21 +235,21 @@ module _ (look : ℕ → Record) (G : Grammar) (H : Graph) where
 
   -- a record for each application
   module _ (d : ℕ) (ih : (j : ℕ) (t : Tree) → tree_at look G H d j ≡ spelt t → length (records_under look G d j) ≡ size t) (bs : List ℕ) where
-    length-parts : (es : List Edge) (i : ℕ) (ps : Parts) → PartsSpelt (λ b. tree_at look G H d b) G bs es i ps
+    length_parts : (es : List Edge) (i : ℕ) (ps : Parts) → PartsSpelt (λ b. tree_at look G H d b) G bs es i ps
         → length (flat look G (λ b. records_under look G d b) (children_from G bs es i)) ≡ size_in ps
     unfolding size children_from flat
-    length-parts [] i end no_edges = refl
-    length-parts (e ∷ es) i (edge g ps) (an_edge q s) = rw q (length-parts es (i + 1) ps s)
-    length-parts (e ∷ es) i (tree t ps) (a_tree q r s) =
+    length_parts [] i end no_edges = refl
+    length_parts (e ∷ es) i (edge g ps) (an_edge q s) = rw q (length_parts es (i + 1) ps s)
+    length_parts (e ∷ es) i (tree t ps) (a_tree q r s) =
         let rest = flat look G (λ b. records_under look G d b) (children_from G bs es (i + 1)) in
-        rw q (omega (arith, length-append (records_under look G d (get_or bs i 0)) rest, ih (get_or bs i 0) t r, length-parts es (i + 1) ps s))
+        rw q (omega (arith, length-append (records_under look G d (get_or bs i 0)) rest, ih (get_or bs i 0) t r, length_parts es (i + 1) ps s))
 
   pub length_under : (d j : ℕ) (t : Tree) → tree_at look G H d j ≡ spelt t → length (records_under look G d j) ≡ size t
   unfolding records_under children_at size
   length_under zero j t q = absurd (tree_none look G H j t q)
   length_under (suc d) j t q =
       let a = tree_applied look G H d j t q in
-      ap suc (length-parts d (length_under d) (partners_at look G j) (right_of G (rule_at look j)).edges 0 a.parts a.spelled) ∙ sym (ap size a.whole)
+      ap suc (length_parts d (length_under d) (partners_at look G j) (right_of G (rule_at look j)).edges 0 a.parts a.spelled) ∙ sym (ap size a.whole)
 
   pub listing_tree : (d j : ℕ) (t : Tree) → tree_at look G H d j ≡ spelt t → (k : ℕ) → size t ≤ k → listing look G k (j ∷ []) ≡ listed (records_under look G d j)
   unfolding listing
@@ -257,7 +257,7 @@ module _ (look : ℕ → Record) (G : Grammar) (H : Graph) where
       let m = k - size t in
       let whole : k ≡ size t + m = omega (arith, l) in
       ap (λ (n : ℕ). listing look G n (j ∷ [])) whole ∙ lists_tree look G H d j t q m [] ∙ ap (before (records_under look G d j)) (nil m)
-      ∙ ap listed (append_nil (records_under look G d j))
+      ∙ ap listed (append-nil (records_under look G d j))
     where
       nil : (m : ℕ) → listing look G m [] ≡ listed []
       nil zero = refl

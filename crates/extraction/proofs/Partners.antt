@@ -40,10 +40,10 @@ module _ (look : ℕ → Record) (pl : List PlanNode) where
 
   module _ (edges : ℕ) (ok : PlanOk edges pl) where
     -- other edges keep what they have
-    pub partners-kept : (k p j : ℕ) (bs : List ℕ) (i : ℕ) → occurs i (below pl p) ≡ 0 → get_or (partners_within look pl k p j bs) i 0 ≡ get_or bs i 0
+    pub partners_kept : (k p j : ℕ) (bs : List ℕ) (i : ℕ) → occurs i (below pl p) ≡ 0 → get_or (partners_within look pl k p j bs) i 0 ≡ get_or bs i 0
     unfolding partners_within occurs
-    partners-kept zero p j bs i h = refl
-    partners-kept (suc k) p j bs i h = go (λ c j cs o. partners-kept k c j cs i o) (plan_node pl p) refl
+    partners_kept zero p j bs i h = refl
+    partners_kept (suc k) p j bs i h = go (λ c j cs o. partners_kept k c j cs i o) (plan_node pl p) refl
       where
         go : ((c j : ℕ) (cs : List ℕ) → occurs i (below pl c) ≡ 0 → get_or (partners_within look pl k c j cs) i 0 ≡ get_or cs i 0) → (n : PlanNode) → plan_node pl p ≡ n
             → get_or (partners_via (λ c i cs. partners_within look pl k c i cs) (look j) bs n) i 0 ≡ get_or bs i 0
@@ -62,19 +62,19 @@ module _ (look : ℕ → Record) (pl : List PlanNode) where
     has_new p c i j e (suc k) bs l h =
         let s = ap (occurs i) (below_introduce edges pl ok p c i e) ∙ occurs_append i (below pl c) (i ∷ []) in
         ap (λ (cs : List ℕ). get_or cs i 0) (partners_step k p j bs (introduce c i) e)
-        ∙ partners-kept k c (look j).first (set bs i (look j).second) i (omega (arith, below_once edges pl ok p i (inside_introduce edges pl ok p c i e), hit_self i))
+        ∙ partners_kept k c (look j).first (set bs i (look j).second) i (omega (arith, below_once edges pl ok p i (inside_introduce edges pl ok p c i e), hit_self i))
         ∙ get_or-set_same bs i (look j).second 0 h
 
-    pub has-child : (p c e j i b : ℕ) → plan_node pl p ≡ introduce c e → Has c (look j).first i b → Has p j i b
-    has-child p c e j i b q w zero bs l h = absurd (not-suc-le-zero l)
-    has-child p c e j i b q w (suc k) bs l h =
+    pub has_child : (p c e j i b : ℕ) → plan_node pl p ≡ introduce c e → Has c (look j).first i b → Has p j i b
+    has_child p c e j i b q w zero bs l h = absurd (not-suc-le-zero l)
+    has_child p c e j i b q w (suc k) bs l h =
         ap (λ (cs : List ℕ). get_or cs i 0) (partners_step k p j bs (introduce c e) q)
         ∙ w k (set bs e (look j).second) (omega (arith, introduce_lower edges pl ok p c e q)) (omega (arith, length-set bs e (look j).second))
 
     -- below a join: no edge is below both children
-    pub has-second : (p a c j i b : ℕ) → plan_node pl p ≡ join a c → Has c (look j).second i b → Has p j i b
-    has-second p a c j i b q w zero bs l h = absurd (not-suc-le-zero l)
-    has-second p a c j i b q w (suc k) bs l h =
+    pub has_second : (p a c j i b : ℕ) → plan_node pl p ≡ join a c → Has c (look j).second i b → Has p j i b
+    has_second p a c j i b q w zero bs l h = absurd (not-suc-le-zero l)
+    has_second p a c j i b q w (suc k) bs l h =
         ap (λ (cs : List ℕ). get_or cs i 0) (partners_step k p j bs (join a c) q)
         ∙ w k (partners_within look pl k a (look j).first bs) (omega (arith, (join_lower edges pl ok p a c q).1)) (omega (arith, partners_length k a (look j).first bs))
 
@@ -83,5 +83,5 @@ module _ (look : ℕ → Record) (pl : List PlanNode) where
     has_first p a c j i b q o w (suc k) bs l h =
         let s = ap (occurs i) (below_join edges pl ok p a c q) ∙ occurs_append i (below pl a) (below pl c) in
         ap (λ (cs : List ℕ). get_or cs i 0) (partners_step k p j bs (join a c) q)
-        ∙ partners-kept k c (look j).second (partners_within look pl k a (look j).first bs) i (omega (arith, below_once edges pl ok p i (inside_join edges pl ok p a c q)))
+        ∙ partners_kept k c (look j).second (partners_within look pl k a (look j).first bs) i (omega (arith, below_once edges pl ok p i (inside_join edges pl ok p a c q)))
         ∙ w k bs (omega (arith, (join_lower edges pl ok p a c q).0)) h

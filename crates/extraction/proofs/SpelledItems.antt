@@ -16,14 +16,14 @@ use Rattle.hrg.proofs.Sums.{occurs_up_to}
 use Rattle.hrg.proofs.Plans.{below_leaf, below_introduce, below_join, below_known}
 use Rattle.hrg.proofs.Parts.{Moved}
 use Rattle.hrg.proofs.Sides.{below_of}
-use Rattle.hrg.proofs.Soundness.{edges_all, root_numbers, root_below, leaf_truth, leaf_parts, root_truth, root_tree, terminal-truth, terminal-parts, nonterminal-truth, nonterminal-parts, pair-truth, pair_parts}
+use Rattle.hrg.proofs.Soundness.{edges_all, root_numbers, root_below, leaf_truth, leaf_parts, root_truth, root_tree, terminal_truth, terminal_parts, nonterminal_truth, nonterminal_parts, pair_truth, pair_parts}
 use Rattle.preorder.specs.Rows.{size}
 use Rattle.agenda.specs.declared.Record.{Record}
 use Rattle.extraction.specs.Extraction.{partners_within, partners_at, placed_by, place_at, Spelt, SpeltParts, applied, parts_by, tree_at}
 use Rattle.extraction.proofs.NumberedParts.{Each, nothing, each_one, each_append, each_at, each_map, Rearranged, rearrange}
-use Rattle.extraction.proofs.Partners.{Has, has_new, has-child, has_first, has-second}
+use Rattle.extraction.proofs.Partners.{Has, has_new, has_child, has_first, has_second}
 use Rattle.extraction.proofs.Placing.{placed_same}
-use Rattle.extraction.proofs.SpelledParts.{SpellsTree, Part, by_edge, by_tree, Placed, placed_each, each_fits, parts_spelt, part-nodes}
+use Rattle.extraction.proofs.SpelledParts.{SpellsTree, Part, by_edge, by_tree, Placed, placed_each, each_fits, parts_spelt, part_nodes_lem}
 
 -- Edge i of rule r has the part q, by its partner from plan node p with the record at j on down.
 abbrev pub PartFor : (ℕ → Record) → Grammar → Graph → (r p j i : ℕ) → Parts → Type 0
@@ -60,7 +60,7 @@ module _ (G : Grammar) (H : Graph) (ok : GrammarOk G) (hok : GraphOk G H) (look 
   -- the parts of the child of a plan node that introduces an edge
   child_parts : (j r p c i : ℕ) {is : List ℕ} {ps : Parts} → r < length G.rules → plan_node (plan_of G r) p ≡ introduce c i
       → Each (λ i q. PartFor look G H r c (look j).first i q) is ps → Each (λ i q. PartFor look G H r p j i q) is ps
-  child_parts j r p c i l q e = each_map (λ a s o w. (w.0, has-child look (plan_of G r) _ (ok.rule r l).plan p c i j a w.0 q w.1, w.2)) e
+  child_parts j r p c i l q e = each_map (λ a s o w. (w.0, has_child look (plan_of G r) _ (ok.rule r l).plan p c i j a w.0 q w.1, w.2)) e
 
   new_part : (j r p c i : ℕ) {s : Parts} → r < length G.rules → plan_node (plan_of G r) p ≡ introduce c i
       → Part look G H (edge_at (right_of G r).edges i) (look j).second s → Each (λ i q. PartFor look G H r p j i q) (i ∷ []) s
@@ -76,10 +76,10 @@ module _ (G : Grammar) (H : Graph) (ok : GrammarOk G) (hok : GraphOk G H) (look 
         rule = o;
         known = a.known;
         inside = b;
-        truth = terminal-truth G H ok hok r p c i m₁ m n f h a.known b q a.inside a.truth (look j).second e J;
+        truth = terminal_truth G H ok hok r p c i m₁ m n f h a.known b q a.inside a.truth (look j).second e J;
         each = subst₂ (λ (is : List ℕ) (ps : Parts). Each (λ i q. PartFor look G H r p j i q) is ps)
             (sym (below_introduce _ (plan_of G r) (ok.rule r a.known).plan p c i q))
-            (sym (terminal-parts G H ok hok r p c i m₁ m n f h a.known b q a.inside a.truth (look j).second e J))
+            (sym (terminal_parts G H ok hok r p c i m₁ m n f h a.known b q a.inside a.truth (look j).second e J))
             (each_append (child_parts j r p c i a.known q a.each) (new_part j r p c i a.known q by_edge));
       }
 
@@ -92,10 +92,10 @@ module _ (G : Grammar) (H : Graph) (ok : GrammarOk G) (hok : GraphOk G H) (look 
         rule = o;
         known = a.known;
         inside = b;
-        truth = nonterminal-truth G H ok hok r p c i m₁ m n f h a.known b q a.inside a.truth m₂ k L u.truth J;
+        truth = nonterminal_truth G H ok hok r p c i m₁ m n f h a.known b q a.inside a.truth m₂ k L u.truth J;
         each = subst₂ (λ (is : List ℕ) (ps : Parts). Each (λ i q. PartFor look G H r p j i q) is ps)
             (sym (below_introduce _ (plan_of G r) (ok.rule r a.known).plan p c i q))
-            (sym (nonterminal-parts G H ok hok r p c i m₁ m n f h a.known b q a.inside a.truth m₂ k L u.truth J))
+            (sym (nonterminal_parts G H ok hok r p c i m₁ m n f h a.known b q a.inside a.truth m₂ k L u.truth J))
             (each_append (child_parts j r p c i a.known q a.each) (new_part j r p c i a.known q (by_tree u.spells (rw u.nodes u.truth.fits))));
       }
 
@@ -108,13 +108,13 @@ module _ (G : Grammar) (H : Graph) (ok : GrammarOk G) (hok : GraphOk G H) (look 
         rule = o;
         known = t.known;
         inside = b;
-        truth = pair-truth G H ok hok r p a c m₁ m₂ m n k f g h t.known b q t.inside t.truth u.inside u.truth J;
+        truth = pair_truth G H ok hok r p a c m₁ m₂ m n k f g h t.known b q t.inside t.truth u.inside u.truth J;
         each = subst₂ (λ (is : List ℕ) (ps : Parts). Each (λ i q. PartFor look G H r p j i q) is ps)
             (sym (below_join _ (plan_of G r) plan p a c q))
             (sym (pair_parts G H ok hok r p a c m₁ m₂ m n k f g h t.known b q t.inside t.truth u.inside u.truth J))
             (each_append
             (each_map (λ i s o w. (w.0, has_first look (plan_of G r) _ plan p a c j i w.0 q o w.1, w.2)) t.each)
-            (each_map (λ i s o w. (w.0, has-second look (plan_of G r) _ plan p a c j i w.0 q w.1, w.2)) u.each));
+            (each_map (λ i s o w. (w.0, has_second look (plan_of G r) _ plan p a c j i w.0 q w.1, w.2)) u.each));
       }
 
   -- ---- passive items
@@ -169,7 +169,7 @@ module _ (G : Grammar) (H : Graph) (ok : GrammarOk G) (hok : GraphOk G H) (look 
         placed_same look G H (right_of G r) partners a.truth.place a.truth.sized
         (λ x l. omega (arith, a.truth.placed x l (below_of (rule_of G r) rok p a.inside x (root_below (rule_of G r) rok p q x l)), hok.side.node_count.upper))
         (λ i l. let w = each_at ordered.each i (omega (arith, occurs_up_to (length (right_of G r).edges) i l)) in
-        part-nodes look G H ok hok a.truth.place (edge_at (right_of G r).edges i) (get_or partners i 0) w.0 w.1)
+        part_nodes_lem look G H ok hok a.truth.place (edge_at (right_of G r).edges i) (get_or partners i 0) w.0 w.1)
         rok.right.covered
 
     whole : SpellsTree look G H j (apply r a.truth.place ordered.parts)
@@ -180,10 +180,10 @@ module _ (G : Grammar) (H : Graph) (ok : GrammarOk G) (hok : GraphOk G H) (look 
         ∙ ap₂ (λ (place : List ℕ) (ps : SpeltParts). applied r place ps) place_read
         (parts_spelt look G H k a.truth.place partners (right_of G r).edges (right_of G r).edges 0 (λ i. i) ordered.parts (λ x. omega arith) (λ x. refl) ordered.each (omega arith))
 
-    pub root-spelt : take (rank_of G (lhs_of G r)) (look j).item.nodes ≡ images f (right_of G r).externals
+    pub root_spelt : take (rank_of G (lhs_of G r)) (look j).item.nodes ≡ images f (right_of G r).externals
         → PassiveSpelt look G H j (lhs_of G r) m (images f (right_of G r).externals) (n + cost (rule_of G r))
     unfolding moved
-    root-spelt e =
+    root_spelt e =
         record {
           nodes = e;
           truth = root_truth G H ok hok r p m n f a.known q a.truth moved;

@@ -93,9 +93,9 @@ module _ (look : ℕ → Record) (G : Grammar) (H : Graph) where
         ∙ padded_take 8 (edge_at H.edges g).attachment _ (omega (arith, l.listed.ranked, (ok.symbol _ l.known).upper)) (λ k. refl)
         ∙ x.attachment
 
-    pub part-nodes : (place : List ℕ) (e : Edge) (b : ℕ) (q : Parts) → Placed look G H place e b q → part_nodes look G H e b ≡ images place e.attachment
+    pub part_nodes_lem : (place : List ℕ) (e : Edge) (b : ℕ) (q : Parts) → Placed look G H place e b q → part_nodes look G H e b ≡ images place e.attachment
     unfolding part_nodes
-    part-nodes place e b q w = go q w.part w.fits
+    part_nodes_lem place e b q w = go q w.part w.fits
       where
         go : (q : Parts) → Part look G H e b q → FitsParts G H place q (e ∷ []) → part_nodes look G H e b ≡ images place e.attachment
         go q by_edge x =

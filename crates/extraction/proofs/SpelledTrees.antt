@@ -22,10 +22,10 @@ use Rattle.agenda.specs.Steps.{Chart, start_chart, runs_chart}
 use Rattle.agenda.specs.declared.Record.{Record}
 use Rattle.agenda.proofs.Consequences.{TerminalRule, terminal_with}
 use Rattle.agenda.proofs.Spelling.{HandledAt, Spells, spelt_leaf, spelt_root, spelt_edge, spelt_pair}
-use Rattle.agenda.proofs.RunFacts.{records-spell}
+use Rattle.agenda.proofs.RunFacts.{records_spell}
 use Rattle.extraction.specs.Extraction.{spelt, tree_at}
 use Rattle.extraction.proofs.SpelledParts.{SpellsTree}
-use Rattle.extraction.proofs.SpelledItems.{ActiveSpelt, PassiveSpelt, leaf_spelt, terminal_spelt, nonterminal_spelt, join_spelt, root-spelt}
+use Rattle.extraction.proofs.SpelledItems.{ActiveSpelt, PassiveSpelt, leaf_spelt, terminal_spelt, nonterminal_spelt, join_spelt, root_spelt}
 
 -- What a record has of its item: the rule of an active one, the listed nodes of a passive one.
 abbrev HasItem : Grammar → Record → Item → Type 0
@@ -52,7 +52,7 @@ module _ (G : Grammar) (H : Graph) (ok : GrammarOk G) (hok : GraphOk G H) (look 
 
   by_root_is : {a i : Item} {k : ℕ} (j n s m : ℕ) (L : List ℕ) → UnaryRule G H a k i → i ≡ passive s m L → HasItem G (look j) i → SpeltAt (look j).first n a → SpeltAt j (n + k) i
   by_root_is j n s m L (terminal_rule r p c i g m₁ m' f h b q e J) w o t = let z : ◌≡◌ {A = ℕ} 0 1 = cc in absurd (omega arith)
-  by_root_is j n s m L (root_rule r p m' f q) w o t = root-spelt G H ok hok look j r p m' n f q t o
+  by_root_is j n s m L (root_rule r p m' f q) w o t = root_spelt G H ok hok look j r p m' n f q t o
 
   by_terminal : {a i : Item} (j n : ℕ) → TerminalRule G H (look j).second a i → HasItem G (look j) i → SpeltAt (look j).first n a → SpeltAt j (n + 0) i
   by_terminal j n (terminal_with r p c i m₁ m f h b q e J) o t = terminal_spelt G H ok hok look j r p c i m₁ m n f h o b q e J t
@@ -69,32 +69,32 @@ module _ (G : Grammar) (H : Graph) (ok : GrammarOk G) (hok : GraphOk G H) (look 
     found : {a : ℕ} {y : Record} → HandledAt rs a y → look a ≡ y
     found {a} h = same a h.known ∙ h.is
 
-    record-spelt : {x : Record} {d : Derivation Item} (j : ℕ) → look j ≡ x → Spells G H rs x d → SpeltAt j x.item.count (item_of G x.item)
-    record-spelt j e (spelt_leaf {x = x} l c) = subst (λ (n : ℕ). SpeltAt j n (item_of G x.item)) (sym c) (by_leaf j l (held j e))
-    record-spelt j e (spelt_root {x = x} {y = y} {s = s} {m = m} {L = L} h w u c d) =
+    record_spelt : {x : Record} {d : Derivation Item} (j : ℕ) → look j ≡ x → Spells G H rs x d → SpeltAt j x.item.count (item_of G x.item)
+    record_spelt j e (spelt_leaf {x = x} l c) = subst (λ (n : ℕ). SpeltAt j n (item_of G x.item)) (sym c) (by_leaf j l (held j e))
+    record_spelt j e (spelt_root {x = x} {y = y} {s = s} {m = m} {L = L} h w u c d) =
         subst (λ (n : ℕ). SpeltAt j n (item_of G x.item)) (sym c)
-        (by_root_is j y.item.count s m L u w (held j e) (subst (λ (z : Record). SpeltAt z.first y.item.count (item_of G y.item)) (sym e) (record-spelt x.first (found h) d)))
-    record-spelt j e (spelt_edge {x = x} {y = y} h l t c d) =
+        (by_root_is j y.item.count s m L u w (held j e) (subst (λ (z : Record). SpeltAt z.first y.item.count (item_of G y.item)) (sym e) (record_spelt x.first (found h) d)))
+    record_spelt j e (spelt_edge {x = x} {y = y} h l t c d) =
         subst (λ (n : ℕ). SpeltAt j n (item_of G x.item)) (let z : y.item.count + 0 ≡ x.item.count = omega (arith, c) in z)
         (by_terminal j y.item.count (subst (λ (z : Record). TerminalRule G H z.second (item_of G y.item) (item_of G x.item)) (sym e) t) (held j e)
-        (subst (λ (z : Record). SpeltAt z.first y.item.count (item_of G y.item)) (sym e) (record-spelt x.first (found h) d)))
-    record-spelt j e (spelt_pair {x = x} {y = y} {z = z} h i b c d f) =
+        (subst (λ (z : Record). SpeltAt z.first y.item.count (item_of G y.item)) (sym e) (record_spelt x.first (found h) d)))
+    record_spelt j e (spelt_pair {x = x} {y = y} {z = z} h i b c d f) =
         subst (λ (n : ℕ). SpeltAt j n (item_of G x.item)) (sym c)
-        (by_pair j y.item.count z.item.count b (held j e) (subst (λ (w : Record). SpeltAt w.first y.item.count (item_of G y.item)) (sym e) (record-spelt x.first (found h) d))
-        (subst (λ (w : Record). SpeltAt w.second z.item.count (item_of G z.item)) (sym e) (record-spelt x.second (found i) f)))
+        (by_pair j y.item.count z.item.count b (held j e) (subst (λ (w : Record). SpeltAt w.first y.item.count (item_of G y.item)) (sym e) (record_spelt x.first (found h) d))
+        (subst (λ (w : Record). SpeltAt w.second z.item.count (item_of G z.item)) (sym e) (record_spelt x.second (found i) f)))
 
     module _ (j : ℕ) (l : j < length rs) (d : Derivation Item) (w : Spells G H rs (record_in rs j) d) where
       -- a passive record that spells a derivation: its tree makes its item true, with its count
-      pub spelled-tree : (s m : ℕ) (L : List ℕ) → item_of G (record_in rs j).item ≡ passive s m L → (t : PassiveTruth G H s m L (record_in rs j).item.count) × SpellsTree look G H j t.tree
-      spelled-tree s m L e =
-          let p = subst (λ (i : Item). SpeltAt j (record_in rs j).item.count i) e (record-spelt j (same j l) w) in
+      pub spelled_tree : (s m : ℕ) (L : List ℕ) → item_of G (record_in rs j).item ≡ passive s m L → (t : PassiveTruth G H s m L (record_in rs j).item.count) × SpellsTree look G H j t.tree
+      spelled_tree s m L e =
+          let p = subst (λ (i : Item). SpeltAt j (record_in rs j).item.count i) e (record_spelt j (same j l) w) in
           (p.truth, p.spells)
 
       -- for the goal its tree generates the graph, and has as many applications as the record's count
-      pub goal-tree : item_of G (record_in rs j).item ≡ goal G H
+      pub goal_tree : item_of G (record_in rs j).item ≡ goal G H
           → (t : Tree) × Generates G H t × (applications G t ≡ (record_in rs j).item.count) × (size t ≡ (record_in rs j).item.count) × ((k : ℕ) → size t ≤ k → tree_at look G H k j ≡ spelt t)
-      goal-tree e =
-          let p = spelled-tree _ _ _ e in
+      goal_tree e =
+          let p = spelled_tree _ _ _ e in
           (p.0.tree, truth_tree G H ok hok (record_in rs j).item.count p.0, p.0.count, sym (size_applications G p.0.tree) ∙ p.0.count, p.1)
 
 -- On a chart after a start and any list of runs, while it is not found too small, so of every passive record and of
@@ -104,11 +104,11 @@ module _ (G : Grammar) (H : Graph) (ok : GrammarOk G) (hok : GraphOk G H) (cap :
   pub chart_tree : (s m : ℕ) (L : List ℕ) → item_of G (record_in c.records j).item ≡ passive s m L
       → (t : PassiveTruth G H s m L (record_in c.records j).item.count) × SpellsTree look G H j t.tree
   chart_tree =
-      let w = records-spell G H ok hok cap most ks c is fits j known in
-      spelled-tree G H ok hok look c.records same j known w.how w.spells
+      let w = records_spell G H ok hok cap most ks c is fits j known in
+      spelled_tree G H ok hok look c.records same j known w.how w.spells
 
   pub chart_goal_tree : item_of G (record_in c.records j).item ≡ goal G H
       → (t : Tree) × Generates G H t × (applications G t ≡ (record_in c.records j).item.count) × (size t ≡ (record_in c.records j).item.count) × ((k : ℕ) → size t ≤ k → tree_at look G H k j ≡ spelt t)
   chart_goal_tree =
-      let w = records-spell G H ok hok cap most ks c is fits j known in
-      goal-tree G H ok hok look c.records same j known w.how w.spells
+      let w = records_spell G H ok hok cap most ks c is fits j known in
+      goal_tree G H ok hok look c.records same j known w.how w.spells

@@ -1,7 +1,7 @@
 -- The list of applications: children pushed in front of what is due, and one application more.
 use mathlib.Core.Path.{◌≡◌, refl, sym, ap, ap₂, ◌∙◌}
 use mathlib.Core.Bool.{Bool, true, false}
-use mathlib.Core.List.{List, [], ◌∷◌, ◌++◌, append_assoc, append_nil}
+use mathlib.Core.List.{List, [], ◌∷◌, ◌++◌, append_assoc, append-nil}
 use Prim.Native.Nat.{ℕ, zero, suc, ◌+◌, ◌-◌, ◌≤◌, ◌<◌}
 use native.Mathlib.Numerals.{add-one}
 use native.Mathlib.Omega.{arith}
@@ -139,10 +139,10 @@ module _ (w : List ℕ) where
   children_by g j r bs list now top t a b (p, q) = (rw (a, b) at p, q)
 
   module _ (G : Grammar) where
-    listing-end : (k : ℕ) → listing look G k [] ≡ listed []
+    listing_end : (k : ℕ) → listing look G k [] ≡ listed []
     unfolding listing
-    listing-end zero = refl
-    listing-end (suc k) = refl
+    listing_end zero = refl
+    listing_end (suc k) = refl
 
     -- more due than may be listed
     too_many : (k : ℕ) (js : List ℕ) → k < length js → listing look G k js ≡ endless
@@ -152,18 +152,18 @@ module _ (w : List ℕ) where
     too_many (suc k) [] h = absurd (omega arith)
     too_many (suc k) (j ∷ js) h = ap (listed_with j) (too_many k (children_at look G j ++ js) (omega (arith, length-append (children_at look G j) js)))
 
-    listing-next : (k m j : ℕ) (js : List ℕ) → k ≡ suc m → listing look G k (j ∷ js) ≡ listed_with j (listing look G m (children_at look G j ++ js))
+    listing_next : (k m j : ℕ) (js : List ℕ) → k ≡ suc m → listing look G k (j ∷ js) ≡ listed_with j (listing look G m (children_at look G j ++ js))
     unfolding listing
-    listing-next k m j js e = rw e
+    listing_next k m j js e = rw e
 
     -- what is listed within some number of records is so within a greater one
-    more-listed : (k m : ℕ) (js xs : List ℕ) → k ≤ m → listing look G k js ≡ listed xs → listing look G m js ≡ listed xs
+    more_listed : (k m : ℕ) (js xs : List ℕ) → k ≤ m → listing look G k js ≡ listed xs → listing look G m js ≡ listed xs
     unfolding listing
-    more-listed zero m [] xs h e = listing-end m ∙ e
-    more-listed zero m (j ∷ js) xs h e = absurd (endless_not xs e)
-    more-listed (suc k) zero js xs h e = absurd (omega arith)
-    more-listed (suc k) (suc m) [] xs h e = e
-    more-listed (suc k) (suc m) (j ∷ js) xs h e = go (listing look G k (children_at look G j ++ js)) refl e (λ ys. more-listed k m (children_at look G j ++ js) ys (omega arith))
+    more_listed zero m [] xs h e = listing_end m ∙ e
+    more_listed zero m (j ∷ js) xs h e = absurd (endless_not xs e)
+    more_listed (suc k) zero js xs h e = absurd (omega arith)
+    more_listed (suc k) (suc m) [] xs h e = e
+    more_listed (suc k) (suc m) (j ∷ js) xs h e = go (listing look G k (children_at look G j ++ js)) refl e (λ ys. more_listed k m (children_at look G j ++ js) ys (omega arith))
       where
         go : (l : Listing) → listing look G k (children_at look G j ++ js) ≡ l → listed_with j l ≡ listed xs
             → ((ys : List ℕ) → listing look G k (children_at look G j ++ js) ≡ listed ys → listing look G m (children_at look G j ++ js) ≡ listed ys)
@@ -174,7 +174,7 @@ module _ (w : List ℕ) where
     pub listed_more : (k m n : ℕ) (js list : List ℕ) → k ≤ m → (n ≡ 0 → ⊥) → ListedIn k (listing look G k js) list n → ListedIn m (listing look G m js) list n
     listed_more k m n js list h some p = record {
       few = omega (arith, p.few);
-      whole = more-listed k m js (take n list) h (p.whole ∙ all) ∙ sym all;
+      whole = more_listed k m js (take n list) h (p.whole ∙ all) ∙ sym all;
     }
       where
         all : first_of list n ≡ listed (take n list)
@@ -207,13 +207,13 @@ module _ (w : List ℕ) where
 
       module _ (list now : List ℕ) (count top x t : ℕ) (before : Going list count top) (h : top < limit + 8) (e : x ≡ get_or list top 0)
           (pushed : Pushed (children_at look G x) (set list count x) (top + 1) now t) (near : top + 1 ≤ t + 8) where
-        due-now : children_at look G x ++ drop (suc top) list ≡ drop t now
-        due-now =
+        due_now : children_at look G x ++ drop (suc top) list ≡ drop t now
+        due_now =
             ap (λ (l : List ℕ). children_at look G x ++ l) (sym (drop-set-lt (suc top) list count x (omega (arith, before.free))) ∙ ap (λ (k : ℕ). drop k (set list count x)) (sym (add-one top)))
             ∙ sym pushed.back
 
-        listed-now : take count list ++ (x ∷ []) ≡ take (count + 1) now
-        listed-now =
+        listed_now : take count list ++ (x ∷ []) ≡ take (count + 1) now
+        listed_now =
             sym (take-suc-set list count x (omega (arith, before.free, before.size)))
             ∙ ap (λ (k : ℕ). take k (set list count x)) (sym (add-one count))
             ∙ sym (take-take (count + 1) t (set list count x) (omega (arith, before.free)))
@@ -224,9 +224,9 @@ module _ (w : List ℕ) where
         turn =
             before.whole
             ∙ ap (λ (js : List ℕ). prefixed (take count list) (listing look G (limit - count) js)) (drop-cons list top 0 (omega (arith, before.size)) ∙ ap (λ (y : ℕ). y ∷ drop (suc top) list) (sym e))
-            ∙ ap (prefixed (take count list)) (listing-next (limit - count) (limit - (count + 1)) x (drop (suc top) list) (omega (arith, before.free)))
+            ∙ ap (prefixed (take count list)) (listing_next (limit - count) (limit - (count + 1)) x (drop (suc top) list) (omega (arith, before.free)))
             ∙ prefixed_more (take count list) x (listing look G (limit - (count + 1)) (children_at look G x ++ drop (suc top) list))
-            ∙ ap₂ (λ (xs js : List ℕ). prefixed xs (listing look G (limit - (count + 1)) js)) listed-now due-now
+            ∙ ap₂ (λ (xs js : List ℕ). prefixed xs (listing look G (limit - (count + 1)) js)) listed_now due_now
 
         sized : length now ≡ limit + 8
         sized = pushed.same ∙ length-set list count x ∙ before.size
@@ -234,8 +234,8 @@ module _ (w : List ℕ) where
         pub going_on : count + 1 + 8 ≤ t → Going now (count + 1) t
         going_on l = record { size = sized; free = l; low = omega (arith, pushed.place); some = omega (arith, pushed.place); whole = turn }
 
-        pub going-over : t < count + 1 + 8 → ListedIn limit (listing look G limit (j ∷ [])) now 0
-        going-over l = record {
+        pub going_over : t < count + 1 + 8 → ListedIn limit (listing look G limit (j ∷ [])) now 0
+        going_over l = record {
           few = omega arith;
           whole = turn ∙ ap (prefixed (take (count + 1) now)) (too_many (limit - (count + 1)) (drop t now) (omega (arith, length-drop t now, sized, before.free, before.low)));
         }
@@ -245,7 +245,7 @@ module _ (w : List ℕ) where
         few = omega (arith, p.free, p.low);
         whole = p.whole
             ∙ ap (λ (js : List ℕ). prefixed (take count list) (listing look G (limit - count) js)) (drop_of_length-le list {i = top} (omega (arith, p.size)))
-            ∙ ap (prefixed (take count list)) (listing-end (limit - count))
-            ∙ ap listed (append_nil (take count list))
+            ∙ ap (prefixed (take count list)) (listing_end (limit - count))
+            ∙ ap listed (append-nil (take count list))
             ∙ sym (rw (ne_eqb count 0 (λ z. omega (arith, p.some))) refl);
       }

@@ -1,7 +1,7 @@
 -- The numbers in a row, edge by edge.
 use mathlib.Core.Path.{◌≡◌, refl, sym, ap, ap₂, ◌∙◌}
 use mathlib.Core.Bool.{Bool, cond}
-use mathlib.Core.List.{List, [], ◌∷◌, ◌++◌, append_assoc, append_nil}
+use mathlib.Core.List.{List, [], ◌∷◌, ◌++◌, append_assoc, append-nil}
 use Prim.Native.Nat.{ℕ, suc, ◌+◌, ◌≤◌, ◌<◌}
 use native.Mathlib.Numerals.{add-one}
 use native.Mathlib.Omega.{arith}
@@ -70,19 +70,19 @@ module _ (G : Grammar) (bs sizes : List ℕ) (es : List Edge) (from : ℕ) (star
         ∙ append_assoc (take (at + i) fields) (v ∷ []) (numbers_from G bs size (drop (suc i) es) (i + 1) n)
         ∙ ap (λ (l : List ℕ). take (at + i) fields ++ l) (sym step)
         ∙ p.listed;
-    end = rw (add-one i) (ap (λ (m : ℕ). end_from G size (drop (suc i) es) m) next-is ∙ sym (end_next i next h) ∙ p.end);
+    end = rw (add-one i) (ap (λ (m : ℕ). end_from G size (drop (suc i) es) m) next_is ∙ sym (end_next i next h) ∙ p.end);
   }
     where
       behind : at + (i + 1) ≡ suc (at + i)
       behind = omega arith
 
-      next-is : n ≡ next_by (kind_in i) size next
-      next-is = b ∙ next_by_lem (kind_in i) t size next test
+      next_is : n ≡ next_by (kind_in i) size next
+      next_is = b ∙ next_by_lem (kind_in i) t size next test
 
       step : numbers_from G bs size (drop i es) i next ≡ v ∷ numbers_from G bs size (drop (suc i) es) (i + 1) n
       step =
           numbers_next i next h
-          ∙ ap₂ (λ (x m : ℕ). x ∷ numbers_from G bs size (drop (suc i) es) (i + 1) m) (sym (a ∙ number_by_lem (kind_in i) t (get_or bs i 0) next test)) (sym next-is)
+          ∙ ap₂ (λ (x m : ℕ). x ∷ numbers_from G bs size (drop (suc i) es) (i + 1) m) (sym (a ∙ number_by_lem (kind_in i) t (get_or bs i 0) next test)) (sym next_is)
 
   pub numbering_done : (fields : List ℕ) (next i edges : ℕ) → edges ≡ length es → edges ≤ i → Numbering fields next i → NumberedBy G bs sizes es from start at fields next
   unfolding numbers_from end_from
@@ -90,7 +90,7 @@ module _ (G : Grammar) (bs sizes : List ℕ) (es : List Edge) (from : ℕ) (star
       let same : length es ≡ i = omega (arith, p.inside) in
       let none : drop i es ≡ [] = drop_of_length-le es {i = i} (omega arith) in
       record {
-        numbers = ap (λ (k : ℕ). take (at + k) fields) same ∙ sym (append_nil (take (at + i) fields)) ∙ ap (λ (l : List Edge). take (at + i) fields ++ numbers_from G bs size l i next) (sym none) ∙ p.listed;
+        numbers = ap (λ (k : ℕ). take (at + k) fields) same ∙ sym (append-nil (take (at + i) fields)) ∙ ap (λ (l : List Edge). take (at + i) fields ++ numbers_from G bs size l i next) (sym none) ∙ p.listed;
         end = ap (λ (l : List Edge). end_from G size l next) (sym none) ∙ p.end;
         up = p.up;
         inside = p.few;

@@ -35,20 +35,20 @@ module _ (w : List ℕ) where
       abbrev below : PlanNode → List ℕ
       below = λ y. partners_via (λ c i cs. partners_within look pl (left - 1) c i cs) (record_at w j) bs y
 
-      pub within-leaf : kind ≡ 0 → bs ≡ partners_within look pl left p j bs
-      within-leaf e =
+      pub within_leaf : kind ≡ 0 → bs ≡ partners_within look pl left p j bs
+      within_leaf e =
           let here : plan_node pl p ≡ leaf = node ∙ rw e in
           sym (within_step some ∙ ap below here)
 
       module _ (a b : ℕ) (at_a : a ≡ (record_at w j).first) (at_b : b ≡ (record_at w j).second) where
-        pub within-introduce : (v : List ℕ) → kind ≡ 1 → v ≡ partners_within look pl (left - 1) first a (set bs second b) → v ≡ partners_within look pl left p j bs
-        within-introduce v e x =
+        pub within_introduce : (v : List ℕ) → kind ≡ 1 → v ≡ partners_within look pl (left - 1) first a (set bs second b) → v ≡ partners_within look pl left p j bs
+        within_introduce v e x =
             let here : plan_node pl p ≡ introduce first second = node ∙ rw e in
             x ∙ rw (at_a, at_b) (sym (within_step some ∙ ap below here))
 
-        pub within-join : (cs v : List ℕ) → (kind ≡ 0 → ⊥) → (kind ≡ 1 → ⊥) → cs ≡ partners_within look pl (left - 1) first a bs
+        pub within_join : (cs v : List ℕ) → (kind ≡ 0 → ⊥) → (kind ≡ 1 → ⊥) → cs ≡ partners_within look pl (left - 1) first a bs
             → v ≡ partners_within look pl (left - 1) second b cs → v ≡ partners_within look pl left p j bs
-        within-join cs v y z x x' =
+        within_join cs v y z x x' =
             let here : plan_node pl p ≡ join first second = node ∙ rw (ne_eqb kind 0 y, ne_eqb kind 1 z) in
             x' ∙ rw (x, at_a, at_b) (sym (within_step some ∙ ap below here))
 
@@ -60,11 +60,11 @@ module _ (w : List ℕ) where
     sized : n ≡ length (plan_of G (rule_at look j))
     sized = size ∙ ap (λ r. length (plan_of G r)) rule
 
-    pub partners-none : (bs : List ℕ) → bs ≡ replicate 8 0 → n ≡ 0 → bs ≡ partners_at look G j
+    pub partners_none : (bs : List ℕ) → bs ≡ replicate 8 0 → n ≡ 0 → bs ≡ partners_at look G j
     unfolding partners_at
-    partners-none bs z e =
+    partners_none bs z e =
         z ∙ within_end (plan_of G (rule_at look j)) (length (plan_of G (rule_at look j))) (length (plan_of G (rule_at look j)) - 1) (record_at w j).first (replicate 8 0) (sym sized ∙ e)
 
-    pub partners-some : (x : ℕ) (bs v : List ℕ) → bs ≡ replicate 8 0 → x ≡ (record_at w j).first → v ≡ partners_within look (plan_of G r) n (n - 1) x bs → v ≡ partners_at look G j
+    pub partners_some : (x : ℕ) (bs v : List ℕ) → bs ≡ replicate 8 0 → x ≡ (record_at w j).first → v ≡ partners_within look (plan_of G r) n (n - 1) x bs → v ≡ partners_at look G j
     unfolding partners_at
-    partners-some x bs v z a b = b ∙ rw (z, size, rule, a)
+    partners_some x bs v z a b = b ∙ rw (z, size, rule, a)

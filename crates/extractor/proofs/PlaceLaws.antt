@@ -183,8 +183,8 @@ module _ (g : List ℕ) (r i : ℕ) (known : KnownEdge g r i) (l start : List �
     there : x ≡ get_or (edge_nodes g r i) (k - 1) 0
     there = e ∙ sym (node_there g r i known (k - 1) inner) ∙ get_d_any (edge_nodes g r i) (k - 1) unplaced 0 (omega (arith, edge_rank g r i known, inner))
 
-    step-j : k - 1 + 1 ≡ k
-    step-j = omega arith
+    step_j : k - 1 + 1 ≡ k
+    step_j = omega arith
 
     listed : get_or l (k - 1) 0 ≡ get_or (take rank l) (k - 1) 0
     listed = sym (get_or-take rank l (k - 1) 0 inner)
@@ -198,18 +198,18 @@ module _ (g : List ℕ) (r i : ℕ) (known : KnownEdge g r i) (l start : List �
     free : get_or f x 0 ≡ at f x
     free = get_d_any f x 0 unplaced (omega (arith, before.merged.size, node_few))
 
-    pub placing-put : get_or f x 0 ≡ 64 → Placing g r i l start (k - 1) (set f x (get_or l (k - 1) 0))
-    placing-put z = record {
+    pub placing_put : get_or f x 0 ≡ 64 → Placing g r i l start (k - 1) (set f x (get_or l (k - 1) 0))
+    placing_put z = record {
       low = omega (arith, before.low);
       inside = omega (arith, before.inside);
-      merged = merged_put (edge_nodes g r i) (take rank l) start f k (k - 1) x (get_or l (k - 1) 0) step-j short long there listed node_few ((edge_ok g r i known).listed.once x) before.merged (sym free ∙ z);
+      merged = merged_put (edge_nodes g r i) (take rank l) start f k (k - 1) x (get_or l (k - 1) 0) step_j short long there listed node_few ((edge_ok g r i known).listed.once x) before.merged (sym free ∙ z);
     }
 
-    pub placing-kept : (get_or f x 0 ≡ 64 → ⊥) → Placing g r i l start (k - 1) f
-    placing-kept z = record {
+    pub placing_kept : (get_or f x 0 ≡ 64 → ⊥) → Placing g r i l start (k - 1) f
+    placing_kept z = record {
       low = omega (arith, before.low);
       inside = omega (arith, before.inside);
-      merged = merged_kept (edge_nodes g r i) (take rank l) start f k (k - 1) x (get_or l (k - 1) 0) step-j short long there listed node_few ((edge_ok g r i known).listed.once x) before.merged (λ d. z (free ∙ d));
+      merged = merged_kept (edge_nodes g r i) (take rank l) start f k (k - 1) x (get_or l (k - 1) 0) step_j short long there listed node_few ((edge_ok g r i known).listed.once x) before.merged (λ d. z (free ∙ d));
     }
 
   pub placing_done : (k : ℕ) (f : List ℕ) → BareFrom (rule_nodes g r) start → k ≤ 0 → Placing g r i l start k f → f ≡ padded (joined (rule_nodes g r) start (attach (rule_nodes g r) (edge_nodes g r i) (take rank l)))
@@ -239,8 +239,8 @@ module _ (w : List ℕ) where
     abbrev kind_at : Kind
     kind_at = kind_of (grammar_of g) (edge_at (right_of (grammar_of g) r).edges i).label
 
-    abbrev rankHere : ℕ
-    rankHere = rank_at g (edge_label g r i)
+    abbrev rank_here : ℕ
+    rank_here = rank_at g (edge_label g r i)
 
     abbrev part : List ℕ
     part = part_nodes look (grammar_of g) (graph_of g h) (edge_at (right_of (grammar_of g) r).edges i) b
@@ -249,36 +249,36 @@ module _ (w : List ℕ) where
     abbrev with : List ℕ → List ℕ → List ℕ
     with = λ f l. padded (joined (rule_nodes g r) f (attach (rule_nodes g r) (edge_nodes g r i) l))
 
-    part-is : part ≡ take rankHere (nodes_by look (graph_of g h) kind_at b)
+    part_is : part ≡ take rank_here (nodes_by look (graph_of g h) kind_at b)
     unfolding part_nodes
-    part-is = ap (λ (k : ℕ). take k (nodes_by look (graph_of g h) kind_at b)) (label_rank g r i known)
+    part_is = ap (λ (k : ℕ). take k (nodes_by look (graph_of g h) kind_at b)) (label_rank g r i known)
 
-    pub placed-record : (f v : List ℕ) → t ≡ true → v ≡ with f (take rankHere (record_at w b).item.nodes) → v ≡ with f part
-    placed-record f v e q = q ∙ ap (with f) (ap (take rankHere) (by_record (graph_of g h) b kind_at (sym e ∙ test)) ∙ sym part-is)
+    pub placed_record : (f v : List ℕ) → t ≡ true → v ≡ with f (take rank_here (record_at w b).item.nodes) → v ≡ with f part
+    placed_record f v e q = q ∙ ap (with f) (ap (take rank_here) (by_record (graph_of g h) b kind_at (sym e ∙ test)) ∙ sym part_is)
 
     -- eight places have the nodes that the rank takes
-    part-edges : t ≡ false → attach (rule_nodes g r) (edge_nodes g r i) (take rankHere (edge_at (graph_of g h).edges b).attachment) ≡ attach (rule_nodes g r) (edge_nodes g r i) part
-    part-edges e =
-        attach_same (rule_nodes g r) (edge_nodes g r i) (take rankHere l) (take rankHere (padded l)) (λ k. go k (dec_lt k rankHere))
-        ∙ ap (attach (rule_nodes g r) (edge_nodes g r i)) (ap (take rankHere) (by_edge (graph_of g h) b kind_at (sym e ∙ test)) ∙ sym part-is)
+    part_edges : t ≡ false → attach (rule_nodes g r) (edge_nodes g r i) (take rank_here (edge_at (graph_of g h).edges b).attachment) ≡ attach (rule_nodes g r) (edge_nodes g r i) part
+    part_edges e =
+        attach_same (rule_nodes g r) (edge_nodes g r i) (take rank_here l) (take rank_here (padded l)) (λ k. go k (dec_lt k rank_here))
+        ∙ ap (attach (rule_nodes g r) (edge_nodes g r i)) (ap (take rank_here) (by_edge (graph_of g h) b kind_at (sym e ∙ test)) ∙ sym part_is)
       where
         l : List ℕ
         l = (edge_at (graph_of g h).edges b).attachment
 
-        go : (k : ℕ) → Dec (k < rankHere) → at (take rankHere l) k ≡ at (take rankHere (padded l)) k
-        go k (yes d) = get_or-take rankHere l k unplaced d ∙ sym (at_padded l k (omega arith)) ∙ sym (get_or-take rankHere (padded l) k unplaced d)
+        go : (k : ℕ) → Dec (k < rank_here) → at (take rank_here l) k ≡ at (take rank_here (padded l)) k
+        go k (yes d) = get_or-take rank_here l k unplaced d ∙ sym (at_padded l k (omega arith)) ∙ sym (get_or-take rank_here (padded l) k unplaced d)
         go k (no d) =
-            at_past (take rankHere l) k (omega (arith, length-take rankHere l)) ∙ sym (at_past (take rankHere (padded l)) k (omega (arith, length-take rankHere (padded l))))
+            at_past (take rank_here l) k (omega (arith, length-take rank_here l)) ∙ sym (at_past (take rank_here (padded l)) k (omega (arith, length-take rank_here (padded l))))
 
-    pub placed-edge : (f v : List ℕ) → t ≡ false → v ≡ with f (take rankHere (edge_at (graph_of g h).edges b).attachment) → v ≡ with f part
-    placed-edge f v e q = q ∙ ap (λ (m : List ℕ). padded (joined (rule_nodes g r) f m)) (part-edges e)
+    pub placed_edge : (f v : List ℕ) → t ≡ false → v ≡ with f (take rank_here (edge_at (graph_of g h).edges b).attachment) → v ≡ with f part
+    placed_edge f v e q = q ∙ ap (λ (m : List ℕ). padded (joined (rule_nodes g r) f m)) (part_edges e)
 
     -- past the graph's edges there is no node
     pub placed_past : (n : ℕ) (f : List ℕ) → length f ≡ 8 → BareFrom (rule_nodes g r) f → t ≡ false → n ≡ graph_edges h → n ≤ b → f ≡ with f part
     placed_past n f size bare e a past =
-        placed-edge f f e
-        (merged_done (rule_nodes g r) (edge_nodes g r i) (take rankHere l) f f (edge_ok g r i known).listed.inside bare
-        (merged_none (edge_nodes g r i) (take rankHere l) f 0 size (omega (arith, length-take rankHere l, none))))
+        placed_edge f f e
+        (merged_done (rule_nodes g r) (edge_nodes g r i) (take rank_here l) f f (edge_ok g r i known).listed.inside bare
+        (merged_none (edge_nodes g r i) (take rank_here l) f 0 size (omega (arith, length-take rank_here l, none))))
       where
         l : List ℕ
         l = (edge_at (graph_of g h).edges b).attachment
@@ -297,16 +297,16 @@ module _ (w : List ℕ) where
   length_placed G H P bs (suc k) = length_tabulate P.nodes _
 
   module _ (G : Grammar) (H P : Graph) (bs : List ℕ) where
-    pub placed-start : (f : List ℕ) → f ≡ replicate 8 unplaced → f ≡ padded (placed_by look G H P bs 0)
+    pub placed_start : (f : List ℕ) → f ≡ replicate 8 unplaced → f ≡ padded (placed_by look G H P bs 0)
     unfolding placed_by
-    placed-start f e = e ∙ is_padded (replicate 8 unplaced) (tabulate P.nodes (λ x. unplaced)) refl (λ x h. at_none 8 x ∙ sym (here x (dec_lt x P.nodes)))
+    placed_start f e = e ∙ is_padded (replicate 8 unplaced) (tabulate P.nodes (λ x. unplaced)) refl (λ x h. at_none 8 x ∙ sym (here x (dec_lt x P.nodes)))
       where
         here : (x : ℕ) → Dec (x < P.nodes) → at (tabulate P.nodes (λ x. unplaced)) x ≡ unplaced
         here x (yes d) = at_tabulate P.nodes (λ x. unplaced) x d
         here x (no d) = at_past (tabulate P.nodes (λ x. unplaced)) x (omega (arith, length_tabulate P.nodes (λ x. unplaced)))
 
-    pub placed-long : (f : List ℕ) (i : ℕ) → f ≡ padded (placed_by look G H P bs i) → length f ≡ 8
-    placed-long f i e = ap length e ∙ length_padded (placed_by look G H P bs i)
+    pub placed_long : (f : List ℕ) (i : ℕ) → f ≡ padded (placed_by look G H P bs i) → length f ≡ 8
+    placed_long f i e = ap length e ∙ length_padded (placed_by look G H P bs i)
 
     pub placed_bare : (n : ℕ) (f : List ℕ) (i : ℕ) → n ≡ P.nodes → f ≡ padded (placed_by look G H P bs i) → BareFrom n f
     placed_bare n f i e q = same_bare n P.nodes f (padded (placed_by look G H P bs i)) e q (padded_bare P.nodes (placed_by look G H P bs i) (omega (arith, length_placed G H P bs i)))

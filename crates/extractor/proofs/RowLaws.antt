@@ -60,12 +60,12 @@ module _ (w : List ℕ) where
     unfolding place_at
     place_by = rw (rule, partners)
 
-    numbers-by : numbers_from G bs size (right_of G r).edges 0 (n + 1) ≡ numbers_from G (partners_at look G j) size (right_of G (rule_at look j)).edges 0 (n + 1)
-    numbers-by = rw (rule, partners)
+    numbers_by : numbers_from G bs size (right_of G r).edges 0 (n + 1) ≡ numbers_from G (partners_at look G j) size (right_of G (rule_at look j)).edges 0 (n + 1)
+    numbers_by = rw (rule, partners)
 
-    span-by : (end : ℕ) → end ≡ end_from G size (right_of G r).edges (n + 1) → end - n ≡ span_at look G size n j
+    span_by : (end : ℕ) → end ≡ end_from G size (right_of G r).edges (n + 1) → end - n ≡ span_at look G size n j
     unfolding span_at
-    span-by end e = ap (λ (m : ℕ). m - n) (e ∙ ap (λ (r : ℕ). end_from G size (right_of G r).edges (n + 1)) rule)
+    span_by end e = ap (λ (m : ℕ). m - n) (e ∙ ap (λ (r : ℕ). end_from G size (right_of G r).edges (n + 1)) rule)
 
     pub row_by : (places fields now : List ℕ) (nodes edges end : ℕ) → nodes ≡ (right_of G r).nodes → nodes ≤ 8 → edges ≡ length (right_of G r).edges → edges ≤ 8
         → length fields ≡ 18 → places ≡ padded (placed_by look G H (right_of G r) bs edges)
@@ -76,12 +76,12 @@ module _ (w : List ℕ) where
       few = omega arith;
       fields = ap (λ (k : ℕ). take (2 + nodes + k) now) e
           ∙ by.numbers
-          ∙ ap₂ (λ (l m : List ℕ). l ++ m) (fields_front n r fields places (placed_by look G H (right_of G r) bs edges) size' p nodes few) numbers-by
+          ∙ ap₂ (λ (l m : List ℕ). l ++ m) (fields_front n r fields places (placed_by look G H (right_of G r) bs edges) size' p nodes few) numbers_by
           ∙ ap (λ (l : List ℕ). n ∷ r ∷ (l ++ numbers_from G (partners_at look G j) size (right_of G (rule_at look j)).edges 0 (n + 1)))
           (ap (λ (l : List ℕ). take nodes l) p ∙ take_padded nodes (placed_by look G H (right_of G r) bs edges) (length_placed w G H (right_of G r) bs edges ∙ sym q) few
           ∙ ap (λ (k : ℕ). placed_by look G H (right_of G r) bs k) e ∙ place_by)
           ∙ ap (λ (s : ℕ). n ∷ s ∷ (place_at look G H j ++ numbers_from G (partners_at look G j) size (right_of G (rule_at look j)).edges 0 (n + 1))) rule;
-      span = span-by end by.end;
+      span = span_by end by.end;
       inside = omega (arith, by.up, by.inside);
     }
 

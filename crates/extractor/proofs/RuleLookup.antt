@@ -14,7 +14,7 @@ use Rattle.hrg.proofs.Plans.{introduce_known, introduce_lower, join_lower}
 use Rattle.questions.specs.Layout.{rule_count, rule_nodes, rule_edges, rule_plan, rank_at, kind_field, edge_label, plan_kind, plan_first, plan_second}
 use Rattle.questions.specs.Checking.{check_grammar}
 use Rattle.questions.specs.Abstract.{kind_from, plan_from, grammar_of}
-use Rattle.questions.proofs.WellFormedAccepted.{symbols_length, rules_length, kind-is, rank_is, rule_is, edge_is, plan_length}
+use Rattle.questions.proofs.WellFormedAccepted.{symbols_length, rules_length, kind_is, rank_is, rule_is, edge_is, plan_length}
 use Rattle.joins.specs.Joins.{KnownNode, KnownEdge}
 use Rattle.joins.proofs.Known.{right_nodes, right_edges, plan_size, plan_ok, plan_node_is, nodes_few, edges_few}
 use Rattle.joins.proofs.EdgeMaps.{edge_ok}
@@ -111,7 +111,7 @@ module _ (g : List ℕ) (r i : ℕ) (known : KnownEdge g r i) where
 
   pub label_kind_is : (s w : ℕ) → s ≡ edge_label g r i → w ≡ kind_field g s → kind_of (grammar_of g) (edge_at (right_of (grammar_of g) r).edges i).label ≡ kind_from w
   label_kind_is s w a b =
-      ap (λ s. kind_of (grammar_of g) s) label_is ∙ kind-is g (edge_label g r i) (omega (arith, label_known, symbols_length g)) ∙ rw (b, a)
+      ap (λ s. kind_of (grammar_of g) s) label_is ∙ kind_is g (edge_label g r i) (omega (arith, label_known, symbols_length g)) ∙ rw (b, a)
 
   pub label_test : (s w : ℕ) → s ≡ edge_label g r i → w ≡ kind_field g s → not (eqb w 0) ≡ is_nonterminal (kind_of (grammar_of g) (edge_at (right_of (grammar_of g) r).edges i).label)
   label_test s w a b = test (eqb w 0) ∙ ap is_nonterminal (sym (label_kind_is s w a b))

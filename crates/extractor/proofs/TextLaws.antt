@@ -101,12 +101,12 @@ module _ (w : List ℕ) (G : Grammar) (H : Graph) where
         let next : suc (k - 1) ≡ k = omega arith in
         drop-cons js (k - 1) 0 (omega (arith, before.inside)) ∙ ap₂ (λ (x n : ℕ). x ∷ drop n js) (sym e) next
 
-    rows-now : row_lines (rows_from look G H (k - 1) (drop (k - 1) js)) ≡ line_text 65 (row_at look G H size (k - 1) j) ++ row_lines (rows_from look G H (k - 1 + 1) (drop k js))
+    rows_now : row_lines (rows_from look G H (k - 1) (drop (k - 1) js)) ≡ line_text 65 (row_at look G H size (k - 1) j) ++ row_lines (rows_from look G H (k - 1 + 1) (drop k js))
     unfolding row_lines
-    rows-now = ap (λ (l : List ℕ). row_lines (rows_from look G H (k - 1) l)) due ∙ ap row_lines (rows_cons (k - 1) j (drop k js))
+    rows_now = ap (λ (l : List ℕ). row_lines (rows_from look G H (k - 1) l)) due ∙ ap row_lines (rows_cons (k - 1) j (drop k js))
 
-    sizes-now : (m : ℕ) → get_or (set sizes (k - 1) row.size) m 0 ≡ sizes_from look G (k - 1) (drop (k - 1) js) m
-    sizes-now m = go (eqb m (k - 1)) refl ∙ ap (λ (l : List ℕ). sizes_from look G (k - 1) l m) (sym due)
+    sizes_now : (m : ℕ) → get_or (set sizes (k - 1) row.size) m 0 ≡ sizes_from look G (k - 1) (drop (k - 1) js) m
+    sizes_now m = go (eqb m (k - 1)) refl ∙ ap (λ (l : List ℕ). sizes_from look G (k - 1) l m) (sym due)
       where
         go : (t : Bool) → eqb m (k - 1) ≡ t → get_or (set sizes (k - 1) row.size) m 0 ≡ sizes_from look G (k - 1) (j ∷ drop k js) m
         go true t =
@@ -120,8 +120,8 @@ module _ (w : List ℕ) (G : Grammar) (H : Graph) where
             let s = eqb-false m (k - 1) t in
             get_or-set_other sizes (k - 1) m row.size 0 s ∙ ap (λ (f : ℕ → ℕ). f m) known ∙ sym (sizes_later (k - 1) j m (drop k js) s)
 
-    fit-now : SizesFit (set sizes (k - 1) row.size)
-    fit-now = record { each = λ m h. rw (length-set sizes (k - 1) row.size) (go m (omega (arith, length-set sizes (k - 1) row.size)) (eqb m (k - 1)) refl) }
+    fit_now : SizesFit (set sizes (k - 1) row.size)
+    fit_now = record { each = λ m h. rw (length-set sizes (k - 1) row.size) (go m (omega (arith, length-set sizes (k - 1) row.size)) (eqb m (k - 1)) refl) }
       where
         go : (m : ℕ) → m < length sizes → (t : Bool) → eqb m (k - 1) ≡ t → m + get_or (set sizes (k - 1) row.size) m 0 < length sizes
         go m h true t =
@@ -141,9 +141,9 @@ module _ (w : List ℕ) (G : Grammar) (H : Graph) where
           ∙ ap₂ (λ (row rest : List ℕ). line_text 65 row ++ rest)
           (made.fields ∙ ap (λ (f : ℕ → ℕ). row_at look G H f (k - 1) j) known)
           (before.contents ∙ ap (λ (n : ℕ). row_lines (rows_from look G H n (drop k js))) (omega arith))
-          ∙ sym rows-now;
-      fit = fit-now;
-      each = sizes-now;
+          ∙ sym rows_now;
+      fit = fit_now;
+      each = sizes_now;
     }
 
   pub written_done : (js start now sizes : List ℕ) (k at : ℕ) → k ≤ 0 → Written js start now sizes k at → EndsWith (row_lines (rows_from look G H 0 js)) start now at × (6 ≤ at)
@@ -153,18 +153,18 @@ module _ (w : List ℕ) (G : Grammar) (H : Graph) where
 
   -- ---- the whole text
   module _ (j n : ℕ) (list : List ℕ) (whole : ListedIn 4096 (listing look G 4096 (j ∷ [])) list n) where
-    pub text-none : (text : List ℕ) → n ≡ 0 → EndsWith (text_at look G H j) text text (length text)
+    pub text_none : (text : List ℕ) → n ≡ 0 → EndsWith (text_at look G H j) text text (length text)
     unfolding text_at
-    text-none text e =
+    text_none text e =
         let over : listing look G 4096 (j ∷ []) ≡ endless = whole.whole ∙ rw (eq-eqb n 0 e) in
         record { same = refl; inside = omega arith; contents = drop-length text ∙ ap (text_by look G H) (sym over) }
 
     module _ (text mid now : List ℕ) (at : ℕ) (some : n ≡ 0 → ⊥) (size : n ≤ length list)
         (rows : EndsWith (row_lines (rows_from look G H 0 (take n list))) text mid at) (room : 6 ≤ at)
         (line : now ≡ sets mid (at - 6) (line_text 68 (n ∷ []))) where
-      text-is : text_at look G H j ≡ line_text 68 (n ∷ []) ++ row_lines (rows_from look G H 0 (take n list))
+      text_is : text_at look G H j ≡ line_text 68 (n ∷ []) ++ row_lines (rows_from look G H 0 (take n list))
       unfolding text_at rows_text
-      text-is =
+      text_is =
           let l : listing look G 4096 (j ∷ []) ≡ listed (take n list) = whole.whole ∙ rw (ne_eqb n 0 some) in
           let count : length (rows_from look G H 0 (take n list)) ≡ n = length_rows 0 (take n list) ∙ length-take-le n list size in
           ap (text_by look G H) l ∙ ap (λ (k : ℕ). line_text 68 (k ∷ []) ++ row_lines (rows_from look G H 0 (take n list))) count
@@ -172,15 +172,15 @@ module _ (w : List ℕ) (G : Grammar) (H : Graph) where
       bytes : length (line_text 68 (n ∷ [])) ≡ 6
       bytes = line_text_length 68 (n ∷ [])
 
-      same-now : length now ≡ length mid
-      same-now = ap length line ∙ length-sets mid (at - 6) (line_text 68 (n ∷ []))
+      same_now : length now ≡ length mid
+      same_now = ap length line ∙ length-sets mid (at - 6) (line_text 68 (n ∷ []))
 
       pub text_some : EndsWith (text_at look G H j) text now (at - 6)
       text_some = record {
-        same = same-now ∙ rows.same;
-        inside = omega (arith, same-now, rows.inside);
+        same = same_now ∙ rows.same;
+        inside = omega (arith, same_now, rows.inside);
         contents = ap (drop (at - 6)) line
             ∙ drop_sets mid (line_text 68 (n ∷ [])) (at - 6) at (omega (arith, bytes)) rows.inside
             ∙ ap (λ (l : List ℕ). line_text 68 (n ∷ []) ++ l) rows.contents
-            ∙ sym text-is;
+            ∙ sym text_is;
       }

@@ -1,5 +1,8 @@
 // The applications that the partners of a chart's records spell, from a passive record down, as the text of a
 // derivation file.
+
+#![tactic(auto)]
+
 ghost use Rattle.std.specs.Prelude.{[], ◌∷◌, ◌≡◌, ◌+◌, ◌*◌, ◌≤◌, ◌<◌, length, replicate};
 ghost use Rattle.questions.specs.Abstract.{grammar_of, graph_of};
 ghost use Rattle.joins.specs.Joins.{Accepted};

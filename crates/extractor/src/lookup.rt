@@ -7,7 +7,7 @@ ghost use Rattle.joins.specs.Joins.{KnownNode, KnownEdge};
 ghost use Rattle.extractor.specs.Reading.{PlanLineOf, is_nonterminal};
 
 // A line of a plan: kind 0 for a leaf.
-#[derive(Drop)]
+#[derive(Clone, Copy)]
 pub(crate) struct PlanLine {
     pub(crate) kind: u64,
     pub(crate) first: u64,

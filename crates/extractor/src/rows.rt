@@ -9,7 +9,7 @@ ghost use Rattle.extractor.specs.Texts.{EndsWith};
 ghost use Rattle.extractor.specs.RowFacts.{SizesFit, RowOf, LineAt};
 
 // How many fields a row has, and the size of the tree under its application.
-#[derive(Drop)]
+#[derive(Clone, Copy)]
 pub(crate) struct Row {
     count: u64,
     size: u64,

@@ -1,5 +1,8 @@
 // Files of the current folder and standard output, for the two programs. No contract can say what a file holds or
 // what is printed, only how much: the work is in crate `driver`.
+
+#![tactic(auto)]
+
 ghost use Rattle.io.specs.Counts.{IsPrefixLen};
 ghost use Rattle.libc.specs.Io.{Moved};
 

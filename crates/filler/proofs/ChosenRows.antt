@@ -1,6 +1,6 @@
 -- A text that is chosen has the rows of a tree, and the record that is read from each row is that of the tree.
 use mathlib.Core.Path.{◌≡◌, refl, sym, ap, ◌∙◌}
-use mathlib.Core.List.{List, [], ◌∷◌, ◌++◌, map, map_append}
+use mathlib.Core.List.{List, [], ◌∷◌, ◌++◌, map, map-append}
 use Prim.Native.Nat.{ℕ, ◌+◌, ◌<◌}
 use native.Mathlib.Omega.{arith}
 use lib.ListN.{length, take, drop}
@@ -35,20 +35,20 @@ module _ (g h : List ℕ) where
   mutual
     unfolding tree_rows
 
-    tree-read : (s : ℕ) (L : List ℕ) (n : ℕ) (t : Tree) → Fits (grammar_of g) (graph_of g h) s L t → map (application_in (grammar_of g)) (tree_rows n t) ≡ map (application_read g) (tree_rows n t)
-    tree-read s L n (apply r place ps) f =
-        rw (row_read n r (place ++ part_numbers (n + 1) ps) f.0.known, part-read place ps (right_of (grammar_of g) r).edges (n + 1) f.1)
+    tree_read : (s : ℕ) (L : List ℕ) (n : ℕ) (t : Tree) → Fits (grammar_of g) (graph_of g h) s L t → map (application_in (grammar_of g)) (tree_rows n t) ≡ map (application_read g) (tree_rows n t)
+    tree_read s L n (apply r place ps) f =
+        rw (row_read n r (place ++ part_numbers (n + 1) ps) f.0.known, part_read place ps (right_of (grammar_of g) r).edges (n + 1) f.1)
 
-    part-read : (place : List ℕ) (ps : Parts) (rs : List Edge) (n : ℕ) → FitsParts (grammar_of g) (graph_of g h) place ps rs
+    part_read : (place : List ℕ) (ps : Parts) (rs : List Edge) (n : ℕ) → FitsParts (grammar_of g) (graph_of g h) place ps rs
         → map (application_in (grammar_of g)) (part_rows n ps) ≡ map (application_read g) (part_rows n ps)
-    part-read place end rs n f = refl
-    part-read place (edge e ps) [] n f = absurd f
-    part-read place (edge e ps) (r ∷ rs) n f = part-read place ps rs n f.1
-    part-read place (tree t ps) [] n f = absurd f
-    part-read place (tree t ps) (r ∷ rs) n f =
-        map_append (application_in (grammar_of g)) (tree_rows n t) (part_rows (n + size t) ps)
-        ∙ rw (tree-read r.label (images place r.attachment) n t f.0, part-read place ps rs (n + size t) f.1)
-        (sym (map_append (application_read g) (tree_rows n t) (part_rows (n + size t) ps)))
+    part_read place end rs n f = refl
+    part_read place (edge e ps) [] n f = absurd f
+    part_read place (edge e ps) (r ∷ rs) n f = part_read place ps rs n f.1
+    part_read place (tree t ps) [] n f = absurd f
+    part_read place (tree t ps) (r ∷ rs) n f =
+        map-append (application_in (grammar_of g)) (tree_rows n t) (part_rows (n + size t) ps)
+        ∙ rw (tree_read r.label (images place r.attachment) n t f.0, part_read place ps rs (n + size t) f.1)
+        (sym (map-append (application_read g) (tree_rows n t) (part_rows (n + size t) ps)))
 
 -- ---- a text that is chosen
 pub record Chosen (g t : List ℕ) : Type 0 where
@@ -72,5 +72,5 @@ chosen_rows g h w t e =
       records =
           ap (records_in (grammar_of g)) d.written
           ∙ ap (records_by (grammar_of g)) (derivation_rows (grammar_of g) (graph_of g h) ok hok u d.generates d.small)
-          ∙ tree-read g h (grammar_of g).start (graph_of g h).externals 0 u d.generates.fits;
+          ∙ tree_read g h (grammar_of g).start (graph_of g h).externals 0 u d.generates.fits;
     }

@@ -54,14 +54,14 @@ module _ {M : Type 1} {𝓤 : Ura M} (𝓛 : Logic 𝓤) (R : RattleType) (n b :
       use1 𝓛 (‵ (froom (ty_array (lone R.mir) n) b 0)) (𝓛.laws.at_room (ty_array (lone R.mir) n) b 0 v) $ keep ! (0 ∷ []) $ done !)
 
   module _ (room : Room R n) (ℓ : Lifetime) (κ : Lft) where
-    abbrev at-list : GName → List R.Denot → MutBor (List R.Denot)
-    at-list γ xs = record { ref_ptr = (b, 0); ghost_name = γ; now = xs }
+    abbrev at_list : GName → List R.Denot → MutBor (List R.Denot)
+    at_list γ xs = record { ref_ptr = (b, 0); ghost_name = γ; now = xs }
 
     abbrev Mut : List R.Denot → ℕ → GName → SProp 𝓤
-    Mut xs m γ = sep 𝓤 ⟦ (MutSlice ℓ κ R).own_val (at-list γ xs) (slice_val (b, 0) m ∷ []) ⟧ (A.lent κ (Held R m b 0 γ))
+    Mut xs m γ = sep 𝓤 ⟦ (MutSlice ℓ κ R).own_val (at_list γ xs) (slice_val (b, 0) m ∷ []) ⟧ (A.lent κ (Held R m b 0 γ))
 
     abbrev Shr : List R.Denot → ℕ → GName → SProp 𝓤
-    Shr xs m γ = sep 𝓤 ⟦ (ShrSlice ℓ κ R).own_val (at-list γ xs) (slice_val (b, 0) m ∷ []) ⟧ (A.lent κ (Lies R m b xs))
+    Shr xs m γ = sep 𝓤 ⟦ (ShrSlice ℓ κ R).own_val (at_list γ xs) (slice_val (b, 0) m ∷ []) ⟧ (A.lent κ (Lies R m b xs))
 
     pub lends : (xs : List R.Denot) → ent 𝓤 ⟦ Lies R n b xs ⟧ (H.⇛ (ex 𝓤 (Mut xs n)))
     lends xs =

@@ -40,33 +40,33 @@ module _ (g h w out now : List ℕ) (room : ℕ) (a : Answer) (long : 303110 ≤
   prepared_refused k =
       record {
         answers = go (chosen_of g h w) refl;
-        holds = λ t e. absurd (chosen-not t e);
+        holds = λ t e. absurd (chosen_not t e);
         fits = omega (arith, refused_none a k);
       }
     where
-      chosen-not : (t : List ℕ) → chosen_of g h w ≡ chooses t → ⊥
-      chosen-not t e = k (ap number_of (answers ∙ ap (λ (x : Wrote). x.answer) (wrote_text t e)))
+      chosen_not : (t : List ℕ) → chosen_of g h w ≡ chooses t → ⊥
+      chosen_not t e = k (ap number_of (answers ∙ ap (λ (x : Wrote). x.answer) (wrote_text t e)))
 
       go : (c : Choice) → chosen_of g h w ≡ c → a ≡ answer_by (grammar_of g) (chosen_of g h w) room
       go (refuses b) e = refused_answer b e ∙ ap (λ (c : Choice). answer_by (grammar_of g) c room) (sym e)
-      go (chooses t) e = absurd (chosen-not t e)
+      go (chooses t) e = absurd (chosen_not t e)
 
   -- ---- a text
   module _ (wrote : number_of a ≡ 0) (line : List ℕ) (first : line ≡ line_of (drop 0 now)) (count : ℕ) (said : count ≡ fieldNumber line 0) where
-    refuses-not : (b : Answer) → chosen_of g h w ≡ refuses b → ⊥
-    refuses-not b e = refusal_number g h w b e (sym (ap number_of (refused_answer b e)) ∙ wrote)
+    refuses_not : (b : Answer) → chosen_of g h w ≡ refuses b → ⊥
+    refuses_not b e = refusal_number g h w b e (sym (ap number_of (refused_answer b e)) ∙ wrote)
 
-    now-holds : (t : List ℕ) → chosen_of g h w ≡ chooses t → now ≡ t ++ drop (length t) out
-    now-holds t e = leaves ∙ ap (λ (x : Wrote). x.out) (wrote_text t e)
+    now_holds : (t : List ℕ) → chosen_of g h w ≡ chooses t → now ≡ t ++ drop (length t) out
+    now_holds t e = leaves ∙ ap (λ (x : Wrote). x.out) (wrote_text t e)
 
     taken : (t : List ℕ) → chosen_of g h w ≡ chooses t → take (length t) now ≡ t
-    taken t e = ap (take (length t)) (now-holds t e) ∙ take-append_seam t (drop (length t) out)
+    taken t e = ap (take (length t)) (now_holds t e) ∙ take-append_seam t (drop (length t) out)
 
     counts : (t : List ℕ) → chosen_of g h w ≡ chooses t → count ≡ length (records_in (grammar_of g) t)
     counts t e =
         let c = chosen_rows g h w t e in
         let rs = c.listed in
-        let front : now ≡ rows_text rs ++ drop (length t) out = now-holds t e ∙ ap (λ (l : List ℕ). l ++ drop (length t) out) c.text in
+        let front : now ≡ rows_text rs ++ drop (length t) out = now_holds t e ∙ ap (λ (l : List ℕ). l ++ drop (length t) out) c.text in
         said ∙ ap (λ (l : List ℕ). fieldNumber l 0) first ∙ count_said rs now (drop (length t) out) front c.writable.few
         ∙ sym (ap length c.records ∙ length-map rs (application_read g))
 
@@ -74,13 +74,13 @@ module _ (g h w out now : List ℕ) (room : ℕ) (a : Answer) (long : 303110 ≤
     by_count b is small = record { answers = go (chosen_of g h w) refl; holds = taken; fits = small }
       where
         go : (c : Choice) → chosen_of g h w ≡ c → b ≡ answer_by (grammar_of g) (chosen_of g h w) room
-        go (refuses d) e = absurd (refuses-not d e)
+        go (refuses d) e = absurd (refuses_not d e)
         go (chooses t) e = is t (counts t e) ∙ ap (λ (c : Choice). answer_by (grammar_of g) c room) (sym e)
 
-    pub prepared-short : room < count → Prepared g h w room NoRoom now
-    prepared-short l =
+    pub prepared_short : room < count → Prepared g h w room NoRoom now
+    prepared_short l =
         by_count NoRoom (λ t e. rw (← e, lt-leb count room l)) (omega arith)
 
-    pub prepared-held : count ≤ room → Prepared g h w room (Written count) now
-    prepared-held l =
+    pub prepared_held : count ≤ room → Prepared g h w room (Written count) now
+    prepared_held l =
         by_count (Written count) (λ t e. rw (← e, le-leb count room l)) l

@@ -1,7 +1,7 @@
 -- A row that is filled line by line from the prepared text is the one that the writer's choice fills.
 use mathlib.Core.Path.{◌≡◌, refl, sym, ap, ◌∙◌, subst}
 use mathlib.Core.Bool.{Bool, true, false}
-use mathlib.Core.List.{List, [], ◌∷◌, ◌++◌, map, map_append}
+use mathlib.Core.List.{List, [], ◌∷◌, ◌++◌, map, map-append}
 use Prim.Native.Nat.{ℕ, zero, suc, ◌+◌, ◌≤◌, ◌<◌}
 use native.Mathlib.Omega.{arith}
 use native.Mathlib.Numerals.{add-one}
@@ -54,7 +54,7 @@ module _ (g : List ℕ) (rs : List (List ℕ)) (text rest : List ℕ) (front : t
       let before = map (application_read g) (take n rs) in
       let size : length before ≡ n = length-map (take n rs) (application_read g) ∙ length-take-le n rs (omega arith) in
       let next : map (application_read g) (take (suc n) rs) ≡ before ++ (x ∷ []) =
-      ap (map (application_read g)) (take-suc rs n [] h) ∙ map_append (application_read g) (take n rs) (get_or rs n [] ∷ []) in
+      ap (map (application_read g)) (take-suc rs n [] h) ∙ map-append (application_read g) (take n rs) (get_or rs n [] ∷ []) in
       ap (λ (a : Application). set (filled_from g text n former) n a) (row_read_at n h)
       ∙ ap (λ (l : List Application). set l n x) (filled_rows former room n (omega arith) ∙ ap (λ (l : List Application). before ++ l) (drop-cons former n x (omega arith)))
       ∙ set_at before (get_or former n x) (drop (suc n) former) x n size
@@ -82,8 +82,8 @@ module _ (g h w : List ℕ) (former now : List Application) (a : Answer) (text :
     abbrev xs : List Application
     xs = records_in (grammar_of g) t
 
-    all-filled : length xs ≤ length former → filled_from g text (length xs) former ≡ xs ++ drop (length xs) former
-    all-filled room =
+    all_filled : length xs ≤ length former → filled_from g text (length xs) former ≡ xs ++ drop (length xs) former
+    all_filled room =
         let c = chosen_rows g h w t e in
         let rs = c.listed in
         let size : length xs ≡ length rs = ap length c.records ∙ length-map rs (application_read g) in
@@ -94,12 +94,12 @@ module _ (g h w : List ℕ) (former now : List Application) (a : Answer) (text :
         ∙ ap (λ (l : List Application). l ++ drop (length rs) former) (sym c.records)
         ∙ ap (λ (n : ℕ). xs ++ drop n former) (sym size)
 
-    right-chosen : (b : Bool) → leb (length xs) (length former) ≡ b → Right (fill_of g h w former)
-    right-chosen true l =
+    right_chosen : (b : Bool) → leb (length xs) (length former) ≡ b → Right (fill_of g h w former)
+    right_chosen true l =
         let room = leb-true (length xs) (length former) l in
         let z : a ≡ Written (length xs) = answered (chooses t) e ∙ rw l in
-        subst Right (sym (fill_chooses g h w former t e ∙ records_held xs former room)) (z, q ∙ ap (λ (a : Answer). filled_from g text (count_in a) former) z ∙ all-filled room)
-    right-chosen false l =
+        subst Right (sym (fill_chooses g h w former t e ∙ records_held xs former room)) (z, q ∙ ap (λ (a : Answer). filled_from g text (count_in a) former) z ∙ all_filled room)
+    right_chosen false l =
         let z : a ≡ NoRoom = answered (chooses t) e ∙ rw l in
         subst Right (sym (fill_chooses g h w former t e ∙ records_short xs former (omega (arith, leb-false (length xs) (length former) l)))) (z, nothing_filled (ap count_in z))
 
@@ -113,7 +113,7 @@ module _ (g h w : List ℕ) (former now : List Application) (a : Answer) (text :
     where
       go : (c : Choice) → chosen_of g h w ≡ c → Right (fill_of g h w former)
       go (refuses b) e = right_refused b e
-      go (chooses t) e = right-chosen t e (leb (length (records_in (grammar_of g) t)) (length former)) refl
+      go (chooses t) e = right_chosen t e (leb (length (records_in (grammar_of g) t)) (length former)) refl
 
   -- So the row is filled as it should be.
   pub filling : Filling g h w former a now

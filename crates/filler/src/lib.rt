@@ -1,4 +1,7 @@
 // The writer's second form: a lent row of application records, filled with the derivation of a chart's goal.
+
+#![tactic(auto)]
+
 ghost use Rattle.std.specs.Prelude.{◌≡◌, ◌-◌, ◌≤◌, length, take, drop};
 ghost use Rattle.format.specs.Fields.{field_count, fields_of};
 ghost use Rattle.writing.specs.Filling.{eight};

@@ -1,7 +1,7 @@
 -- Laws of the computed tests.
 use Rattle.std.specs.Prelude.{ℕ, zero, suc, ◌+◌, ◌-◌, ◌≤◌, ◌<◌, ◌≡◌, refl, Bool, true, false, ◌&&◌, List, [], ◌∷◌, eqb, leb}
 use Rattle.std.proofs.Common.{sym, ◌∙◌, arith, add-one, eqb-true, eq-eqb, le-leb, leb-true, leb-false}
-use Rattle.std.proofs.Math.Bool.{and_true, and_false, and-eq-true_iff}
+use Rattle.std.proofs.Math.Bool.{and-true, and-false, and-eq-true_iff}
 use Rattle.std.proofs.lemmas.Bool.{false≢true, lt-leb}
 use Rattle.std.proofs.Math.Decide.{dec_lt}
 use Rattle.format.specs.Tests.{all_below, same_bytes}
@@ -36,7 +36,7 @@ all_no (suc n) k p l h = go (dec_lt k n) (λ m. all_no n k p m h)
     go (yes m) earlier = rw (earlier m)
     go (no m) earlier =
         let same : n ≡ k = omega arith in
-        rw (same, h) (and_false (all_below k p))
+        rw (same, h) (and-false (all_below k p))
 
 pub all_at : (n : ℕ) (p : ℕ → Bool) → all_below n p ≡ true → (k : ℕ) → k < n → p k ≡ true
 all_at n p h k l = go (p k) refl
@@ -78,7 +78,7 @@ unfolding same_bytes
 same_four a b c d e f g h = go (eqb a e) (eqb b f) (eqb c g)
   where
     go : (x y z : Bool) → (((x && y) && z) && eqb d h) ≡ (x && (y && (z && (eqb d h && true))))
-    go true true true = sym (and_true (eqb d h))
+    go true true true = sym (and-true (eqb d h))
     go true true false = refl
     go true false z = refl
     go false y z = refl

@@ -1,7 +1,9 @@
 // Lines of fixed columns as definitions, with their laws; the functions that keep to them are in crate `lines`.
 
+#![tactic(auto)]
+
 // What stands in a field of a line.
-#[derive(Drop)]
+#[derive(Clone, Copy)]
 pub enum Cell {
     Number(u64),
     Bad,
@@ -9,7 +11,7 @@ pub enum Cell {
 }
 
 // The letters that lines of the three files start with.
-#[derive(Drop)]
+#[derive(Clone, Copy)]
 pub enum Letter {
     G,
     S,

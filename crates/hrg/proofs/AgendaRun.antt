@@ -6,14 +6,14 @@ use mathlib.Core.List.Memᴰ.{append_cases as in-append}
 use mathlib.Core.List.Memᴰ.{append_left as in_left}
 use mathlib.Core.List.Memᴰ.{append_right as in_right}
 use mathlib.Core.List.Memᴰ.{cases_cons as in-cons}
-use mathlib.Core.List.Memᴰ.{cast as in-cast}
+use mathlib.Core.List.Memᴰ.{cast as in_cast}
 use mathlib.Core.List.Memᴰ.{eq_of_singleton}
 use mathlib.Core.List.Memᴰ.{head as here}
 use mathlib.Core.List.Memᴰ.{map as in_map}
 use mathlib.Core.List.Memᴰ.{not-nil as in-nil}
 use mathlib.Core.List.Memᴰ.{of_map}
 use mathlib.Core.List.Memᴰ.{tail as there}
-use mathlib.Core.List.{List, [], ◌∷◌, ◌++◌, map, map_append, flat_map, Memᴰ as In}
+use mathlib.Core.List.{List, [], ◌∷◌, ◌++◌, map, map-append, flat_map, Memᴰ as In}
 use Prim.Native.Nat.{ℕ, zero, suc, ◌+◌, ◌≤◌, ◌<◌}
 use native.Mathlib.Omega.{arith}
 use lib.Dec.{T, T_not, leb, leb→le, nleb→lt}
@@ -22,8 +22,8 @@ use Rattle.hrg.specs.Deduction.{System, Reachable}
 use Rattle.hrg.specs.Agenda.{given, from, from₂, Entry, State, Distinct, none, more, items_of, Made, axiom_made, unary_made, binary_made, Has, Start, Step, Run, stop, idle, step, Closure}
 use Rattle.hrg.specs.AgendaRun.{Conclusion, Rules, Computes, present, add, add_all, Pick, least, unary_entries, binary_entries, consequences, start_state, handle, step_state, run_state}
 use Rattle.hrg.proofs.Members.{Removed, first, later, removed_in, removed_rest, removed_cases, removed_distinct, removed_gone, distinct_head, distinct_tail, distinct_left, distinct_right, distinct_append, distinct_apart, in_flat, of_flat}
-use Rattle.hrg.proofs.AgendaInvariant.{Invariant, of_items, in_items, has_item, has_more, has_append, start_invariant, step-invariant, run_invariant}
-use Rattle.hrg.proofs.ClosureSize.{finished-closure, run_ends}
+use Rattle.hrg.proofs.AgendaInvariant.{Invariant, of_items, in_items, has_item, has_more, has_append, start_invariant, step_invariant, run_invariant}
+use Rattle.hrg.proofs.ClosureSize.{finished_closure, run_ends}
 
 -- What `add` does: the entries us become vs.
 data Added {Item : Type 0} (e : Entry Item) : List (Entry Item) → List (Entry Item) → Type 0 where
@@ -84,12 +84,12 @@ module _ {Item : Type 0} where
   added_distinct : {e : Entry Item} {us vs : List (Entry Item)} → Added e us vs → Distinct (items_of us) → Distinct (items_of vs)
   added_distinct fresh d = more in-nil none
   added_distinct (kept p l) d = d
-  added_distinct (better p l) d = more (λ m. distinct_head d (in-cast (sym p) m)) (distinct_tail d)
+  added_distinct (better p l) d = more (λ m. distinct_head d (in_cast (sym p) m)) (distinct_tail d)
   added_distinct {e} (past {u = u} {us = us} {vs = vs} n a) d = more (λ m. go (of_items vs m)) (added_distinct a (distinct_tail d))
     where
       cases : (f : Entry Item) → f.item ≡ u.item → (f ≡ e) ⊎ In f us → ⊥
       cases f p (inl q) = n (ap (λ (z : Entry Item). z.item) (sym q) ∙ p)
-      cases f p (inr m) = distinct_head d (in-cast (sym p) (in_items m))
+      cases f p (inr m) = distinct_head d (in_cast (sym p) (in_items m))
 
       go : (f : Entry Item) × In f vs × (f.item ≡ u.item) → ⊥
       go o = cases o.0 o.2 (added_from a o.1)
@@ -112,23 +112,23 @@ module _ {Item : Type 0} where
         go (inl m) = old (added_from a m)
         go (inr m) = inr (there m)
 
-    all-keeps : {us es vs : List (Entry Item)} {i : Item} {n : ℕ} → AddedAll hs us es vs → Has us i n → Has vs i n
-    all-keeps done h = h
-    all-keeps (skipped p a) h = all-keeps a h
-    all-keeps (added p a r) h = all-keeps r (added_keeps a h)
+    all_keeps : {us es vs : List (Entry Item)} {i : Item} {n : ℕ} → AddedAll hs us es vs → Has us i n → Has vs i n
+    all_keeps done h = h
+    all_keeps (skipped p a) h = all_keeps a h
+    all_keeps (added p a r) h = all_keeps r (added_keeps a h)
 
     all_new : {f : Entry Item} {us es vs : List (Entry Item)} → AddedAll hs us es vs → In f es → In f.item (items_of hs) ⊎ Has vs f.item f.count
     all_new done m = absurd (in-nil m)
-    all_new (skipped p a) (here q) = inl (in-cast (ap (λ (z : Entry Item). z.item) q) p)
+    all_new (skipped p a) (here q) = inl (in_cast (ap (λ (z : Entry Item). z.item) q) p)
     all_new (skipped p a) (there m) = all_new a m
-    all_new {vs = vs} (added p a r) (here q) = inr (subst (λ (z : Entry Item). Has vs z.item z.count) (sym q) (all-keeps r (added_new a)))
+    all_new {vs = vs} (added p a r) (here q) = inr (subst (λ (z : Entry Item). Has vs z.item z.count) (sym q) (all_keeps r (added_new a)))
     all_new (added p a r) (there m) = all_new r m
 
     -- us and vs have no item twice, and none of hs
-    all-distinct : {us es vs : List (Entry Item)} → AddedAll hs us es vs → Distinct (items_of us) → Distinct (items_of vs)
-    all-distinct done d = d
-    all-distinct (skipped p a) d = all-distinct a d
-    all-distinct (added p a r) d = all-distinct r (added_distinct a d)
+    all_distinct : {us es vs : List (Entry Item)} → AddedAll hs us es vs → Distinct (items_of us) → Distinct (items_of vs)
+    all_distinct done d = d
+    all_distinct (skipped p a) d = all_distinct a d
+    all_distinct (added p a r) d = all_distinct r (added_distinct a d)
 
     all_apart : {us es vs : List (Entry Item)} → AddedAll hs us es vs → ((u : Entry Item) → In u us → In u.item (items_of hs) → ⊥) → (v : Entry Item) → In v vs → In v.item (items_of hs) → ⊥
     all_apart done f = f
@@ -136,7 +136,7 @@ module _ {Item : Type 0} where
     all_apart {us = us} (added {e = e} {ts = ts} p a r) f = all_apart r (λ t m. go t (added_from a m))
       where
         go : (t : Entry Item) → (t ≡ e) ⊎ In t us → In t.item (items_of hs) → ⊥
-        go t (inl q) m = p (in-cast (ap (λ (z : Entry Item). z.item) (sym q)) m)
+        go t (inl q) m = p (in_cast (ap (λ (z : Entry Item). z.item) (sym q)) m)
         go t (inr n) m = f t n m
 
   least_picked : (e : Entry Item) (fs : List (Entry Item)) → Picked (e ∷ fs) (least e fs)
@@ -262,7 +262,7 @@ module _ {Item : Type 0} {S : System Item} {R : Rules Item} (C : Computes S R) w
   -- ---- the start, a step, a run
   pub start_runs : Start S (start_state R)
   unfolding start_state
-  start_runs = record { handled = refl; origin = λ e m. origin e (all_from does m); present = present; distinct = all-distinct does none }
+  start_runs = record { handled = refl; origin = λ e m. origin e (all_from does m); present = present; distinct = all_distinct does none }
     where
       axioms : List (Entry Item)
       axioms = map (λ i. record { item = i; count = 0; how = given i }) R.axioms
@@ -294,7 +294,7 @@ module _ {Item : Type 0} {S : System Item} {R : Rules Item} (C : Computes S R) w
         origin = λ e m. origin e (all_from does m);
         keeps = λ e m. keeps e (removed_cases k.removed m);
         adds = λ e m. adds e (consequences_in m);
-        distinct = rw map_append (distinct_append (items_of xs) xs-distinct (all-distinct does rest-distinct) apart);
+        distinct = rw map-append (distinct_append (items_of xs) xs_distinct (all_distinct does rest_distinct) apart);
       }
     where
       xs : List (Entry Item)
@@ -312,7 +312,7 @@ module _ {Item : Type 0} {S : System Item} {R : Rules Item} (C : Computes S R) w
 
       keeps : (e : Entry Item) → (e ≡ p.chosen) ⊎ In e p.rest → (e.item ≡ p.chosen.item) ⊎ Has vs e.item e.count
       keeps e (inl q) = inl (ap (λ (z : Entry Item). z.item) q)
-      keeps e (inr m) = inr (all-keeps does (record { entry = e; inside = m; item = refl; count = omega arith }))
+      keeps e (inr m) = inr (all_keeps does (record { entry = e; inside = m; item = refl; count = omega arith }))
 
       was : {i : Item} {n : ℕ} → Has hs i n ⊎ Has ws i n → In i (items_of xs) ⊎ Has vs i n
       was (inl h) = inl (there (has_item h))
@@ -320,33 +320,33 @@ module _ {Item : Type 0} {S : System Item} {R : Rules Item} (C : Computes S R) w
         where
           go : (h.entry ≡ p.chosen) ⊎ In h.entry p.rest → In i (items_of xs) ⊎ Has vs i n
           go (inl q) = inl (here (sym h.item ∙ ap (λ (z : Entry Item). z.item) q))
-          go (inr m) = inr (all-keeps does (record { entry = h.entry; inside = m; item = h.item; count = h.count }))
+          go (inr m) = inr (all_keeps does (record { entry = h.entry; inside = m; item = h.item; count = h.count }))
 
       adds : (e : Entry Item) → In e (consequences R xs p.chosen) ⊎ Made S hs e → In e.item (items_of xs) ⊎ Has vs e.item e.count
       adds e (inl m) = all_new does m
       adds e (inr m) = was (has_append hs (v.closed e m))
 
       parts : Distinct (items_of hs ++ items_of ws)
-      parts = rw map_append at v.distinct
+      parts = rw map-append at v.distinct
 
-      not-handled : (w : Entry Item) → In w ws → In w.item (items_of hs) → ⊥
-      not-handled w m n = distinct_apart parts n (in_items m)
+      not_handled : (w : Entry Item) → In w ws → In w.item (items_of hs) → ⊥
+      not_handled w m n = distinct_apart parts n (in_items m)
 
-      xs-distinct : Distinct (items_of xs)
-      xs-distinct = more (not-handled p.chosen (removed_in k.removed)) (distinct_left (items_of hs) (items_of ws) parts)
+      xs_distinct : Distinct (items_of xs)
+      xs_distinct = more (not_handled p.chosen (removed_in k.removed)) (distinct_left (items_of hs) (items_of ws) parts)
 
-      ws-distinct : Distinct (items_of ws)
-      ws-distinct = distinct_right (items_of hs) (items_of ws) parts
+      ws_distinct : Distinct (items_of ws)
+      ws_distinct = distinct_right (items_of hs) (items_of ws) parts
 
-      rest-distinct : Distinct (items_of p.rest)
-      rest-distinct = removed_distinct (λ (e : Entry Item). e.item) k.removed ws-distinct
+      rest_distinct : Distinct (items_of p.rest)
+      rest_distinct = removed_distinct (λ (e : Entry Item). e.item) k.removed ws_distinct
 
-      rest-apart : (u : Entry Item) → In u p.rest → (u.item ≡ p.chosen.item) ⊎ In u.item (items_of hs) → ⊥
-      rest-apart u m (inl q) = removed_gone (λ (e : Entry Item). e.item) k.removed ws-distinct (in-cast (sym q) (in_items m))
-      rest-apart u m (inr n) = not-handled u (removed_rest k.removed m) n
+      rest_apart : (u : Entry Item) → In u p.rest → (u.item ≡ p.chosen.item) ⊎ In u.item (items_of hs) → ⊥
+      rest_apart u m (inl q) = removed_gone (λ (e : Entry Item). e.item) k.removed ws_distinct (in_cast (sym q) (in_items m))
+      rest_apart u m (inr n) = not_handled u (removed_rest k.removed m) n
 
       apart : (i : Item) → In i (items_of xs) → In i (items_of vs) → ⊥
-      apart i l m = let o = of_items vs m in all_apart does (λ u n j. rest-apart u n (in-cons j)) o.0 o.1 (in-cast o.2 l)
+      apart i l m = let o = of_items vs m in all_apart does (λ u n j. rest_apart u n (in-cons j)) o.0 o.1 (in_cast o.2 l)
 
   pub step_runs : {s : State Item} → Invariant S s → s.waiting ≢ [] → Step S s (step_state R s)
   unfolding step_state
@@ -366,7 +366,7 @@ module _ {Item : Type 0} {S : System Item} {R : Rules Item} (C : Computes S R) w
       go [] e f = idle e
       go (w ∷ ws) e f =
           let z = step_runs v (λ q. in-nil (subst (λ (l : List (Entry Item)). In w l) (sym e ∙ q) (here refl))) in
-          step z (f (step-invariant z v))
+          step z (f (step_invariant z v))
 
   pub run_runs : (k : ℕ) → Run S k (start_state R) (run_state k R (start_state R))
   run_runs k = run_from k (start_invariant start_runs)
@@ -375,4 +375,4 @@ module _ {Item : Type 0} {S : System Item} {R : Rules Item} (C : Computes S R) w
   pub closure_exists : (range : List Item) → ((i : Item) (n : ℕ) → Reachable S i n → In i range) → (is : List Item) × Closure S is
   closure_exists range f =
       let r = run_runs (length range) in
-      (items_of (run_state (length range) R (start_state R)).handled, finished-closure (run_invariant r (start_invariant start_runs)) (run_ends start_runs r f (omega arith)))
+      (items_of (run_state (length range) R (start_state R)).handled, finished_closure (run_invariant r (start_invariant start_runs)) (run_ends start_runs r f (omega arith)))

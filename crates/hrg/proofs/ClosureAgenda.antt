@@ -5,7 +5,7 @@ use mathlib.Core.Logic.{◌⊎◌, inl, inr}
 use mathlib.Core.List.Memᴰ
 use mathlib.Core.List.Memᴰ.{head as here}
 use mathlib.Core.List.Memᴰ.{tail as there}
-use mathlib.Core.List.{List, [], ◌∷◌, ◌++◌, map, map_append, Memᴰ as In}
+use mathlib.Core.List.{List, [], ◌∷◌, ◌++◌, map, map-append, Memᴰ as In}
 use Prim.Native.Nat.{ℕ, zero, suc, ◌+◌, ◌≤◌, ◌<◌, min}
 use native.Mathlib.Omega.{arith}
 use lib.ListN.{length, length-map}
@@ -25,8 +25,8 @@ use Rattle.hrg.proofs.Soundness.{sound}
 use Rattle.hrg.proofs.Completeness.{complete, least_fewest}
 use Rattle.hrg.proofs.Goals.{goal_reached, goal_generated}
 use Rattle.hrg.proofs.Members.{distinct_left}
-use Rattle.hrg.proofs.AgendaInvariant.{Invariant, start_invariant, run_invariant, handled-least, waiting-not-less, finished, present-iff}
-use Rattle.hrg.proofs.ClosureSize.{closure_unique, finished-closure, run_steps, run_ends}
+use Rattle.hrg.proofs.AgendaInvariant.{Invariant, start_invariant, run_invariant, handled_least, waiting_not_less, finished, present_iff}
+use Rattle.hrg.proofs.ClosureSize.{closure_unique, finished_closure, run_steps, run_ends}
 use Rattle.hrg.proofs.AgendaRun.{start_runs, run_runs, closure_exists}
 use Rattle.hrg.proofs.ClosureRun.{same_eq, same_refl, leaf_in, in_leaf, unary_in, in_unary, binary_in, in_binary}
 use Rattle.hrg.proofs.Range.{range, in_range}
@@ -65,21 +65,21 @@ module _ (G : Grammar) (H : Graph) (ok : GrammarOk G) (hok : GraphOk G H) where
     invariant : Invariant (closure G H) t
     invariant = run_invariant run (start_invariant start)
 
-    pub run-correct : Correct G H k t
-    run-correct =
+    pub run_correct : Correct G H k t
+    run_correct =
         record {
-          fewest = λ h i. least_fewest G H ok hok h.item h.count (invariant.reached h (Memᴰ.append_left t.waiting i)) (λ n x. handled-least invariant i x);
-          order = λ h i j n x out. waiting-not-less invariant i (complete G H ok hok j n x) out;
-          distinct = distinct_left (items_of t.handled) (items_of t.waiting) (subst (λ (l : List Item). Distinct l) (map_append (λ (e : Entry Item). e.item) t.handled t.waiting) invariant.distinct);
+          fewest = λ h i. least_fewest G H ok hok h.item h.count (invariant.reached h (Memᴰ.append_left t.waiting i)) (λ n x. handled_least invariant i x);
+          order = λ h i j n x out. waiting_not_less invariant i (complete G H ok hok j n x) out;
+          distinct = distinct_left (items_of t.handled) (items_of t.waiting) (subst (λ (l : List Item). Distinct l) (map-append (λ (e : Entry Item). e.item) t.handled t.waiting) invariant.distinct);
           steps = λ is c. run_steps start run c;
-          present = present-iff invariant;
-          done = λ e. finished-closure invariant e;
+          present = present_iff invariant;
+          done = λ e. finished_closure invariant e;
         }
 
     -- a run of enough steps ends
-    pub run-finishes : closure_size ≤ k → t.waiting ≡ []
+    pub run_finishes : closure_size ≤ k → t.waiting ≡ []
     unfolding closure_size
-    run-finishes l = run_ends start run (λ i n x. closure_finite.1.present i n x) l
+    run_finishes l = run_ends start run (λ i n x. closure_finite.1.present i n x) l
 
 -- ---- what the executable run answers
 module _ (G : Grammar) (H : Graph) (ok : GrammarOk G) (hok : GraphOk G H) {k : ℕ} {s t : State Item} (start : Start (closure G H) s) (run : Run (closure G H) k s t) where
@@ -102,7 +102,7 @@ module _ (G : Grammar) (H : Graph) (ok : GrammarOk G) (hok : GraphOk G H) {k : �
           let r : Reachable (closure G H) (goal G H) x.count = subst (λ (i : Item). Reachable (closure G H) i x.count) (sym q) (v.reached x (Memᴰ.append_left t.waiting inside)) in (
             size,
             goal_generated G H ok hok x.count r,
-            λ u z. handled-least v inside (subst (λ (i : Item). Reachable (closure G H) i (applications G u)) q (goal_reached G H ok hok u z)),
+            λ u z. handled_least v inside (subst (λ (i : Item). Reachable (closure G H) i (applications G u)) q (goal_reached G H ok hok u z)),
           )
       go false f g ih = ih (λ d i. sub d (there i)) (λ d i q. next d (skip d i q) q) e
         where
@@ -117,7 +117,7 @@ module _ (G : Grammar) (H : Graph) (ok : GrammarOk G) (hok : GraphOk G H) {k : �
       go : (ws : List (Entry Item)) → t.waiting ≡ ws → Right G H (elim ws [ [] ↦ goal_among (goal G H) (length t.handled) t.handled | w ∷ ws ↦ unfinished ])
       go [] e =
           among (length t.handled)
-          (λ is c. closure_unique c (finished-closure v e) ∙ length-map t.handled (λ (d : Entry Item). d.item))
+          (λ is c. closure_unique c (finished_closure v e) ∙ length-map t.handled (λ (d : Entry Item). d.item))
           t.handled (λ d i. i) (λ d i q. i) e
       go (w ∷ ws) e = tt
 

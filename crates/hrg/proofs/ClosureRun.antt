@@ -280,31 +280,31 @@ module _ (G : Grammar) (H : Graph) where
 
 module _ (G : Grammar) (H : Graph) (r p m : ℕ) (f : List ℕ) where
   module _ (s m₂ : ℕ) (L : List ℕ) where
-    abbrev nonterminalAs : ℕ → List Item
-    nonterminalAs q = nonterminal_at H (rule_of G r) r p m f s m₂ L q (plan_node (plan_of G r) q)
+    abbrev nonterminal_as : ℕ → List Item
+    nonterminal_as q = nonterminal_at H (rule_of G r) r p m f s m₂ L q (plan_node (plan_of G r) q)
 
-    of-nonterminal : {a : Item} (q : ℕ) (node : PlanNode) → q < length (plan_of G r) → plan_node (plan_of G r) q ≡ node → In a (nonterminal_at H (rule_of G r) r p m f s m₂ L q node)
+    of_nonterminal : {a : Item} (q : ℕ) (node : PlanNode) → q < length (plan_of G r) → plan_node (plan_of G r) q ≡ node → In a (nonterminal_at H (rule_of G r) r p m f s m₂ L q node)
         → BinaryRule G H (active r p m f) (passive s m₂ L) a
     unfolding nonterminal_at
-    of-nonterminal q leaf l e k = absurd (in-nil k)
-    of-nonterminal q (introduce c i) l e k =
+    of_nonterminal q leaf l e k = absurd (in-nil k)
+    of_nonterminal q (introduce c i) l e k =
         let a = of_guard (eqb c p && eqb s (edge_of G r i).label) k in
         let t = of_and (eqb c p) _ a.0 in
         of_combine H (rule_of G r) r q m m₂ f (map_for G r i L) (BinaryRule G H (active r p m f) (passive s m₂ L))
         (λ m' h j. subst₂ (λ (z y : ℕ). BinaryRule G H (active r z m f) (passive y m₂ L) (active r q m' h)) (eqb→eq c p t.0) (sym (eqb→eq s _ t.1)) (nonterminal_rule r q c i m m₂ m' f L h l e j))
         a.1
-    of-nonterminal q (join a b) l e k = absurd (in-nil k)
+    of_nonterminal q (join a b) l e k = absurd (in-nil k)
 
   module _ (p₂ m₂ : ℕ) (g : List ℕ) where
-    abbrev joinAs : ℕ → List Item
-    joinAs q = join_at H (rule_of G r) r p m f p₂ m₂ g q (plan_node (plan_of G r) q)
+    abbrev join_as : ℕ → List Item
+    join_as q = join_at H (rule_of G r) r p m f p₂ m₂ g q (plan_node (plan_of G r) q)
 
-    of-join : {a : Item} (q : ℕ) (node : PlanNode) → q < length (plan_of G r) → plan_node (plan_of G r) q ≡ node → In a (join_at H (rule_of G r) r p m f p₂ m₂ g q node)
+    of_join : {a : Item} (q : ℕ) (node : PlanNode) → q < length (plan_of G r) → plan_node (plan_of G r) q ≡ node → In a (join_at H (rule_of G r) r p m f p₂ m₂ g q node)
         → BinaryRule G H (active r p m f) (active r p₂ m₂ g) a
     unfolding join_at
-    of-join q leaf l e k = absurd (in-nil k)
-    of-join q (introduce c i) l e k = absurd (in-nil k)
-    of-join q (join a b) l e k =
+    of_join q leaf l e k = absurd (in-nil k)
+    of_join q (introduce c i) l e k = absurd (in-nil k)
+    of_join q (join a b) l e k =
         let u = of_guard (eqb a p && eqb b p₂) k in
         let t = of_and (eqb a p) _ u.0 in
         of_combine H (rule_of G r) r q m m₂ f g (BinaryRule G H (active r p m f) (active r p₂ m₂ g))
@@ -315,19 +315,19 @@ module _ (G : Grammar) (H : Graph) where
   pub binary_in : {a b i : Item} → BinaryRule G H a b i → In i (binary_of G H a b)
   unfolding binary_of nonterminal_at join_at
   binary_in (nonterminal_rule r p c i m₁ m₂ m f L h l e j) =
-      in_to (length (plan_of G r)) (nonterminalAs G H r c m₁ f (edge_of G r i).label m₂ L) p l (rw e
+      in_to (length (plan_of G r)) (nonterminal_as G H r c m₁ f (edge_of G r i).label m₂ L) p l (rw e
       (in_guard (eqb c c && eqb (edge_of G r i).label (edge_of G r i).label) (simp eqb_same tt) (in_combine H (rule_of G r) r p m₁ m₂ f (map_for G r i L) j)))
   binary_in (join_rule r p a b m₁ m₂ m f g h l e j) =
-      in_guard (eqb r r) (eqb_refl r) (in_to (length (plan_of G r)) (joinAs G H r a m₁ f b m₂ g) p l (rw e
+      in_guard (eqb r r) (eqb_refl r) (in_to (length (plan_of G r)) (join_as G H r a m₁ f b m₂ g) p l (rw e
       (in_guard (eqb a a && eqb b b) (simp eqb_same tt) (in_combine H (rule_of G r) r p m₁ m₂ f g j))))
 
   pub in_binary : {i : Item} (a b : Item) → In i (binary_of G H a b) → BinaryRule G H a b i
   unfolding binary_of
   in_binary (active r p m f) (passive s m₂ L) k =
-      let u = of_to (length (plan_of G r)) (nonterminalAs G H r p m f s m₂ L) k in
-      of-nonterminal G H r p m f s m₂ L u.0 (plan_node (plan_of G r) u.0) u.1 refl u.2
+      let u = of_to (length (plan_of G r)) (nonterminal_as G H r p m f s m₂ L) k in
+      of_nonterminal G H r p m f s m₂ L u.0 (plan_node (plan_of G r) u.0) u.1 refl u.2
   in_binary {i} (active r p m f) (active r' p₂ m₂ g) k =
       let t = of_guard (eqb r r') k in
-      let u = of_to (length (plan_of G r)) (joinAs G H r p m f p₂ m₂ g) t.1 in
-      subst (λ (z : ℕ). BinaryRule G H (active r p m f) (active z p₂ m₂ g) i) (eqb→eq r r' t.0) (of-join G H r p m f p₂ m₂ g u.0 (plan_node (plan_of G r) u.0) u.1 refl u.2)
+      let u = of_to (length (plan_of G r)) (join_as G H r p m f p₂ m₂ g) t.1 in
+      subst (λ (z : ℕ). BinaryRule G H (active r p m f) (active z p₂ m₂ g) i) (eqb→eq r r' t.0) (of_join G H r p m f p₂ m₂ g u.0 (plan_node (plan_of G r) u.0) u.1 refl u.2)
   in_binary (passive s m L) b k = absurd (in-nil k)

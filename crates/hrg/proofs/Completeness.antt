@@ -20,10 +20,10 @@ use Rattle.hrg.proofs.Plans.{below_leaf, below_introduce, below_join, below_know
 use Rattle.hrg.proofs.Degrees.{degree, places, degree_zero, zero_or}
 use Rattle.hrg.proofs.Reordering.{reordered_sym}
 use Rattle.hrg.proofs.Parts.{size, size_in, fits_reorder}
-use Rattle.hrg.proofs.TreeNodes.{images_pos, images_find, pos_sum, parts-inside}
-use Rattle.hrg.proofs.Sides.{tentacles, tentacles_one, length-restrict, restrict-open, below_of, images_eq, edges_at}
+use Rattle.hrg.proofs.TreeNodes.{images_pos, images_find, pos_sum, parts_inside}
+use Rattle.hrg.proofs.Sides.{tentacles, tentacles_one, length_restrict, restrict_open, below_of, images_eq, edges_at}
 use Rattle.hrg.proofs.SingleEdges.{node_out, node_image, bit_hit}
-use Rattle.hrg.proofs.Splitting.{Cut, swap_cut, cut_at, mask_of, place_of, bit_b, open-node, child_truth, child_parts, Shows, child_shows, cut_joins}
+use Rattle.hrg.proofs.Splitting.{Cut, swap_cut, cut_at, mask_of, place_of, bit_b, open_node, child_truth, child_parts, Shows, child_shows, cut_joins}
 use Rattle.hrg.proofs.Soundness.{sound, root_order, root_below, root_shown}
 
 module _ (G : Grammar) (H : Graph) where
@@ -132,7 +132,7 @@ module _ (G : Grammar) (H : Graph) (ok : GrammarOk G) (hok : GraphOk G H) (r : �
             (below_of R rok p l x.0 (omega (arith, cut.sums x.0, tentacles_one P i x.0, x.1))),
       ) in
       let inside : (v : ℕ) → 0 < occurs v (inner_in G pieces.b) + occurs v (images h.place att) → v < H.nodes
-      = λ v o. pos_sum (occurs v (inner_in G pieces.b)) (occurs v (images h.place att)) o (parts-inside G H ok pieces.b v h.place _ cut.fits_b) (low v) in
+      = λ v o. pos_sum (occurs v (inner_in G pieces.b)) (occurs v (images h.place att)) o (parts_inside G H ok pieces.b v h.place _ cut.fits_b) (low v) in
       subst (λ (z : ℕ). Reachable (closure G H) (active r p m f) z) (sym cut.count ∙ h.count)
       (at_part p c i m (mask_of m pieces.a) (mask_of m pieces.b) (applications_in G pieces.a) f (restrict R c (place_of P (below R.plan c) h.place)) h.place l q
       (ih (mask_of m pieces.a) (applications_in G pieces.a) (restrict R c (place_of P (below R.plan c) h.place))
@@ -144,7 +144,7 @@ module _ (G : Grammar) (H : Graph) (ok : GrammarOk G) (hok : GraphOk G H) (r : �
       (λ z. omega (arith, h.once v (inside v z), cut.inner v, few v)))
       (record {
         image = λ v k o.
-            let x = open-node G H ok hok R rok p l h (swap_cut cut) v k o in
+            let x = open_node G H ok hok R rok p l h (swap_cut cut) v k o in
             subst (λ (b : ℕ). 0 < occurs b (images h.place att)) x.2 (images_pos h.place att x.0 (omega (arith, x.3, tentacles_one P i x.0)));
       })
       (λ t s. d t (omega (arith, cut.sizes)))
@@ -210,7 +210,7 @@ module _ (G : Grammar) (H : Graph) (ok : GrammarOk G) (hok : GraphOk G H) (r : �
             image = λ u l z.
                 let t = images_find place P.externals u (omega (arith, v.image u l z, ap (occurs u) x.0.externals)) in
                 subst (λ (w : ℕ). 0 < occurs w (restrict R p place)) (root_shown R rok p root place t.0 t.1 ∙ t.2)
-                (occurs_at (restrict R p place) t.0 (omega (arith, length-restrict R rok p b place, rok.right.externals.inside t.0 t.1)));
+                (occurs_at (restrict R p place) t.0 (omega (arith, length_restrict R rok p b place, rok.right.externals.inside t.0 t.1)));
           };
           count = moved.same.count;
         },

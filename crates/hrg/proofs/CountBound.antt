@@ -8,11 +8,11 @@ use mathlib.Core.List.Memᴰ.{append_cases as in-append}
 use mathlib.Core.List.Memᴰ.{append_left as in_left}
 use mathlib.Core.List.Memᴰ.{append_right as in_right}
 use mathlib.Core.List.Memᴰ.{cases_cons as in-cons}
-use mathlib.Core.List.Memᴰ.{cast as in-cast}
+use mathlib.Core.List.Memᴰ.{cast as in_cast}
 use mathlib.Core.List.Memᴰ.{head as here}
 use mathlib.Core.List.Memᴰ.{not-nil as in-nil}
 use mathlib.Core.List.Memᴰ.{tail as there}
-use mathlib.Core.List.{List, [], ◌∷◌, ◌++◌, append_nil, Memᴰ as In}
+use mathlib.Core.List.{List, [], ◌∷◌, ◌++◌, append-nil, Memᴰ as In}
 use Prim.Native.Nat.{ℕ, zero, suc, ◌+◌, ◌≤◌, ◌<◌}
 use native.Mathlib.Nat.{lt_of_not-le}
 use native.Mathlib.Omega.{arith}
@@ -45,11 +45,11 @@ module _ {Item : Type 0} {S : System Item} {P : List (Entry Item) → Entry Item
   pub start_every : {s : State Item} → Start S s → Every P s
   start_every {s} z e m = go (in-append s.handled m)
     where
-      no-handled : (a : Entry Item) → In a s.handled → In a []
-      no-handled a m = subst (λ (l : List (Entry Item)). In a l) z.handled m
+      no_handled : (a : Entry Item) → In a s.handled → In a []
+      no_handled a m = subst (λ (l : List (Entry Item)). In a l) z.handled m
 
       go : In e s.handled ⊎ In e s.waiting → P s.handled e
-      go (inl m) = absurd (in-nil (no-handled e m))
+      go (inl m) = absurd (in-nil (no_handled e m))
       go (inr m) = k.grow (λ a n. absurd (in-nil n)) (k.make (λ a n. absurd (in-nil n)) (z.origin e m) (λ n. in-nil n))
 
   pub step_every : {s t : State Item} → Step S s t → Every P s → Every P t
@@ -59,7 +59,7 @@ module _ {Item : Type 0} {S : System Item} {P : List (Entry Item) → Entry Item
       old a m = subst (λ (l : List (Entry Item)). In a l) (sym z.handles) (there m)
 
       present : (a : Entry Item) → (a ≡ z.chosen) ⊎ In a s.handled → In a (s.handled ++ s.waiting)
-      present a (inl q) = in_right s.handled (in-cast q z.waits)
+      present a (inl q) = in_right s.handled (in_cast q z.waits)
       present a (inr m) = in_left s.waiting m
 
       handled : (a : Entry Item) → In a t.handled → P t.handled a
@@ -203,7 +203,7 @@ module _ {S : System Item} {hs : List (Entry Item)} where
   uses_handled {a} m u j n = go (u.used j n)
     where
       go : (j ≡ a.item) ⊎ In j (items_of hs) → In j (items_of hs)
-      go (inl e) = in-cast e (in_items m)
+      go (inl e) = in_cast e (in_items m)
       go (inr k) = k
 
   -- an entry for a new item i whose derivation has the passive items xs below i
@@ -214,7 +214,7 @@ module _ {S : System Item} {hs : List (Entry Item)} where
       record {
         reached = r;
         concludes = c;
-        once = rw e (distinct_append (if_passive i) (if_distinct i) d (λ j m n. new (in-cast (sym (if_passive_lem i j m).0) (h j n))));
+        once = rw e (distinct_append (if_passive i) (if_distinct i) d (λ j m n. new (in_cast (sym (if_passive_lem i j m).0) (h j n))));
         inside = rw e (in_both (λ (j : Item). Subset (edges_of_item j) (edges_of_item i)) (if_passive i) (λ j m. rw (if_passive_lem i j m).0 (subset_refl (edges_of_item i))) w);
         used = rw e (in_both (λ (j : Item). (j ≡ i) ⊎ In j (items_of hs)) (if_passive i) (λ j m. inl (if_passive_lem i j m).0) (λ j m. inr (h j m)));
       }
@@ -224,13 +224,13 @@ module _ {S : System Item} {hs : List (Entry Item)} where
     where
       go : (j : Item) → (j ≡ e.item) ⊎ In j (items_of hs) → (j ≡ e.item) ⊎ In j (items_of ks)
       go j (inl q) = inl q
-      go j (inr n) = let o = of_items hs n in inr (in-cast (sym o.2) (in_items (f o.0 o.1)))
+      go j (inr n) = let o = of_items hs n in inr (in_cast (sym o.2) (in_items (f o.0 o.1)))
 
 module _ (G : Grammar) (H : Graph) (ok : GrammarOk G) where
   pub uses_made : {hs : List (Entry Item)} {e : Entry Item} → ((a : Entry Item) → In a hs → Uses (closure G H) hs a) → Made (closure G H) hs e → (In e.item (items_of hs) → ⊥)
       → Uses (closure G H) hs e
   unfolding conclusion passives_of
-  uses_made v (axiom_made {i = i} x) new = uses_below [] (by_axiom x) refl (sym (append_nil (if_passive i))) none (λ j m. absurd (in-nil m)) (λ j m. absurd (in-nil m)) new
+  uses_made v (axiom_made {i = i} x) new = uses_below [] (by_axiom x) refl (sym (append-nil (if_passive i))) none (λ j m. absurd (in-nil m)) (λ j m. absurd (in-nil m)) new
   uses_made v (unary_made {a = a} m u) new =
       let w = v a m in
       uses_below (passives_of a.how) (by_unary w.reached u) refl refl w.once (λ j n. subset_trans (w.inside j n) (unary_edges u)) (uses_handled m w) new
@@ -352,7 +352,7 @@ uses_once {S} {s} v =
       once = λ e m. (v e m).once;
       passives =
           record {
-            handled = λ e m. let l = uses_limit (v e (in_left s.waiting m)) [] (λ j n q. inr (in-cast q (in_items m))) in omega arith;
+            handled = λ e m. let l = uses_limit (v e (in_left s.waiting m)) [] (λ j n q. inr (in_cast q (in_items m))) in omega arith;
             waiting_active = λ e m p. let l = uses_limit (v e (in_right s.handled m)) [] (λ j n q. absurd (other (passives_passive e.how j n) (ap is_passive q ∙ p))) in omega arith;
             waiting_passive = λ e m p. let l = uses_limit (v e (in_right s.handled m)) (e.item ∷ []) (λ j n q. inl (here q)) in omega arith;
           };

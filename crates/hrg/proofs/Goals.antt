@@ -14,7 +14,7 @@ use Rattle.hrg.specs.Truth.{Truth}
 use Rattle.hrg.specs.WellFormed.{GrammarOk, GraphOk}
 use Rattle.hrg.proofs.Sums.{none_left}
 use Rattle.hrg.proofs.Degrees.{degree, places, degree_same, zero_or}
-use Rattle.hrg.proofs.TreeNodes.{held-tree, edges-known}
+use Rattle.hrg.proofs.TreeNodes.{held_tree, edges_known}
 use Rattle.hrg.proofs.Sides.{open_in}
 use Rattle.hrg.proofs.Soundness.{sound}
 use Rattle.hrg.proofs.Completeness.{complete}
@@ -36,7 +36,7 @@ module _ (G : Grammar) (H : Graph) (ok : GrammarOk G) (hok : GraphOk G H) where
         tree = t;
         fits = g.fits;
         edges = λ e. zero_or (length H.edges - e)
-            (λ z. none_left _ (λ o. omega (arith, edges-known G H ok t G.start e H.externals g.fits o)) ∙ sym (bit_full_out (length H.edges) e (omega arith)))
+            (λ z. none_left _ (λ o. omega (arith, edges_known G H ok t G.start e H.externals g.fits o)) ∙ sym (bit_full_out (length H.edges) e (omega arith)))
             (λ z. omega (arith, g.edges e (omega arith), g.apart.edges e, bit_full_in (length H.edges) e (omega arith)));
         once = g.apart.nodes;
         covers = all_covers;
@@ -52,7 +52,7 @@ module _ (G : Grammar) (H : Graph) (ok : GrammarOk G) (hok : GraphOk G H) where
         edges = λ e l. omega (arith, t.edges e, bit_full_in (length H.edges) e l);
         nodes = λ v l.
             let c = hok.side.covered v l in
-            held-tree G H ok v c.edge c.on t.tree G.start H.externals t.fits (omega (arith, t.edges c.edge, bit_full_in (length H.edges) c.edge c.known));
+            held_tree G H ok v c.edge c.on t.tree G.start H.externals t.fits (omega (arith, t.edges c.edge, bit_full_in (length H.edges) c.edge c.known));
       }
 
   pub truth_generates : (n : ℕ) → Truth G H (goal G H) n → (t : Tree) × Generates G H t × (applications G t ≡ n)

@@ -17,7 +17,7 @@ use Rattle.hrg.specs.WellFormed.{GrammarOk, GraphOk, RuleOk}
 use Rattle.hrg.proofs.Sums.{sum_to, sum_le, sum_add, occurs_sum, occurs_find, length_tabulate, at_tabulate, tabulate_ext}
 use Rattle.hrg.proofs.Degrees.{degree, places, degree_add, degree_le, degree_pos, degree_find, zero_or, by_test}
 use Rattle.hrg.proofs.Parts.{◌⧺◌, edges_append, inner_append, applications_append, fits_append, fits_place}
-use Rattle.hrg.proofs.TreeNodes.{Touched, touched-inner, touched-at, images_pos, pos_sum}
+use Rattle.hrg.proofs.TreeNodes.{Touched, touched_inner, touched_at, images_pos, pos_sum}
 use Rattle.hrg.proofs.Sides.{tentacles, tentacles_append, tentacles_le, open_in, open_of, once, open_at_in, below_in, below_of, either_set, either_none, either_right, hit_either, images_eq, edges_at, edges_at_lem, Side}
 
 pub keep_ext : (b : Bool) (a c : ℕ) → (b ≡ true → a ≡ c) → keep_if b a ≡ keep_if b c
@@ -43,8 +43,8 @@ module _ (G : Grammar) (H : Graph) (ok : GrammarOk G) (hok : GraphOk G H) where
       → 0 < occurs v (inner_in G s.parts) + occurs v s.place → 0 < degree (bit m) H.edges v
   side_touch P is {m} s v l h =
       pos_sum (occurs v (inner_in G s.parts)) (occurs v s.place) h
-      (λ k. got (touched-inner G H ok s.parts v s.place (edges_at P is) s.fits k))
-      (λ k. let t = occurs_find v s.place k in by-node t.0 (omega (arith, s.sized, t.1)) t.2)
+      (λ k. got (touched_inner G H ok s.parts v s.place (edges_at P is) s.fits k))
+      (λ k. let t = occurs_find v s.place k in by_node t.0 (omega (arith, s.sized, t.1)) t.2)
     where
       got : Touched G H ok v (edges_in s.parts) → 0 < degree (bit m) H.edges v
       got t = degree_pos (bit m) H.edges v t.edge (omega (arith, s.edges t.edge, t.used)) t.on
@@ -63,13 +63,13 @@ module _ (G : Grammar) (H : Graph) (ok : GrammarOk G) (hok : GraphOk G H) where
           found (j ∷ js) zero l = refl
           found (j ∷ js) (suc i) l = found js i (omega arith)
 
-      by-node : (x : ℕ) → x < P.nodes → at s.place x ≡ v → 0 < degree (bit m) H.edges v
-      by-node x b q =
+      by_node : (x : ℕ) → x < P.nodes → at s.place x ≡ v → 0 < degree (bit m) H.edges v
+      by_node x b q =
           zero_or (tentacles P is x)
           (λ z. absurd (omega (arith, s.others x b z, hok.side.node_count.upper)))
           (λ z. let t = degree_find (λ i. occurs i is) P.edges x z in
           let j = member is t.0 t.2 in
-          got (touched-at G H ok s.parts v s.place (edges_at P is) s.fits j.0 j.1
+          got (touched_at G H ok s.parts v s.place (edges_at P is) s.fits j.0 j.1
           (subst (λ (e : Edge). 0 < occurs v (images s.place e.attachment)) (sym j.2)
           (subst (λ (u : ℕ). 0 < occurs u (images s.place (edge_at P.edges t.0).attachment)) q (images_pos s.place (edge_at P.edges t.0).attachment x t.3)))))
 
@@ -181,9 +181,9 @@ module _ (G : Grammar) (H : Graph) (ok : GrammarOk G) (hok : GraphOk G H) where
           occurs_sum v N t.place t.sized,
         )
 
-    counted-joined : (v : ℕ) → occurs v (joined R.production.right.nodes f g) ≤ occurs v f + occurs v g
+    counted_joined : (v : ℕ) → occurs v (joined R.production.right.nodes f g) ≤ occurs v f + occurs v g
     unfolding joined
-    counted-joined v =
+    counted_joined v =
         let N = R.production.right.nodes in
         let j = joined N f g in
         omega (
@@ -201,18 +201,18 @@ module _ (G : Grammar) (H : Graph) (ok : GrammarOk G) (hok : GraphOk G H) where
     graph_sums : (v : ℕ) → degree (bit m) H.edges v ≡ degree (bit m₁) H.edges v + degree (bit m₂) H.edges v
     graph_sums v = degree_add (bit m₁) (bit m₂) (bit m) H.edges v bits
 
-    graph-le : (v : ℕ) → degree (bit m) H.edges v ≤ places H v
+    graph_le : (v : ℕ) → degree (bit m) H.edges v ≤ places H v
     unfolding places
-    graph-le v = omega (arith, degree_le (bit m) (λ i. 1) H.edges v (λ i. bit_le m i))
+    graph_le v = omega (arith, degree_le (bit m) (λ i. 1) H.edges v (λ i. bit_le m i))
 
     -- no node is inner twice, inner and placed, or placed twice: a node of both sides is open in both, so both maps
     -- show it
-    join-once : (v : ℕ) → v < H.nodes → occurs v (inner_in G s.parts) + occurs v (inner_in G t.parts) + occurs v place ≤ 1
-    join-once v u =
+    join_once : (v : ℕ) → v < H.nodes → occurs v (inner_in G s.parts) + occurs v (inner_in G t.parts) + occurs v place ≤ 1
+    join_once v u =
         zero_or (occurs v (inner_in G s.parts) + occurs v s.place)
-        (λ z. omega (arith, counted v, counted-joined v, t.once v u))
+        (λ z. omega (arith, counted v, counted_joined v, t.once v u))
         (λ a. zero_or (occurs v (inner_in G t.parts) + occurs v t.place)
-        (λ z. omega (arith, counted v, counted-joined v, s.once v u))
+        (λ z. omega (arith, counted v, counted_joined v, s.once v u))
         (λ b. let x = side_touch R.production.right is s v u a in
         let y = side_touch R.production.right js t v u b in
         omega (
@@ -221,8 +221,8 @@ module _ (G : Grammar) (H : Graph) (ok : GrammarOk G) (hok : GraphOk G H) where
           J.one_to_one_is v u,
           s.once v u,
           t.once v u,
-          s.covers.image v u (open_of H m₁ v x (omega (arith, graph_sums v, graph-le v))),
-          t.covers.image v u (open_of H m₂ v y (omega (arith, graph_sums v, graph-le v))),
+          s.covers.image v u (open_of H m₁ v x (omega (arith, graph_sums v, graph_le v))),
+          t.covers.image v u (open_of H m₂ v y (omega (arith, graph_sums v, graph_le v))),
         )))
 
     join_fits_is : FitsParts G H place (s.parts ⧺ t.parts) (edges_at R.production.right is ++ edges_at R.production.right js)
@@ -237,16 +237,16 @@ module _ (G : Grammar) (H : Graph) (ok : GrammarOk G) (hok : GraphOk G H) where
     map_append [] k = refl
     map_append (i ∷ l) k = ap (λ (es : List Edge). edge_at R.production.right.edges i ∷ es) (map_append l k)
 
-    join-map : h ≡ restrict R p place
+    join_map : h ≡ restrict R p place
     unfolding restrict
-    join-map =
+    join_map =
         J.map
         ∙ tabulate_ext R.production.right.nodes (λ x. keep_if (is_open_at R p x) (at (joined R.production.right.nodes f g) x)) (λ x. keep_if (is_open_at R p x) (at place x))
         (λ x l. keep_ext (is_open_at R p x) (at (joined R.production.right.nodes f g) x) (at place x) (λ o. shows x l (open_at_in R rok p inside x o).1))
 
-    pub join-truth : ActiveTruth G H R p m h (n + k)
+    pub join_truth : ActiveTruth G H R p m h (n + k)
     unfolding place joined
-    join-truth =
+    join_truth =
         record {
           place = place;
           parts = s.parts ⧺ t.parts;
@@ -259,13 +259,13 @@ module _ (G : Grammar) (H : Graph) (ok : GrammarOk G) (hok : GraphOk G H) where
               (λ a. absurd (o (below_of R rok p inside x a)));
           fits = subst (λ (es : List Edge). FitsParts G H place (s.parts ⧺ t.parts) es) (sym (ap (λ (l : List ℕ). edges_at R.production.right l) split ∙ map_append is js)) join_fits_is;
           edges = λ e. edges_append s.parts t.parts e ∙ ap₂ ◌+◌ (s.edges e) (t.edges e) ∙ sym (bits e);
-          once = λ v u. omega (arith, inner_append G s.parts t.parts v, join-once v u);
-          map = join-map;
+          once = λ v u. omega (arith, inner_append G s.parts t.parts v, join_once v u);
+          map = join_map;
           covers = J.covers;
           count = applications_append G s.parts t.parts ∙ ap₂ ◌+◌ s.count t.count;
         }
 
     -- the parts of both sides
-    pub join-parts : join-truth.parts ≡ s.parts ⧺ t.parts
-    unfolding join-truth
-    join-parts = refl
+    pub join_parts : join_truth.parts ≡ s.parts ⧺ t.parts
+    unfolding join_truth
+    join_parts = refl

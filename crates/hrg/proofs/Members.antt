@@ -5,7 +5,7 @@ use mathlib.Core.List.Memᴰ.{append_cases as in-append}
 use mathlib.Core.List.Memᴰ.{append_left as in_left}
 use mathlib.Core.List.Memᴰ.{append_right as in_right}
 use mathlib.Core.List.Memᴰ.{cases_cons as in-cons}
-use mathlib.Core.List.Memᴰ.{cast as in-cast}
+use mathlib.Core.List.Memᴰ.{cast as in_cast}
 use mathlib.Core.List.Memᴰ.{head as here}
 use mathlib.Core.List.Memᴰ.{map as in_map}
 use mathlib.Core.List.Memᴰ.{not-nil as in-nil}
@@ -65,7 +65,7 @@ module _ {A : Type 0} where
   distinct_right (x ∷ xs) ys d = distinct_right xs ys (distinct_tail d)
 
   pub distinct_apart : {i : A} {xs ys : List A} → Distinct (xs ++ ys) → In i xs → In i ys → ⊥
-  distinct_apart d (here {xs = xs} e) m = distinct_head d (in-cast (sym e) (in_right xs m))
+  distinct_apart d (here {xs = xs} e) m = distinct_head d (in_cast (sym e) (in_right xs m))
   distinct_apart d (there l) m = distinct_apart (distinct_tail d) l m
 
   pub distinct_append : (xs : List A) {ys : List A} → Distinct xs → Distinct ys → ((i : A) → In i xs → In i ys → ⊥) → Distinct (xs ++ ys)
@@ -84,7 +84,7 @@ module _ {A : Type 0} where
       omega (arith, removed_length r.1, distinct_le d (λ i m. go r.0 i m (removed_cases r.1 (f i (there m)))))
     where
       go : (zs : List A) (i : A) → In i xs → (i ≡ x) ⊎ In i zs → In i zs
-      go zs i m (inl e) = absurd (n (in-cast (sym e) m))
+      go zs i m (inl e) = absurd (n (in_cast (sym e) m))
       go zs i m (inr k) = k
 
   pub distinct_equal : {xs ys : List A} → Distinct xs → Distinct ys → ((i : A) → In i xs → In i ys) → ((i : A) → In i ys → In i xs) → length xs ≡ length ys
@@ -94,24 +94,24 @@ module _ {A : Type 0} where
 module _ {A B : Type 0} (f : A → B) where
   pub map_one : {xs : List A} {a b : A} → Distinct (map f xs) → In a xs → In b xs → f a ≡ f b → a ≡ b
   map_one d (here p) (here q) e = p ∙ sym q
-  map_one d (here p) (there m) e = absurd (distinct_head d (in-cast (ap f (sym p) ∙ e) (in_map f m)))
-  map_one d (there l) (here q) e = absurd (distinct_head d (in-cast (ap f (sym q) ∙ sym e) (in_map f l)))
+  map_one d (here p) (there m) e = absurd (distinct_head d (in_cast (ap f (sym p) ∙ e) (in_map f m)))
+  map_one d (there l) (here q) e = absurd (distinct_head d (in_cast (ap f (sym q) ∙ sym e) (in_map f l)))
   map_one d (there l) (there m) e = map_one (distinct_tail d) l m e
 
   pub map_apart : {xs ys : List A} {a b : A} → Distinct (map f (xs ++ ys)) → In a xs → In b ys → f a ≡ f b → ⊥
-  map_apart d (here {xs = xs} p) m e = distinct_head d (in-cast (ap f (sym p) ∙ e) (in_map f (in_right xs m)))
+  map_apart d (here {xs = xs} p) m e = distinct_head d (in_cast (ap f (sym p) ∙ e) (in_map f (in_right xs m)))
   map_apart d (there l) m e = map_apart (distinct_tail d) l m e
 
   pub removed_distinct : {a : A} {ys zs : List A} → Removed a ys zs → Distinct (map f ys) → Distinct (map f zs)
   removed_distinct (first e) d = distinct_tail d
-  removed_distinct (later {zs = zs} r) d = more (λ m. let o = of_map f zs m in distinct_head d (in-cast (sym o.2) (in_map f (removed_rest r o.1)))) (removed_distinct r (distinct_tail d))
+  removed_distinct (later {zs = zs} r) d = more (λ m. let o = of_map f zs m in distinct_head d (in_cast (sym o.2) (in_map f (removed_rest r o.1)))) (removed_distinct r (distinct_tail d))
 
   pub removed_gone : {a : A} {ys zs : List A} → Removed a ys zs → Distinct (map f ys) → In (f a) (map f zs) → ⊥
-  removed_gone (first e) d m = distinct_head d (in-cast (ap f (sym e)) m)
+  removed_gone (first e) d m = distinct_head d (in_cast (ap f (sym e)) m)
   removed_gone {a} (later {y = y} {zs = zs} r) d m = go (λ n. removed_gone r (distinct_tail d) n) (in-cons m)
     where
       go : (In (f a) (map f zs) → ⊥) → (f a ≡ f y) ⊎ In (f a) (map f zs) → ⊥
-      go rest (inl e) = distinct_head d (in-cast (sym e) (in_map f (removed_in r)))
+      go rest (inl e) = distinct_head d (in_cast (sym e) (in_map f (removed_in r)))
       go rest (inr m) = rest m
 
 module _ {A B : Type 0} (f : A → List B) where

@@ -14,7 +14,7 @@ use Rattle.hrg.specs.Truth.{edges_below, LeavesOnly, a_leaf, a_join, Truth}
 use Rattle.hrg.specs.WellFormed.{GrammarOk, GraphOk, PlanOk}
 use Rattle.hrg.proofs.Degrees.{zero_or}
 use Rattle.hrg.proofs.Plans.{below_introduce, below_join, join_lower, inside_join}
-use Rattle.hrg.proofs.TreeNodes.{tree-edge, parts-edge}
+use Rattle.hrg.proofs.TreeNodes.{tree_edge, parts_edge}
 
 filled : (m e : ℕ) → 0 < bit m e → 0 < m
 filled zero e h = absurd (omega (arith, bit_empty e))
@@ -36,12 +36,12 @@ leaves_only edges pl ok (suc k) p l z = go (plan_node pl p) refl (λ q b. leaves
 
 module _ (G : Grammar) (H : Graph) (ok : GrammarOk G) where
   pub passive_filled : (s m n : ℕ) (L : List ℕ) → Truth G H (passive s m L) n → 0 < m
-  passive_filled s m n L t = let e = tree-edge G H ok t.tree s L t.fits in filled m e.edge (omega (arith, t.edges e.edge, e.used))
+  passive_filled s m n L t = let e = tree_edge G H ok t.tree s L t.fits in filled m e.edge (omega (arith, t.edges e.edge, e.used))
 
   pub active_filled : (r p m n : ℕ) (f : List ℕ) → Truth G H (active r p m f) n → (LeavesOnly (plan_of G r) p → ⊥) → 0 < m
   active_filled r p m n f t none =
       let R = rule_of G r in
       zero_or (length (below R.plan p))
       (λ z. absurd (none (leaves_only _ R.plan (ok.rule r t.0).plan (suc p) p (omega arith) z)))
-      (λ z. let e = parts-edge G H ok t.2.parts t.2.place (edges_below R p) t.2.fits (omega (arith, length-map (below R.plan p) (λ (i : ℕ). edge_at R.production.right.edges i))) in
+      (λ z. let e = parts_edge G H ok t.2.parts t.2.place (edges_below R p) t.2.fits (omega (arith, length-map (below R.plan p) (λ (i : ℕ). edge_at R.production.right.edges i))) in
       filled m e.edge (omega (arith, t.2.edges e.edge, e.used)))

@@ -76,19 +76,19 @@ module _ (G : Grammar) (H : Graph) where
     pub first : Parts
     pub second : Parts
     pub whole : ps ≡ first ⧺ second
-    pub fits-first : FitsParts G H place first es
-    pub fits-second : FitsParts G H place second fs
+    pub fits_first : FitsParts G H place first es
+    pub fits_second : FitsParts G H place second fs
 
   pub fits_split : (place : List ℕ) (ps : Parts) (es fs : List Edge) → FitsParts G H place ps (es ++ fs) → Halves place ps es fs
   unfolding ◌⧺◌
-  fits_split place ps [] fs x = record { first = end; second = ps; whole = refl; fits-first = tt; fits-second = x }
+  fits_split place ps [] fs x = record { first = end; second = ps; whole = refl; fits_first = tt; fits_second = x }
   fits_split place end (e ∷ es) fs x = absurd x
   fits_split place (edge g ps) (e ∷ es) fs x =
       let h = fits_split place ps es fs x.1 in
-      record { first = edge g h.first; second = h.second; whole = ap (edge g) h.whole; fits-first = (x.0, h.fits-first); fits-second = h.fits-second }
+      record { first = edge g h.first; second = h.second; whole = ap (edge g) h.whole; fits_first = (x.0, h.fits_first); fits_second = h.fits_second }
   fits_split place (tree t ps) (e ∷ es) fs x =
       let h = fits_split place ps es fs x.1 in
-      record { first = tree t h.first; second = h.second; whole = ap (tree t) h.whole; fits-first = (x.0, h.fits-first); fits-second = h.fits-second }
+      record { first = tree t h.first; second = h.second; whole = ap (tree t) h.whole; fits_first = (x.0, h.fits_first); fits_second = h.fits_second }
 
   -- another placement that agrees on the nodes of the edges
   pub fits_place : (place other : List ℕ) (ps : Parts) (es : List Edge)

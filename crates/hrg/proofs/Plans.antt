@@ -106,12 +106,12 @@ module _ (edges : ℕ) (pl : List PlanNode) (ok : PlanOk edges pl) where
     abbrev count : ℕ → ℕ
     count p = occurs i (below pl p)
 
-    count-node : (p : ℕ) → count p ≡ sum_over count (children (plan_node pl p)) + occurs i (introduced (plan_node pl p))
-    count-node p = ap (λ (l : List ℕ). occurs i l) (below_node_is p) ∙ node_count i (λ c. below pl c) (plan_node pl p)
+    count_node : (p : ℕ) → count p ≡ sum_over count (children (plan_node pl p)) + occurs i (introduced (plan_node pl p))
+    count_node p = ap (λ (l : List ℕ). occurs i l) (below_node_is p) ∙ node_count i (λ c. below pl c) (plan_node pl p)
 
     -- counted over all plan nodes: what is below the root is what is introduced
-    root-count : (last : ℕ) → suc last ≡ length pl → count last ≡ occurs i (all_introduced pl)
-    root-count last size =
+    root_count : (last : ℕ) → suc last ≡ length pl → count last ≡ occurs i (all_introduced pl)
+    root_count last size =
         omega (
           arith,
           sum_eq (length pl) count (λ p. occurs i (below_node (λ c. below pl c) (plan_node pl p))) (λ p l. ap (λ (l : List ℕ). occurs i l) (below_node_is p)),
@@ -140,20 +140,20 @@ module _ (edges : ℕ) (pl : List PlanNode) (ok : PlanOk edges pl) where
         go (suc d) e ih =
             let t = parent pl p (omega (arith, ok.child_once p (omega arith))) in
             let o = lower t.0 p t.2 in
-            omega (arith, ih t.0 (omega arith) (omega (arith, t.1)), count-node t.0, sum_over_member count (children (plan_node pl t.0)) p t.2)
+            omega (arith, ih t.0 (omega arith) (omega (arith, t.1)), count_node t.0, sum_over_member count (children (plan_node pl t.0)) p t.2)
 
-    introduced-most : (p : ℕ) → p < length pl → count p ≤ occurs i (all_introduced pl)
-    introduced-most p h = go (length pl) refl
+    introduced_most : (p : ℕ) → p < length pl → count p ≤ occurs i (all_introduced pl)
+    introduced_most p h = go (length pl) refl
       where
         go : (n : ℕ) → length pl ≡ n → count p ≤ occurs i (all_introduced pl)
         go zero e = omega arith
-        go (suc last) e = omega (arith, most last (last - p) p (sym e) (omega arith) (omega arith), root-count last (sym e))
+        go (suc last) e = omega (arith, most last (last - p) p (sym e) (omega arith) (omega arith), root_count last (sym e))
 
   pub below_known : (p i : ℕ) → 0 < occurs i (below pl p) → i < edges
   unfolding occurs
   below_known p i h =
       let l : p < length pl = lt_of_not-le (λ l. omega (arith, ap (λ (l : List ℕ). occurs i l) (below_leaf p (get_or-eq_default pl leaf l)))) in
-      ok.edge_known i (omega (arith, introduced-most i p l))
+      ok.edge_known i (omega (arith, introduced_most i p l))
 
   pub introduce_known : (p c i : ℕ) → plan_node pl p ≡ introduce c i → i < edges
   unfolding occurs
@@ -161,11 +161,11 @@ module _ (edges : ℕ) (pl : List PlanNode) (ok : PlanOk edges pl) where
       below_known p i (omega (arith, ap (λ (l : List ℕ). occurs i l) (below_introduce p c i e), occurs_append i (below pl c) (i ∷ []), hit_self i))
 
   pub below_root : (p i : ℕ) → suc p ≡ length pl → i < edges → occurs i (below pl p) ≡ 1
-  below_root p i size h = root-count i p size ∙ ok.edge_once i h
+  below_root p i size h = root_count i p size ∙ ok.edge_once i h
 
   pub below_once : (p i : ℕ) → p < length pl → occurs i (below pl p) ≤ 1
   below_once p i h = go (occurs i (all_introduced pl)) refl
     where
       go : (k : ℕ) → occurs i (all_introduced pl) ≡ k → occurs i (below pl p) ≤ 1
-      go zero e = omega (arith, introduced-most i p h)
-      go (suc k) e = omega (arith, introduced-most i p h, ok.edge_once i (ok.edge_known i (omega arith)))
+      go zero e = omega (arith, introduced_most i p h)
+      go (suc k) e = omega (arith, introduced_most i p h, ok.edge_once i (ok.edge_known i (omega arith)))

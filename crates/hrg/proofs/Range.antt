@@ -3,7 +3,7 @@ use mathlib.Core.Path.{◌≡◌, refl, sym, ◌∙◌}
 use mathlib.Core.Bool.{Bool, true, false}
 use mathlib.Core.List.Memᴰ.{append_left as in_left}
 use mathlib.Core.List.Memᴰ.{append_right as in_right}
-use mathlib.Core.List.Memᴰ.{cast as in-cast}
+use mathlib.Core.List.Memᴰ.{cast as in_cast}
 use mathlib.Core.List.Memᴰ.{head as here}
 use mathlib.Core.List.Memᴰ.{map as in_map}
 use mathlib.Core.List.{List, [], ◌∷◌, ◌++◌, map, Memᴰ as In}
@@ -21,7 +21,7 @@ use Rattle.hrg.specs.Truth.{ActiveTruth, Truth}
 use Rattle.hrg.specs.WellFormed.{GrammarOk, GraphOk}
 use Rattle.hrg.specs.ClosureRun.{each_to}
 use Rattle.hrg.proofs.Sums.{none_left}
-use Rattle.hrg.proofs.TreeNodes.{edges-known, parts-known}
+use Rattle.hrg.proofs.TreeNodes.{edges_known, parts_known}
 use Rattle.hrg.proofs.ClosureRun.{in_to}
 
 -- the lists of n numbers below k
@@ -46,10 +46,10 @@ module _ (k : ℕ) where
   lists_cons v n h m = in_to k (λ v. map (λ (l : List ℕ). v ∷ l) (lists k n)) v h (in_map (λ (l : List ℕ). v ∷ l) m)
 
   module _ (f : ℕ → ℕ) (small : (x : ℕ) → f x < k) where
-    lists-map : (xs : List ℕ) → In (map f xs) (lists k (length xs))
+    lists_map : (xs : List ℕ) → In (map f xs) (lists k (length xs))
     unfolding lists
-    lists-map [] = here refl
-    lists-map (x ∷ xs) = lists_cons (f x) (length xs) (small x) (lists-map xs)
+    lists_map [] = here refl
+    lists_map (x ∷ xs) = lists_cons (f x) (length xs) (small x) (lists_map xs)
 
   lists_tabulate : (n : ℕ) (f : ℕ → ℕ) → ((x : ℕ) → f x < k) → In (tabulate n f) (lists k n)
   unfolding lists tabulate
@@ -77,8 +77,8 @@ module _ (G : Grammar) (H : Graph) (good : GrammarOk G) (ok : GraphOk G H) where
   unfolding active_range restrict
   active_in r p m f n l t =
       in_to (length (plan_of G r)) _ p l
-      (in_to (2 ^ length H.edges) _ m (mask_small m (edges_in t.parts) t.edges (λ e. parts-known G H good t.parts e t.place _ t.fits))
-      (in_map (λ (f : List ℕ). active r p m f) (in-cast t.map
+      (in_to (2 ^ length H.edges) _ m (mask_small m (edges_in t.parts) t.edges (λ e. parts_known G H good t.parts e t.place _ t.fits))
+      (in_map (λ (f : List ℕ). active r p m f) (in_cast t.map
       (lists_tabulate (suc unplaced) (right_of G r).nodes _ (λ x. keep_small (is_open_at (rule_of G r) p x) _ (entry_small t.place _ t.sized small x))))))
     where
       -- whether x lies below is not asked: with a larger entry it could lie neither there nor elsewhere
@@ -94,12 +94,12 @@ module _ (G : Grammar) (H : Graph) (good : GrammarOk G) (ok : GraphOk G H) where
   passive_in (apply r place ps) s m L w h =
       let s-is : lhs_of G r ≡ s = w.0.lhs in
       let L-is : images place (right_of G r).externals ≡ L = w.0.externals in
-      in_to (length G.rules) _ r w.0.known (in_right (active_range G H r) (in_to (2 ^ length H.edges) _ m h (in-cast (cc)
+      in_to (length G.rules) _ r w.0.known (in_right (active_range G H r) (in_to (2 ^ length H.edges) _ m h (in_cast (cc)
       (in_map (λ (L : List ℕ). passive (lhs_of G r) m L)
-      (lists-map (suc unplaced) (λ x. at place x) (entry_small place _ w.0.sized (λ x l. omega (arith, w.0.placed x l, ok.side.node_count.upper))) (right_of G r).externals)))))
+      (lists_map (suc unplaced) (λ x. at place x) (entry_small place _ w.0.sized (λ x l. omega (arith, w.0.placed x l, ok.side.node_count.upper))) (right_of G r).externals)))))
 
   pub in_range : (i : Item) (n : ℕ) → Truth G H i n → In i (range G H)
   unfolding range
   in_range (active r p m f) n t = in_to (length G.rules) _ r t.0 (in_left (passive_range G H r) (active_in r p m f n t.1 t.2))
   in_range (passive s m L) n t =
-      passive_in t.tree s m L t.fits (mask_small m (edges_of t.tree) t.edges (λ e. edges-known G H good t.tree s e L t.fits))
+      passive_in t.tree s m L t.fits (mask_small m (edges_of t.tree) t.edges (λ e. edges_known G H good t.tree s e L t.fits))

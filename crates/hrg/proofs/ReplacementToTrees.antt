@@ -7,7 +7,7 @@ use mathlib.Core.List.Memᴰ.{append_left as in_left}
 use mathlib.Core.List.Memᴰ.{append_right as in_right}
 use mathlib.Core.List.Memᴰ.{head as here}
 use mathlib.Core.List.Memᴰ.{tail as there}
-use mathlib.Core.List.{List, [], ◌∷◌, ◌++◌, map, map_append, nil≢cons, cons≢nil, head-eq_of_cons-eq, tail-eq_of_cons-eq, Memᴰ as In}
+use mathlib.Core.List.{List, [], ◌∷◌, ◌++◌, map, map-append, nil≢cons, cons≢nil, head-eq_of_cons-eq, tail-eq_of_cons-eq, Memᴰ as In}
 use Prim.Native.Nat.{ℕ, zero, suc, ◌+◌, ◌≤◌, ◌<◌}
 use native.Mathlib.Nat.{not-suc-le-zero, le_of_suc-le-suc}
 use native.Mathlib.Omega.{arith}
@@ -90,8 +90,8 @@ module _ (G : Grammar) (ok : GrammarOk G) {K K' : Hypergraph} {a : Application} 
     pub copy : Parts
     pub last : Parts
     pub whole : ps ≡ first ⧺ (copy ⧺ last)
-    pub fits-first : FitsParts G H Φ first r.before
-    pub fits-copy : FitsParts G H (images Φ a.place) copy (right_of G a.rule).edges
+    pub fits_first : FitsParts G H Φ first r.before
+    pub fits_copy : FitsParts G H (images Φ a.place) copy (right_of G a.rule).edges
     pub fits_last : FitsParts G H Φ last r.after
 
   pub thirds : (H : Graph) (Φ : List ℕ) (ps : Parts) → FitsParts G H Φ ps K'.edges → Thirds H Φ ps
@@ -99,15 +99,15 @@ module _ (G : Grammar) (ok : GrammarOk G) {K K' : Hypergraph} {a : Application} 
       let P = right_of G a.rule in
       let copied = map (renamed (λ x. at a.place x)) P.edges in
       let c = fits_split G H Φ ps r.before (copied ++ r.after) (subst (λ (es : List Edge). FitsParts G H Φ ps es) r.edges x) in
-      let d = fits_split G H Φ c.second copied r.after c.fits-second in
+      let d = fits_split G H Φ c.second copied r.after c.fits_second in
       record {
         first = c.first;
         copy = d.first;
         last = d.second;
         whole = c.whole ∙ ap (λ (qs : Parts). c.first ⧺ qs) d.whole;
-        fits-first = c.fits-first;
-        fits-copy = fits_renamed G H Φ a.place d.first P.edges (λ i l x h. in_copy x (((ok.rule a.rule r.known).right.edge i l).listed.inside x h)) d.fits-first;
-        fits_last = d.fits-second;
+        fits_first = c.fits_first;
+        fits_copy = fits_renamed G H Φ a.place d.first P.edges (λ i l x h. in_copy x (((ok.rule a.rule r.known).right.edge i l).listed.inside x h)) d.fits_first;
+        fits_last = d.fits_second;
       }
 
 -- ---- edges end at nodes of the graph
@@ -137,8 +137,8 @@ module _ (G : Grammar) (ok : GrammarOk G) where
         (λ h. omega (arith, grown G ok r v, images_pos a.place (internals P) x h))
         (λ h. omega (arith, grown G ok r v, old r.replaced (in_right r.before (here refl)) v (subst (λ (l : List ℕ). 0 < occurs v l) r.identified (images_pos a.place P.externals x h))))
 
-    pub attached-step : Attached K'
-    attached-step e i v h = go (in-cases r.before (subst (λ (es : List Edge). In e es) r.edges i))
+    pub attached_step : Attached K'
+    attached_step e i v h = go (in-cases r.before (subst (λ (es : List Edge). In e es) r.edges i))
       where
         last : In e (map (renamed (λ x. at a.place x)) (right_of G a.rule).edges) ⊎ In e r.after → 0 < occurs v K'.nodes
         last (inl j) =
@@ -170,32 +170,32 @@ module _ (G : Grammar) (ok : GrammarOk G) where
       pub count : applications_in G parts ≡ n
 
     -- graph edges alone
-    unfoldable edgeParts : List ℕ → Parts
-    edgeParts [] = end
-    edgeParts (g ∷ gs) = edge g (edgeParts gs)
+    unfoldable edge_parts : List ℕ → Parts
+    edge_parts [] = end
+    edge_parts (g ∷ gs) = edge g (edge_parts gs)
 
-    edge-parts-edges : (gs : List ℕ) → edges_in (edgeParts gs) ≡ gs
-    unfolding edgeParts edges_in
-    edge-parts-edges [] = refl
-    edge-parts-edges (g ∷ gs) = ap (λ (l : List ℕ). g ∷ l) (edge-parts-edges gs)
+    edge_parts_edges : (gs : List ℕ) → edges_in (edge_parts gs) ≡ gs
+    unfolding edge_parts edges_in
+    edge_parts_edges [] = refl
+    edge_parts_edges (g ∷ gs) = ap (λ (l : List ℕ). g ∷ l) (edge_parts_edges gs)
 
-    edge-parts-inner : (gs : List ℕ) → inner_in G (edgeParts gs) ≡ []
-    unfolding edgeParts inner_in
-    edge-parts-inner [] = refl
-    edge-parts-inner (g ∷ gs) = edge-parts-inner gs
+    edge_parts_inner : (gs : List ℕ) → inner_in G (edge_parts gs) ≡ []
+    unfolding edge_parts inner_in
+    edge_parts_inner [] = refl
+    edge_parts_inner (g ∷ gs) = edge_parts_inner gs
 
-    edge-parts-count : (gs : List ℕ) → applications_in G (edgeParts gs) ≡ 0
-    unfolding edgeParts applications_in
-    edge-parts-count [] = refl
-    edge-parts-count (g ∷ gs) = edge-parts-count gs
+    edge_parts_count : (gs : List ℕ) → applications_in G (edge_parts gs) ≡ 0
+    unfolding edge_parts applications_in
+    edge_parts_count [] = refl
+    edge_parts_count (g ∷ gs) = edge_parts_count gs
 
-    edge-parts-fit : (gs : List ℕ) (es : List Edge) → edges_at H gs ≡ map (renamed (λ x. at Φ x)) es → ((g : ℕ) → 0 < occurs g gs → g < length H.edges)
-        → ((i : ℕ) → i < length es → kind_of G (edge_at es i).label ≡ terminal) → FitsParts G H Φ (edgeParts gs) es
-    unfolding edgeParts occurs
-    edge-parts-fit [] [] q known t = tt
-    edge-parts-fit [] (e ∷ es) q known t = absurd (nil≢cons q)
-    edge-parts-fit (g ∷ gs) [] q known t = absurd (cons≢nil q)
-    edge-parts-fit (g ∷ gs) (e ∷ es) q known t =
+    edge_parts_fit : (gs : List ℕ) (es : List Edge) → edges_at H gs ≡ map (renamed (λ x. at Φ x)) es → ((g : ℕ) → 0 < occurs g gs → g < length H.edges)
+        → ((i : ℕ) → i < length es → kind_of G (edge_at es i).label ≡ terminal) → FitsParts G H Φ (edge_parts gs) es
+    unfolding edge_parts occurs
+    edge_parts_fit [] [] q known t = tt
+    edge_parts_fit [] (e ∷ es) q known t = absurd (nil≢cons q)
+    edge_parts_fit (g ∷ gs) [] q known t = absurd (cons≢nil q)
+    edge_parts_fit (g ∷ gs) (e ∷ es) q known t =
         let same = head-eq_of_cons-eq q in (
           record {
             kind = t 0 (omega arith);
@@ -203,24 +203,24 @@ module _ (G : Grammar) (ok : GrammarOk G) where
             label = ap (λ (d : Edge). d.label) same;
             attachment = ap (λ (d : Edge). d.attachment) same;
           },
-          edge-parts-fit gs es (tail-eq_of_cons-eq q) (λ h l. known h (omega arith)) (λ i l. t (suc i) (omega arith)),
+          edge_parts_fit gs es (tail-eq_of_cons-eq q) (λ h l. known h (omega arith)) (λ i l. t (suc i) (omega arith)),
         )
 
     module _ (gs : List ℕ) (known : (g : ℕ) → 0 < occurs g gs → g < length H.edges) where
-      nothing-made : (K : Hypergraph) → Terminal G K → edges_at H gs ≡ map (renamed (λ x. at Φ x)) K.edges → Made K K gs 0
+      nothing_made : (K : Hypergraph) → Terminal G K → edges_at H gs ≡ map (renamed (λ x. at Φ x)) K.edges → Made K K gs 0
       unfolding occurs
-      nothing-made K t q =
+      nothing_made K t q =
           record {
-            parts = edgeParts gs;
-            fits = edge-parts-fit gs K.edges q known t.labels;
-            edges = λ e. ap (occurs e) (edge-parts-edges gs);
-            nodes = λ v. omega (arith, ap (occurs v) (edge-parts-inner gs));
-            count = edge-parts-count gs;
+            parts = edge_parts gs;
+            fits = edge_parts_fit gs K.edges q known t.labels;
+            edges = λ e. ap (occurs e) (edge_parts_edges gs);
+            nodes = λ v. omega (arith, ap (occurs v) (edge_parts_inner gs));
+            count = edge_parts_count gs;
           }
 
       module _ {K K' : Hypergraph} {a : Application} (r : Replaces G K a K') (attached : Attached K) (inside : (v : ℕ) → 0 < occurs v K'.nodes → at Φ v < H.nodes) where
-        applied-fits : FitsRule G H r.replaced.label (images Φ r.replaced.attachment) a.rule (images Φ a.place)
-        applied-fits =
+        applied_fits : FitsRule G H r.replaced.label (images Φ r.replaced.attachment) a.rule (images Φ a.place)
+        applied_fits =
             record {
               kind = r.kind;
               known = r.known;
@@ -231,25 +231,25 @@ module _ (G : Grammar) (ok : GrammarOk G) where
             }
 
         -- how often a node is one of the images of the new graph's nodes
-        grown-images : (v : ℕ) → occurs v (images Φ K'.nodes) ≡ occurs v (images Φ K.nodes) + occurs v (images (images Φ a.place) (internals (right_of G a.rule)))
-        grown-images v =
+        grown_images : (v : ℕ) → occurs v (images Φ K'.nodes) ≡ occurs v (images Φ K.nodes) + occurs v (images (images Φ a.place) (internals (right_of G a.rule)))
+        grown_images v =
             let inner = internals (right_of G a.rule) in
             let own = images a.place inner in
-            ap (λ (l : List ℕ). occurs v (images Φ l)) r.nodes ∙ ap (occurs v) (map_append (λ x. at Φ x) K.nodes own) ∙ occurs_append v (images Φ K.nodes) (images Φ own)
+            ap (λ (l : List ℕ). occurs v (images Φ l)) r.nodes ∙ ap (occurs v) (map-append (λ x. at Φ x) K.nodes own) ∙ occurs_append v (images Φ K.nodes) (images Φ own)
             ∙ ap (λ (l : List ℕ). occurs v (images Φ K.nodes) + occurs v l) (images_images Φ a.place inner (λ x h. in_copy G ok r x (internals_inside (right_of G a.rule) x h)))
 
       -- the parts for the edges of a copy go under the application that made it
-      step-made : {K K' K'' : Hypergraph} {a : Application} {n : ℕ} → Replaces G K a K' → Attached K → ((v : ℕ) → 0 < occurs v K'.nodes → at Φ v < H.nodes)
+      step_made : {K K' K'' : Hypergraph} {a : Application} {n : ℕ} → Replaces G K a K' → Attached K → ((v : ℕ) → 0 < occurs v K'.nodes → at Φ v < H.nodes)
           → Made K' K'' gs n → Made K K'' gs (cost (rule_of G a.rule) + n)
       unfolding edges_of edges_in inner_of inner_in applications applications_in
-      step-made {K} {K'} {K''} {a} {n} r attached inside m =
+      step_made {K} {K'} {K''} {a} {n} r attached inside m =
           let own = images (images Φ a.place) (internals (right_of G a.rule)) in
           let c = thirds G ok r H Φ m.parts m.fits in
           let here_on = tree (apply a.rule (images Φ a.place) c.copy) c.last in
           record {
             parts = c.first ⧺ here_on;
             fits = subst (λ (es : List Edge). FitsParts G H Φ (c.first ⧺ here_on) es) (sym r.there)
-                (fits_append G H Φ c.first here_on r.before (r.replaced ∷ r.after) c.fits-first ((applied-fits r attached inside, c.fits-copy), c.fits_last));
+                (fits_append G H Φ c.first here_on r.before (r.replaced ∷ r.after) c.fits_first ((applied_fits r attached inside, c.fits_copy), c.fits_last));
             edges = λ e. omega (
               arith,
               m.edges e,
@@ -262,7 +262,7 @@ module _ (G : Grammar) (ok : GrammarOk G) where
             nodes = λ v. omega (
               arith,
               m.nodes v,
-              grown-images r attached inside v,
+              grown_images r attached inside v,
               ap (λ (ps : Parts). occurs v (inner_in G ps)) c.whole,
               inner_append G c.first (c.copy ⧺ c.last) v,
               inner_append G c.copy c.last v,
@@ -280,9 +280,9 @@ module _ (G : Grammar) (ok : GrammarOk G) where
             );
           }
 
-      pub derived-made : {K K' : Hypergraph} {applied : List Application} → Derives G K applied K' → Attached K → ((v : ℕ) → 0 < occurs v K'.nodes → at Φ v < H.nodes)
+      pub derived_made : {K K' : Hypergraph} {applied : List Application} → Derives G K applied K' → Attached K → ((v : ℕ) → 0 < occurs v K'.nodes → at Φ v < H.nodes)
           → Terminal G K' → edges_at H gs ≡ map (renamed (λ x. at Φ x)) K'.edges → Made K K' gs (steps_of G applied)
       unfolding steps_of
-      derived-made (no_step {K}) attached inside t q = nothing-made K t q
-      derived-made (step r d) attached inside t q =
-          step-made r attached (λ v h. inside v (omega (arith, nodes_stay d v))) (derived-made d (attached-step r attached) inside t q)
+      derived_made (no_step {K}) attached inside t q = nothing_made K t q
+      derived_made (step r d) attached inside t q =
+          step_made r attached (λ v h. inside v (omega (arith, nodes_stay d v))) (derived_made d (attached_step r attached) inside t q)

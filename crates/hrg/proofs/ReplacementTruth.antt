@@ -24,16 +24,16 @@ use Rattle.hrg.proofs.Sums.{hit_eq, hit_ne, occurs_up_to, occurs_kept, length_ta
 use Rattle.hrg.proofs.Plans.{below_known}
 use Rattle.hrg.proofs.Degrees.{zero_or, by_test, test_T, T_test}
 use Rattle.hrg.proofs.Parts.{fits_place}
-use Rattle.hrg.proofs.TreeNodes.{images_pos, images_find, pos_sum, Touched, touched-inner, touched-at, Held, inside, ends, held-parts, parts-inside, parts-known, edges-known}
-use Rattle.hrg.proofs.Sides.{edges_at, edges_at_lem, images_eq, open_at_in, below_of, at-restrict}
+use Rattle.hrg.proofs.TreeNodes.{images_pos, images_find, pos_sum, Touched, touched_inner, touched_at, Held, inside, ends, held_parts, parts_inside, parts_known, edges_known}
+use Rattle.hrg.proofs.Sides.{edges_at, edges_at_lem, images_eq, open_at_in, below_of, at_restrict}
 use Rattle.hrg.proofs.Joining.{keep_ext}
 use Rattle.hrg.proofs.Range.{mask_small}
 use Rattle.hrg.proofs.Goals.{goal_reached, goal_generated}
-use Rattle.hrg.proofs.ClosureAgenda.{run-correct}
-use Rattle.hrg.proofs.TreesToReplacement.{steps-parts, parts-run}
+use Rattle.hrg.proofs.ClosureAgenda.{run_correct}
+use Rattle.hrg.proofs.TreesToReplacement.{steps_parts, parts_run}
 use Rattle.hrg.proofs.ReplacementToTrees.{at_images, fits_renamed, Attached, in_map_find, in_edge}
 use Rattle.hrg.proofs.Targets.{up_to_once, select_le, select_passed, touches_in, touches_of, set_edges, Lies, listed, on_edge_is, subgraph_nodes, subgraph_target, subgraph_externals}
-use Rattle.hrg.proofs.Replacement.{yields-of, Placed, yields-placed, replacement-trees, member_generated}
+use Rattle.hrg.proofs.Replacement.{yields_of, Placed, yields_placed, replacement_trees, member_generated}
 
 -- ---- lists
 -- the edge with a number of the list is among them
@@ -120,13 +120,13 @@ module _ (G : Grammar) (H : Graph) (ok : GrammarOk G) (hok : GraphOk G H) where
     total_inside : (v : ℕ) → 0 < total G R p t.parts t.place v → v < H.nodes
     total_inside v h =
         pos_sum (occurs v (inner_in G t.parts)) (occurs v (images t.place (nodes_below R p))) h
-        (parts-inside G H ok t.parts v t.place (edges_below R p) t.fits)
+        (parts_inside G H ok t.parts v t.place (edges_below R p) t.fits)
         (λ a. let x = images_find t.place (nodes_below R p) v a in
         let b = listed_below R rok p under x.0 x.1 in
         subst (λ (u : ℕ). u < H.nodes) x.2 (t.placed x.0 (low R rok p under x.0 b) b))
 
-    total-once : (v : ℕ) → total G R p t.parts t.place v ≤ 1
-    total-once v =
+    total_once : (v : ℕ) → total G R p t.parts t.place v ≤ 1
+    total_once v =
         zero_or (total G R p t.parts t.place v)
         (λ z. omega arith)
         (λ h. omega (arith, t.once v (total_inside v h), images_le v R.production.right.nodes (length (nodes_below R p)) t.place (nodes_below R p) t.sized (below_list R rok p under)))
@@ -134,65 +134,65 @@ module _ (G : Grammar) (H : Graph) (ok : GrammarOk G) (hok : GraphOk G H) where
     -- the map shows the open nodes where they are placed
     shown : (x : ℕ) → 0 < occurs x (open_nodes R p) → at f x ≡ at t.place x
     shown x h =
-        ap (λ (g : List ℕ). at g x) t.map ∙ at-restrict R rok p under t.place x (low R rok p under x (open_below R rok p under x h))
+        ap (λ (g : List ℕ). at g x) t.map ∙ at_restrict R rok p under t.place x (low R rok p under x (open_below R rok p under x h))
         ∙ ap (λ (b : Bool). keep_if b (at t.place x)) (open_passed R rok p under x h)
 
-    place-pos : (v x : ℕ) → IsBelow R p x → at t.place x ≡ v → 0 < total G R p t.parts t.place v
-    place-pos v x b q =
+    place_pos : (v x : ℕ) → IsBelow R p x → at t.place x ≡ v → 0 < total G R p t.parts t.place v
+    place_pos v x b q =
         omega (arith, subst (λ (u : ℕ). 0 < occurs u (images t.place (nodes_below R p))) q (images_pos t.place (nodes_below R p) x (below_listed R rok p under x b)))
 
-    total-lies : (v : ℕ) → 0 < total G R p t.parts t.place v → Lies H (images f (open_nodes R p)) m v
-    total-lies v h =
+    total_lies : (v : ℕ) → 0 < total G R p t.parts t.place v → Lies H (images f (open_nodes R p)) m v
+    total_lies v h =
         pos_sum (occurs v (inner_in G t.parts)) (occurs v (images t.place (nodes_below R p))) h
-        (λ a. found (touched-inner G H ok t.parts v t.place (edges_below R p) t.fits a))
+        (λ a. found (touched_inner G H ok t.parts v t.place (edges_below R p) t.fits a))
         (λ a. let x = images_find t.place (nodes_below R p) v a in
         let b = listed_below R rok p under x.0 x.1 in
         let i = at_edges R.production.right (below R.plan p) b.edge b.under in
         let e = edge_at (edges_below R p) i.0 in
-        found (touched-at G H ok t.parts v t.place (edges_below R p) t.fits i.0 i.1
+        found (touched_at G H ok t.parts v t.place (edges_below R p) t.fits i.0 i.1
         (subst (λ (u : ℕ). 0 < occurs u (images t.place e.attachment)) x.2
         (images_pos t.place e.attachment x.0 (subst (λ (d : Edge). 0 < occurs x.0 d.attachment) (sym i.2) b.on)))))
       where
         found : Touched G H ok v (edges_in t.parts) → Lies H (images f (open_nodes R p)) m v
         found k = on_edge_is k.edge k.known (omega (arith, t.edges k.edge, k.used)) k.on
 
-    lies-total : (v : ℕ) → Lies H (images f (open_nodes R p)) m v → 0 < total G R p t.parts t.place v
-    lies-total v (listed h) =
+    lies_total : (v : ℕ) → Lies H (images f (open_nodes R p)) m v → 0 < total G R p t.parts t.place v
+    lies_total v (listed h) =
         let x = images_find f (open_nodes R p) v h in
-        place-pos v x.0 (open_below R rok p under x.0 x.1) (sym (shown x.0 x.1) ∙ x.2)
-    lies-total v (on_edge_is e l b o) = go (held-parts G H ok v e o t.parts t.place (edges_below R p) t.fits (omega (arith, t.edges e)))
+        place_pos v x.0 (open_below R rok p under x.0 x.1) (sym (shown x.0 x.1) ∙ x.2)
+    lies_total v (on_edge_is e l b o) = go (held_parts G H ok v e o t.parts t.place (edges_below R p) t.fits (omega (arith, t.edges e)))
       where
         go : Held G H ok v e o t.place t.parts (edges_below R p) → 0 < total G R p t.parts t.place v
         go (inside h) = omega arith
         go (ends i k h) =
             let x = images_find t.place (edge_at (edges_below R p) i).attachment v h in
-            place-pos v x.0 (edge_below R rok p under i x.0 k x.1) x.2
+            place_pos v x.0 (edge_below R rok p under i x.0 k x.1) x.2
 
-    active-replaced : ActiveReplaced G H R p m f n
-    active-replaced =
+    active_replaced : ActiveReplaced G H R p m f n
+    active_replaced =
         let gs = select (λ e. member m e) (up_to (length H.edges)) in
         let L = images f (open_nodes R p) in
-        let small = mask_small G H ok hok m (edges_in t.parts) t.edges (λ e. parts-known G H ok t.parts e t.place (edges_below R p) t.fits) in
+        let small = mask_small G H ok hok m (edges_in t.parts) t.edges (λ e. parts_known G H ok t.parts e t.place (edges_below R p) t.fits) in
         record {
           names = t.place;
           sized = t.sized;
-          once = λ v. omega (arith, total-once v);
+          once = λ v. omega (arith, total_once v);
           map = t.map;
           inside = small;
-          yields = subst (λ (k : ℕ). Yields G (edges_on R p t.place) (subgraph H L m) k) (steps-parts G t.parts ∙ t.count)
-              (yields-of G H hok (edges_on R p t.place) (subgraph H L m) (preorder_in t.parts) (inner_in G t.parts) (edges_in t.parts) gs
-              (parts-run G H t.parts t.place (edges_below R p) (images t.place (nodes_below R p)) (images t.place (open_nodes R p)) t.fits total-once)
+          yields = subst (λ (k : ℕ). Yields G (edges_on R p t.place) (subgraph H L m) k) (steps_parts G t.parts ∙ t.count)
+              (yields_of G H hok (edges_on R p t.place) (subgraph H L m) (preorder_in t.parts) (inner_in G t.parts) (edges_in t.parts) gs
+              (parts_run G H t.parts t.place (edges_below R p) (images t.place (nodes_below R p)) (images t.place (open_nodes R p)) t.fits total_once)
               (subgraph_target H L m)
               (λ e. t.edges e ∙ set_edges H m small e)
-              (λ v. subgraph_nodes H L m v (total G R p t.parts t.place v) (total-once v) (total_inside v) (total-lies v) (lies-total v))
+              (λ v. subgraph_nodes H L m v (total G R p t.parts t.place v) (total_once v) (total_inside v) (total_lies v) (lies_total v))
               (images_eq t.place f (open_nodes R p) (λ x h. sym (shown x h)) ∙ sym (subgraph_externals H L m)));
           covers = t.covers;
         }
 
   -- ---- and back, with the renaming of the names for places
   module _ (R : Rule) (rok : RuleOk G R) (p : ℕ) (under : p < length R.plan) {m n : ℕ} {f : List ℕ} (a : ActiveReplaced G H R p m f n) where
-    name-pos : (x : ℕ) → IsBelow R p x → 0 < occurs (at a.names x) (images a.names (nodes_below R p))
-    name-pos x b = images_pos a.names (nodes_below R p) x (below_listed R rok p under x b)
+    name_pos : (x : ℕ) → IsBelow R p x → 0 < occurs (at a.names x) (images a.names (nodes_below R p))
+    name_pos x b = images_pos a.names (nodes_below R p) x (below_listed R rok p under x b)
 
     attached : Attached (edges_on R p a.names)
     attached e i v h =
@@ -200,16 +200,16 @@ module _ (G : Grammar) (H : Graph) (ok : GrammarOk G) (hok : GraphOk G H) where
         let k = in_edge d.1 in
         let x = images_find a.names d.0.attachment v (subst (λ (c : Edge). 0 < occurs v c.attachment) d.2 h) in
         subst (λ (u : ℕ). 0 < occurs u (images a.names (nodes_below R p))) x.2
-        (name-pos x.0 (edge_below R rok p under k.0 x.0 k.1 (subst (λ (c : Edge). 0 < occurs x.0 c.attachment) k.2 x.1)))
+        (name_pos x.0 (edge_below R rok p under k.0 x.0 k.1 (subst (λ (c : Edge). 0 < occurs x.0 c.attachment) k.2 x.1)))
 
-    externals-named : (v : ℕ) → 0 < occurs v (images a.names (open_nodes R p)) → 0 < occurs v (images a.names (nodes_below R p))
-    externals-named v h =
+    externals_named : (v : ℕ) → 0 < occurs v (images a.names (open_nodes R p)) → 0 < occurs v (images a.names (nodes_below R p))
+    externals_named v h =
         let x = images_find a.names (open_nodes R p) v h in
-        subst (λ (u : ℕ). 0 < occurs u (images a.names (nodes_below R p))) x.2 (name-pos x.0 (open_below R rok p under x.0 x.1))
+        subst (λ (u : ℕ). 0 < occurs u (images a.names (nodes_below R p))) x.2 (name_pos x.0 (open_below R rok p under x.0 x.1))
 
     found : Placed G H ok (edges_on R p a.names) (subgraph H (images f (open_nodes R p)) m) (select (λ e. member m e) (up_to (length H.edges))) n
     found =
-        yields-placed G H ok (edges_on R p a.names) (subgraph H (images f (open_nodes R p)) m) (select (λ e. member m e) (up_to (length H.edges))) n attached externals-named
+        yields_placed G H ok (edges_on R p a.names) (subgraph H (images f (open_nodes R p)) m) (select (λ e. member m e) (up_to (length H.edges))) n attached externals_named
         (subgraph_target H (images f (open_nodes R p)) m) a.yields
 
     -- the graph node of each rule node below
@@ -225,54 +225,54 @@ module _ (G : Grammar) (H : Graph) (ok : GrammarOk G) (hok : GraphOk G H) where
         at_tabulate R.production.right.nodes (λ x. keep_if (on_below R p x) (placed x)) x (low R rok p under x b)
         ∙ ap (λ (c : Bool). keep_if c (placed x)) (below_passed R rok p under x b)
 
-    places-once : (v : ℕ) → v < H.nodes → occurs v places ≡ occurs v (images found.place (images a.names (nodes_below R p)))
+    places_once : (v : ℕ) → v < H.nodes → occurs v places ≡ occurs v (images found.place (images a.names (nodes_below R p)))
     unfolding places placed up_to
-    places-once v l =
+    places_once v l =
         kept_entries v R.production.right.nodes (λ x. on_below R p x) (λ x. at found.place (at a.names x)) (λ x. x) (omega (arith, hok.side.node_count.upper))
         ∙ ap (occurs v) (sym (map-map (λ x. at found.place x) (λ x. at a.names x) (nodes_below R p)))
 
-    named-low : (x : ℕ) → IsBelow R p x → x < length a.names
-    named-low x b = omega (arith, a.sized, low R rok p under x b)
+    named_low : (x : ℕ) → IsBelow R p x → x < length a.names
+    named_low x b = omega (arith, a.sized, low R rok p under x b)
 
-    fits-places : FitsParts G H places found.parts (edges_below R p)
+    fits_places : FitsParts G H places found.parts (edges_below R p)
     unfolding placed
-    fits-places =
+    fits_places =
         fits_place G H (images found.place a.names) places found.parts (edges_below R p)
         (λ i l. images_eq (images found.place a.names) places (edge_at (edges_below R p) i).attachment
-        (λ x h. let b = edge_below R rok p under i x l h in at_images found.place a.names x (named-low x b) ∙ sym (at_places x b)))
-        (fits_renamed G H found.place a.names found.parts (edges_below R p) (λ i l x h. named-low x (edge_below R rok p under i x l h)) found.fits)
+        (λ x h. let b = edge_below R rok p under i x l h in at_images found.place a.names x (named_low x b) ∙ sym (at_places x b)))
+        (fits_renamed G H found.place a.names found.parts (edges_below R p) (λ i l x h. named_low x (edge_below R rok p under i x l h)) found.fits)
 
-    placed-inside : (x : ℕ) → IsBelow R p x → placed x < H.nodes
+    placed_inside : (x : ℕ) → IsBelow R p x → placed x < H.nodes
     unfolding placed
-    placed-inside x b =
+    placed_inside x b =
         (subgraph_target H (images f (open_nodes R p)) m).inside (at found.place (at a.names x))
-        (omega (arith, found.nodes (at found.place (at a.names x)), images_pos found.place (images a.names (nodes_below R p)) (at a.names x) (name-pos x b)))
+        (omega (arith, found.nodes (at found.place (at a.names x)), images_pos found.place (images a.names (nodes_below R p)) (at a.names x) (name_pos x b)))
 
-    placed-open : (x : ℕ) → 0 < occurs x (open_nodes R p) → placed x ≡ at a.names x
+    placed_open : (x : ℕ) → 0 < occurs x (open_nodes R p) → placed x ≡ at a.names x
     unfolding placed
-    placed-open x h =
+    placed_open x h =
         same_at found.place a.names f (open_nodes R p) (found.externals ∙ subgraph_externals H (images f (open_nodes R p)) m) x h
-        ∙ ap (λ (g : List ℕ). at g x) a.map ∙ at-restrict R rok p under a.names x (low R rok p under x (open_below R rok p under x h))
+        ∙ ap (λ (g : List ℕ). at g x) a.map ∙ at_restrict R rok p under a.names x (low R rok p under x (open_below R rok p under x h))
         ∙ ap (λ (b : Bool). keep_if b (at a.names x)) (open_passed R rok p under x h)
 
-    active-truth : ActiveTruth G H R p m f n
+    active_truth : ActiveTruth G H R p m f n
     unfolding places restrict
-    active-truth =
+    active_truth =
         let N = R.production.right.nodes in
         let at_entry_lem = at_tabulate N (λ x. keep_if (on_below R p x) (placed x)) in
         record {
           place = places;
           parts = found.parts;
           sized = length_tabulate N (λ x. keep_if (on_below R p x) (placed x));
-          placed = λ x l b. subst (λ (v : ℕ). v < H.nodes) (sym (at_places x b)) (placed-inside x b);
+          placed = λ x l b. subst (λ (v : ℕ). v < H.nodes) (sym (at_places x b)) (placed_inside x b);
           others = λ x l no_edge. at_entry_lem x l ∙ by_test (on_below R p x) (λ q. absurd (no_edge (passed_below R rok p under x q))) (λ q. ap (λ (c : Bool). keep_if c (placed x)) q);
-          fits = fits-places;
+          fits = fits_places;
           edges = λ e. found.edges e ∙ sym (set_edges H m a.inside e);
-          once = λ v l. omega (arith, places-once v l, found.nodes v, (subgraph_target H (images f (open_nodes R p)) m).once v);
+          once = λ v l. omega (arith, places_once v l, found.nodes v, (subgraph_target H (images f (open_nodes R p)) m).once v);
           map = a.map ∙ tabulate_ext N (λ x. keep_if (is_open_at R p x) (at a.names x)) (λ x. keep_if (is_open_at R p x) (at places x))
               (λ x l. keep_ext (is_open_at R p x) (at a.names x) (at places x) (λ q.
               let o : 0 < occurs x (open_nodes R p) = omega (arith, occurs_kept (λ x. is_open_at R p x) x (up_to N) q, occurs_up_to N x l) in
-              sym (at_places x (open_below R rok p under x o) ∙ placed-open x o)));
+              sym (at_places x (open_below R rok p under x o) ∙ placed_open x o)));
           covers = a.covers;
           count = found.count;
         }
@@ -284,25 +284,25 @@ module _ (G : Grammar) (H : Graph) (ok : GrammarOk G) (hok : GraphOk G H) where
   passive_replaced : (s m n : ℕ) (L : List ℕ) → PassiveTruth G H s m L n → PassiveReplaced G H s m L n
   passive_replaced s m n L t =
       let kind = fits_kind t.tree s L t.fits in
-      let small = mask_small G H ok hok m (edges_of t.tree) t.edges (λ e. edges-known G H ok t.tree s e L t.fits) in
+      let small = mask_small G H ok hok m (edges_of t.tree) t.edges (λ e. edges_known G H ok t.tree s e L t.fits) in
       record {
         kind = kind;
         inside = small;
-        yields = (replacement-trees G H ok hok s L m n kind small).1
+        yields = (replacement_trees G H ok hok s L m n kind small).1
             (record { tree = t.tree; fits = t.fits; apart = record { edges = λ e. omega (arith, t.edges e, bit_le m e); nodes = t.once }; edges = t.edges; count = t.count });
         covers = t.covers;
       }
 
   passive_truth : (s m n : ℕ) (L : List ℕ) → PassiveReplaced G H s m L n → PassiveTruth G H s m L n
   passive_truth s m n L a =
-      let t = (replacement-trees G H ok hok s L m n a.kind a.inside).0 a.yields in
+      let t = (replacement_trees G H ok hok s L m n a.kind a.inside).0 a.yields in
       record { tree = t.tree; fits = t.fits; edges = t.edges; once = t.apart.nodes; covers = a.covers; count = t.count }
 
   -- ---- T3 for every item
   pub truth_replaced : (i : Item) (n : ℕ) → Truth G H i n ↔ Replaced G H i n
   truth_replaced (active r p m f) n = (
-    λ t. (t.0, t.1, active-replaced (rule_of G r) (ok.rule r t.0) p t.1 t.2),
-    λ a. (a.0, a.1, active-truth (rule_of G r) (ok.rule r a.0) p a.1 a.2),
+    λ t. (t.0, t.1, active_replaced (rule_of G r) (ok.rule r t.0) p t.1 t.2),
+    λ a. (a.0, a.1, active_truth (rule_of G r) (ok.rule r a.0) p a.1 a.2),
   )
   truth_replaced (passive s m L) n = (passive_replaced s m n L, passive_truth s m n L)
 
@@ -314,7 +314,7 @@ module _ (G : Grammar) (H : Graph) (ok : GrammarOk G) (hok : GraphOk G H) where
 
   -- what any run of the agenda has handled, it has with the fewest replacement steps
   pub handled_by_replacement : {k : ℕ} {s t : State Item} → Start (closure G H) s → Run (closure G H) k s t → (h : Entry Item) → In h t.handled → FewestSteps G H h.item h.count
-  handled_by_replacement start run h i = (fewest_steps h.item h.count).0 ((run-correct G H ok hok start run).fewest h i)
+  handled_by_replacement start run h i = (fewest_steps h.item h.count).0 ((run_correct G H ok hok start run).fewest h i)
 
   -- T2 and T3: the goal is reached with n exactly when the graph is generated in n steps
   pub goal_member : (n : ℕ) → Reachable (closure G H) (goal G H) n ↔ Member G H n

@@ -67,33 +67,33 @@ module _ {G : Grammar} (R : Rule) (ok : RuleOk G R) (p : ℕ) (inside : p < leng
 
   -- ---- a map restricted to the open nodes
   module _ (place : List ℕ) where
-    pub at-restrict : (x : ℕ) → x < R.production.right.nodes → at (restrict R p place) x ≡ keep_if (is_open_at R p x) (at place x)
+    pub at_restrict : (x : ℕ) → x < R.production.right.nodes → at (restrict R p place) x ≡ keep_if (is_open_at R p x) (at place x)
     unfolding restrict
-    at-restrict x l = at_tabulate R.production.right.nodes (λ x. keep_if (is_open_at R p x) (at place x)) x l
+    at_restrict x l = at_tabulate R.production.right.nodes (λ x. keep_if (is_open_at R p x) (at place x)) x l
 
-    pub length-restrict : length (restrict R p place) ≡ R.production.right.nodes
+    pub length_restrict : length (restrict R p place) ≡ R.production.right.nodes
     unfolding restrict
-    length-restrict = length_tabulate R.production.right.nodes (λ x. keep_if (is_open_at R p x) (at place x))
+    length_restrict = length_tabulate R.production.right.nodes (λ x. keep_if (is_open_at R p x) (at place x))
 
-    pub restrict-none : (x : ℕ) → x < R.production.right.nodes → at place x ≡ unplaced → at (restrict R p place) x ≡ unplaced
-    restrict-none x l q = at-restrict x l ∙ go (is_open_at R p x)
+    pub restrict_none : (x : ℕ) → x < R.production.right.nodes → at place x ≡ unplaced → at (restrict R p place) x ≡ unplaced
+    restrict_none x l q = at_restrict x l ∙ go (is_open_at R p x)
       where
         go : (b : Bool) → keep_if b (at place x) ≡ unplaced
         go true = q
         go false = refl
 
-    pub restrict-open : (x : ℕ) → x < R.production.right.nodes → 0 < tentacles R.production.right (below R.plan p) x
+    pub restrict_open : (x : ℕ) → x < R.production.right.nodes → 0 < tentacles R.production.right (below R.plan p) x
         → tentacles R.production.right (below R.plan p) x < places R.production.right x → at (restrict R p place) x ≡ at place x
-    restrict-open x l a b = at-restrict x l ∙ ap (λ (t : Bool). keep_if t (at place x)) (open_at_of x a b)
+    restrict_open x l a b = at_restrict x l ∙ ap (λ (t : Bool). keep_if t (at place x)) (open_at_of x a b)
 
     -- what the map shows is open
-    pub restrict-shown : (x : ℕ) → x < R.production.right.nodes → at (restrict R p place) x < unplaced
+    pub restrict_shown : (x : ℕ) → x < R.production.right.nodes → at (restrict R p place) x < unplaced
         → (0 < tentacles R.production.right (below R.plan p) x) × (tentacles R.production.right (below R.plan p) x < places R.production.right x)
         × (at (restrict R p place) x ≡ at place x)
-    restrict-shown x l h =
+    restrict_shown x l h =
         by_test (is_open_at R p x)
-        (λ q. let t = open_at_in x q in (t.0, t.1, at-restrict x l ∙ ap (λ (b : Bool). keep_if b (at place x)) q))
-        (λ q. absurd (omega (arith, at-restrict x l ∙ ap (λ (b : Bool). keep_if b (at place x)) q)))
+        (λ q. let t = open_at_in x q in (t.0, t.1, at_restrict x l ∙ ap (λ (b : Bool). keep_if b (at place x)) q))
+        (λ q. absurd (omega (arith, at_restrict x l ∙ ap (λ (b : Bool). keep_if b (at place x)) q)))
 
   -- ---- what lies below
   pub below_in : (x : ℕ) → IsBelow R p x → 0 < tentacles R.production.right (below R.plan p) x
@@ -173,14 +173,14 @@ truth_side R ok p inside {m} {n} {f} t =
       place = t.place;
       parts = t.parts;
       sized = t.sized;
-      long = ap length t.map ∙ length-restrict R ok p inside t.place;
+      long = ap length t.map ∙ length_restrict R ok p inside t.place;
       placed = λ x l a. t.placed x l (below_of R ok p inside x a);
       others = none;
       fits = t.fits;
       edges = t.edges;
       once = t.once;
-      blank = λ x l z. ap (λ (g : List ℕ). at g x) t.map ∙ restrict-none R ok p inside t.place x l (none x l z);
-      shown = λ x l a b. ap (λ (g : List ℕ). at g x) t.map ∙ restrict-open R ok p inside t.place x l a b;
+      blank = λ x l z. ap (λ (g : List ℕ). at g x) t.map ∙ restrict_none R ok p inside t.place x l (none x l z);
+      shown = λ x l a b. ap (λ (g : List ℕ). at g x) t.map ∙ restrict_open R ok p inside t.place x l a b;
       covers = t.covers;
       count = t.count;
     }

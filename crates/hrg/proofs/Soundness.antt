@@ -22,8 +22,8 @@ use Rattle.hrg.proofs.Degrees.{degree, places, degree_same, degree_pos, degree_z
 use Rattle.hrg.proofs.Reordering.{reordered_of, reordered_map}
 use Rattle.hrg.proofs.Parts.{◌⧺◌, Moved, fits_reorder}
 use Rattle.hrg.proofs.TreeNodes.{images_pos, tree_inside}
-use Rattle.hrg.proofs.Sides.{tentacles, open_in, open_at_in, length-restrict, restrict-open, restrict-shown, below_in, below_of, images_eq, edges_at, Side, truth_side, truth_side_parts}
-use Rattle.hrg.proofs.Joining.{join-truth, join-parts}
+use Rattle.hrg.proofs.Sides.{tentacles, open_in, open_at_in, length_restrict, restrict_open, restrict_shown, below_in, below_of, images_eq, edges_at, Side, truth_side, truth_side_parts}
+use Rattle.hrg.proofs.Joining.{join_truth, join_parts}
 use Rattle.hrg.proofs.SingleEdges.{edge_side, edge_side_parts, tree_side, tree_side_parts}
 
 -- all edges of a right side, by their numbers
@@ -74,7 +74,7 @@ module _ {G : Grammar} (R : Rule) (ok : RuleOk G R) (p : ℕ) (root : suc p ≡ 
   unfolding places
   root_shown place x o =
       let l = ok.right.externals.inside x o in
-      restrict-open R ok p inside place x l (root_below x l) (omega (arith, root_tentacles x))
+      restrict_open R ok p inside place x l (root_below x l) (omega (arith, root_tentacles x))
 
 module _ (G : Grammar) (H : Graph) (ok : GrammarOk G) (hok : GraphOk G H) where
   pub leaf_truth : (r p : ℕ) → r < length G.rules → p < length (plan_of G r) → plan_node (plan_of G r) p ≡ leaf
@@ -158,8 +158,8 @@ module _ (G : Grammar) (H : Graph) (ok : GrammarOk G) (hok : GraphOk G H) where
         covers = record {
           image = λ v u o.
               let t = occurs_find v f (h.covers.image v u o) in
-              let k : t.0 < P.nodes = omega (arith, ap length h.map, length-restrict R rok p b h.place, t.1) in
-              let d = restrict-shown R rok p b h.place t.0 k (omega (arith, ap (λ (g : List ℕ). at g t.0) h.map, t.2, hok.side.node_count.upper)) in
+              let k : t.0 < P.nodes = omega (arith, ap length h.map, length_restrict R rok p b h.place, t.1) in
+              let d = restrict_shown R rok p b h.place t.0 k (omega (arith, ap (λ (g : List ℕ). at g t.0) h.map, t.2, hok.side.node_count.upper)) in
               subst (λ (z : ℕ). 0 < occurs z (images f P.externals)) t.2 (images_pos f P.externals t.0 (omega (arith, d.1, root_tentacles R rok p q t.0)));
         };
         count = omega (arith, moved.same.count, h.count);
@@ -187,24 +187,24 @@ module _ (G : Grammar) (H : Graph) (ok : GrammarOk G) (hok : GraphOk G H) where
 
     module _ (g : ℕ) (e : FitsEdge G H (edge_at (right_of G r).edges i).label (edge_at H.edges g).attachment g)
         (J : Joins H (rule_of G r) p m₁ (single g) f (attach (right_of G r).nodes (edge_at (right_of G r).edges i).attachment (edge_at H.edges g).attachment) m h) where
-      pub terminal-truth : ActiveTruth G H (rule_of G r) p m h (n + 0)
-      terminal-truth = join-truth G H ok hok (rule_of G r) (ok.rule r l) p b (below (plan_of G r) c) (i ∷ []) split known child (edge_side G H ok hok r l i edge_known g e) J
+      pub terminal_truth : ActiveTruth G H (rule_of G r) p m h (n + 0)
+      terminal_truth = join_truth G H ok hok (rule_of G r) (ok.rule r l) p b (below (plan_of G r) c) (i ∷ []) split known child (edge_side G H ok hok r l i edge_known g e) J
 
-      pub terminal-parts : terminal-truth.parts ≡ t.parts ⧺ edge g end
-      unfolding terminal-truth child
-      terminal-parts =
-          join-parts G H ok hok (rule_of G r) (ok.rule r l) p b (below (plan_of G r) c) (i ∷ []) split known child (edge_side G H ok hok r l i edge_known g e) J
+      pub terminal_parts : terminal_truth.parts ≡ t.parts ⧺ edge g end
+      unfolding terminal_truth child
+      terminal_parts =
+          join_parts G H ok hok (rule_of G r) (ok.rule r l) p b (below (plan_of G r) c) (i ∷ []) split known child (edge_side G H ok hok r l i edge_known g e) J
           ∙ ap₂ ◌⧺◌ (truth_side_parts (rule_of G r) (ok.rule r l) c d t) (edge_side_parts G H ok hok r l i edge_known g e)
 
     module _ (m₂ k : ℕ) (L : List ℕ) (u : PassiveTruth G H (edge_at (right_of G r).edges i).label m₂ L k)
         (J : Joins H (rule_of G r) p m₁ m₂ f (attach (right_of G r).nodes (edge_at (right_of G r).edges i).attachment L) m h) where
-      pub nonterminal-truth : ActiveTruth G H (rule_of G r) p m h (n + k)
-      nonterminal-truth = join-truth G H ok hok (rule_of G r) (ok.rule r l) p b (below (plan_of G r) c) (i ∷ []) split known child (tree_side G H ok hok r l i edge_known m₂ k L u) J
+      pub nonterminal_truth : ActiveTruth G H (rule_of G r) p m h (n + k)
+      nonterminal_truth = join_truth G H ok hok (rule_of G r) (ok.rule r l) p b (below (plan_of G r) c) (i ∷ []) split known child (tree_side G H ok hok r l i edge_known m₂ k L u) J
 
-      pub nonterminal-parts : nonterminal-truth.parts ≡ t.parts ⧺ tree u.tree end
-      unfolding nonterminal-truth child
-      nonterminal-parts =
-          join-parts G H ok hok (rule_of G r) (ok.rule r l) p b (below (plan_of G r) c) (i ∷ []) split known child (tree_side G H ok hok r l i edge_known m₂ k L u) J
+      pub nonterminal_parts : nonterminal_truth.parts ≡ t.parts ⧺ tree u.tree end
+      unfolding nonterminal_truth child
+      nonterminal_parts =
+          join_parts G H ok hok (rule_of G r) (ok.rule r l) p b (below (plan_of G r) c) (i ∷ []) split known child (tree_side G H ok hok r l i edge_known m₂ k L u) J
           ∙ ap₂ ◌⧺◌ (truth_side_parts (rule_of G r) (ok.rule r l) c d t) (tree_side_parts G H ok hok r l i edge_known m₂ k L u)
 
   module _ (r p a c m₁ m₂ m n k : ℕ) (f g h : List ℕ) (l : r < length G.rules) (b : p < length (plan_of G r)) (q : plan_node (plan_of G r) p ≡ join a c)
@@ -213,31 +213,31 @@ module _ (G : Grammar) (H : Graph) (ok : GrammarOk G) (hok : GraphOk G H) where
     halves : below (plan_of G r) p ≡ below (plan_of G r) a ++ below (plan_of G r) c
     halves = below_join _ (plan_of G r) (ok.rule r l).plan p a c q
 
-    both-known : (j : ℕ) → 0 < occurs j (below (plan_of G r) a ++ below (plan_of G r) c) → j < length (right_of G r).edges
-    both-known j o = below_known _ (plan_of G r) (ok.rule r l).plan p j (subst (λ (l : List ℕ). 0 < occurs j l) (sym halves) o)
+    both_known : (j : ℕ) → 0 < occurs j (below (plan_of G r) a ++ below (plan_of G r) c) → j < length (right_of G r).edges
+    both_known j o = below_known _ (plan_of G r) (ok.rule r l).plan p j (subst (λ (l : List ℕ). 0 < occurs j l) (sym halves) o)
 
-    pub pair-truth : ActiveTruth G H (rule_of G r) p m h (n + k)
-    pair-truth =
-        join-truth G H ok hok (rule_of G r) (ok.rule r l) p b (below (plan_of G r) a) (below (plan_of G r) c) halves both-known
+    pub pair_truth : ActiveTruth G H (rule_of G r) p m h (n + k)
+    pair_truth =
+        join_truth G H ok hok (rule_of G r) (ok.rule r l) p b (below (plan_of G r) a) (below (plan_of G r) c) halves both_known
         (truth_side (rule_of G r) (ok.rule r l) a d t) (truth_side (rule_of G r) (ok.rule r l) c e u) J
 
-    pub pair_parts : pair-truth.parts ≡ t.parts ⧺ u.parts
-    unfolding pair-truth
+    pub pair_parts : pair_truth.parts ≡ t.parts ⧺ u.parts
+    unfolding pair_truth
     pair_parts =
-        join-parts G H ok hok (rule_of G r) (ok.rule r l) p b (below (plan_of G r) a) (below (plan_of G r) c) halves both-known
+        join_parts G H ok hok (rule_of G r) (ok.rule r l) p b (below (plan_of G r) a) (below (plan_of G r) c) halves both_known
         (truth_side (rule_of G r) (ok.rule r l) a d t) (truth_side (rule_of G r) (ok.rule r l) c e u) J
         ∙ ap₂ ◌⧺◌ (truth_side_parts (rule_of G r) (ok.rule r l) a d t) (truth_side_parts (rule_of G r) (ok.rule r l) c e u)
 
   pub sound : {i : Item} {n : ℕ} → Reachable (closure G H) i n → Truth G H i n
   sound (by_axiom (leaf_rule r p l b q)) = (l, b, leaf_truth r p l b q)
-  sound (by_unary {n = n} x (terminal_rule r p c i g m₁ m f h b q e J)) = let t = sound x in (t.0, b, terminal-truth r p c i m₁ m n f h t.0 b q t.1 t.2 g e J)
+  sound (by_unary {n = n} x (terminal_rule r p c i g m₁ m f h b q e J)) = let t = sound x in (t.0, b, terminal_truth r p c i m₁ m n f h t.0 b q t.1 t.2 g e J)
   sound (by_unary {n = n} x (root_rule r p m f q)) =
       let t = sound x in
       root_truth r p m n f t.0 q t.2 (fits_reorder G H t.2.place (root_order (rule_of G r) (ok.rule r t.0) p q) t.2.parts t.2.fits)
   sound (by_binary {n = n} {k = k} x y (nonterminal_rule r p c i m₁ m₂ m f L h b q J)) =
       let t = sound x in
-      (t.0, b, nonterminal-truth r p c i m₁ m n f h t.0 b q t.1 t.2 m₂ k L (sound y) J)
+      (t.0, b, nonterminal_truth r p c i m₁ m n f h t.0 b q t.1 t.2 m₂ k L (sound y) J)
   sound (by_binary {n = n} {k = k} x y (join_rule r p a c m₁ m₂ m f g h b q J)) =
       let t = sound x in
       let u = sound y in
-      (t.0, b, pair-truth r p a c m₁ m₂ m n k f g h t.0 b q t.1 t.2 u.1 u.2 J)
+      (t.0, b, pair_truth r p a c m₁ m₂ m n k f g h t.0 b q t.1 t.2 u.1 u.2 J)

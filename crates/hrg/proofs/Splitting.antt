@@ -18,8 +18,8 @@ use Rattle.hrg.specs.WellFormed.{GrammarOk, GraphOk, RuleOk}
 use Rattle.hrg.proofs.Sums.{hit_self, hit_eq, hit_ne, sum_to, sum_le, occurs_sum, occurs_find, occurs_at, occurs_append, length_tabulate, at_tabulate, tabulate_ext}
 use Rattle.hrg.proofs.Degrees.{degree, places, degree_add, degree_pos, degree_find, zero_or}
 use Rattle.hrg.proofs.Parts.{◌⧺◌, edges_append, inner_append, applications_append, size_append, size_in, Halves, fits_split, fits_place}
-use Rattle.hrg.proofs.TreeNodes.{Held, inside, ends, held-parts, images_find}
-use Rattle.hrg.proofs.Sides.{tentacles, tentacles_append, tentacles_le, open_in, open_of, once, open_at_in, below_in, below_of, length-restrict, restrict-none, restrict-open, restrict-shown, either_set, either_none, edges_at, edges_at_lem}
+use Rattle.hrg.proofs.TreeNodes.{Held, inside, ends, held_parts, images_find}
+use Rattle.hrg.proofs.Sides.{tentacles, tentacles_append, tentacles_le, open_in, open_of, once, open_at_in, below_in, below_of, length_restrict, restrict_none, restrict_open, restrict_shown, either_set, either_none, edges_at, edges_at_lem}
 use Rattle.hrg.proofs.Joining.{keep_ext, agree_at_lem}
 
 -- two rule nodes with one place are one node
@@ -102,8 +102,8 @@ cut_at {G} {H} R p {m} h is js split known =
       a = c.first;
       b = c.second;
       cut = record {
-        fits_a = c.fits-first;
-        fits_b = c.fits-second;
+        fits_a = c.fits_first;
+        fits_b = c.fits_second;
         known_a = λ i o. known i (omega (arith, occurs_append i is js));
         known_b = λ i o. known i (omega (arith, occurs_append i is js));
         edges = λ e. sym (h.edges e) ∙ ap (λ (ps : Parts). occurs e (edges_in ps)) c.whole ∙ edges_append c.first c.second e;
@@ -148,7 +148,7 @@ module _ (G : Grammar) (H : Graph) (ok : GrammarOk G) (hok : GraphOk G H) (R : R
   on_part : (v e : ℕ) (ls : List ℕ) (ps : Parts) → ((i : ℕ) → 0 < occurs i ls → i < length R.production.right.edges)
       → FitsParts G H h.place ps (edges_at R.production.right ls) → 0 < occurs e (edges_in ps) → 0 < occurs v (edge_at H.edges e).attachment
       → Where v ps (λ x. 0 < tentacles R.production.right ls x)
-  on_part v e ls ps known fits used on = go (held-parts G H ok v e on ps h.place (edges_at R.production.right ls) fits used)
+  on_part v e ls ps known fits used on = go (held_parts G H ok v e on ps h.place (edges_at R.production.right ls) fits used)
     where
       go : Held G H ok v e on h.place ps (edges_at R.production.right ls) → Where v ps (λ x. 0 < tentacles R.production.right ls x)
       go (inside k) = within k
@@ -185,15 +185,15 @@ module _ (G : Grammar) (H : Graph) (ok : GrammarOk G) (hok : GraphOk G H) (R : R
         shown : 0 < occurs v f → Where v b (λ x. tentacles R.production.right is x < places R.production.right x)
         shown k =
             let y = occurs_find v f k in
-            let l : y.0 < R.production.right.nodes = omega (arith, y.1, ap length h.map, length-restrict R rok p under h.place) in
+            let l : y.0 < R.production.right.nodes = omega (arith, y.1, ap length h.map, length_restrict R rok p under h.place) in
             let e = ap (λ (g : List ℕ). at g y.0) h.map in
-            let d = restrict-shown R rok p under h.place y.0 l (omega (arith, e, y.2, hok.side.node_count.upper)) in
+            let d = restrict_shown R rok p under h.place y.0 l (omega (arith, e, y.2, hok.side.node_count.upper)) in
             at_node (record { node = y.0; low = l; place = sym d.2 ∙ sym e ∙ y.2; holds = omega (arith, d.1, c.sums y.0) })
 
-    pub open-node : is_open H (mask_of m a) v ≡ true
+    pub open_node : is_open H (mask_of m a) v ≡ true
         → (x : ℕ) × (x < R.production.right.nodes) × (at h.place x ≡ v) × (0 < tentacles R.production.right is x)
         × (tentacles R.production.right is x < places R.production.right x)
-    open-node o = let k = open_in H (mask_of m a) v o in go (here k.0) (out k.1 k.0)
+    open_node o = let k = open_in H (mask_of m a) v o in go (here k.0) (out k.1 k.0)
       where
         few : occurs v (inner_in G a) + occurs v (inner_in G b) + occurs v h.place ≤ 1
         few = omega (arith, h.once v low, c.inner v)
@@ -263,9 +263,9 @@ module _ (G : Grammar) (H : Graph) (ok : GrammarOk G) (hok : GraphOk G H) (R : R
         map = refl;
         covers = record {
           image = λ v l o.
-              let x = open-node G H ok hok R rok p under h c v l o in
-              subst (λ (u : ℕ). 0 < occurs u (restrict R q place)) (restrict-open R rok q child place x.0 x.1 x.3 x.4 ∙ on x.0 x.1 x.3 ∙ x.2)
-              (occurs_at (restrict R q place) x.0 (omega (arith, x.1, length-restrict R rok q child place)));
+              let x = open_node G H ok hok R rok p under h c v l o in
+              subst (λ (u : ℕ). 0 < occurs u (restrict R q place)) (restrict_open R rok q child place x.0 x.1 x.3 x.4 ∙ on x.0 x.1 x.3 ∙ x.2)
+              (occurs_at (restrict R q place) x.0 (omega (arith, x.1, length_restrict R rok q child place)));
         };
         count = refl;
       }
@@ -288,10 +288,10 @@ child_shows G H ok hok R rok p under q child h c =
     let place = place_of R.production.right (below R.plan q) h.place in
     let on = at_on G H ok hok R rok p under h c in
     record {
-      long = length-restrict R rok q child place;
-      off = λ x l z. restrict-none R rok q child place x l (at_off G H ok hok R rok p under h c x l z);
-      open_shown = λ x l a b. restrict-open R rok q child place x l a b ∙ on x l a;
-      any = λ x l k. let d = restrict-shown R rok q child place x l k in d.2 ∙ on x l d.0;
+      long = length_restrict R rok q child place;
+      off = λ x l z. restrict_none R rok q child place x l (at_off G H ok hok R rok p under h c x l z);
+      open_shown = λ x l a b. restrict_open R rok q child place x l a b ∙ on x l a;
+      any = λ x l k. let d = restrict_shown R rok q child place x l k in d.2 ∙ on x l d.0;
     }
 
 module _ (G : Grammar) (H : Graph) (ok : GrammarOk G) (hok : GraphOk G H) (R : Rule) (rok : RuleOk G R) (p : ℕ) (under : p < length R.plan)

@@ -59,10 +59,10 @@ module _ (t : ℕ → Bool) where
   count_select n v k few low passed some =
       by_test (t v)
       (λ q. count_up_to n v k few low (λ l. some l q) ∙ sym (occurs_kept t v (up_to n) q))
-      (λ q. none_left k (λ h. not-both (passed h) q) ∙ sym (occurs_dropped t v (up_to n) q))
+      (λ q. none_left k (λ h. not_both (passed h) q) ∙ sym (occurs_dropped t v (up_to n) q))
     where
-      not-both : t v ≡ true → t v ≡ false → ⊥
-      not-both p q = test_T false (sym q ∙ p)
+      not_both : t v ≡ true → t v ≡ false → ⊥
+      not_both p q = test_T false (sym q ∙ p)
 
 -- ---- whether a node lies on an edge that passes a test
 or_cases : (a b c : Bool) → ((a && b) || c) ≡ true → ((a ≡ true) × (b ≡ true)) ⊎ (c ≡ true)

@@ -66,46 +66,46 @@ module _ (G : Grammar) (H : Graph) (ok : GrammarOk G) where
   mutual
     unfolding edges_of inner_of inner_in edges_in occurs
 
-    pub touched-tree : (t : Tree) (s v : ℕ) (L : List ℕ) → Fits G H s L t → 0 < occurs v (inner_of G t) + occurs v L → Touched v (edges_of t)
-    touched-tree (apply r place ps) s v L x h =
+    pub touched_tree : (t : Tree) (s v : ℕ) (L : List ℕ) → Fits G H s L t → 0 < occurs v (inner_of G t) + occurs v L → Touched v (edges_of t)
+    touched_tree (apply r place ps) s v L x h =
         pos_sum (occurs v (inner_in G ps)) (occurs v (images place (internals (right_of G r))) + occurs v L)
         (omega (arith, occurs_append v (images place (internals (right_of G r))) (inner_in G ps)))
-        (λ a. touched-inner ps v place (right_of G r).edges x.1 a)
+        (λ a. touched_inner ps v place (right_of G r).edges x.1 a)
         (λ a. let y = node_of_is s v r L place x.0 a in
         let c = (ok.rule r x.0.known).right.covered y.0 y.1 in
-        touched-at ps v place (right_of G r).edges x.1 c.edge c.known
+        touched_at ps v place (right_of G r).edges x.1 c.edge c.known
         (subst (λ (u : ℕ). 0 < occurs u (images place (edge_at (right_of G r).edges c.edge).attachment)) y.2
         (images_pos place (edge_at (right_of G r).edges c.edge).attachment y.0 c.on)))
 
     -- an inner node of some parts
-    pub touched-inner : (ps : Parts) (v : ℕ) (place : List ℕ) (es : List Edge) → FitsParts G H place ps es → 0 < occurs v (inner_in G ps) → Touched v (edges_in ps)
-    touched-inner end v place es x h = absurd (not-suc-le-zero h)
-    touched-inner (edge g ps) v place [] x h = absurd x
-    touched-inner (edge g ps) v place (e ∷ es) x h =
-        touched_more v (edges_in ps) (g ∷ edges_in ps) (λ f. omega arith) (touched-inner ps v place es x.1 h)
-    touched-inner (tree t ps) v place [] x h = absurd x
-    touched-inner (tree t ps) v place (e ∷ es) x h =
+    pub touched_inner : (ps : Parts) (v : ℕ) (place : List ℕ) (es : List Edge) → FitsParts G H place ps es → 0 < occurs v (inner_in G ps) → Touched v (edges_in ps)
+    touched_inner end v place es x h = absurd (not-suc-le-zero h)
+    touched_inner (edge g ps) v place [] x h = absurd x
+    touched_inner (edge g ps) v place (e ∷ es) x h =
+        touched_more v (edges_in ps) (g ∷ edges_in ps) (λ f. omega arith) (touched_inner ps v place es x.1 h)
+    touched_inner (tree t ps) v place [] x h = absurd x
+    touched_inner (tree t ps) v place (e ∷ es) x h =
         pos_sum (occurs v (inner_of G t)) (occurs v (inner_in G ps)) (omega (arith, occurs_append v (inner_of G t) (inner_in G ps)))
         (λ a. touched_more v (edges_of t) (edges_of t ++ edges_in ps) (λ f. omega (arith, occurs_append f (edges_of t) (edges_in ps)))
-        (touched-tree t e.label v (images place e.attachment) x.0 (omega arith)))
-        (λ a. touched_more v (edges_in ps) (edges_of t ++ edges_in ps) (λ f. omega (arith, occurs_append f (edges_of t) (edges_in ps))) (touched-inner ps v place es x.1 a))
+        (touched_tree t e.label v (images place e.attachment) x.0 (omega arith)))
+        (λ a. touched_more v (edges_in ps) (edges_of t ++ edges_in ps) (λ f. omega (arith, occurs_append f (edges_of t) (edges_in ps))) (touched_inner ps v place es x.1 a))
 
     -- a node at the end of a tentacle of the i-th edge
-    pub touched-at : (ps : Parts) (v : ℕ) (place : List ℕ) (es : List Edge) → FitsParts G H place ps es → (i : ℕ) → i < length es
+    pub touched_at : (ps : Parts) (v : ℕ) (place : List ℕ) (es : List Edge) → FitsParts G H place ps es → (i : ℕ) → i < length es
         → 0 < occurs v (images place (edge_at es i).attachment) → Touched v (edges_in ps)
-    touched-at end v place [] x i l h = absurd (not-suc-le-zero l)
-    touched-at end v place (e ∷ es) x i l h = absurd x
-    touched-at (edge g ps) v place [] x i l h = absurd x
-    touched-at (edge g ps) v place (e ∷ es) x zero l h = touched_edge e.label v g (images place e.attachment) ps x.0 h
-    touched-at (edge g ps) v place (e ∷ es) x (suc i) l h =
-        touched_more v (edges_in ps) (g ∷ edges_in ps) (λ f. omega arith) (touched-at ps v place es x.1 i (le_of_suc-le-suc l) h)
-    touched-at (tree t ps) v place [] x i l h = absurd x
-    touched-at (tree t ps) v place (e ∷ es) x zero l h =
+    touched_at end v place [] x i l h = absurd (not-suc-le-zero l)
+    touched_at end v place (e ∷ es) x i l h = absurd x
+    touched_at (edge g ps) v place [] x i l h = absurd x
+    touched_at (edge g ps) v place (e ∷ es) x zero l h = touched_edge e.label v g (images place e.attachment) ps x.0 h
+    touched_at (edge g ps) v place (e ∷ es) x (suc i) l h =
+        touched_more v (edges_in ps) (g ∷ edges_in ps) (λ f. omega arith) (touched_at ps v place es x.1 i (le_of_suc-le-suc l) h)
+    touched_at (tree t ps) v place [] x i l h = absurd x
+    touched_at (tree t ps) v place (e ∷ es) x zero l h =
         touched_more v (edges_of t) (edges_of t ++ edges_in ps) (λ f. omega (arith, occurs_append f (edges_of t) (edges_in ps)))
-        (touched-tree t e.label v (images place e.attachment) x.0 (omega arith))
-    touched-at (tree t ps) v place (e ∷ es) x (suc i) l h =
+        (touched_tree t e.label v (images place e.attachment) x.0 (omega arith))
+    touched_at (tree t ps) v place (e ∷ es) x (suc i) l h =
         touched_more v (edges_in ps) (edges_of t ++ edges_in ps) (λ f. omega (arith, occurs_append f (edges_of t) (edges_in ps)))
-        (touched-at ps v place es x.1 i (le_of_suc-le-suc l) h)
+        (touched_at ps v place es x.1 i (le_of_suc-le-suc l) h)
 
   -- ---- and nodes on edges are listed or inner
   module _ (v g : ℕ) (on : 0 < occurs v (edge_at H.edges g).attachment) where
@@ -114,10 +114,10 @@ module _ (G : Grammar) (H : Graph) (ok : GrammarOk G) where
       inside : 0 < occurs v (inner_in G ps) → Held place ps es
       ends : (i : ℕ) → i < length es → 0 < occurs v (images place (edge_at es i).attachment) → Held place ps es
 
-    held-apply : (s r : ℕ) (L place : List ℕ) (ps : Parts) → FitsRule G H s L r place → Held place ps (right_of G r).edges → 0 < occurs v (inner_of G (apply r place ps)) + occurs v L
+    held_apply : (s r : ℕ) (L place : List ℕ) (ps : Parts) → FitsRule G H s L r place → Held place ps (right_of G r).edges → 0 < occurs v (inner_of G (apply r place ps)) + occurs v L
     unfolding inner_of
-    held-apply s r L place ps x (inside k) = omega (arith, occurs_append v (images place (internals (right_of G r))) (inner_in G ps))
-    held-apply s r L place ps x (ends i l k) =
+    held_apply s r L place ps x (inside k) = omega (arith, occurs_append v (images place (internals (right_of G r))) (inner_in G ps))
+    held_apply s r L place ps x (ends i l k) =
         let y = images_find place (edge_at (right_of G r).edges i).attachment v k in
         let low : y.0 < length place = omega (arith, x.sized, ((ok.rule r x.known).right.edge i l).listed.inside y.0 y.1) in
         omega (
@@ -128,30 +128,30 @@ module _ (G : Grammar) (H : Graph) (ok : GrammarOk G) where
           occurs_append v (images place (internals (right_of G r))) (inner_in G ps),
         )
 
-    held-later : (place : List ℕ) (ps qs : Parts) (e : Edge) (es : List Edge) → occurs v (inner_in G ps) ≤ occurs v (inner_in G qs) → Held place ps es → Held place qs (e ∷ es)
-    held-later place ps qs e es le (inside k) = inside (omega arith)
-    held-later place ps qs e es le (ends i l k) = ends (suc i) (omega arith) k
+    held_later : (place : List ℕ) (ps qs : Parts) (e : Edge) (es : List Edge) → occurs v (inner_in G ps) ≤ occurs v (inner_in G qs) → Held place ps es → Held place qs (e ∷ es)
+    held_later place ps qs e es le (inside k) = inside (omega arith)
+    held_later place ps qs e es le (ends i l k) = ends (suc i) (omega arith) k
 
     mutual
       unfolding edges_of inner_of inner_in edges_in occurs
 
-      pub held-tree : (t : Tree) (s : ℕ) (L : List ℕ) → Fits G H s L t → 0 < occurs g (edges_of t) → 0 < occurs v (inner_of G t) + occurs v L
-      held-tree (apply r place ps) s L x h = held-apply s r L place ps x.0 (held-parts ps place (right_of G r).edges x.1 h)
+      pub held_tree : (t : Tree) (s : ℕ) (L : List ℕ) → Fits G H s L t → 0 < occurs g (edges_of t) → 0 < occurs v (inner_of G t) + occurs v L
+      held_tree (apply r place ps) s L x h = held_apply s r L place ps x.0 (held_parts ps place (right_of G r).edges x.1 h)
 
-      pub held-parts : (ps : Parts) (place : List ℕ) (es : List Edge) → FitsParts G H place ps es → 0 < occurs g (edges_in ps) → Held place ps es
-      held-parts end place es x h = absurd (not-suc-le-zero h)
-      held-parts (edge f ps) place [] x h = absurd x
-      held-parts (edge f ps) place (e ∷ es) x h =
+      pub held_parts : (ps : Parts) (place : List ℕ) (es : List Edge) → FitsParts G H place ps es → 0 < occurs g (edges_in ps) → Held place ps es
+      held_parts end place es x h = absurd (not-suc-le-zero h)
+      held_parts (edge f ps) place [] x h = absurd x
+      held_parts (edge f ps) place (e ∷ es) x h =
           pos_sum (hit g f) (occurs g (edges_in ps)) h
           (λ a. ends 0 (omega arith) (omega (arith, ap (occurs v) x.0.attachment, ap (λ (k : ℕ). occurs v (edge_at H.edges k).attachment) (hit_eq g f a))))
-          (λ a. held-later place ps (edge f ps) e es (omega arith) (held-parts ps place es x.1 a))
-      held-parts (tree t ps) place [] x h = absurd x
-      held-parts (tree t ps) place (e ∷ es) x h =
+          (λ a. held_later place ps (edge f ps) e es (omega arith) (held_parts ps place es x.1 a))
+      held_parts (tree t ps) place [] x h = absurd x
+      held_parts (tree t ps) place (e ∷ es) x h =
           pos_sum (occurs g (edges_of t)) (occurs g (edges_in ps)) (omega (arith, occurs_append g (edges_of t) (edges_in ps)))
-          (λ a. pos_sum (occurs v (inner_of G t)) (occurs v (images place e.attachment)) (held-tree t e.label (images place e.attachment) x.0 a)
+          (λ a. pos_sum (occurs v (inner_of G t)) (occurs v (images place e.attachment)) (held_tree t e.label (images place e.attachment) x.0 a)
           (λ b. inside (omega (arith, occurs_append v (inner_of G t) (inner_in G ps))))
           (λ b. ends 0 (omega arith) b))
-          (λ a. held-later place ps (tree t ps) e es (omega (arith, occurs_append v (inner_of G t) (inner_in G ps))) (held-parts ps place es x.1 a))
+          (λ a. held_later place ps (tree t ps) e es (omega (arith, occurs_append v (inner_of G t) (inner_in G ps))) (held_parts ps place es x.1 a))
 
   -- ---- nodes and edges are the graph's own
   listed_inside : (t : Tree) (s v : ℕ) (L : List ℕ) → Fits G H s L t → 0 < occurs v L → v < H.nodes
@@ -162,41 +162,41 @@ module _ (G : Grammar) (H : Graph) (ok : GrammarOk G) where
   mutual
     unfolding inner_of inner_in occurs
 
-    inner-inside : (t : Tree) (s v : ℕ) (L : List ℕ) → Fits G H s L t → 0 < occurs v (inner_of G t) → v < H.nodes
-    inner-inside (apply r place ps) s v L x h =
+    inner_inside : (t : Tree) (s v : ℕ) (L : List ℕ) → Fits G H s L t → 0 < occurs v (inner_of G t) → v < H.nodes
+    inner_inside (apply r place ps) s v L x h =
         pos_sum (occurs v (images place (internals (right_of G r)))) (occurs v (inner_in G ps)) (omega (arith, occurs_append v (images place (internals (right_of G r))) (inner_in G ps)))
         (λ a. let t = images_find place (internals (right_of G r)) v a in omega (arith, t.2, x.0.placed t.0 (internals_inside (right_of G r) t.0 t.1)))
-        (λ a. parts-inside ps v place (right_of G r).edges x.1 a)
+        (λ a. parts_inside ps v place (right_of G r).edges x.1 a)
 
-    pub parts-inside : (ps : Parts) (v : ℕ) (place : List ℕ) (es : List Edge) → FitsParts G H place ps es → 0 < occurs v (inner_in G ps) → v < H.nodes
-    parts-inside end v place es x h = absurd (not-suc-le-zero h)
-    parts-inside (edge g ps) v place [] x h = absurd x
-    parts-inside (edge g ps) v place (e ∷ es) x h = parts-inside ps v place es x.1 h
-    parts-inside (tree t ps) v place [] x h = absurd x
-    parts-inside (tree t ps) v place (e ∷ es) x h =
+    pub parts_inside : (ps : Parts) (v : ℕ) (place : List ℕ) (es : List Edge) → FitsParts G H place ps es → 0 < occurs v (inner_in G ps) → v < H.nodes
+    parts_inside end v place es x h = absurd (not-suc-le-zero h)
+    parts_inside (edge g ps) v place [] x h = absurd x
+    parts_inside (edge g ps) v place (e ∷ es) x h = parts_inside ps v place es x.1 h
+    parts_inside (tree t ps) v place [] x h = absurd x
+    parts_inside (tree t ps) v place (e ∷ es) x h =
         pos_sum (occurs v (inner_of G t)) (occurs v (inner_in G ps)) (omega (arith, occurs_append v (inner_of G t) (inner_in G ps)))
-        (λ a. inner-inside t e.label v (images place e.attachment) x.0 a)
-        (λ a. parts-inside ps v place es x.1 a)
+        (λ a. inner_inside t e.label v (images place e.attachment) x.0 a)
+        (λ a. parts_inside ps v place es x.1 a)
 
   pub tree_inside : (t : Tree) (s v : ℕ) (L : List ℕ) → Fits G H s L t → 0 < occurs v (inner_of G t) + occurs v L → v < H.nodes
-  tree_inside t s v L x h = pos_sum (occurs v (inner_of G t)) (occurs v L) h (inner-inside t s v L x) (listed_inside t s v L x)
+  tree_inside t s v L x h = pos_sum (occurs v (inner_of G t)) (occurs v L) h (inner_inside t s v L x) (listed_inside t s v L x)
 
   mutual
     unfolding edges_of edges_in occurs
 
-    pub edges-known : (t : Tree) (s g : ℕ) (L : List ℕ) → Fits G H s L t → 0 < occurs g (edges_of t) → g < length H.edges
-    edges-known (apply r place ps) s g L x h = parts-known ps g place (right_of G r).edges x.1 h
+    pub edges_known : (t : Tree) (s g : ℕ) (L : List ℕ) → Fits G H s L t → 0 < occurs g (edges_of t) → g < length H.edges
+    edges_known (apply r place ps) s g L x h = parts_known ps g place (right_of G r).edges x.1 h
 
-    pub parts-known : (ps : Parts) (g : ℕ) (place : List ℕ) (es : List Edge) → FitsParts G H place ps es → 0 < occurs g (edges_in ps) → g < length H.edges
-    parts-known end g place es x h = absurd (not-suc-le-zero h)
-    parts-known (edge f ps) g place [] x h = absurd x
-    parts-known (edge f ps) g place (e ∷ es) x h =
-        pos_sum (hit g f) (occurs g (edges_in ps)) h (λ a. omega (arith, x.0.known, hit_eq g f a)) (λ a. parts-known ps g place es x.1 a)
-    parts-known (tree t ps) g place [] x h = absurd x
-    parts-known (tree t ps) g place (e ∷ es) x h =
+    pub parts_known : (ps : Parts) (g : ℕ) (place : List ℕ) (es : List Edge) → FitsParts G H place ps es → 0 < occurs g (edges_in ps) → g < length H.edges
+    parts_known end g place es x h = absurd (not-suc-le-zero h)
+    parts_known (edge f ps) g place [] x h = absurd x
+    parts_known (edge f ps) g place (e ∷ es) x h =
+        pos_sum (hit g f) (occurs g (edges_in ps)) h (λ a. omega (arith, x.0.known, hit_eq g f a)) (λ a. parts_known ps g place es x.1 a)
+    parts_known (tree t ps) g place [] x h = absurd x
+    parts_known (tree t ps) g place (e ∷ es) x h =
         pos_sum (occurs g (edges_of t)) (occurs g (edges_in ps)) (omega (arith, occurs_append g (edges_of t) (edges_in ps)))
-        (λ a. edges-known t e.label g (images place e.attachment) x.0 a)
-        (λ a. parts-known ps g place es x.1 a)
+        (λ a. edges_known t e.label g (images place e.attachment) x.0 a)
+        (λ a. parts_known ps g place es x.1 a)
 
   -- ---- no tree is without edges (T5)
   pub record Some (gs : List ℕ) : Type 0 where
@@ -206,14 +206,14 @@ module _ (G : Grammar) (H : Graph) (ok : GrammarOk G) where
   mutual
     unfolding edges_of edges_in occurs
 
-    pub tree-edge : (t : Tree) (s : ℕ) (L : List ℕ) → Fits G H s L t → Some (edges_of t)
-    tree-edge (apply r place ps) s L x = parts-edge ps place (right_of G r).edges x.1 (ok.rule r x.0.known).right.edge_count.lower
+    pub tree_edge : (t : Tree) (s : ℕ) (L : List ℕ) → Fits G H s L t → Some (edges_of t)
+    tree_edge (apply r place ps) s L x = parts_edge ps place (right_of G r).edges x.1 (ok.rule r x.0.known).right.edge_count.lower
 
-    pub parts-edge : (ps : Parts) (place : List ℕ) (es : List Edge) → FitsParts G H place ps es → 0 < length es → Some (edges_in ps)
-    parts-edge end place [] x h = absurd (not-suc-le-zero h)
-    parts-edge end place (e ∷ es) x h = absurd x
-    parts-edge (edge g ps) place es x h = record { edge = g; used = omega (arith, hit_self g) }
-    parts-edge (tree t ps) place [] x h = absurd x
-    parts-edge (tree t ps) place (e ∷ es) x h =
-        let k = tree-edge t e.label (images place e.attachment) x.0 in
+    pub parts_edge : (ps : Parts) (place : List ℕ) (es : List Edge) → FitsParts G H place ps es → 0 < length es → Some (edges_in ps)
+    parts_edge end place [] x h = absurd (not-suc-le-zero h)
+    parts_edge end place (e ∷ es) x h = absurd x
+    parts_edge (edge g ps) place es x h = record { edge = g; used = omega (arith, hit_self g) }
+    parts_edge (tree t ps) place [] x h = absurd x
+    parts_edge (tree t ps) place (e ∷ es) x h =
+        let k = tree_edge t e.label (images place e.attachment) x.0 in
         record { edge = k.edge; used = omega (arith, k.used, occurs_append k.edge (edges_of t) (edges_in ps)) }

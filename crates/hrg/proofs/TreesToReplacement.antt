@@ -1,7 +1,7 @@
 -- T3, from trees to replacement: the applications of a tree, in the derivation file's order, are replacement steps
 -- that end in its edges.
 use mathlib.Core.Path.{◌≡◌, refl, sym, ap, ◌∙◌, subst, subst₂}
-use mathlib.Core.List.{List, [], ◌∷◌, ◌++◌, map, append_nil, append_assoc}
+use mathlib.Core.List.{List, [], ◌∷◌, ◌++◌, map, append-nil, append_assoc}
 use Prim.Native.Nat.{ℕ, ◌+◌, ◌≤◌, ◌<◌}
 use native.Mathlib.Omega.{arith}
 use Rattle.hrg.specs.Counts.{occurs}
@@ -61,56 +61,56 @@ module _ (G : Grammar) where
       unfolding preorder preorder_in edges_of edges_in inner_of inner_in
 
       -- the inner nodes of the tree are no nodes of the host, and pairwise different
-      pub tree-derives : (t : Tree) (s : ℕ) (L ns xs : List ℕ) (before after : List Edge) → Fits G H s L t → ((v : ℕ) → 0 < occurs v (inner_of G t) → occurs v (inner_of G t) + occurs v ns ≤ 1)
+      pub tree_derives : (t : Tree) (s : ℕ) (L ns xs : List ℕ) (before after : List Edge) → Fits G H s L t → ((v : ℕ) → 0 < occurs v (inner_of G t) → occurs v (inner_of G t) + occurs v ns ≤ 1)
           → Derives G (graph_of ns xs (before ++ (record { label = s; attachment = L } ∷ after))) (preorder t) (graph_of (ns ++ inner_of G t) xs (before ++ (edges_at H (edges_of t) ++ after)))
-      tree-derives (apply r place ps) s L ns xs before after x new =
+      tree_derives (apply r place ps) s L ns xs before after x new =
           let own = images place (internals (right_of G r)) in
           step (replaces s r L place ns xs before after x.0 (λ v h. let k = occurs_append v own (inner_in G ps) in omega (arith, k, new v (omega arith))))
           (subst (λ (l : List ℕ). Derives G (graph_of (ns ++ own) xs (before ++ (map (renamed (λ x. at place x)) (right_of G r).edges ++ after))) (preorder_in ps) (graph_of l xs (before ++ (edges_at H (edges_in ps) ++ after))))
           (append_assoc ns own (inner_in G ps))
-          (parts-derive ps place (right_of G r).edges (ns ++ own) xs before after x.1
+          (parts_derive ps place (right_of G r).edges (ns ++ own) xs before after x.1
           (λ v h. let k = occurs_append v own (inner_in G ps) in omega (arith, k, new v (omega arith), occurs_append v ns own))))
 
       -- the parts of an application replace its edges one by one, from the first to the last
-      pub parts-derive : (ps : Parts) (place : List ℕ) (es : List Edge) (ns xs : List ℕ) (before after : List Edge) → FitsParts G H place ps es
+      pub parts_derive : (ps : Parts) (place : List ℕ) (es : List Edge) (ns xs : List ℕ) (before after : List Edge) → FitsParts G H place ps es
           → ((v : ℕ) → 0 < occurs v (inner_in G ps) → occurs v (inner_in G ps) + occurs v ns ≤ 1)
           → Derives G (graph_of ns xs (before ++ (map (renamed (λ x. at place x)) es ++ after))) (preorder_in ps) (graph_of (ns ++ inner_in G ps) xs (before ++ (edges_at H (edges_in ps) ++ after)))
-      parts-derive end place [] ns xs before after x new =
-          subst (λ (l : List ℕ). Derives G (graph_of ns xs (before ++ after)) [] (graph_of l xs (before ++ after))) (sym (append_nil ns)) none
-      parts-derive end place (e ∷ es) ns xs before after x new = absurd x
-      parts-derive (edge g ps) place [] ns xs before after x new = absurd x
-      parts-derive (edge g ps) place (e ∷ es) ns xs before after x new =
+      parts_derive end place [] ns xs before after x new =
+          subst (λ (l : List ℕ). Derives G (graph_of ns xs (before ++ after)) [] (graph_of l xs (before ++ after))) (sym (append-nil ns)) none
+      parts_derive end place (e ∷ es) ns xs before after x new = absurd x
+      parts_derive (edge g ps) place [] ns xs before after x new = absurd x
+      parts_derive (edge g ps) place (e ∷ es) ns xs before after x new =
           let g-edge = edge_at H.edges g in
           subst₂ (λ (K K' : Hypergraph). Derives G K (preorder_in ps) K')
           (moved before (g-edge ∷ []) (map (renamed (λ x. at place x)) es ++ after) ns xs
           ∙ ap (λ (f : Edge). graph_of ns xs (before ++ (f ∷ (map (renamed (λ x. at place x)) es ++ after)))) (sym (edge_same place e g x.0)))
           (moved before (g-edge ∷ []) (edges_at H (edges_in ps) ++ after) (ns ++ inner_in G ps) xs)
-          (parts-derive ps place es ns xs (before ++ (g-edge ∷ [])) after x.1 new)
-      parts-derive (tree t ps) place [] ns xs before after x new = absurd x
-      parts-derive (tree t ps) place (e ∷ es) ns xs before after x new =
+          (parts_derive ps place es ns xs (before ++ (g-edge ∷ [])) after x.1 new)
+      parts_derive (tree t ps) place [] ns xs before after x new = absurd x
+      parts_derive (tree t ps) place (e ∷ es) ns xs before after x new =
           let mid = edges_at H (edges_of t) in
           derives_append
-          (tree-derives t e.label (images place e.attachment) ns xs before (map (renamed (λ x. at place x)) es ++ after) x.0
+          (tree_derives t e.label (images place e.attachment) ns xs before (map (renamed (λ x. at place x)) es ++ after) x.0
           (λ v h. let k = occurs_append v (inner_of G t) (inner_in G ps) in omega (arith, k, new v (omega arith))))
           (subst₂ (λ (K K' : Hypergraph). Derives G K (preorder_in ps) K')
           (moved before mid (map (renamed (λ x. at place x)) es ++ after) (ns ++ inner_of G t) xs)
           (simp (append_assoc, edges_at_append))
-          (parts-derive ps place es (ns ++ inner_of G t) xs (before ++ mid) after x.1
+          (parts_derive ps place es (ns ++ inner_of G t) xs (before ++ mid) after x.1
           (λ v h. let k = occurs_append v (inner_of G t) (inner_in G ps) in omega (arith, k, new v (omega arith), occurs_append v ns (inner_of G t)))))
 
     -- ---- from one edge alone, and from some edges alone
-    pub tree-runs : (t : Tree) (s : ℕ) (L : List ℕ) → Fits G H s L t → ((v : ℕ) → occurs v (inner_of G t) + occurs v L ≤ 1)
+    pub tree_runs : (t : Tree) (s : ℕ) (L : List ℕ) → Fits G H s L t → ((v : ℕ) → occurs v (inner_of G t) + occurs v L ≤ 1)
         → Derives G (start_on s L) (preorder t) (graph_of (L ++ inner_of G t) L (edges_at H (edges_of t)))
-    tree-runs t s L x once =
-        subst (λ (es : List Edge). Derives G (start_on s L) (preorder t) (graph_of (L ++ inner_of G t) L es)) (append_nil (edges_at H (edges_of t)))
-        (tree-derives t s L L L [] [] x (λ v h. once v))
+    tree_runs t s L x once =
+        subst (λ (es : List Edge). Derives G (start_on s L) (preorder t) (graph_of (L ++ inner_of G t) L es)) (append-nil (edges_at H (edges_of t)))
+        (tree_derives t s L L L [] [] x (λ v h. once v))
 
-    pub parts-run : (ps : Parts) (place : List ℕ) (es : List Edge) (ns xs : List ℕ) → FitsParts G H place ps es → ((v : ℕ) → occurs v (inner_in G ps) + occurs v ns ≤ 1)
+    pub parts_run : (ps : Parts) (place : List ℕ) (es : List Edge) (ns xs : List ℕ) → FitsParts G H place ps es → ((v : ℕ) → occurs v (inner_in G ps) + occurs v ns ≤ 1)
         → Derives G (graph_of ns xs (map (renamed (λ x. at place x)) es)) (preorder_in ps) (graph_of (ns ++ inner_in G ps) xs (edges_at H (edges_in ps)))
-    parts-run ps place es ns xs x once =
+    parts_run ps place es ns xs x once =
         subst₂ (λ (as' bs : List Edge). Derives G (graph_of ns xs as') (preorder_in ps) (graph_of (ns ++ inner_in G ps) xs bs))
-        (append_nil (map (renamed (λ x. at place x)) es)) (append_nil (edges_at H (edges_in ps)))
-        (parts-derive ps place es ns xs [] [] x (λ v h. once v))
+        (append-nil (map (renamed (λ x. at place x)) es)) (append-nil (edges_at H (edges_in ps)))
+        (parts_derive ps place es ns xs [] [] x (λ v h. once v))
 
   -- ---- the number of steps is that of applications
   steps_append : (xs ys : List Application) → steps_of G (xs ++ ys) ≡ steps_of G xs + steps_of G ys
@@ -121,10 +121,10 @@ module _ (G : Grammar) where
   mutual
     unfolding preorder preorder_in steps_of applications applications_in
 
-    pub steps-tree : (t : Tree) → steps_of G (preorder t) ≡ applications G t
-    steps-tree (apply r place ps) = omega (arith, steps-parts ps)
+    pub steps_tree : (t : Tree) → steps_of G (preorder t) ≡ applications G t
+    steps_tree (apply r place ps) = omega (arith, steps_parts ps)
 
-    pub steps-parts : (ps : Parts) → steps_of G (preorder_in ps) ≡ applications_in G ps
-    steps-parts end = refl
-    steps-parts (edge g ps) = steps-parts ps
-    steps-parts (tree t ps) = omega (arith, steps_append (preorder t) (preorder_in ps), steps-tree t, steps-parts ps)
+    pub steps_parts : (ps : Parts) → steps_of G (preorder_in ps) ≡ applications_in G ps
+    steps_parts end = refl
+    steps_parts (edge g ps) = steps_parts ps
+    steps_parts (tree t ps) = omega (arith, steps_append (preorder t) (preorder_in ps), steps_tree t, steps_parts ps)

@@ -14,7 +14,7 @@ use Rattle.agenda.specs.Records.{is_handled}
 use Rattle.agenda.specs.Consequences.{record_in}
 use Rattle.agenda.specs.Steps.{Chart, improved, handled_now, last_same, placed, added}
 use Rattle.records.specs.Words.{Fits, capacity, item_count, record_at, chart_of, improved_at, appended_to, added_to, marked_at, Compact}
-use Rattle.records.proofs.WordLaws.{Below, one, last_below, record_in_lem, improve_handled, improve-less, add_found, add_new}
+use Rattle.records.proofs.WordLaws.{Below, one, last_below, record_in_lem, improve_handled, improve_less, add_found, add_new}
 use Rattle.records.proofs.Written.{add_written, handle_written, chart_of_written}
 use Rattle.records.proofs.Rewritten.{handled_in, grown_added, grown_handled}
 use Rattle.records.proofs.Grown.{holds_own}
@@ -77,15 +77,15 @@ module _ (w ix : List ℕ) (j : ℕ) (x : Record) (l : j < item_count w) where
     count_is : n ≡ (record_in (chart_of w).records j).item.count
     count_is = has_count w j l n p
 
-    pub again-less : n ≤ x.item.count → (w ≡ improved_at w j x) × Placed ix
-    again-less h =
+    pub again_less : n ≤ x.item.count → (w ≡ improved_at w j x) × Placed ix
+    again_less h =
         let q : (record_in (chart_of w).records j).item.count ≤ x.item.count = omega (arith, count_is) in
         let t : is_handled (record_in (chart_of w).records j) || leb (record_in (chart_of w).records j).item.count x.item.count ≡ true = rw (waits, le-leb _ _ q) in
-        (improve-less w j x z (omega arith), λ keys ls I. rw (placed_stays (capacity w) x (chart_of w) j t) I)
+        (improve_less w j x z (omega arith), λ keys ls I. rw (placed_stays (capacity w) x (chart_of w) j t) I)
 
-    pub again-more : (keys new ls : List ℕ) → x.item.count < n → Indexed keys new ls (set (chart_of w).records j (improved (record_in (chart_of w).records j) x))
+    pub again_more : (keys new ls : List ℕ) → x.item.count < n → Indexed keys new ls (set (chart_of w).records j (improved (record_in (chart_of w).records j) x))
         → Indexed keys new ls (placed (capacity w) x (chart_of w) (At j)).records
-    again-more keys new ls h J =
+    again_more keys new ls h J =
         let q : x.item.count < (record_in (chart_of w).records j).item.count = omega (arith, count_is) in
         let t : is_handled (record_in (chart_of w).records j) || leb (record_in (chart_of w).records j).item.count x.item.count ≡ false = rw (waits, lt-leb _ _ q) in
         rw (placed_improved (capacity w) x (chart_of w) j t) J
@@ -123,50 +123,50 @@ module _ (w : List ℕ) (x : Record) (o : Found) (p : o ≡ last_same x.item (ch
   found_inside j e = let h = at_below (length (chart_of w).records) j o e (rw p (last_below x.item (chart_of w).records (length (chart_of w).records))) in omega (arith, counted w)
 
   module _ (keys : List ℕ) (f : Fits w) (e : Compact x) (m : ℕ) (is : m ≡ get_or w 1 0) (z : m ≡ 0) where
-    mark-is : (chart_of w).mark ≡ get_or w 1 0
+    mark_is : (chart_of w).mark ≡ get_or w 1 0
     unfolding chart_of
-    mark-is = refl
+    mark_is = refl
 
-    chart-added : chart_of (added_to w x) ≡ placed (capacity w) x (chart_of w) o
+    chart_added : chart_of (added_to w x) ≡ placed (capacity w) x (chart_of w) o
     unfolding added
-    chart-added =
+    chart_added =
         ap chart_of (add_written w x f e) ∙ chart_of_written w (added (capacity w) x (chart_of w)) (grown_added w (chart_of w) (holds_own w f) x e).holds
-        ∙ rw (eq-eqb (chart_of w).mark 0 (mark-is ∙ sym is ∙ z), ← p)
+        ∙ rw (eq-eqb (chart_of w).mark 0 (mark_is ∙ sym is ∙ z), ← p)
 
     by : (v ix ls : List ℕ) → v ≡ added_to w x → Indexed keys ix ls (placed (capacity w) x (chart_of w) o).records → (v ≡ added_to w x) × Indexed keys ix ls (chart_of v).records
-    by v ix ls q I = (q, subst (λ (d : Chart). Indexed keys ix ls d.records) (sym (ap chart_of q ∙ chart-added)) I)
+    by v ix ls q I = (q, subst (λ (d : Chart). Indexed keys ix ls d.records) (sym (ap chart_of q ∙ chart_added)) I)
 
-    add-again : (v ix ls : List ℕ) (j : ℕ) → o ≡ At j → v ≡ improved_at w j x → Indexed keys ix ls (placed (capacity w) x (chart_of w) (At j)).records
+    add_again : (v ix ls : List ℕ) (j : ℕ) → o ≡ At j → v ≡ improved_at w j x → Indexed keys ix ls (placed (capacity w) x (chart_of w) (At j)).records
         → (v ≡ added_to w x) × Indexed keys ix ls (chart_of v).records
-    add-again v ix ls j t q I = by v ix ls (add_found w x m (item_count w) o is z refl (p ∙ same_found x.item w) v j t q) (rw t I)
+    add_again v ix ls j t q I = by v ix ls (add_found w x m (item_count w) o is z refl (p ∙ same_found x.item w) v j t q) (rw t I)
 
-    add-behind : (v ix ls : List ℕ) → o ≡ Nowhere → v ≡ appended_to w (item_count w) x → Indexed keys ix ls (placed (capacity w) x (chart_of w) Nowhere).records
+    add_behind : (v ix ls : List ℕ) → o ≡ Nowhere → v ≡ appended_to w (item_count w) x → Indexed keys ix ls (placed (capacity w) x (chart_of w) Nowhere).records
         → (v ≡ added_to w x) × Indexed keys ix ls (chart_of v).records
-    add-behind v ix ls t q I = by v ix ls (add_new w x m (item_count w) o is z refl (p ∙ same_found x.item w) v t q) (rw t I)
+    add_behind v ix ls t q I = by v ix ls (add_new w x m (item_count w) o is z refl (p ∙ same_found x.item w) v t q) (rw t I)
 
     covered_by : (g h v ix : List ℕ) → v ≡ added_to w x → Covered g h ix (placed (capacity w) x (chart_of w) o).records → Covered g h ix (chart_of v).records
-    covered_by g h v ix q C = subst (λ (d : Chart). Covered g h ix d.records) (sym (ap chart_of q ∙ chart-added)) C
+    covered_by g h v ix q C = subst (λ (d : Chart). Covered g h ix d.records) (sym (ap chart_of q ∙ chart_added)) C
 
     -- a record found again covers what it did
-    again-covered : (v ix new : List ℕ) (j : ℕ) → o ≡ At j → v ≡ added_to w x → DoubtKept ix new → (g h : List ℕ) → Covered g h ix (chart_of w).records → Covered g h new (chart_of v).records
-    again-covered v ix new j t q k g h C = covered_by g h v new q (rw t (covered_again g h new (capacity w) x (chart_of w) j (covered_kept g h ix new (chart_of w).records k C)))
+    again_covered : (v ix new : List ℕ) (j : ℕ) → o ≡ At j → v ≡ added_to w x → DoubtKept ix new → (g h : List ℕ) → Covered g h ix (chart_of w).records → Covered g h new (chart_of v).records
+    again_covered v ix new j t q k g h C = covered_by g h v new q (rw t (covered_again g h new (capacity w) x (chart_of w) j (covered_kept g h ix new (chart_of w).records k C)))
 
-    behind-covered : (v ix : List ℕ) → o ≡ Nowhere → v ≡ added_to w x → (g h : List ℕ) → Covered g h ix (placed (capacity w) x (chart_of w) Nowhere).records → Covered g h ix (chart_of v).records
-    behind-covered v ix t q g h C = covered_by g h v ix q (rw t C)
+    behind_covered : (v ix : List ℕ) → o ≡ Nowhere → v ≡ added_to w x → (g h : List ℕ) → Covered g h ix (placed (capacity w) x (chart_of w) Nowhere).records → Covered g h ix (chart_of v).records
+    behind_covered v ix t q g h C = covered_by g h v ix q (rw t C)
 
     -- ---- what `index::add` leaves
     pub adds_again : (v ix jx ls : List ℕ) (j : ℕ) → o ≡ At j → v ≡ improved_at w j x → Indexed keys jx ls (placed (capacity w) x (chart_of w) (At j)).records → DoubtKept ix jx
         → Adds keys w ix v jx ls x
     adds_again v ix jx ls j t q I k =
-        let (chart, indexed) = add-again v jx ls j t q I in
-        record { compact = e; chart = chart; indexed = indexed; covered = λ g h C f. again-covered v ix jx j t chart k g h C }
+        let (chart, indexed) = add_again v jx ls j t q I in
+        record { compact = e; chart = chart; indexed = indexed; covered = λ g h C f. again_covered v ix jx j t chart k g h C }
 
-    pub adds-behind : (v ix jx ls : List ℕ) → o ≡ Nowhere → v ≡ appended_to w (item_count w) x → Indexed keys jx ls (placed (capacity w) x (chart_of w) Nowhere).records
+    pub adds_behind : (v ix jx ls : List ℕ) → o ≡ Nowhere → v ≡ appended_to w (item_count w) x → Indexed keys jx ls (placed (capacity w) x (chart_of w) Nowhere).records
         → ((g h : List ℕ) → Covered g h ix (chart_of w).records → (doubt_of ix ≡ 0 → Covering g h x.item) → Covered g h jx (placed (capacity w) x (chart_of w) Nowhere).records)
         → Adds keys w ix v jx ls x
-    adds-behind v ix jx ls t q I c =
-        let (chart, indexed) = add-behind v jx ls t q I in
-        record { compact = e; chart = chart; indexed = indexed; covered = λ g h C f. behind-covered v jx t chart g h (c g h C f) }
+    adds_behind v ix jx ls t q I c =
+        let (chart, indexed) = add_behind v jx ls t q I in
+        record { compact = e; chart = chart; indexed = indexed; covered = λ g h C f. behind_covered v jx t chart g h (c g h C f) }
 
 -- ---- handled
 module _ (w v : List ℕ) (j : ℕ) (f : Fits w) (l : j < item_count w) (q : v ≡ marked_at w j) where

@@ -14,7 +14,7 @@ use Rattle.agenda.specs.Steps.{Chart, added_all}
 use Rattle.agenda.proofs.Records.{bare}
 use Rattle.agenda.proofs.Growth.{Grew, all_grown}
 use Rattle.records.specs.Words.{Fits, capacity, chart_of, grown_by}
-use Rattle.records.proofs.Grown.{Whole, grown-chart}
+use Rattle.records.proofs.Grown.{Whole, grown_chart}
 use Rattle.keys.specs.Keys.{passive_tag, places_from, mixed, image_of, five_keys, keys_by, word_for, uses_of, keys_of}
 use Rattle.index.specs.Index.{keys_for}
 
@@ -94,4 +94,4 @@ module _ (keys : List ℕ) where
   -- words that stand for a chart, with records added
   pub keys_grown : (w v : List ℕ) (xs : List Record) → Fits w → Whole xs → v ≡ grown_by w xs → KeysMore (chart_of w).records (chart_of v).records
   keys_grown w v xs f e q =
-      subst (λ (c : Chart). KeysMore (chart_of w).records c.records) (sym (ap chart_of q ∙ grown-chart w f xs e)) (keys_added (capacity w) xs (chart_of w))
+      subst (λ (c : Chart). KeysMore (chart_of w).records c.records) (sym (ap chart_of q ∙ grown_chart w f xs e)) (keys_added (capacity w) xs (chart_of w))

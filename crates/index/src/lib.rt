@@ -2,6 +2,9 @@
 // `chains`, the set of crate `ranking`, and a word that tells whether some record does not cover its open graph
 // nodes, which whoever joins records looks for then. In a slice of half as long words: the lists of crate `lists` by
 // which records that can be joined find each other.
+
+#![tactic(auto)]
+
 ghost use Rattle.std.specs.Prelude.{◌≡◌, false, List, [], ◌∷◌, ◌++◌, ℕ, ◌*◌, ◌≤◌, ◌<◌, eqb, length, set};
 ghost use Rattle.agenda.specs.declared.Record.{Record};
 ghost use Rattle.agenda.specs.declared.Found.TheVariants.{At, Nowhere};

@@ -1,6 +1,6 @@
 -- `combine` of crate hrg, stage by stage, over maps in eight places.
 use mathlib.Core.Path.{◌≡◌, refl, sym, ap, ap₂, ◌∙◌, subst}
-use mathlib.Core.Bool.{Bool, true, false, ◌&&◌, ◌||◌, not, or_true, false≢true}
+use mathlib.Core.Bool.{Bool, true, false, ◌&&◌, ◌||◌, not, or-true, false≢true}
 use mathlib.Core.Logic.{⊎_elim}
 use mathlib.Core.List.{List, [], ◌∷◌}
 use Prim.Native.Nat.{ℕ, zero, suc, ◌+◌, ◌^◌, ◌≤◌, ◌<◌}
@@ -35,7 +35,7 @@ use Rattle.joins.proofs.Known.{right_nodes, nodes_few, graph_ok, graph_nodes_lem
 use Rattle.joins.proofs.Touching.{touches_some}
 use Rattle.joins.proofs.Openness.{bool_same, some_find, open_by_is, open_few, open_union}
 use Rattle.joins.proofs.MapLaws.{every_true, every_same, agree_at, at_joined}
-use Rattle.joins.proofs.Narrowing.{every_find, into_plain, agree_few, once_few, kept-padded, kept_in, kept-covers, loses-is}
+use Rattle.joins.proofs.Narrowing.{every_find, into_plain, agree_few, once_few, kept_padded, kept_in, kept_covers, loses_is}
 
 -- ---- only the first n places count
 agree_take : (n : ℕ) (f k : List ℕ) → agree n (take n f) (take n k) ≡ agree n f k
@@ -89,7 +89,7 @@ module _ (g h : List ℕ) (m o im : ℕ) (t : List ℕ) (accepted : Accepted g h
       go : (p : Bool) → member o v ≡ p → seen_at v ≡ true
       go true e =
           let there = true_member im v (omega (arith, s.each v, member_true o v e, bit_le im v)) in
-          ap (λ b. not (is_open (graph_of g h) m v) || b) (sym (images.members v (omega (arith, few))) ∙ there) ∙ or_true (not (is_open (graph_of g h) m v))
+          ap (λ b. not (is_open (graph_of g h) m v) || b) (sym (images.members v (omega (arith, few))) ∙ there) ∙ or-true (not (is_open (graph_of g h) m v))
       go false e = ap (λ b. not b || ltb 0 (occurs v t)) (sym (opened.members v (omega (arith, few))) ∙ e)
 
   to_subset : ((v : ℕ) → v < (graph_of g h).nodes → seen_at v ≡ true) → Subset o im
@@ -199,7 +199,7 @@ module _ (g h w : List ℕ) (accepted : Accepted g h) (table : GraphTable g h w)
 
       go : (v : ℕ) → v < (graph_of g h).nodes → (p : Bool) → is_open (graph_of g h) m v ≡ p → (not (is_open (graph_of g h) m v) || ltb 0 (occurs v (open_joined n stays f k))) ≡ true
       go v l true p =
-          ap (λ b. not (is_open (graph_of g h) m v) || b) (seen v (omega (arith, graph_nodes_few g h accepted, graph_nodes_lem g h)) p) ∙ or_true (not (is_open (graph_of g h) m v))
+          ap (λ b. not (is_open (graph_of g h) m v) || b) (seen v (omega (arith, graph_nodes_few g h accepted, graph_nodes_lem g h)) p) ∙ or-true (not (is_open (graph_of g h) m v))
       go v l false p = ap (λ b. not b || ltb 0 (occurs v (open_joined n stays f k))) p
 
 -- ---- the four tests
@@ -289,41 +289,41 @@ module _ {g h w : List ℕ} {r q stays m₁ m₂ : ℕ} {sure : Bool} {f k : Lis
         ∙ ap₂ ◌&&◌ (agree_few n (graph_nodes h) f k rule_small graph_small P.first_bare P.second_bare P.first_into P.second_into)
         (once_few n (graph_nodes h) f k rule_small graph_small P.first_bare P.second_bare P.first_into P.second_into ∙ ap (λ i. one_to_one i (joined n f k)) (sym (graph_nodes_lem g h)))
 
-    pub combine-clash : x.ok ≡ false → Answer f false
-    combine-clash fails = none_made (merge_not H R r q m₁ m₂ (agree n f k) (joined n f k) (sym fits ∙ fails))
+    pub combine_clash : x.ok ≡ false → Answer f false
+    combine_clash fails = none_made (merge_not H R r q m₁ m₂ (agree n f k) (joined n f k) (sym fits ∙ fails))
 
     module _ (ok : x.ok ≡ true) {m : ℕ} (u : m ≡ m₁ ∪ m₂) (small : m < 2 ^ 64) {lost : Bool} (is : lost ≡ loses_one w m x.dropped) where
       passed : (agree n f k ≡ true) × (one_to_one H.nodes (joined n f k) ≡ true)
       passed = and_true (agree n f k) (one_to_one H.nodes (joined n f k)) (sym fits ∙ ok)
 
-      lost-is : lost ≡ not (none_lost n stays w m f k)
-      lost-is =
+      lost_is : lost ≡ not (none_lost n stays w m f k)
+      lost_is =
           is
-          ∙ loses-is n (graph_nodes h) f k rule_small graph_small P.first_bare P.second_bare P.first_into P.second_into stays w m x.dropped merges.dropped
+          ∙ loses_is n (graph_nodes h) f k rule_small graph_small P.first_bare P.second_bare P.first_into P.second_into stays w m x.dropped merges.dropped
 
       map : open_joined n stays f k ≡ restrict R q (joined n f k)
       map = closed g r q stays f k P.node P.opened
 
-      pub combine-lost : lost ≡ true → Answer f false
-      combine-lost fails =
+      pub combine_lost : lost ≡ true → Answer f false
+      combine_lost fails =
           none_made
           (cover_no H R r q m₁ m₂ (agree n f k) (joined n f k)
           (ap₂ (covering H) (sym u) (sym map)
-          ∙ lost_bare g h w P.accepted P.table m small n stays f k passed.1 (not-true (none_lost n stays w m f k) (sym lost-is ∙ fails))))
+          ∙ lost_bare g h w P.accepted P.table m small n stays f k passed.1 (not-true (none_lost n stays w m f k) (sym lost_is ∙ fails))))
 
       module _ (none : lost ≡ false) where
-        kept-cover : covering H m (places_of x.kept) ≡ covering H m (open_joined n stays f k)
-        kept-cover =
+        kept_cover : covering H m (places_of x.kept) ≡ covering H m (open_joined n stays f k)
+        kept_cover =
             ap (covering H m) merges.kept
-            ∙ kept-covers n (graph_nodes h) f k rule_small graph_small P.first_bare P.second_bare P.first_into P.second_into stays H m (omega (arith, graph_small, graph_nodes_lem g h))
+            ∙ kept_covers n (graph_nodes h) f k rule_small graph_small P.first_bare P.second_bare P.first_into P.second_into stays H m (omega (arith, graph_small, graph_nodes_lem g h))
 
-        pub combine-sure : sure ≡ true → covering H m (places_of x.kept) ≡ true
-        combine-sure s =
-            kept-cover
-            ∙ all_stay g h w P.accepted P.table m small n stays f k m₁ m₂ u first_plain passed.0 (P.first_holds s) (P.second_holds s) (not-false (none_lost n stays w m f k) (sym lost-is ∙ none))
+        pub combine_sure : sure ≡ true → covering H m (places_of x.kept) ≡ true
+        combine_sure s =
+            kept_cover
+            ∙ all_stay g h w P.accepted P.table m small n stays f k m₁ m₂ u first_plain passed.0 (P.first_holds s) (P.second_holds s) (not-false (none_lost n stays w m f k) (sym lost_is ∙ none))
 
-        pub combine-covered : {b : Bool} → b ≡ disjoint m₁ m₂ → b ≡ true → {c : Bool} → c ≡ covering H m (places_of x.kept) → {t : List ℕ} → t ≡ places_of x.kept → Answer t c
-        combine-covered d apart {c} covered places = record {
+        pub combine_covered : {b : Bool} → b ≡ disjoint m₁ m₂ → b ≡ true → {c : Bool} → c ≡ covering H m (places_of x.kept) → {t : List ℕ} → t ≡ places_of x.kept → Answer t c
+        combine_covered d apart {c} covered places = record {
           makes = record {
             none = λ p. whole ∙ cover_no H R r q m₁ m₂ (agree n f k) (joined n f k) (sym cover ∙ p);
             one = λ p. record {
@@ -332,7 +332,7 @@ module _ {g h w : List ℕ} {r q stays m₁ m₂ : ℕ} {sure : Bool} {f k : Lis
               places =
                   places
                   ∙ merges.kept
-                  ∙ kept-padded n (graph_nodes h) f k rule_small graph_small P.first_bare P.second_bare P.first_into P.second_into stays
+                  ∙ kept_padded n (graph_nodes h) f k rule_small graph_small P.first_bare P.second_bare P.first_into P.second_into stays
                   ∙ ap padded map;
             };
           };
@@ -342,7 +342,7 @@ module _ {g h w : List ℕ} {r q stays m₁ m₂ : ℕ} {sure : Bool} {f k : Lis
         }
           where
             cover : c ≡ covering H (m₁ ∪ m₂) (restrict R q (joined n f k))
-            cover = covered ∙ kept-cover ∙ ap₂ (covering H) u map
+            cover = covered ∙ kept_cover ∙ ap₂ (covering H) u map
 
 -- two maps that differ at a rule node where both have an image make nothing
 pub combine_differ : (H : Graph) (R : Rule) (r q m₁ m₂ : ℕ) (f k : List ℕ) (x : ℕ) → x < R.production.right.nodes → at f x < unplaced → at k x < unplaced → (at f x ≡ at k x → ⊥)

@@ -211,22 +211,22 @@ module _ (g : List ℕ) (r i : ℕ) (known : KnownEdge g r i) where
     abbrev pub L : List ℕ
     L = take rank l
 
-    pub attach-none : (label k : ℕ) (f : List ℕ) → f ≡ replicate 8 unplaced → label ≡ edge_label g r i → k ≡ rank_at g label → (k ≤ rank) × MapFrom (edge_nodes g r i) L k f
-    attach-none label k f z a b =
+    pub attach_none : (label k : ℕ) (f : List ℕ) → f ≡ replicate 8 unplaced → label ≡ edge_label g r i → k ≡ rank_at g label → (k ≤ rank) × MapFrom (edge_nodes g r i) L k f
+    attach_none label k f z a b =
         let e : k ≡ rank = b ∙ ap (rank_at g) a in
         (omega arith, subst (MapFrom (edge_nodes g r i) L k) (sym z) (map_none (edge_nodes g r i) L k (e ∙ sym edge_rank)))
 
-    pub attach-next : (k x : ℕ) (f : List ℕ) → 0 < k → x ≡ edge_node g r i (k - 1) → (k ≤ rank) × MapFrom (edge_nodes g r i) L k f
+    pub attach_next : (k x : ℕ) (f : List ℕ) → 0 < k → x ≡ edge_node g r i (k - 1) → (k ≤ rank) × MapFrom (edge_nodes g r i) L k f
         → (k - 1 ≤ rank) × MapFrom (edge_nodes g r i) L (k - 1) (set f x (get_or l (k - 1) 0))
-    attach-next k x f p e (fits, before) =
+    attach_next k x f p e (fits, before) =
         let h : k - 1 < rank = omega arith in (
           omega arith,
           map_next (edge_nodes g r i) L f k (k - 1) x (get_or l (k - 1) 0) (omega arith) (omega (arith, edge_rank)) (omega (arith, length-take-le rank l (omega arith)))
               (e ∙ sym (edge_node_is (k - 1) h)) (sym (get_or-take rank l (k - 1) 0 h)) (edge_node_few (k - 1) x h e) before,
         )
 
-    pub attach-done : (k : ℕ) (f : List ℕ) → k ≤ 0 → MapFrom (edge_nodes g r i) L k f → f ≡ padded (attach (rule_nodes g r) (edge_nodes g r i) L)
-    attach-done k f z whole =
+    pub attach_done : (k : ℕ) (f : List ℕ) → k ≤ 0 → MapFrom (edge_nodes g r i) L k f → f ≡ padded (attach (rule_nodes g r) (edge_nodes g r i) L)
+    attach_done k f z whole =
         let e : k ≡ 0 = omega arith in
         map_done (rule_nodes g r) (edge_nodes g r i) L f (nodes_few g r known.grammar known.rule) edge_ok.listed.inside (rw e at whole)
 

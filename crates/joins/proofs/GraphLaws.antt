@@ -1,6 +1,6 @@
 -- The table of a graph: how its words are filled, and what they tell of a set of edges.
 use mathlib.Core.Path.{◌≡◌, refl, sym, ap, ap₂, ◌∙◌}
-use mathlib.Core.Bool.{Bool, true, false, ◌&&◌, ◌||◌, not, or_false, or_true, or_assoc, and_false}
+use mathlib.Core.Bool.{Bool, true, false, ◌&&◌, ◌||◌, not, or-false, or-true, or_assoc, and-false}
 use mathlib.Core.List.{List, []}
 use Prim.Native.Nat.{ℕ, zero, suc, ◌+◌, ◌-◌, ◌*◌, ◌/◌, ◌%◌, ◌^◌, ◌≤◌, ◌<◌}
 use native.Mathlib.Omega.{arith}
@@ -31,7 +31,7 @@ use Rattle.joins.proofs.Touching.{some_same, touches_some}
 -- ---- some of the numbers below a bound
 some_append : (t a : ℕ → Bool) (n k : ℕ) → some_both t a (n + k) ≡ (some_both t a n || some_both (λ i. t (n + i)) (λ i. a (n + i)) k)
 unfolding some_both
-some_append t a n zero = let e : n + 0 ≡ n = omega arith in rw e (sym (or_false (some_both t a n)))
+some_append t a n zero = let e : n + 0 ≡ n = omega arith in rw e (sym (or-false (some_both t a n)))
 some_append t a n (suc k) =
     let e : n + suc k ≡ suc (n + k) = omega arith in
     rw e
@@ -41,7 +41,7 @@ some_append t a n (suc k) =
 some_none : (t a : ℕ → Bool) (n : ℕ) → ((i : ℕ) → i < n → a i ≡ false) → some_both t a n ≡ false
 unfolding some_both
 some_none t a zero h = refl
-some_none t a (suc n) h = rw (some_none t a n (λ i l. h i (omega arith)), h n (omega arith)) (and_false (t n))
+some_none t a (suc n) h = rw (some_none t a n (λ i l. h i (omega arith)), h n (omega arith)) (and-false (t n))
 
 some_past : (t a : ℕ → Bool) (n k : ℕ) → n ≤ k → ((i : ℕ) → n ≤ i → a i ≡ false) → some_both t a k ≡ some_both t a n
 some_past t a n k l h =
@@ -49,7 +49,7 @@ some_past t a n k l h =
     ap (some_both t a) e
     ∙ some_append t a n (k - n)
     ∙ ap (λ b. some_both t a n || b) (some_none (λ i. t (n + i)) (λ i. a (n + i)) (k - n) (λ i d. h (n + i) (omega arith)))
-    ∙ or_false (some_both t a n)
+    ∙ or-false (some_both t a n)
 
 pub some_in : (t a : ℕ → Bool) (n i : ℕ) → i < n → t i ≡ true → a i ≡ true → some_both t a n ≡ true
 unfolding some_both
@@ -58,7 +58,7 @@ some_in t a (suc n) i l p q = go (dec_lt i n) (some_in t a n i)
   where
     go : Dec (i < n) → (i < n → t i ≡ true → a i ≡ true → some_both t a n ≡ true) → (some_both t a n || (t n && a n)) ≡ true
     go (yes d) ih = rw (ih d p q)
-    go (no d) ih = let e : n ≡ i = omega arith in rw (e, p, q) (or_true (some_both t a i))
+    go (no d) ih = let e : n ≡ i = omega arith in rw (e, p, q) (or-true (some_both t a i))
 
 -- ---- four bits of a number
 pub by_four : (P : ℕ → Type 0) → P 0 → P 1 → P 2 → P 3 → (k : ℕ) → k < 4 → P k
@@ -215,7 +215,7 @@ word_more t i e w p q r added l j d few before is = go (eqb j i) refl is
   where
     more : (p s q : Bool) → ((p || (s && q)) || s) ≡ (p || (s && true))
     more true s q = refl
-    more false true q = or_true q
+    more false true q = or-true q
     more false false q = refl
 
     go : (b : Bool) → eqb j i ≡ b → r ≡ (q || b) → member (get_or (set t i w) j 0) d ≡ (p || (eqb d e && r))
@@ -226,11 +226,11 @@ word_more t i e w p q r added l j d few before is = go (eqb j i) refl is
         ∙ added.members d few
         ∙ ap (λ b. b || eqb d e) (ap (λ k. member (get_or t k 0) d) (sym same) ∙ before)
         ∙ more p (eqb d e) q
-        ∙ ap (λ b. p || (eqb d e && b)) (sym (z ∙ or_true q))
+        ∙ ap (λ b. p || (eqb d e && b)) (sym (z ∙ or-true q))
     go false s z =
         ap (λ k. member k d) (get_or-set_other t i j w 0 (eqb-false j i s))
         ∙ before
-        ∙ ap (λ b. p || (eqb d e && b)) (sym (z ∙ or_false q))
+        ∙ ap (λ b. p || (eqb d e && b)) (sym (z ∙ or-false q))
 
 pub marked_label : (g h t : List ℕ) (e label w : ℕ) → label < 64 → label ≡ graph_label h e → Added (get_or t (257 + label) 0) e w → Indexed g h t e → MarkedTo g h (set t (257 + label) w) e 0
 unfolding marks_to some_both
@@ -238,8 +238,8 @@ marked_label g h t e label w few a added before = record {
   size = length-set t (257 + label) w ∙ before.size;
   each = λ i d l f.
       word_more t (257 + label) e w (ltb d e && marks g h d i) false (marks_to h e 0 i) added (omega (arith, before.size)) i d f
-      (before.each i d l f ∙ sym (ap (λ b. (ltb d e && marks g h d i) || b) (and_false (eqb d e)) ∙ or_false (ltb d e && marks g h d i)))
-      (or_false (eqb i (257 + graph_label h e)) ∙ ap (λ k. eqb i (257 + k)) (sym a));
+      (before.each i d l f ∙ sym (ap (λ b. (ltb d e && marks g h d i) || b) (and-false (eqb d e)) ∙ or-false (ltb d e && marks g h d i)))
+      (or-false (eqb i (257 + graph_label h e)) ∙ ap (λ k. eqb i (257 + k)) (sym a));
 }
 
 pub marked_place : (g h t : List ℕ) (e k x w : ℕ) → k < 4 → x < 64 → x ≡ graph_node h e k → Added (get_or t (321 + 64 * k + x) 0) e w → MarkedTo g h t e k → MarkedTo g h (set t (321 + 64 * k + x) w) e (k + 1)
@@ -260,7 +260,7 @@ marked_edge g h t e n k label a b l m p = record { size = p.size; each = λ i d 
     places = let s : k ≡ n = omega arith in s ∙ b ∙ ap (rank_at g) a
 
     go : (i d : ℕ) → Dec (d < e) → (b : Bool) → eqb d e ≡ b → ((ltb d e && marks g h d i) || (eqb d e && marks_to h e k i)) ≡ (ltb d (e + 1) && marks g h d i)
-    go i d (yes l) b s = rw (lt-ltb d e l, lt-ltb d (e + 1) (omega arith), ne_eqb d e (λ q. omega arith)) (or_false (marks g h d i))
+    go i d (yes l) b s = rw (lt-ltb d e l, lt-ltb d (e + 1) (omega arith), ne_eqb d e (λ q. omega arith)) (or-false (marks g h d i))
     go i d (no l) true s = let q : d ≡ e = eqb-true d e s in rw (le-ltb d e (omega arith), lt-ltb d (e + 1) (omega arith), s, places, q)
     go i d (no l) false s = let q : d ≡ e → ⊥ = eqb-false d e s in rw (le-ltb d e (omega arith), le-ltb d (e + 1) (omega arith), s)
 

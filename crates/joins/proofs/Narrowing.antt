@@ -1,6 +1,6 @@
 -- Two maps merged in all eight places: only those of the rule's nodes and only the graph's nodes count.
 use mathlib.Core.Path.{◌≡◌, refl, sym, ap, ap₂, ◌∙◌}
-use mathlib.Core.Bool.{Bool, true, false, ◌&&◌, ◌||◌, not, and_false, false≢true}
+use mathlib.Core.Bool.{Bool, true, false, ◌&&◌, ◌||◌, not, and-false, false≢true}
 use mathlib.Core.Logic.{◌⊎◌, inl, ⊎_elim}
 use mathlib.Core.List.{List}
 use Prim.Native.Nat.{ℕ, zero, suc, ◌+◌, ◌*◌, ◌≤◌, ◌<◌}
@@ -125,19 +125,19 @@ module _ (n nodes : ℕ) (f k : List ℕ) (few : n ≤ 8) (small : nodes ≤ 64)
     abbrev kept_at : ℕ → ℕ
     kept_at x = keep_if (member stays x) (image_at x)
 
-    kept-bare : (x : ℕ) → n ≤ x → kept_at x ≡ unplaced
-    kept-bare x l = go (member stays x)
+    kept_bare : (x : ℕ) → n ≤ x → kept_at x ≡ unplaced
+    kept_bare x l = go (member stays x)
       where
         go : (b : Bool) → keep_if b (image_at x) ≡ unplaced
         go true = image_bare x l
         go false = refl
 
-    pub kept-padded : tabulate 8 kept_at ≡ padded (open_joined n stays f k)
-    kept-padded = is_padded (tabulate 8 kept_at) (tabulate n kept_at) (length_tabulate 8 kept_at) (λ x h. at_tabulate 8 kept_at x h ∙ sym (go x (dec_lt x n)))
+    pub kept_padded : tabulate 8 kept_at ≡ padded (open_joined n stays f k)
+    kept_padded = is_padded (tabulate 8 kept_at) (tabulate n kept_at) (length_tabulate 8 kept_at) (λ x h. at_tabulate 8 kept_at x h ∙ sym (go x (dec_lt x n)))
       where
         go : (x : ℕ) → Dec (x < n) → at (tabulate n kept_at) x ≡ kept_at x
         go x (yes d) = at_tabulate n kept_at x d
-        go x (no d) = at_past (tabulate n kept_at) x (omega (arith, d, length_tabulate n kept_at)) ∙ sym (kept-bare x (omega arith))
+        go x (no d) = at_past (tabulate n kept_at) x (omega (arith, d, length_tabulate n kept_at)) ∙ sym (kept_bare x (omega arith))
 
     pub kept_in : Into nodes (tabulate 8 kept_at)
     kept_in x = go (dec_lt x 8)
@@ -146,11 +146,11 @@ module _ (n nodes : ℕ) (f k : List ℕ) (few : n ≤ 8) (small : nodes ≤ 64)
         go (yes d) = rw (at_tabulate 8 kept_at x d) (kept_into nodes (member stays x) (image_at x) (image_into x))
         go (no d) = inl (at_past (tabulate 8 kept_at) x (omega (arith, d, length_tabulate 8 kept_at)))
 
-    pub kept-covers : (H : Graph) (m : ℕ) → H.nodes ≤ 64 → covering H m (tabulate 8 kept_at) ≡ covering H m (open_joined n stays f k)
+    pub kept_covers : (H : Graph) (m : ℕ) → H.nodes ≤ 64 → covering H m (tabulate 8 kept_at) ≡ covering H m (open_joined n stays f k)
     unfolding covering
-    kept-covers H m l =
+    kept_covers H m l =
         every_same H.nodes (λ v. not (is_open H m v) || ltb 0 (occurs v (tabulate 8 kept_at))) (λ v. not (is_open H m v) || ltb 0 (occurs v (tabulate n kept_at)))
-        (λ v d. ap (λ o. not (is_open H m v) || ltb 0 o) (occurs_bare v n 8 kept_at (omega arith) few kept-bare))
+        (λ v d. ap (λ o. not (is_open H m v) || ltb 0 o) (occurs_bare v n 8 kept_at (omega arith) few kept_bare))
 
     -- ---- what is dropped
     module _ (t : List ℕ) (m w : ℕ) (dropped : places_of w ≡ tabulate 8 (λ i. bit_xor (keep_if (not (member stays i)) (image_at i)) unplaced)) where
@@ -163,8 +163,8 @@ module _ (n nodes : ℕ) (f k : List ℕ) (few : n ≤ 8) (small : nodes ≤ 64)
       kept_plain true v h = h
       kept_plain false v h = omega arith
 
-      lost-is : (i : ℕ) → i < 8 → open_by t m (bit_xor (get_or (places_of w) i 0) unplaced) ≡ lost_at stays t m f k i
-      lost-is i l =
+      lost_is : (i : ℕ) → i < 8 → open_by t m (bit_xor (get_or (places_of w) i 0) unplaced) ≡ lost_at stays t m f k i
+      lost_is i l =
           let s = not (member stays i) in
           ap (open_by t m)
           (ap (λ (p : List ℕ). bit_xor (get_or p i 0) unplaced) dropped
@@ -172,9 +172,9 @@ module _ (n nodes : ℕ) (f k : List ℕ) (few : n ≤ 8) (small : nodes ≤ 64)
           ∙ twice (keep_if s (image_at i)) (kept_plain s (image_at i) (image_plain i)))
           ∙ open_kept s (image_at i)
 
-      pub loses-is : loses_one t m w ≡ not (none_lost n stays t m f k)
+      pub loses_is : loses_one t m w ≡ not (none_lost n stays t m f k)
       unfolding loses_one none_lost
-      loses-is = bool_same (some 8 opened) (not (every n keeps)) forth back
+      loses_is = bool_same (some 8 opened) (not (every n keeps)) forth back
         where
           opened : ℕ → Bool
           opened i = open_by t m (bit_xor (get_or (places_of w) i 0) unplaced)
@@ -183,12 +183,12 @@ module _ (n nodes : ℕ) (f k : List ℕ) (few : n ≤ 8) (small : nodes ≤ 64)
           keeps x = not (lost_at stays t m f k x)
 
           never : (i : ℕ) → n ≤ i → lost_at stays t m f k i ≡ false
-          never i l = ap (λ b. not (member stays i) && b) (ap (open_by t m) (image_bare i l) ∙ open_kept false 0) ∙ and_false (not (member stays i))
+          never i l = ap (λ b. not (member stays i) && b) (ap (open_by t m) (image_bare i l) ∙ open_kept false 0) ∙ and-false (not (member stays i))
 
           forth : some 8 opened ≡ true → not (every n keeps) ≡ true
           forth p =
               let (i, l, o) = (decides_some 8 (λ i. tests (opened i))).sound (test_T (some 8 opened) p) in
-              let lost = sym (lost-is i l) ∙ o in
+              let lost = sym (lost_is i l) ∙ o in
               ap not (sym (every_false n keeps i (inside i lost (dec_lt i n)) (ap not lost)))
             where
               inside : (i : ℕ) → lost_at stays t m f k i ≡ true → Dec (i < n) → i < n
@@ -199,4 +199,4 @@ module _ (n nodes : ℕ) (f k : List ℕ) (few : n ≤ 8) (small : nodes ≤ 64)
           back p =
               let (i, l, o) = every_find n keeps (not-true (every n keeps) p) in
               let d : i < 8 = omega arith in
-              T_test (some 8 opened) ((decides_some 8 (λ i. tests (opened i))).complete (i, d, lost-is i d ∙ not-false (lost_at stays t m f k i) o))
+              T_test (some 8 opened) ((decides_some 8 (λ i. tests (opened i))).complete (i, d, lost_is i d ∙ not-false (lost_at stays t m f k i) o))

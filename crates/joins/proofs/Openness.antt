@@ -1,6 +1,6 @@
 -- Open graph nodes one by one, by the words of the graph's table, and of a union of edge sets.
 use mathlib.Core.Path.{◌≡◌, refl, sym, ap, ap₂, ◌∙◌}
-use mathlib.Core.Bool.{Bool, true, false, ◌&&◌, ◌||◌, not, or_true, false≢true}
+use mathlib.Core.Bool.{Bool, true, false, ◌&&◌, ◌||◌, not, or-true, false≢true}
 use mathlib.Core.Logic.{◌⊎◌, inl, inr}
 use mathlib.Core.List.{List}
 use Prim.Native.Nat.{ℕ, zero, suc, ◌+◌, ◌-◌, ◌*◌, ◌/◌, ◌%◌, ◌^◌, ◌<◌}
@@ -117,7 +117,7 @@ module _ (g h t : List ℕ) (accepted : Accepted g h) (table : GraphTable g h t)
       let node : graph_node h e k ≡ v = sym (at_tabulate rank (λ k. graph_node h e k) k low) ∙ s in
       let i = 321 + 64 * k + v in
       let here : eqb i (321 + 64 * k + graph_node h e k) ≡ true = eq-eqb i (321 + 64 * k + graph_node h e k) (omega (arith, node)) in
-      let mark : marks g h e i ≡ true = ap (λ b. eqb i (257 + graph_label h e) || b) (some_in (λ k. true) (λ k. eqb i (321 + 64 * k + graph_node h e k)) rank k low refl here) ∙ or_true (eqb i (257 + graph_label h e)) in
+      let mark : marks g h e i ≡ true = ap (λ b. eqb i (257 + graph_label h e) || b) (some_in (λ k. true) (λ k. eqb i (321 + 64 * k + graph_node h e k)) rank k low refl here) ∙ or-true (eqb i (257 + graph_label h e)) in
       (k, omega arith, table.marked i e (omega arith) (omega arith) (edge_few g h accepted e known) ∙ ap₂ ◌&&◌ (lt-ltb e (graph_edges h) known) mark)
 
   member_on : (e : ℕ) → member on e ≡ ((member (word_at 0) e || member (word_at 1) e) || (member (word_at 2) e || member (word_at 3) e))
@@ -136,9 +136,9 @@ module _ (g h t : List ℕ) (accepted : Accepted g h) (table : GraphTable g h t)
       let (k, l, q) = field_in e known p in
       by_four (λ k. member (word_at k) e ≡ true → member on e ≡ true)
       (λ q. member_on e ∙ rw q)
-      (λ q. member_on e ∙ rw (q, or_true))
-      (λ q. member_on e ∙ rw (q, or_true))
-      (λ q. member_on e ∙ rw (q, or_true, or_true))
+      (λ q. member_on e ∙ rw (q, or-true))
+      (λ q. member_on e ∙ rw (q, or-true))
+      (λ q. member_on e ∙ rw (q, or-true, or-true))
       k l q
 
   -- the node is on an edge of the set s
@@ -184,7 +184,7 @@ open_part g h m part v e less known here there p =
     ap₂ ◌&&◌ (touches_in g h (λ i. member part i) v e known here there)
     (either_way external (touches (λ i. not (member m i)) (graph_of g h).edges v) (and_true (touches (λ i. member m i) (graph_of g h).edges v) _ p).1
     (λ x. ap (λ b. b || touches (λ i. not (member part i)) (graph_of g h).edges v) x)
-    (λ x. ap (λ b. external || b) (wider x) ∙ or_true external))
+    (λ x. ap (λ b. external || b) (wider x) ∙ or-true external))
   where
     external : Bool
     external = ltb 0 (occurs v (graph_of g h).externals)
@@ -214,7 +214,7 @@ open_union g h a b v p =
     let (e, known, x, y) = open_edge g h (a ∪ b) v p in
     either_way (member a e) (member b e) (sym (member_union a b e) ∙ x)
     (λ q. inl (open_part g h (a ∪ b) a v e (λ i z. member_union a b i ∙ ap (λ c. c || member b i) z) known q y p))
-    (λ q. inr (open_part g h (a ∪ b) b v e (λ i z. member_union a b i ∙ ap (λ c. member a i || c) z ∙ or_true (member a i)) known q y p))
+    (λ q. inr (open_part g h (a ∪ b) b v e (λ i z. member_union a b i ∙ ap (λ c. member a i || c) z ∙ or-true (member a i)) known q y p))
 
 -- any set holds the open nodes of no edges
 pub spans_none : (g h : List ℕ) (o : ℕ) → Spans g h 0 o

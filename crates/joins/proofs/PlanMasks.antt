@@ -86,15 +86,15 @@ module _ (g : List ℕ) (r q : ℕ) (known : KnownNode g r q) where
       record { members = λ i. member_none i ∙ sym (ap (λ (l : List ℕ). ltb 0 (occurs i l)) (below_leaf (rule_edges g r) pl ok q node)) }
 
   module _ (kind first second : ℕ) (a : kind ≡ plan_kind g r q) (b : first ≡ plan_first g r q) (c : second ≡ plan_second g r q) where
-    pub introduce-first : kind ≡ 1 → first < q
-    introduce-first e = introduce_lower (rule_edges g r) pl ok q first second (introduced_is kind first second a b c e)
+    pub introduce_first : kind ≡ 1 → first < q
+    introduce_first e = introduce_lower (rule_edges g r) pl ok q first second (introduced_is kind first second a b c e)
 
-    pub join-both : (kind ≡ 0 → ⊥) → (kind ≡ 1 → ⊥) → (first < q) × (second < q)
-    join-both x y = join_lower (rule_edges g r) pl ok q first second (joined_is kind first second a b c x y)
+    pub join_both : (kind ≡ 0 → ⊥) → (kind ≡ 1 → ⊥) → (first < q) × (second < q)
+    join_both x y = join_lower (rule_edges g r) pl ok q first second (joined_is kind first second a b c x y)
 
     module _ (ms : List ℕ) (before : MasksBelow g r q ms) (m : ℕ) where
-      pub introduce-mask : kind ≡ 1 → Added (get_or ms first 0) second m → EdgesBelow g r q m
-      introduce-mask e added =
+      pub introduce_mask : kind ≡ 1 → Added (get_or ms first 0) second m → EdgesBelow g r q m
+      introduce_mask e added =
           let node = introduced_is kind first second a b c e in
           let list = below_introduce (rule_edges g r) pl ok q first second node in
           let there : second < 64 =
@@ -108,14 +108,14 @@ module _ (g : List ℕ) (r q : ℕ) (known : KnownNode g r q) where
             members = λ i.
                 ap (λ k. member k i) (added.value there)
                 ∙ member_union (get_or ms first 0) (single second) i
-                ∙ rw (member_single, (before.each first (introduce-first e)).members i, ← some_one i second)
+                ∙ rw (member_single, (before.each first (introduce_first e)).members i, ← some_one i second)
                 (sym (ap (λ (l : List ℕ). ltb 0 (occurs i l)) list ∙ some_append i (below pl first) (second ∷ [])));
           }
 
-      pub join-mask : (kind ≡ 0 → ⊥) → (kind ≡ 1 → ⊥) → United (get_or ms first 0) (get_or ms second 0) m → EdgesBelow g r q m
-      join-mask x y united =
+      pub join_mask : (kind ≡ 0 → ⊥) → (kind ≡ 1 → ⊥) → United (get_or ms first 0) (get_or ms second 0) m → EdgesBelow g r q m
+      join_mask x y united =
           let node = joined_is kind first second a b c x y in
-          let both = join-both x y in
+          let both = join_both x y in
           record {
             members = λ i.
                 ap (λ k. member k i) united.value

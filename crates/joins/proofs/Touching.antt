@@ -1,6 +1,6 @@
 -- The nodes of a line as a mask, and the nodes on the edges of a set.
 use mathlib.Core.Path.{◌≡◌, refl, sym, ap, ap₂, ◌∙◌, subst}
-use mathlib.Core.Bool.{Bool, true, false, ◌&&◌, ◌||◌, not, or_false, or_assoc}
+use mathlib.Core.Bool.{Bool, true, false, ◌&&◌, ◌||◌, not, or-false, or_assoc}
 use mathlib.Core.List.{List, [], ◌∷◌}
 use Prim.Native.Nat.{ℕ, zero, suc, ◌+◌, ◌/◌, ◌^◌, ◌≤◌, ◌<◌, min}
 use native.Mathlib.Numerals.{add-one}
@@ -85,10 +85,10 @@ sides_next g t base i m first rank on here s u a b nodes test e before = rw (add
     go : (p : Bool) → here ≡ p → SidesOf g t base (suc i) m (side_with s p on)
     go true q = record {
       inside = λ x h. member_union s.inside on x ∙ rw (before.inside x h, nodes'.members x h, ← test, q);
-      outside = λ x h. before.outside x h ∙ rw (← test, q, or_false);
+      outside = λ x h. before.outside x h ∙ rw (← test, q, or-false);
     }
     go false q = record {
-      inside = λ x h. before.inside x h ∙ rw (← test, q, or_false);
+      inside = λ x h. before.inside x h ∙ rw (← test, q, or-false);
       outside = λ x h. member_union s.outside on x ∙ rw (before.outside x h, nodes'.members x h, ← test, q);
     }
 
@@ -110,7 +110,7 @@ some_same t u a b (suc n) p q =
 
 some_front : (t a : ℕ → Bool) (n : ℕ) → some_both t a (suc n) ≡ ((t 0 && a 0) || some_both (λ i. t (suc i)) (λ i. a (suc i)) n)
 unfolding some_both
-some_front t a zero = sym (or_false (t 0 && a 0))
+some_front t a zero = sym (or-false (t 0 && a 0))
 some_front t a (suc n) =
     ap (λ b. b || (t (suc n) && a (suc n))) (some_front t a n) ∙ or_assoc (t 0 && a 0) (some_both (λ i. t (suc i)) (λ i. a (suc i)) n) (t (suc n) && a (suc n))
 

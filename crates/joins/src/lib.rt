@@ -1,5 +1,8 @@
 // The leaves of the chart's step, over accepted tables: what lies below a plan node, open nodes, the map of an edge,
 // and two maps joined.
+
+#![tactic(auto)]
+
 ghost use Rattle.std.specs.Prelude.{◌≡◌, true, ◌+◌, ◌≤◌, ◌<◌, take};
 ghost use Rattle.hrg.specs.Trees.{padded};
 ghost use Rattle.hrg.specs.Counts.{tabulate};
@@ -21,7 +24,7 @@ pub mod graphs;
 pub const PLAN_NODES: usize = 16;
 
 // The nodes on edges of a set, and on the other edges.
-#[derive(Drop)]
+#[derive(Clone, Copy)]
 struct Sides {
     inside: u64,
     outside: u64,
@@ -260,7 +263,7 @@ fn covered(
 }
 
 // What two sets and maps make: the map of the item, if they make one.
-#[derive(Drop)]
+#[derive(Clone, Copy)]
 pub struct Combined {
     pub nodes: [u8; PLACES],
     pub ok: bool,

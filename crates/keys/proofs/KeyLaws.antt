@@ -234,47 +234,47 @@ module _ (g t : List ℕ) (K : KeyTable g t) (x : ChartItem) where
   uses = uses_in t x.of
 
   module _ (active : eqb x.kind 0 ≡ true) where
-    for-active : (a b : ℕ) → word_for t a b x ≡ rule_word t a x.of x.plan
+    for_active : (a b : ℕ) → word_for t a b x ≡ rule_word t a x.of x.plan
     unfolding word_for
-    for-active a b = rw active
+    for_active a b = rw active
 
     keyed : (a b u tag' tag s k : ℕ) → 0 < tag % 128 → rule_word t a x.of x.plan ≡ word_of tag s k (node_of pivot) → get_or (keys_by (word_for t a b x) u tag' x.of x.nodes) 0 0 ≡ bucket_of tag s k (image_of pivot x.nodes)
     keyed a b u tag' tag s k tagged e =
-        ap (λ w. get_or (keys_by w u tag' x.of x.nodes) 0 0) (for-active a b ∙ e)
+        ap (λ w. get_or (keys_by w u tag' x.of x.nodes) 0 0) (for_active a b ∙ e)
         ∙ ap (λ (l : List ℕ). get_or l 0 0) (word_keys tag s k (node_of pivot) tagged (omega arith) pivot u tag' x.of x.nodes refl)
 
-    pub edge-keys : want < 64 → get_or (keys_of t x) 0 0 ≡ bucket_of 2 want (position_of pivot) (image_of pivot x.nodes)
+    pub edge_keys : want < 64 → get_or (keys_of t x) 0 0 ≡ bucket_of 2 want (position_of pivot) (image_of pivot x.nodes)
     unfolding keys_of
-    edge-keys h = keyed 0 places_from (uses_of t x) 1 2 want (position_of pivot) (omega arith) (K.listed x.of x.plan ∙ word_edge 2 want pivot x.of x.plan h)
+    edge_keys h = keyed 0 places_from (uses_of t x) 1 2 want (position_of pivot) (omega arith) (K.listed x.of x.plan ∙ word_edge 2 want pivot x.of x.plan h)
 
-    pub join-keys : 64 ≤ want → (want ≡ 80 → ⊥) → get_or (keys_of t x) 0 0 ≡ bucket_of 3 x.of x.plan (image_of pivot x.nodes)
+    pub join_keys : 64 ≤ want → (want ≡ 80 → ⊥) → get_or (keys_of t x) 0 0 ≡ bucket_of 3 x.of x.plan (image_of pivot x.nodes)
     unfolding keys_of
-    join-keys h n = keyed 0 places_from (uses_of t x) 1 3 x.of x.plan (omega arith) (K.listed x.of x.plan ∙ word_join 2 want pivot x.of x.plan h n)
+    join_keys h n = keyed 0 places_from (uses_of t x) 1 3 x.of x.plan (omega arith) (K.listed x.of x.plan ∙ word_join 2 want pivot x.of x.plan h n)
 
-    pub edge-query : want < 64 → get_or (query_of t x) 0 0 ≡ bucket_of 1 want (position_of pivot) (image_of pivot x.nodes)
+    pub edge_query : want < 64 → get_or (query_of t x) 0 0 ≡ bucket_of 1 want (position_of pivot) (image_of pivot x.nodes)
     unfolding query_of
-    edge-query h = keyed asked_from sought_from (uses_of t x) 2 1 want (position_of pivot) (omega arith) (K.asked x.of x.plan ∙ word_edge 1 want pivot x.of (want % 64) h)
+    edge_query h = keyed asked_from sought_from (uses_of t x) 2 1 want (position_of pivot) (omega arith) (K.asked x.of x.plan ∙ word_edge 1 want pivot x.of (want % 64) h)
 
-    pub join-query : 64 ≤ want → (want ≡ 80 → ⊥) → get_or (query_of t x) 0 0 ≡ bucket_of 3 x.of (want % 64) (image_of pivot x.nodes)
+    pub join_query : 64 ≤ want → (want ≡ 80 → ⊥) → get_or (query_of t x) 0 0 ≡ bucket_of 3 x.of (want % 64) (image_of pivot x.nodes)
     unfolding query_of
-    join-query h n = keyed asked_from sought_from (uses_of t x) 2 3 x.of (want % 64) (omega arith) (K.asked x.of x.plan ∙ word_join 1 want pivot x.of (want % 64) h n)
+    join_query h n = keyed asked_from sought_from (uses_of t x) 2 3 x.of (want % 64) (omega arith) (K.asked x.of x.plan ∙ word_join 1 want pivot x.of (want % 64) h n)
 
   module _ (passive : eqb x.kind 0 ≡ false) where
-    for-passive : (a b : ℕ) → word_for t a b x ≡ symbol_word t b x.of
+    for_passive : (a b : ℕ) → word_for t a b x ≡ symbol_word t b x.of
     unfolding word_for
-    for-passive a b = rw passive
+    for_passive a b = rw passive
 
     uses_passive : uses_of t x ≡ uses
     unfolding uses_of
     uses_passive = rw passive
 
-    pub passive-keys : keys_of t x ≡ listed_keys uses 1 x.of x.nodes
+    pub passive_keys : keys_of t x ≡ listed_keys uses 1 x.of x.nodes
     unfolding keys_of
-    passive-keys = ap₂ (λ w u. keys_by w u 1 x.of x.nodes) (for-passive 0 places_from ∙ K.place x.of) uses_passive
+    passive_keys = ap₂ (λ w u. keys_by w u 1 x.of x.nodes) (for_passive 0 places_from ∙ K.place x.of) uses_passive
 
-    pub passive-query : query_of t x ≡ listed_keys uses 2 x.of x.nodes
+    pub passive_query : query_of t x ≡ listed_keys uses 2 x.of x.nodes
     unfolding query_of
-    passive-query = ap₂ (λ w u. keys_by w u 2 x.of x.nodes) (for-passive asked_from sought_from ∙ K.sought x.of) uses_passive
+    passive_query = ap₂ (λ w u. keys_by w u 2 x.of x.nodes) (for_passive asked_from sought_from ∙ K.sought x.of) uses_passive
 
 -- ---- the count of an item does not tell
 pub improved_keys : (t : List ℕ) (y x : Record) → keys_of t (improved y x).item ≡ keys_of t y.item

@@ -122,14 +122,14 @@ module _ (t fs : List ℕ) (due : Due) (b : Bool) (e : b ≡ in_table due) where
     place_known : p ≡ place_of due
     place_known = q ∙ ap (λ c. cond c (place_of due) 0) (sym e ∙ h)
 
-    store-there : stored t p fs ≡ store_at t due fs
+    store_there : stored t p fs ≡ store_at t due fs
     unfolding store_at
-    store-there = rw (← e, h, ← place_known)
+    store_there = rw (← e, h, ← place_known)
 
-    pub store-short : length t ≤ p → t ≡ store_at t due fs
+    pub store_short : length t ≤ p → t ≡ store_at t due fs
     unfolding stored
-    store-short l = sym (set_out t p (packed 9 fs) l) ∙ store-there
+    store_short l = sym (set_out t p (packed 9 fs) l) ∙ store_there
 
     pub store_in : (w : ℕ) → w ≡ packed 9 fs → set t p w ≡ store_at t due fs
     unfolding stored
-    store_in w v = ap (set t p) v ∙ store-there
+    store_in w v = ap (set t p) v ∙ store_there

@@ -1,6 +1,9 @@
 // The fields of a table by name, the places of its lines and their order, for every table and every number: a field
 // past the end is 0. A line that is known to be there is read with no test of the table's end, by the functions in
 // `_in`.
+
+#![tactic(auto)]
+
 ghost use Rattle.std.specs.Prelude.{◌≡◌, cond, ◌+◌, ◌*◌, ◌≤◌, ◌<◌, min, get_or, length};
 ghost use Rattle.questions.specs.declared.Due.TheVariants.{Symbol, RuleEdge, PlanLine, GraphEdge, Nothing};
 ghost use Rattle.questions.specs.Layout.{symbol_place, rule_stride, rule_place, edges_from, edge_place, plans_from, plan_place, graph_edge_place, grammar_words, place_of, in_table, word_field, line_field, packed, symbol_count, rule_count, start_symbol, kind_field, rank_at, rule_symbol, rule_nodes, rule_edges, rule_plan, rule_external, edge_label, edge_node, plan_kind, plan_first, plan_second, graph_nodes, graph_edges, graph_external, graph_label, graph_node};

@@ -124,8 +124,8 @@ module _ (quiet : ℕ → Bool) (ws keys : List ℕ) (c : Listed ws keys) (b : �
 
   module _ (from x : ℕ) (p : Points quiet keys b from to x) where
     -- the next entry is the first one of its key behind the cursor
-    next-is : 0 < x → IsFirst b keys x (length keys) (after_of ws x)
-    next-is h =
+    next_is : 0 < x → IsFirst b keys x (length keys) (after_of ws x)
+    next_is h =
         let o = p.own h in
         let n : 4097 + x ≡ 4098 + (x - 1) = omega arith in
         let s : x - 1 + 1 ≡ x = omega arith in
@@ -134,8 +134,8 @@ module _ (quiet : ℕ → Bool) (ws keys : List ℕ) (c : Listed ws keys) (b : �
         ∙ ap (λ i. first_from i keys (x - 1 + 1)) o.1 ∙ ap (λ i. first_from b keys i) s in
         subst (IsFirst b keys x (length keys)) (sym y) (first_of_lem b keys x)
 
-    point-moved : (bound later : ℕ) → from ≤ later → bound ≤ later → Points quiet keys b later to (moved_on ws bound x)
-    point-moved bound later f g = go (ℕ_discrete x 0) (dec_lt bound x)
+    point_moved : (bound later : ℕ) → from ≤ later → bound ≤ later → Points quiet keys b later to (moved_on ws bound x)
+    point_moved bound later f g = go (ℕ_discrete x 0) (dec_lt bound x)
       where
         go : Dec (x ≡ 0) → Dec (bound < x) → Points quiet keys b later to (moved_on ws bound x)
         go (yes z) l =
@@ -147,13 +147,13 @@ module _ (quiet : ℕ → Bool) (ws keys : List ℕ) (c : Listed ws keys) (b : �
         go (no z) (no l) =
             let h : 0 < x = omega (arith, z) in
             subst (Points quiet keys b later to) (moved_next ws bound x z (omega (arith, l)))
-            (point_first quiet keys b x later to _ (p.own h).0 (omega (arith, l)) room (next-is h))
+            (point_first quiet keys b x later to _ (p.own h).0 (omega (arith, l)) room (next_is h))
 
     -- a cursor at an entry of a quiet record goes on
-    point-on : 0 < x → quiet ((x - 1) / 5) ≡ true → Points quiet keys b from to (after_of ws x)
-    point-on h s = record {
-      low = (next-is h).low;
-      own = λ o. ((p.own h).0, ((next-is h).own o).1);
+    point_on : 0 < x → quiet ((x - 1) / 5) ≡ true → Points quiet keys b from to (after_of ws x)
+    point_on h s = record {
+      low = (next_is h).low;
+      own = λ o. ((p.own h).0, ((next_is h).own o).1);
       ahead = λ e a d t q m. go e d t m (p.ahead e a d t q m).1 (dec_lt e x);
     }
       where
@@ -161,7 +161,7 @@ module _ (quiet : ℕ → Bool) (ws keys : List ℕ) (c : Listed ws keys) (b : �
         go e d t m l (yes g) =
             let same : (x - 1) / 5 ≡ e / 5 = ap (λ i. i / 5) (let o : x - 1 ≡ e = omega arith in o) in
             absurd (false≢true (sym t ∙ sym (ap quiet same) ∙ s))
-        go e d t m l (no g) = (next-is h).least e (omega (arith, g)) (omega arith) m
+        go e d t m l (no g) = (next_is h).least e (omega (arith, g)) (omega arith) m
 
 -- ---- what is left
 left_end : (c : ℕ) → c ≡ 0 → left_of c ≡ 0
@@ -182,7 +182,7 @@ module _ (quiet : ℕ → Bool) (ws keys : List ℕ) (c : Listed ws keys) (b : �
   next_less z = go (ℕ_discrete (after_of ws x) 0)
     where
       n : IsFirst b keys x (length keys) (after_of ws x)
-      n = next-is quiet ws keys c b small to room from x p (omega (arith, z))
+      n = next_is quiet ws keys c b small to room from x p (omega (arith, z))
 
       go : Dec (after_of ws x ≡ 0) → left_of (after_of ws x) < left_of x
       go (yes y) = omega (arith, left_end _ y, left_some x z, p.low, c.few)
@@ -232,7 +232,7 @@ ahead_passed quiet ws keys query n done later k cs ds c a h l e = subst (λ (xs 
 })
   where
     at : (i : ℕ) → i < 5 → Points quiet keys (get_or query i 0) (5 * later) (5 * n) (moved_on ws (5 * k + 5) (get_or cs i 0))
-    at i j = point-moved quiet ws keys c (get_or query i 0) (a.small i j) (5 * n) a.room (5 * done) (get_or cs i 0) (a.points i j) (5 * k + 5) (5 * later) (omega arith) (omega arith)
+    at i j = point_moved quiet ws keys c (get_or query i 0) (a.small i j) (5 * n) a.room (5 * done) (get_or cs i 0) (a.points i j) (5 * k + 5) (5 * later) (omega arith) (omega arith)
 
 -- entries may come at the end while the cursors go through the first n records
 pub ahead_grown : (quiet : ℕ → Bool) (keys more query : List ℕ) (n done : ℕ) (cs : List ℕ) → Ahead quiet keys query n done cs → Ahead quiet (keys ++ more) query n done cs
@@ -307,7 +307,7 @@ module _ (quiet : ℕ → Bool) (ws keys : List ℕ) (listed : Listed ws keys) (
   skimmed r (goes _ d s h l q e) =
       let o = skimmed d s in
       subst (Skimmed quiet keys b from to c) (sym e) (record {
-        points = point-on quiet ws keys listed b small to room from d o.points h q;
+        points = point_on quiet ws keys listed b small to room from d o.points h q;
         same = omega (arith, o.same, next_less quiet ws keys listed b small from to room d o.points 0 (λ z. omega arith));
       })
 

@@ -147,8 +147,8 @@ module _ (keys : List ℕ) (x : ℕ) where
 
   -- what has key b has it among the others, or is the new entry
   module _ (b e : ℕ) where
-    new-own : b ≢ x → (i : ℕ) → i < length (keys ++ (x ∷ [])) → get_or (keys ++ (x ∷ [])) i 0 ≡ b → i < length keys
-    new-own h i d m = go (dec_lt i (length keys))
+    new_own : b ≢ x → (i : ℕ) → i < length (keys ++ (x ∷ [])) → get_or (keys ++ (x ∷ [])) i 0 ≡ b → i < length keys
+    new_own h i d m = go (dec_lt i (length keys))
       where
         go : Dec (i < length keys) → i < length keys
         go (yes l) = l
@@ -161,10 +161,10 @@ module _ (keys : List ℕ) (x : ℕ) where
         go (yes p) = first_kept b keys e (x ∷ []) p
         go (no p) =
             let z : first_from b keys e ≡ 0 = omega arith in
-            z ∙ first_empty b (keys ++ (x ∷ [])) e (λ i a d m. let l = new-own h i d m in first_none b keys e z i a l (sym (in_front i l) ∙ m))
+            z ∙ first_empty b (keys ++ (x ∷ [])) e (λ i a d m. let l = new_own h i d m in first_none b keys e z i a l (sym (in_front i l) ∙ m))
 
-    first-new : b ≡ x → e ≤ length keys → ((i : ℕ) → e ≤ i → i < length keys → get_or keys i 0 ≡ b → ⊥) → length keys + 1 ≡ first_from b (keys ++ (x ∷ [])) e
-    first-new q h none = first_by b (keys ++ (x ∷ [])) e (length keys + 1) (record {
+    first_new : b ≡ x → e ≤ length keys → ((i : ℕ) → e ≤ i → i < length keys → get_or keys i 0 ≡ b → ⊥) → length keys + 1 ≡ first_from b (keys ++ (x ∷ [])) e
+    first_new q h none = first_by b (keys ++ (x ∷ [])) e (length keys + 1) (record {
       low = omega (arith, longer);
       own = λ p. (omega arith, at_end (length keys + 1 - 1) (omega arith) ∙ sym q);
       least = λ i a d m. (omega arith, go i a m (dec_lt i (length keys)));
@@ -178,11 +178,11 @@ module _ (keys : List ℕ) (x : ℕ) where
     last_other r h p = record {
       low = omega (arith, longer, p.low);
       own = λ o. in_front (r - 1) (omega (arith, p.low)) ∙ p.own o;
-      most = λ i d m. let l = new-own h i d m in p.most i l (sym (in_front i l) ∙ m);
+      most = λ i d m. let l = new_own h i d m in p.most i l (sym (in_front i l) ∙ m);
     }
 
-    last-new : b ≡ x → IsLast b (keys ++ (x ∷ [])) (length keys + 1)
-    last-new q = record {
+    last_new : b ≡ x → IsLast b (keys ++ (x ∷ [])) (length keys + 1)
+    last_new q = record {
       low = omega (arith, longer);
       own = λ o. at_end (length keys + 1 - 1) (omega arith) ∙ sym q;
       most = λ i d m. omega (arith, longer);
@@ -289,15 +289,15 @@ module _ (ws keys : List ℕ) (b : ℕ) (c : Listed ws keys) (h : length keys < 
   can = linkable ws keys b c h small
 
   module _ (l : ℕ) (is : l ≡ get_or ws (2049 + b) 0) (p : IsLast b keys l) where
-    tail-new : tail_of ws b ≢ 4098 + length keys
-    tail-new q = go (ℕ_discrete l 0)
+    tail_new : tail_of ws b ≢ 4098 + length keys
+    tail_new q = go (ℕ_discrete l 0)
       where
         go : Dec (l ≡ 0) → ⊥
         go (yes z) = omega (arith, tail_first ws b l is z, small)
         go (no z) = omega (arith, tail_next ws b l is z, p.low)
 
-    tail-other : (d : ℕ) → d ≤ 2048 → d ≢ b → d ≢ tail_of ws b
-    tail-other d r e q = go (ℕ_discrete l 0)
+    tail_other : (d : ℕ) → d ≤ 2048 → d ≢ b → d ≢ tail_of ws b
+    tail_other d r e q = go (ℕ_discrete l 0)
       where
         go : Dec (l ≡ 0) → ⊥
         go (yes z) = e (q ∙ sym (tail_first ws b l is z))
@@ -311,12 +311,12 @@ module _ (ws keys : List ℕ) (b : ℕ) (c : Listed ws keys) (h : length keys < 
 
         go : Dec (d ≡ b) → Dec (l ≡ 0) → get_or (appended ws (length keys) b) d 0 ≡ first_from d (keys ++ (b ∷ [])) 0
         go (yes e) (yes z) =
-            ap (λ i. get_or (appended ws (length keys) b) i 0) (e ∙ tail_first ws b l is z) ∙ word_tail ws (length keys) b can pos tail-new
-            ∙ first-new keys b d 0 e (omega arith) (λ i a m o. let y = p.most i m (o ∙ e) in omega arith)
+            ap (λ i. get_or (appended ws (length keys) b) i 0) (e ∙ tail_first ws b l is z) ∙ word_tail ws (length keys) b can pos tail_new
+            ∙ first_new keys b d 0 e (omega arith) (λ i a m o. let y = p.most i m (o ∙ e) in omega arith)
         go (yes e) (no z) =
             kept (λ y. omega (arith, tail_next ws b l is z))
             ∙ first_kept d keys 0 (b ∷ []) (first_some d keys 0 (l - 1) (omega arith) (omega (arith, p.low, z)) (p.own (omega (arith, z)) ∙ sym e))
-        go (no e) z = kept (tail-other d r e) ∙ first_other keys b d 0 e
+        go (no e) z = kept (tail_other d r e) ∙ first_other keys b d 0 e
 
     last_more : (d : ℕ) → 0 < d → d ≤ 2048 → IsLast d (keys ++ (b ∷ [])) (get_or (appended ws (length keys) b) (2049 + d) 0)
     last_more d q r = go (ℕ_discrete d b)
@@ -325,15 +325,15 @@ module _ (ws keys : List ℕ) (b : ℕ) (c : Listed ws keys) (h : length keys < 
         go (yes e) =
             let y : get_or (appended ws (length keys) b) (2049 + d) 0 ≡ length keys + 1 =
             ap (λ i. get_or (appended ws (length keys) b) (2049 + i) 0) e ∙ word_last ws (length keys) b can pos in
-            subst (IsLast d (keys ++ (b ∷ []))) (sym y) (last-new keys b d 0 e)
+            subst (IsLast d (keys ++ (b ∷ []))) (sym y) (last_new keys b d 0 e)
         go (no e) =
             let y : get_or (appended ws (length keys) b) (2049 + d) 0 ≡ get_or ws (2049 + d) 0 =
             word_other ws (length keys) b can pos (2049 + d) (tail_not ws (length keys) b can pos d r) (λ z. e (omega arith)) (λ z. omega arith) in
             subst (IsLast d (keys ++ (b ∷ []))) (sym y) (last_other keys b d 0 _ e (c.last d q r))
 
     -- an entry before the new one, of key x
-    next-kept : (e x : ℕ) → e < length keys → get_or keys e 0 ≡ x → 0 < x → x ≤ 2048 → get_or (appended ws (length keys) b) (4098 + e) 0 ≡ first_from x (keys ++ (b ∷ [])) (e + 1)
-    next-kept e x m f q r = go (ℕ_discrete x b) (ℕ_discrete (e + 1) l)
+    next_kept : (e x : ℕ) → e < length keys → get_or keys e 0 ≡ x → 0 < x → x ≤ 2048 → get_or (appended ws (length keys) b) (4098 + e) 0 ≡ first_from x (keys ++ (b ∷ [])) (e + 1)
+    next_kept e x m f q r = go (ℕ_discrete x b) (ℕ_discrete (e + 1) l)
       where
         kept : 4098 + e ≢ tail_of ws b → get_or (appended ws (length keys) b) (4098 + e) 0 ≡ first_from x keys (e + 1)
         kept n =
@@ -349,8 +349,8 @@ module _ (ws keys : List ℕ) (b : ℕ) (c : Listed ws keys) (h : length keys < 
         go : Dec (x ≡ b) → Dec (e + 1 ≡ l) → get_or (appended ws (length keys) b) (4098 + e) 0 ≡ first_from x (keys ++ (b ∷ [])) (e + 1)
         go (yes g) (yes y) =
             let z : 4098 + e ≡ tail_of ws b = omega (arith, tail_next ws b l is (λ o. omega arith)) in
-            ap (λ i. get_or (appended ws (length keys) b) i 0) z ∙ word_tail ws (length keys) b can pos tail-new
-            ∙ first-new keys b x (e + 1) g (omega arith) (λ i a d o. let w = p.most i d (o ∙ g) in omega arith)
+            ap (λ i. get_or (appended ws (length keys) b) i 0) z ∙ word_tail ws (length keys) b can pos tail_new
+            ∙ first_new keys b x (e + 1) g (omega arith) (λ i a d o. let w = p.most i d (o ∙ g) in omega arith)
         go (yes g) (no y) =
             let w : e < l = p.most e m (f ∙ g) in
             let v : e + 1 < l = omega (arith, y) in
@@ -363,7 +363,7 @@ module _ (ws keys : List ℕ) (b : ℕ) (c : Listed ws keys) (h : length keys < 
     next_more e d q r = go (dec_lt e (length keys))
       where
         go : Dec (e < length keys) → get_or (appended ws (length keys) b) (4098 + e) 0 ≡ first_from (get_or (keys ++ (b ∷ [])) e 0) (keys ++ (b ∷ [])) (e + 1)
-        go (yes m) = next-kept e _ m (sym (in_front keys b e m)) q r
+        go (yes m) = next_kept e _ m (sym (in_front keys b e m)) q r
         go (no m) =
             let y : e ≡ length keys = omega (arith, longer keys b) in
             ap (λ i. get_or (appended ws (length keys) b) (4098 + i) 0) y ∙ word_new ws (length keys) b can pos
@@ -373,7 +373,7 @@ module _ (ws keys : List ℕ) (b : ℕ) (c : Listed ws keys) (h : length keys < 
     more = record {
       size = length_appended ws (length keys) b can pos;
       few = omega (arith, longer keys b);
-      none = word_other ws (length keys) b can pos 0 (tail-other 0 (omega arith) (λ z. omega arith)) (λ z. omega arith) (λ z. omega arith) ∙ c.none;
+      none = word_other ws (length keys) b can pos 0 (tail_other 0 (omega arith) (λ z. omega arith)) (λ z. omega arith) (λ z. omega arith) ∙ c.none;
       first = first_more;
       last = last_more;
       next = next_more;
@@ -489,32 +489,32 @@ module _ (ws : List ℕ) (e : ℕ) (bs : List ℕ) (r : Ready ws) (h : e + 5 ≤
   link_first = ready_link ws e (get_or bs 0 0) r (omega arith) (l 0 (omega arith))
 
   module _ (v1 : List ℕ) (q1 : v1 ≡ entered ws e (get_or bs 0 0)) where
-    ready-1 : Ready v1
-    ready-1 = ready_next ws v1 e (get_or bs 0 0) r (omega arith) (l 0 (omega arith)) q1
+    ready_1 : Ready v1
+    ready_1 = ready_next ws v1 e (get_or bs 0 0) r (omega arith) (l 0 (omega arith)) q1
 
-    pub link-second : Linkable v1 (e + 1) (get_or bs 1 0)
-    link-second = ready_link v1 (e + 1) (get_or bs 1 0) ready-1 (omega arith) (l 1 (omega arith))
+    pub link_second : Linkable v1 (e + 1) (get_or bs 1 0)
+    link_second = ready_link v1 (e + 1) (get_or bs 1 0) ready_1 (omega arith) (l 1 (omega arith))
 
     module _ (v2 : List ℕ) (q2 : v2 ≡ entered v1 (e + 1) (get_or bs 1 0)) where
-      ready-2 : Ready v2
-      ready-2 = ready_next v1 v2 (e + 1) (get_or bs 1 0) ready-1 (omega arith) (l 1 (omega arith)) q2
+      ready_2 : Ready v2
+      ready_2 = ready_next v1 v2 (e + 1) (get_or bs 1 0) ready_1 (omega arith) (l 1 (omega arith)) q2
 
-      pub link-third : Linkable v2 (e + 2) (get_or bs 2 0)
-      link-third = ready_link v2 (e + 2) (get_or bs 2 0) ready-2 (omega arith) (l 2 (omega arith))
+      pub link_third : Linkable v2 (e + 2) (get_or bs 2 0)
+      link_third = ready_link v2 (e + 2) (get_or bs 2 0) ready_2 (omega arith) (l 2 (omega arith))
 
       module _ (v3 : List ℕ) (q3 : v3 ≡ entered v2 (e + 2) (get_or bs 2 0)) where
-        ready-3 : Ready v3
-        ready-3 = ready_next v2 v3 (e + 2) (get_or bs 2 0) ready-2 (omega arith) (l 2 (omega arith)) q3
+        ready_3 : Ready v3
+        ready_3 = ready_next v2 v3 (e + 2) (get_or bs 2 0) ready_2 (omega arith) (l 2 (omega arith)) q3
 
-        pub link-fourth : Linkable v3 (e + 3) (get_or bs 3 0)
-        link-fourth = ready_link v3 (e + 3) (get_or bs 3 0) ready-3 (omega arith) (l 3 (omega arith))
+        pub link_fourth : Linkable v3 (e + 3) (get_or bs 3 0)
+        link_fourth = ready_link v3 (e + 3) (get_or bs 3 0) ready_3 (omega arith) (l 3 (omega arith))
 
         module _ (v4 : List ℕ) (q4 : v4 ≡ entered v3 (e + 3) (get_or bs 3 0)) where
-          ready-4 : Ready v4
-          ready-4 = ready_next v3 v4 (e + 3) (get_or bs 3 0) ready-3 (omega arith) (l 3 (omega arith)) q4
+          ready_4 : Ready v4
+          ready_4 = ready_next v3 v4 (e + 3) (get_or bs 3 0) ready_3 (omega arith) (l 3 (omega arith)) q4
 
-          pub link-fifth : Linkable v4 (e + 4) (get_or bs 4 0)
-          link-fifth = ready_link v4 (e + 4) (get_or bs 4 0) ready-4 (omega arith) (l 4 (omega arith))
+          pub link_fifth : Linkable v4 (e + 4) (get_or bs 4 0)
+          link_fifth = ready_link v4 (e + 4) (get_or bs 4 0) ready_4 (omega arith) (l 4 (omega arith))
 
 pub appended_by : (ws : List ℕ) (e b t : ℕ) → t ≡ tail_of ws b → set (set (set ws t (e + 1)) (2049 + b) (e + 1)) (4098 + e) 0 ≡ appended ws e b
 unfolding appended

@@ -1,4 +1,7 @@
 // Entries listed by key in lent words, and five lists gone through at once in the order of their records.
+
+#![tactic(auto)]
+
 ghost use Rattle.std.specs.Prelude.{◌≡◌, ◌+◌, ◌≤◌, ◌<◌, length, get_or};
 ghost use Rattle.lists.specs.Lists.{list_words, Linkable, tail_of, appended, entered, Ready, entered_all, Within};
 ghost use Rattle.lists.specs.Cursors.{alone, starts_of, nearer, least_of, after_of, moved_on, passed_of};

@@ -1,5 +1,8 @@
 // Sets of numbers below 64 as the bits of a u64: union, a test for no common member, membership, one member more, the
 // first numbers.
+
+#![tactic(auto)]
+
 ghost use Rattle.masks.specs.Masks.{United, Tested, Found, Added, Filled};
 
 // The numbers that are in a or in b.

@@ -115,10 +115,10 @@ module _ (s : ℕ) (L : List ℕ) (w u tag : ℕ) where
       abbrev node : ℕ → ℕ
       node k = get_or L k 0
 
-      pub by-five : (a b c d e : ℕ) → a ≡ placed u 0 (node 0) → b ≡ placed (u / 2) 1 (node 1) → c ≡ placed (u / 4) 2 (node 2)
+      pub by_five : (a b c d e : ℕ) → a ≡ placed u 0 (node 0) → b ≡ placed (u / 2) 1 (node 1) → c ≡ placed (u / 4) 2 (node 2)
           → d ≡ placed (u / 8) 3 (node 3) → e ≡ placed (u / 16) 4 64 → (a ∷ b ∷ c ∷ d ∷ e ∷ []) ≡ keys
       unfolding keys_by five_keys bit
-      by-five a b c d e h i j k l =
+      by_five a b c d e h i j k l =
           let first : a ≡ place_key (bit u 0) tag s 0 (node 0) = h ∙ ap (λ n. place_key n tag s 0 (node 0)) (bit_first u) in
           let n0 = place_read L size 0 (omega arith) in
           let n1 = place_read L size 1 (omega arith) in

@@ -36,7 +36,7 @@ use Rattle.rules.specs.declared.Place.{Place}
 use Rattle.rules.specs.Rules.{Above}
 use Rattle.rules.specs.Wants.{want_of}
 use Rattle.rules.proofs.WantLaws.{unknown_rule, unknown_node, rules_few}
-use Rattle.rules.proofs.Meeting.{rule, label_few, want-label, few, want-first, want-second}
+use Rattle.rules.proofs.Meeting.{rule, label_few, want_label, few, want_first, want_second}
 use Rattle.keys.specs.Pivots.{position_of, node_of, EdgePivot, last_to, shared_node, PivotBelow, PivotOf}
 use Rattle.keys.specs.Keys.{key_word, place_word, rule_places, asked_from, uses_from, places_from, sought_from, key_table_words, rule_place, rule_word, symbol_word, uses_in, KeyTable, Entered, Placed}
 use Rattle.keys.proofs.KeyLaws.{word_none, place_nowhere}
@@ -137,11 +137,11 @@ module _ (g : List ℕ) (r p q here there : ℕ) (known : KnownNode g r p) (a : 
         ap (λ n. last_to n test) (e ∙ add-one (v - 1))
         ∙ ap (λ (t : Bool). cond t (v - 1) (last_to (v - 1) test)) (sym (ap₂ (λ (a b : Bool). a && b) (c ∙ a.members (v - 1) few) (d ∙ b.members (v - 1) few)))
 
-    pub search-hit : (x && y) ≡ true → (v - 1 ≡ shared_node (grammar_of g) r p q) × (v - 1 ≤ 8)
-    search-hit t = (sym (turn ∙ ap (λ (t : Bool). cond t (v - 1) (last_to (v - 1) test)) t) ∙ s.rest, omega (arith, s.few))
+    pub search_hit : (x && y) ≡ true → (v - 1 ≡ shared_node (grammar_of g) r p q) × (v - 1 ≤ 8)
+    search_hit t = (sym (turn ∙ ap (λ (t : Bool). cond t (v - 1) (last_to (v - 1) test)) t) ∙ s.rest, omega (arith, s.few))
 
-    pub search-miss : (x && y) ≡ false → Searched g r p q (v - 1)
-    search-miss t = record { few = omega (arith, s.few); rest = sym (turn ∙ ap (λ (t : Bool). cond t (v - 1) (last_to (v - 1) test)) t) ∙ s.rest }
+    pub search_miss : (x && y) ≡ false → Searched g r p q (v - 1)
+    search_miss t = record { few = omega (arith, s.few); rest = sym (turn ∙ ap (λ (t : Bool). cond t (v - 1) (last_to (v - 1) test)) t) ∙ s.rest }
 
   pub search_end : (v : ℕ) → Searched g r p q v → v ≤ 0 → (8 ≡ shared_node (grammar_of g) r p q) × (8 ≤ 8)
   unfolding last_to
@@ -185,8 +185,8 @@ module _ (g : List ℕ) (r p q : ℕ) (known : KnownNode g r q) (kind first seco
             record { grammar = known.grammar; rule = known.rule; edge = introduce_known (rule_edges g r) (plan_of (grammar_of g) r) ok q first second introduced },
           )
 
-      pub below-edge : (w : ℕ) → EdgePivot (rule_of (grammar_of g) r) p (edge_nodes g r second) w × (w ≤ 72) → PivotBelow g r p q w × (w ≤ 72)
-      below-edge w (x, few) =
+      pub below_edge : (w : ℕ) → EdgePivot (rule_of (grammar_of g) r) p (edge_nodes g r second) w × (w ≤ 72) → PivotBelow g r p q w × (w ≤ 72)
+      below_edge w (x, few) =
           let n = introduced in (
             record {
               edge = λ i d. let s : second ≡ i = cc in subst (λ i. EdgePivot (rule_of (grammar_of g) r) p (edge_nodes g r i) w) s x;
@@ -201,23 +201,23 @@ module _ (g : List ℕ) (r p q : ℕ) (known : KnownNode g r q) (kind first seco
     both : node ≡ join first second
     both = joined_is g r q known kind first second a b c (λ e. omega arith) (λ e. omega arith)
 
-    known-child : (d : ℕ) → d < q → KnownNode g r d
-    known-child d l = record { grammar = known.grammar; rule = known.rule; node = omega (arith, known.node) }
+    known_child : (d : ℕ) → d < q → KnownNode g r d
+    known_child d l = record { grammar = known.grammar; rule = known.rule; node = omega (arith, known.node) }
 
     lower : (first < q) × (second < q)
     lower = join_lower (rule_edges g r) (plan_of (grammar_of g) r) (plan_ok g r known.grammar known.rule) q first second both
 
-    pub first-known : first ≡ p → KnownNode g r p × KnownNode g r second
-    first-known e = (known-child p (omega (arith, lower.0)), known-child second lower.1)
+    pub first_known : first ≡ p → KnownNode g r p × KnownNode g r second
+    first_known e = (known_child p (omega (arith, lower.0)), known_child second lower.1)
 
-    pub second-known : second ≡ p → KnownNode g r p × KnownNode g r first
-    second-known e = (known-child p (omega (arith, lower.1)), known-child first lower.0)
+    pub second_known : second ≡ p → KnownNode g r p × KnownNode g r first
+    second_known e = (known_child p (omega (arith, lower.1)), known_child first lower.0)
 
     node_of_is : (v : ℕ) → v ≤ 8 → node_of (64 + v) ≡ v
     node_of_is v h = omega arith
 
-    pub below-first : first ≡ p → (v : ℕ) → (v ≡ shared_node (grammar_of g) r p second) × (v ≤ 8) → PivotBelow g r p q (64 + v) × (64 + v ≤ 72)
-    below-first e v (s, few) =
+    pub below_first : first ≡ p → (v : ℕ) → (v ≡ shared_node (grammar_of g) r p second) × (v ≤ 8) → PivotBelow g r p q (64 + v) × (64 + v ≤ 72)
+    below_first e v (s, few) =
         let n = both in
         let w = node_of_is v few in (
           record {
@@ -229,8 +229,8 @@ module _ (g : List ℕ) (r p q : ℕ) (known : KnownNode g r q) (kind first seco
         )
 
     module _ (other : first ≡ p → ⊥) where
-      pub below-second : second ≡ p → (v : ℕ) → (v ≡ shared_node (grammar_of g) r p first) × (v ≤ 8) → PivotBelow g r p q (64 + v) × (64 + v ≤ 72)
-      below-second e v (s, few) =
+      pub below_second : second ≡ p → (v : ℕ) → (v ≡ shared_node (grammar_of g) r p first) × (v ≤ 8) → PivotBelow g r p q (64 + v) × (64 + v ≤ 72)
+      below_second e v (s, few) =
           let n = both in
           let w = node_of_is v few in (
             record {
@@ -241,8 +241,8 @@ module _ (g : List ℕ) (r p q : ℕ) (known : KnownNode g r q) (kind first seco
             omega arith,
           )
 
-      pub below-neither : (second ≡ p → ⊥) → PivotBelow g r p q 72 × (72 ≤ 72)
-      below-neither neither =
+      pub below_neither : (second ≡ p → ⊥) → PivotBelow g r p q 72 × (72 ≤ 72)
+      below_neither neither =
           let n = both in
           (record { edge = λ i d. absurd (clash (cc)); first = λ i d. absurd (other (cc)); second = λ i d. absurd (neither (cc)) }, omega arith)
 
@@ -415,27 +415,27 @@ module _ (t : List ℕ) (i want w x y : ℕ) (size : length t ≡ key_table_word
     other : (k : ℕ) → (k ≡ uses_from + want → ⊥) → get_or three k 0 ≡ get_or two k 0
     other k q = get_or-set_other two (uses_from + want) k u 0 q
 
-    now-is : get_or three (uses_from + want) 0 ≡ u
-    now-is = get_or-set_same two (uses_from + want) u 0 (omega (arith, size_two))
+    now_is : get_or three (uses_from + want) 0 ≡ u
+    now_is = get_or-set_same two (uses_from + want) u 0 (omega (arith, size_two))
 
     kept : (s e : ℕ) → s < 64 → e < 64 → member (get_or t (uses_from + s) 0) e ≡ true → Dec (s ≡ want) → member (get_or three (uses_from + s) 0) e ≡ true
     kept s e c d m (yes q) =
         ap (λ s. member (get_or three (uses_from + s) 0) e) q
-        ∙ ap (λ u. member u e) now-is
+        ∙ ap (λ u. member u e) now_is
         ∙ added.members e d
         ∙ or_first (member (get_or two (uses_from + want) 0) e) (eqb e (position_of w))
         (ap (λ u. member u e) (rest (uses_from + want) (λ z. omega arith) (λ z. omega arith)) ∙ ap (λ s. member (get_or t (uses_from + s) 0) e) (sym q) ∙ m)
     kept s e c d m (no q) = ap (λ u. member u e) (other (uses_from + s) (λ z. q (omega arith)) ∙ rest (uses_from + s) (λ z. omega arith) (λ z. omega arith)) ∙ m
 
-    pub entered-three : (new : List ℕ) → new ≡ three → Entered t i want w new
-    entered-three new e = subst (λ (t' : List ℕ). Entered t i want w t') (sym e) (record {
+    pub entered_three : (new : List ℕ) → new ≡ three → Entered t i want w new
+    entered_three new e = subst (λ (t' : List ℕ). Entered t i want w t') (sym e) (record {
       size = simp length-set size;
       listed = other i (λ z. omega arith) ∙ first;
       asked = other (asked_from + i) (λ z. omega arith) ∙ second;
       others = λ k d p q. other k (λ z. omega arith) ∙ rest k p q;
       kept = λ s e c d m. kept s e c d m (ℕ_discrete s want);
       used = λ z.
-          ap (λ u. member u (position_of w)) now-is
+          ap (λ u. member u (position_of w)) now_is
           ∙ added.members (position_of w) (omega arith)
           ∙ or_second (member (get_or two (uses_from + want) 0) (position_of w)) (eqb (position_of w) (position_of w)) (eq-eqb (position_of w) (position_of w) refl);
     })
@@ -581,13 +581,13 @@ module _ (g : List ℕ) (checked : check_grammar g ≡ true) (t : List ℕ) (n i
       edge = λ r q c i d node.
           let k = rule g checked r q d in
           let low = introduce_lower (rule_edges g r) (plan_of (grammar_of g) r) (plan_ok g r checked k) q c i node in
-          let wanted = want-label g checked r q d c i node in
+          let wanted = want_label g checked r q d c i node in
           ((known_word r c k (omega (arith, low, plan_few g r checked k, plan_size g r checked k)) (λ z. omega (arith, label_few g checked r q d c i node))).each q d).edge i node;
       join = λ r q a b d node.
           let k = rule g checked r q d in
           let low = few g checked r q d a b node in
-          let here = ((known_word r a k low.0 (λ z. omega (arith, low, want-second g checked r q d a b node))).each q d).first b node in
-          let there = ((known_word r b k low.1 (λ z. omega (arith, low, want-first g checked r q d a b node))).each q d).second a node in
+          let here = ((known_word r a k low.0 (λ z. omega (arith, low, want_second g checked r q d a b node))).each q d).first b node in
+          let there = ((known_word r b k low.1 (λ z. omega (arith, low, want_first g checked r q d a b node))).each q d).second a node in
           let R = rule_of (grammar_of g) r in
           let both = shared_open (grammar_of g) r a b in
           record {

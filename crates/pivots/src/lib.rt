@@ -1,5 +1,8 @@
 // Keys by which items of a chart that can be joined find each other: the image of one rule node, the pivot, is part
 // of the key.
+
+#![tactic(auto)]
+
 ghost use Rattle.std.specs.Prelude.{◌≡◌, true, [], ◌∷◌, ℕ, ◌≤◌, ◌<◌, length, replicate};
 ghost use Rattle.hrg.specs.Grammars.{rule_of};
 ghost use Rattle.questions.specs.Checking.{check_grammar};
@@ -335,7 +338,7 @@ fn keys_by(
 }
 
 // The same without an array, where a word of the table tells that there is but one key; 0 where there is none.
-#[derive(Drop)]
+#[derive(Clone, Copy)]
 pub struct OnlyKey {
     pub single: bool,
     pub key: u64,

@@ -62,8 +62,8 @@ module _ {f t : List ℕ} {a b : ℕ} (pf : Packed f a) (pt : Packed t b) (x : (
       ∙ and_comm (one_to_one 64 (joined 8 f t)) (agree 8 f t)
 
   module _ (stays : ℕ) where
-    pub kept-is : places_of (choose_of (spread_of stays) (choose_of (bare_of a) b a) none_word) ≡ tabulate 8 (λ i. keep_if (member stays i) (J i))
-    kept-is =
+    pub kept_is : places_of (choose_of (spread_of stays) (choose_of (bare_of a) b a) none_word) ≡ tabulate 8 (λ i. keep_if (member stays i) (J i))
+    kept_is =
         ap places_of
         (ap₂ (λ v w. choose_of v w none_word) (spread_by stays) word_j
         ∙ ap (choose_of (word_by 8 (λ i. full (member stays i))) (word_by 8 J)) nones
@@ -71,8 +71,8 @@ module _ {f t : List ℕ} {a b : ℕ} (pf : Packed f a) (pt : Packed t b) (x : (
         ∙ by_ext 8 (λ i. either_kept (member stays i) (J i)))
         ∙ places_by (λ i. keep_if (member stays i) (J i)) (λ i. omega (arith, kept_le (member stays i) (J i) (low i)))
 
-    pub dropped-is : places_of (bit_and (bit_xor (choose_of (bare_of a) b a) none_word) (all_bits - spread_of stays)) ≡ tabulate 8 (λ i. bit_xor (keep_if (not (member stays i)) (J i)) 64)
-    dropped-is =
+    pub dropped_is : places_of (bit_and (bit_xor (choose_of (bare_of a) b a) none_word) (all_bits - spread_of stays)) ≡ tabulate 8 (λ i. bit_xor (keep_if (not (member stays i)) (J i)) 64)
+    dropped_is =
         ap places_of
         (ap₂ bit_and (ap₂ bit_xor word_j nones ∙ xor_by (λ i. omega (arith, low i)) (λ i. omega arith)) (ap (λ v. all_bits - v) (spread_by stays) ∙ full_others (λ i. member stays i))
         ∙ and_by (λ i. xor_small (J i) (low i)) (λ i. omega arith)

@@ -1,4 +1,7 @@
 // Eight places of graph nodes (64: none) as the bytes of one word, which is packed and taken apart as a whole.
+
+#![tactic(auto)]
+
 ghost use Rattle.std.specs.Prelude.{◌≡◌, ◌%◌, ◌<◌, get_or, set};
 ghost use Rattle.places.specs.Words.{places_of, low4, Packed};
 

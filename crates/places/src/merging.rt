@@ -13,7 +13,7 @@ pub(crate) const HIGH: u64 = 9259542123273814144;
 
 // The joined map at the places that stay; its nodes at the others, each xor 64, so that a place with none has 0; and
 // whether the two maps agree and are one_to_one_is together.
-#[derive(Drop)]
+#[derive(Clone, Copy)]
 pub struct Merged {
     pub kept: u64,
     pub dropped: u64,

@@ -48,9 +48,9 @@ module _ (G : Grammar) (H : Graph) (rows : List (List ℕ)) where
     abbrev below : ℕ → State
     below j = replay_edges j G H rows place rs fs (first j)
 
-    after-tree : (st : State) → first k ≡ st → replay_edges k G H rows place rs fs st ≡ reached n' es' vs' → below (suc k) ≡ reached n' es' vs'
-    after-tree failed h q = absurd (never (sym (stays_failed G H rows k place rs fs) ∙ q))
-    after-tree (reached n₁ es₁ vs₁) h q =
+    after_tree : (st : State) → first k ≡ st → replay_edges k G H rows place rs fs st ≡ reached n' es' vs' → below (suc k) ≡ reached n' es' vs'
+    after_tree failed h q = absurd (never (sym (stays_failed G H rows k place rs fs) ∙ q))
+    after_tree (reached n₁ es₁ vs₁) h q =
         ap (λ (st : State). replay_edges (suc k) G H rows place rs fs st) (at e.label L n es vs n₁ es₁ vs₁ h)
         ∙ edges place rs fs n₁ es₁ vs₁ n' es' vs' q
 
@@ -58,7 +58,7 @@ module _ (G : Grammar) (H : Graph) (rows : List (List ℕ)) where
         → by_kind kind (check (edge_test H e.label L es f) (used (suc k))) (check (part_test n f) (below (suc k))) ≡ reached n' es' vs'
     by_kind_is terminal q =
         check_more (edge_test H e.label L es f) (used k) (used (suc k)) n' es' vs' (edges place rs fs n (es ++ f ∷ []) vs n' es' vs') q
-    by_kind_is nonterminal q = check_more (part_test n f) (below k) (below (suc k)) n' es' vs' (after-tree (first k) refl) q
+    by_kind_is nonterminal q = check_more (part_test n f) (below k) (below (suc k)) n' es' vs' (after_tree (first k) refl) q
 
   more_edges : (k : ℕ) → MoreAt k → MoreEdges k → MoreEdges (suc k)
   unfolding replay_edges

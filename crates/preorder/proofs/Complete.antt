@@ -1,7 +1,7 @@
 -- The rows of a tree that generates the graph replay.
 use mathlib.Core.Path.{◌≡◌, refl, sym, ap, ap₂, subst, ◌∙◌}
 use mathlib.Core.Bool.{Bool, true, false, ◌&&◌}
-use mathlib.Core.List.{List, [], ◌∷◌, ◌++◌, append_assoc, append_nil}
+use mathlib.Core.List.{List, [], ◌∷◌, ◌++◌, append_assoc, append-nil}
 use Prim.Native.Nat.{ℕ, zero, suc, ◌+◌, ◌*◌, ◌≤◌, ◌<◌}
 use native.Mathlib.Omega.{arith}
 use lib.ListN.{length, drop, length-append}
@@ -67,15 +67,15 @@ module _ (G : Grammar) (H : Graph) (rows : List (List ℕ)) where
     abbrev row : List ℕ
     row = n ∷ r ∷ (place ++ part_numbers (n + 1) ps)
 
-    place-eq : place_in P row ≡ place
-    place-eq = take_at place (part_numbers (n + 1) ps) P.nodes f.sized
+    place_eq : place_in P row ≡ place
+    place_eq = take_at place (part_numbers (n + 1) ps) P.nodes f.sized
 
-    fields-eq : fields_in P row ≡ part_numbers (n + 1) ps
-    fields-eq = drop_at place (part_numbers (n + 1) ps) P.nodes f.sized
+    fields_eq : fields_in P row ≡ part_numbers (n + 1) ps
+    fields_eq = drop_at place (part_numbers (n + 1) ps) P.nodes f.sized
 
-    new-eq : new_nodes P row ≡ images place (internals P)
+    new_eq : new_nodes P row ≡ images place (internals P)
     unfolding new_nodes
-    new-eq = ap (λ (l : List ℕ). images l (internals P)) place-eq
+    new_eq = ap (λ (l : List ℕ). images l (internals P)) place_eq
 
     row_ok : Once (vs ++ images place (internals P)) → RowOk G H n s L vs row
     row_ok o =
@@ -84,9 +84,9 @@ module _ (G : Grammar) (H : Graph) (rows : List (List ℕ)) where
           known = f.known;
           lhs = f.lhs;
           sized = omega (arith, length-append place (part_numbers (n + 1) ps), f.sized, length_numbers G H place (n + 1) ps P.edges fs);
-          placed = subst (λ (l : List ℕ). (v : ℕ) → 0 < occurs v l → v < H.nodes) (sym place-eq) inside;
-          externals = ap (λ (l : List ℕ). images l P.externals) place-eq ∙ f.externals;
-          new = once_fresh vs (new_nodes P row) (subst (λ (l : List ℕ). Once (vs ++ l)) (sym new-eq) o);
+          placed = subst (λ (l : List ℕ). (v : ℕ) → 0 < occurs v l → v < H.nodes) (sym place_eq) inside;
+          externals = ap (λ (l : List ℕ). images l P.externals) place_eq ∙ f.externals;
+          new = once_fresh vs (new_nodes P row) (subst (λ (l : List ℕ). Once (vs ++ l)) (sym new_eq) o);
         }
       where
         inside : (v : ℕ) → 0 < occurs v place → v < H.nodes
@@ -103,8 +103,8 @@ module _ (G : Grammar) (H : Graph) (rows : List (List ℕ)) where
         ap (λ (l : List ℕ). with_row_is k s L n es vs l) next.here
         ∙ pass (ltb n (length rows) && row_test G H n s L vs row) _
         ((decides_le (suc n) (length rows) and decides_row G H n s L vs row).complete (next.known, row_ok (once_left (vs ++ images place (internals P)) (inner_in G ps) ov')))
-        ∙ ap₂ (λ (l m : List ℕ). replay_edges k G H rows l P.edges m (reached (n + 1) es (vs ++ new_nodes P row))) place-eq fields-eq
-        ∙ ap (λ (l : List ℕ). replay_edges k G H rows place P.edges (part_numbers (n + 1) ps) (reached (n + 1) es (vs ++ l))) new-eq
+        ∙ ap₂ (λ (l m : List ℕ). replay_edges k G H rows l P.edges m (reached (n + 1) es (vs ++ new_nodes P row))) place_eq fields_eq
+        ∙ ap (λ (l : List ℕ). replay_edges k G H rows place P.edges (part_numbers (n + 1) ps) (reached (n + 1) es (vs ++ l))) new_eq
         ∙ under place P.edges (n + 1) ps es (vs ++ images place (internals P)) rest fuel fs next.after oe ov'
         ∙ same_state (omega arith) refl (append_assoc vs (images place (internals P)) (inner_in G ps))
 
@@ -123,10 +123,10 @@ module _ (G : Grammar) (H : Graph) (rows : List (List ℕ)) where
     abbrev below : List ℕ → State
     below fs = replay_edges k G H rows place rs fs (replay_at k G H rows e.label L (reached n es vs))
 
-    with-edge : (f : ℕ) → length rs + 1 + 10 * size_in ps ≤ k → FitsEdge G H e.label L f → FitsParts G H place ps rs → drop n rows ≡ part_rows n ps ++ rest
+    with_edge_lem : (f : ℕ) → length rs + 1 + 10 * size_in ps ≤ k → FitsEdge G H e.label L f → FitsParts G H place ps rs → drop n rows ≡ part_rows n ps ++ rest
         → Once (es ++ (f ∷ edges_in ps)) → Once (vs ++ inner_in G ps)
         → by_kind (kind_of G e.label) (check (edge_test H e.label L es f) (used f)) (check (part_test n f) (below (part_numbers n ps))) ≡ reached (n + size_in ps) (es ++ (f ∷ edges_in ps)) (vs ++ inner_in G ps)
-    with-edge f h w fs q oe ov =
+    with_edge_lem f h w fs q oe ov =
         let oe' = once_assoc es (f ∷ []) (edges_in ps) oe in
         let ok : EdgeFits H e.label L es f =
         record { known = w.known; label = w.label; attachment = w.attachment; new = once_fresh es (f ∷ []) (once_left (es ++ f ∷ []) (edges_in ps) oe') } in
@@ -135,11 +135,11 @@ module _ (G : Grammar) (H : Graph) (rows : List (List ℕ)) where
         ∙ under place rs n ps (es ++ f ∷ []) vs rest h fs q oe' ov
         ∙ same_state refl (append_assoc es (f ∷ []) (edges_in ps)) refl
 
-    with-tree : CompleteAt k → (t : Tree) → length rs + 1 + 10 * (size t + size_in ps) ≤ k → Fits G H e.label L t → FitsParts G H place ps rs
+    with_tree_lem : CompleteAt k → (t : Tree) → length rs + 1 + 10 * (size t + size_in ps) ≤ k → Fits G H e.label L t → FitsParts G H place ps rs
         → drop n rows ≡ (tree_rows n t ++ part_rows (n + size t) ps) ++ rest → Once (es ++ (edges_of t ++ edges_in ps)) → Once (vs ++ (inner_of G t ++ inner_in G ps))
         → by_kind (kind_of G e.label) (check (edge_test H e.label L es n) (replay_edges k G H rows place rs (part_numbers (n + size t) ps) (reached n (es ++ n ∷ []) vs))) (check (part_test n n) (below (part_numbers (n + size t) ps)))
         ≡ reached (n + (size t + size_in ps)) (es ++ (edges_of t ++ edges_in ps)) (vs ++ (inner_of G t ++ inner_in G ps))
-    with-tree sub t h w fs q oe ov =
+    with_tree_lem sub t h w fs q oe ov =
         let oe' = once_assoc es (edges_of t) (edges_in ps) oe in
         let ov' = once_assoc vs (inner_of G t) (inner_in G ps) ov in
         let q' : drop n rows ≡ tree_rows n t ++ (part_rows (n + size t) ps ++ rest) = q ∙ append_assoc (tree_rows n t) (part_rows (n + size t) ps) rest in
@@ -155,14 +155,14 @@ module _ (G : Grammar) (H : Graph) (rows : List (List ℕ)) where
 
   step_edges : (k : ℕ) → CompleteAt k → CompleteUnder k → CompleteUnder (suc k)
   unfolding replay_edges size part_numbers tree_rows edges_of inner_of
-  step_edges k sub under place [] n end es vs rest h f q oe ov = same_state (omega arith) (sym (append_nil es)) (sym (append_nil vs))
+  step_edges k sub under place [] n end es vs rest h f q oe ov = same_state (omega arith) (sym (append-nil es)) (sym (append-nil vs))
   step_edges k sub under place (e ∷ rs) n end es vs rest h f q oe ov = absurd f
   step_edges k sub under place [] n (edge g ps) es vs rest h f q oe ov = absurd f
   step_edges k sub under place (e ∷ rs) n (edge g ps) es vs rest h f q oe ov =
-      with-edge place e rs n ps es vs rest k under g (omega arith) f.0 f.1 q oe ov
+      with_edge_lem place e rs n ps es vs rest k under g (omega arith) f.0 f.1 q oe ov
   step_edges k sub under place [] n (tree t ps) es vs rest h f q oe ov = absurd f
   step_edges k sub under place (e ∷ rs) n (tree t ps) es vs rest h f q oe ov =
-      with-tree place e rs n ps es vs rest k under sub t (omega arith) f.0 f.1 q oe ov
+      with_tree_lem place e rs n ps es vs rest k under sub t (omega arith) f.0 f.1 q oe ov
 
   complete : GrammarOk G → (k : ℕ) → CompleteAt k × CompleteUnder k
   complete g zero = (λ s L n t es vs rest h f q oe ov. absurd (omega (arith, size_positive t)), λ place rs n ps es vs rest h f q oe ov. absurd (omega arith))
@@ -180,7 +180,7 @@ module _ (G : Grammar) (H : Graph) (g : GrammarOk G) (t : Tree) (w : Generates G
   reaches : replayed G H rows ≡ reached (0 + size t) (edges_of t) (H.externals ++ inner_of G t)
   unfolding replayed rows_of
   reaches =
-      (complete G H rows g (calls rows)).0 G.start H.externals 0 t [] H.externals [] (omega (arith, length_rows 0 t)) w.fits (sym (append_nil (tree_rows 0 t)))
+      (complete G H rows g (calls rows)).0 G.start H.externals 0 t [] H.externals [] (omega (arith, length_rows 0 t)) w.fits (sym (append-nil (tree_rows 0 t)))
       w.apart.edges (λ v. omega (arith, occurs_append v H.externals (inner_of G t), w.apart.nodes v))
 
   all_used : T (whole H rows (reached (0 + size t) (edges_of t) (H.externals ++ inner_of G t)))

@@ -1,7 +1,7 @@
 -- Rows that replay are the rows of a tree that generates the graph.
 use mathlib.Core.Path.{◌≡◌, refl, sym, ap, ap₂, subst, ◌∙◌}
 use mathlib.Core.Bool.{true, ◌&&◌}
-use mathlib.Core.List.{List, [], ◌∷◌, ◌++◌, append_assoc, append_nil}
+use mathlib.Core.List.{List, [], ◌∷◌, ◌++◌, append_assoc, append-nil}
 use Prim.Native.Nat.{ℕ, zero, suc, ◌+◌, ◌<◌}
 use native.Mathlib.Omega.{arith}
 use native.Mathlib.Numerals.{add-one}
@@ -33,8 +33,8 @@ module _ (G : Grammar) (H : Graph) (rows : List (List ℕ)) where
     pub edges : es' ≡ es ++ edges_of found
     pub nodes : vs' ≡ vs ++ inner_of G found
     pub listed : drop n rows ≡ tree_rows n found ++ drop n' rows
-    pub edges-once : Once es → Once es'
-    pub nodes-once : Once vs → Once vs'
+    pub edges_once : Once es → Once es'
+    pub nodes_once : Once vs → Once vs'
 
   -- From row n on stand the rows of parts for the edges rs, and the fields are their numbers.
   pub record Under (place : List ℕ) (rs : List Edge) (fs : List ℕ) (n : ℕ) (es vs : List ℕ) (n' : ℕ) (es' vs' : List ℕ) : Type 0 where
@@ -45,8 +45,8 @@ module _ (G : Grammar) (H : Graph) (rows : List (List ℕ)) where
     pub edges : es' ≡ es ++ edges_in found
     pub nodes : vs' ≡ vs ++ inner_in G found
     pub listed : drop n rows ≡ part_rows n found ++ drop n' rows
-    pub edges-once : Once es → Once es'
-    pub nodes-once : Once vs → Once vs'
+    pub edges_once : Once es → Once es'
+    pub nodes_once : Once vs → Once vs'
 
   abbrev SoundAt : ℕ → Type 0
   SoundAt k =
@@ -87,8 +87,8 @@ module _ (G : Grammar) (H : Graph) (rows : List (List ℕ)) where
           edges = q.edges;
           nodes = q.nodes ∙ append_assoc vs (images place (internals P)) (inner_in G q.found);
           listed = drop-cons rows n [] known ∙ ap₂ ◌∷◌ (e ∙ fields) (ap (λ k. drop k rows) (sym (add-one n)) ∙ q.listed);
-          edges-once = q.edges-once;
-          nodes-once = λ o. q.nodes-once (fresh_once vs (new_nodes P row) ok.new o);
+          edges_once = q.edges_once;
+          nodes_once = λ o. q.nodes_once (fresh_once vs (new_nodes P row) ok.new o);
         }
       where
         r : ℕ
@@ -132,21 +132,21 @@ module _ (G : Grammar) (H : Graph) (rows : List (List ℕ)) where
           fits = tt;
           fields = refl;
           next = omega arith;
-          edges = sym ee ∙ sym (append_nil es);
-          nodes = sym ev ∙ sym (append_nil vs);
+          edges = sym ee ∙ sym (append-nil es);
+          nodes = sym ev ∙ sym (append-nil vs);
           listed = ap (λ (k : ℕ). drop k rows) en;
-          edges-once = λ o. subst Once ee o;
-          nodes-once = λ o. subst Once ev o;
+          edges_once = λ o. subst Once ee o;
+          nodes_once = λ o. subst Once ev o;
         }
 
     module _ (e : Edge) (rs : List Edge) (f : ℕ) (fs : List ℕ) (n : ℕ) (es vs : List ℕ) (n' : ℕ) (es' vs' : List ℕ) where
       abbrev L : List ℕ
       L = images place e.attachment
 
-      with-edge : kind_of G e.label ≡ terminal → EdgeFits H e.label L es f → Under place rs fs n (es ++ f ∷ []) vs n' es' vs'
+      with_edge_lem : kind_of G e.label ≡ terminal → EdgeFits H e.label L es f → Under place rs fs n (es ++ f ∷ []) vs n' es' vs'
           → Under place (e ∷ rs) (f ∷ fs) n es vs n' es' vs'
       unfolding size part_numbers tree_rows edges_of inner_of
-      with-edge k ok q =
+      with_edge_lem k ok q =
           record {
             found = edge f q.found;
             fits = (record { kind = k; known = ok.known; label = ok.label; attachment = ok.attachment }, q.fits);
@@ -155,14 +155,14 @@ module _ (G : Grammar) (H : Graph) (rows : List (List ℕ)) where
             edges = q.edges ∙ append_assoc es (f ∷ []) (edges_in q.found);
             nodes = q.nodes;
             listed = q.listed;
-            edges-once = λ o. q.edges-once (fresh_once es (f ∷ []) ok.new o);
-            nodes-once = q.nodes-once;
+            edges_once = λ o. q.edges_once (fresh_once es (f ∷ []) ok.new o);
+            nodes_once = q.nodes_once;
           }
 
-      with-tree : (n₁ : ℕ) (es₁ vs₁ : List ℕ) → f ≡ n → At e.label L n es vs n₁ es₁ vs₁ → Under place rs fs n₁ es₁ vs₁ n' es' vs'
+      with_tree_lem : (n₁ : ℕ) (es₁ vs₁ : List ℕ) → f ≡ n → At e.label L n es vs n₁ es₁ vs₁ → Under place rs fs n₁ es₁ vs₁ n' es' vs'
           → Under place (e ∷ rs) (f ∷ fs) n es vs n' es' vs'
       unfolding size part_numbers tree_rows edges_of inner_of
-      with-tree n₁ es₁ vs₁ x p q =
+      with_tree_lem n₁ es₁ vs₁ x p q =
           let ef : fs ≡ part_numbers (n + size p.found) q.found = q.fields ∙ ap (λ (k : ℕ). part_numbers k q.found) p.next in
           record {
             found = tree p.found q.found;
@@ -173,17 +173,17 @@ module _ (G : Grammar) (H : Graph) (rows : List (List ℕ)) where
             nodes = q.nodes ∙ ap (λ (l : List ℕ). l ++ inner_in G q.found) p.nodes ∙ append_assoc vs (inner_of G p.found) (inner_in G q.found);
             listed = p.listed ∙ ap (λ (l : List (List ℕ)). tree_rows n p.found ++ l) (q.listed ∙ ap (λ (k : ℕ). part_rows k q.found ++ drop n' rows) p.next)
                 ∙ sym (append_assoc (tree_rows n p.found) (part_rows (n + size p.found) q.found) (drop n' rows));
-            edges-once = λ o. q.edges-once (p.edges-once o);
-            nodes-once = λ o. q.nodes-once (p.nodes-once o);
+            edges_once = λ o. q.edges_once (p.edges_once o);
+            nodes_once = λ o. q.nodes_once (p.nodes_once o);
           }
 
       module _ (k : ℕ) (sub : SoundAt k) (under : SoundUnder k) where
         -- what was replayed for the edge did not fail
-        after-tree : (st : State) → replay_at k G H rows e.label L (reached n es vs) ≡ st → f ≡ n → replay_edges k G H rows place rs fs st ≡ reached n' es' vs'
+        after_tree : (st : State) → replay_at k G H rows e.label L (reached n es vs) ≡ st → f ≡ n → replay_edges k G H rows place rs fs st ≡ reached n' es' vs'
             → Under place (e ∷ rs) (f ∷ fs) n es vs n' es' vs'
-        after-tree failed h x q = absurd (never (sym (stays_failed k place rs fs) ∙ q))
-        after-tree (reached n₁ es₁ vs₁) h x q =
-            with-tree n₁ es₁ vs₁ x (sub e.label L n es vs n₁ es₁ vs₁ h) (under place rs fs n₁ es₁ vs₁ n' es' vs' q)
+        after_tree failed h x q = absurd (never (sym (stays_failed k place rs fs) ∙ q))
+        after_tree (reached n₁ es₁ vs₁) h x q =
+            with_tree_lem n₁ es₁ vs₁ x (sub e.label L n es vs n₁ es₁ vs₁ h) (under place rs fs n₁ es₁ vs₁ n' es' vs' q)
 
         abbrev used : State
         used = replay_edges k G H rows place rs fs (reached n (es ++ f ∷ []) vs)
@@ -196,10 +196,10 @@ module _ (G : Grammar) (H : Graph) (rows : List (List ℕ)) where
             → Under place (e ∷ rs) (f ∷ fs) n es vs n' es' vs'
         by_kind_is terminal h q =
             let p = passed (edge_test H e.label L es f) used n' es' vs' q in
-            with-edge h ((decides_edge H e.label L es f).sound p.test) (under place rs fs n (es ++ f ∷ []) vs n' es' vs' p.state)
+            with_edge_lem h ((decides_edge H e.label L es f).sound p.test) (under place rs fs n (es ++ f ∷ []) vs n' es' vs' p.state)
         by_kind_is nonterminal h q =
             let p = passed (part_test n f) below n' es' vs' q in
-            after-tree (replay_at k G H rows e.label L (reached n es vs)) refl (eqb→eq f n p.test) p.state
+            after_tree (replay_at k G H rows e.label L (reached n es vs)) refl (eqb→eq f n p.test) p.state
 
   step_edges : (k : ℕ) → SoundAt k → SoundUnder k → SoundUnder (suc k)
   unfolding replay_edges
@@ -232,12 +232,12 @@ module _ (G : Grammar) (H : Graph) (rows : List (List ℕ)) where
       let inner : (v : ℕ) → occurs v vs ≡ occurs v H.externals + occurs v (inner_of G a.found) =
       λ v. ap (occurs v) a.nodes ∙ occurs_append v H.externals (inner_of G a.found) in (
         a.found,
-        a.listed ∙ ap (λ (k : ℕ). tree_rows 0 a.found ++ drop k rows) t.all_rows ∙ ap (λ (l : List (List ℕ)). tree_rows 0 a.found ++ l) (drop-length rows) ∙ append_nil (tree_rows 0 a.found),
+        a.listed ∙ ap (λ (k : ℕ). tree_rows 0 a.found ++ drop k rows) t.all_rows ∙ ap (λ (l : List (List ℕ)). tree_rows 0 a.found ++ l) (drop-length rows) ∙ append-nil (tree_rows 0 a.found),
         record {
           fits = a.fits;
           apart = record {
-            edges = λ e. omega (arith, ap (occurs e) a.edges, a.edges-once (λ v. omega arith) e);
-            nodes = λ v. omega (arith, inner v, a.nodes-once h.side.externals.once v);
+            edges = λ e. omega (arith, ap (occurs e) a.edges, a.edges_once (λ v. omega arith) e);
+            nodes = λ v. omega (arith, inner v, a.nodes_once h.side.externals.once v);
           };
           edges = λ e l. omega (arith, ap (occurs e) a.edges, t.all_edges e l);
           nodes = λ v l. omega (arith, inner v, t.all_nodes v l);

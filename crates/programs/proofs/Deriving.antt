@@ -26,14 +26,14 @@ use Rattle.charting.specs.declared.Outcome.{Outcome}
 use Rattle.charting.specs.declared.Outcome.TheVariants.{Unfit as Unfit-chart, TooSmall as TooSmall-chart, Unfinished as Unfinished-chart, Done}
 use Rattle.charting.proofs.Answers.{answer_done}
 use Rattle.charting.proofs.Calls.{fit_grammar, fit_graph, fit_most, after_start, start_is, start_eight, run_is, run_chart_is}
-use Rattle.charting.proofs.Demand.{start_fit, runs-known, runs-chart, runs_right, start_right}
+use Rattle.charting.proofs.Demand.{start_fit, runs_known, runs_chart_lem, runs_right, start_right}
 use Rattle.derivation.specs.Derivations.{derivation_text, replay_text}
 use Rattle.writing.specs.Writing.{Wrote, goal_in, write_goal, write_of, refused as refused-writing}
 use Rattle.writing.specs.Demand.{ClosureSize, FewestTree, WritesTree}
 use Rattle.writing.specs.declared.Answer.TheVariants.{Underivable, NoRoom, Written}
 use Rattle.writing.proofs.Writings.{write_by_is}
 use Rattle.writing.proofs.Derivations.{written_passes}
-use Rattle.writing.proofs.OwnCharts.{Writes, no-tree, a_tree, goal_writes}
+use Rattle.writing.proofs.OwnCharts.{Writes, no_tree, a_tree, goal_writes}
 use Rattle.programs.specs.Programs.{Derived, refused, derived, items, chart_words, output_bytes, when_written, write_chart, when_ran, derive_tables}
 use Rattle.programs.specs.Facts.{Deriving, derives, small, underivable, long}
 
@@ -53,11 +53,11 @@ module _ (g h w : List ℕ) (e : fit g h w ≡ true) (k : ℕ) where
 
   known : fit_chart g h v ≡ true
   unfolding runs_of
-  known = runs-known g h w e (k ∷ [])
+  known = runs_known g h w e (k ∷ [])
 
   is : c ≡ runs_chart (grammar_of g) (graph_of g h) (capacity w) (k ∷ []) (start_chart (grammar_of g) (capacity w))
   unfolding runs_of
-  is = runs-chart g h w e (k ∷ [])
+  is = runs_chart_lem g h w e (k ∷ [])
 
   look_same : (j : ℕ) → j < length c.records → record_at v j ≡ record_in c.records j
   unfolding chart_of
@@ -80,17 +80,17 @@ module _ (g h w : List ℕ) (e : fit g h w ≡ true) (k : ℕ) where
     abbrev out : List ℕ
     out = replicate output_bytes 0
 
-    by-writing : (x : Wrote) → write_of g h v out ≡ x → write_chart g h v steps ≡ when_written x.answer x.out steps
+    by_writing : (x : Wrote) → write_of g h v out ≡ x → write_chart g h v steps ≡ when_written x.answer x.out steps
     unfolding write_chart
-    by-writing x q = ap (λ (y : Wrote). when_written y.answer y.out steps) q
+    by_writing x q = ap (λ (y : Wrote). when_written y.answer y.out steps) q
 
     means : (d : Derived) → write_chart g h v steps ≡ d → Deriving g h d → Deriving g h (write_chart g h v steps)
     means d q x = subst (Deriving g h) (sym q) x
 
-    writes-tree : Writes G H (fit_grammar g h w e) (fit_graph g h w e) (capacity w) (fit_most g h w e) (k ∷ []) c is done.0 done.1 (λ j. record_at v j) look_same (goal_in G H c.records)
+    writes_tree : Writes G H (fit_grammar g h w e) (fit_graph g h w e) (capacity w) (fit_most g h w e) (k ∷ []) c is done.0 done.1 (λ j. record_at v j) look_same (goal_in G H c.records)
         → Deriving g h (write_chart g h v steps)
-    writes-tree (no-tree none f) = means (refused 11) (by-writing (refused-writing Underivable out) (searches out ∙ ap (write_goal G H (λ j. record_at v j) out) f)) (underivable none)
-    writes-tree (a_tree t few wr l ch) = go (dec_le (length (derivation_text t)) (length out))
+    writes_tree (no_tree none f) = means (refused 11) (by_writing (refused-writing Underivable out) (searches out ∙ ap (write_goal G H (λ j. record_at v j) out) f)) (underivable none)
+    writes_tree (a_tree t few wr l ch) = go (dec_le (length (derivation_text t)) (length out))
       where
         go : Dec (length (derivation_text t) ≤ length out) → Deriving g h (write_chart g h v steps)
         go (yes l) =
@@ -102,13 +102,13 @@ module _ (g h w : List ℕ) (e : fit g h w ≡ true) (k : ℕ) where
             ap (replay_text G H) (sym text) ∙ written_passes g h v out (length (derivation_text t)) (ap (λ (y : Wrote). y.answer) wrote)
             in
             means (derived (derivation_text t) steps)
-            (by-writing x wrote ∙ ap (λ (y : List ℕ). derived y steps) front)
+            (by_writing x wrote ∙ ap (λ (y : List ℕ). derived y steps) front)
             (derives t steps few passes (omega (arith, length-replicate {A = ℕ} output_bytes 0)) sized most)
         go (no n) =
-            means (refused 12) (by-writing (refused-writing NoRoom out) (searches out ∙ (wr out).short (omega arith))) (long t few (omega (arith, length-replicate {A = ℕ} output_bytes 0)))
+            means (refused 12) (by_writing (refused-writing NoRoom out) (searches out ∙ (wr out).short (omega arith))) (long t few (omega (arith, length-replicate {A = ℕ} output_bytes 0)))
 
-    pub chart-deriving : Deriving g h (write_chart g h v steps)
-    chart-deriving = writes-tree (goal_writes G H (fit_grammar g h w e) (fit_graph g h w e) (capacity w) (fit_most g h w e) (k ∷ []) c is done.0 done.1 (λ j. record_at v j) look_same)
+    pub chart_deriving : Deriving g h (write_chart g h v steps)
+    chart_deriving = writes_tree (goal_writes G H (fit_grammar g h w e) (fit_graph g h w e) (capacity w) (fit_most g h w e) (k ∷ []) c is done.0 done.1 (λ j. record_at v j) look_same)
 
 -- ---- the start and the run
 start_done_or_nine : (c : Chart) → number_of (start_answer c) ≡ 10 → ⊥
@@ -147,7 +147,7 @@ module _ (g h : List ℕ) (e : fit g h (replicate chart_words 0) ≡ true) where
   ran (Done k) q =
       let all : k ≡ length finite.0 = sym (ap steps_of q) ∙ run_right.done (ap number_of q) finite.0 finite.1 in
       let fits : number_of (run_of g h (start_of g h w).words items).answer ≡ 9 → ⊥ = λ z. let y : ◌≡◌ {A = ℕ} 0 9 = sym (ap number_of q) ∙ z in omega (arith, y) in
-      chart-deriving g h w e items k q (subst (ClosureSize (grammar_of g) (graph_of g h)) (sym all) sized) (omega (arith, run_right.most, run_right.steps fits, ap steps_of q))
+      chart_deriving g h w e items k q (subst (ClosureSize (grammar_of g) (graph_of g h)) (sym all) sized) (omega (arith, run_right.most, run_right.steps fits, ap steps_of q))
 
   abbrev next : Derived
   next = when_ran (run_of g h (start_of g h w).words items).answer (λ steps. write_chart g h (run_of g h (start_of g h w).words items).words steps)

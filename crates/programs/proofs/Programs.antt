@@ -62,39 +62,39 @@ module _ (grammar graph : List ℕ) where
     unfolding fit
     fits = and_both (holds (replicate chart_words 0)) _ chart_held (and_both (check_grammar t.grammar) _ checked.0 checked.1)
 
-    derive-tables : derive_files grammar graph ≡ derive_tables t.grammar t.graph
+    derive_tables_lem : derive_files grammar graph ≡ derive_tables t.grammar t.graph
     unfolding derive_files
-    derive-tables = rw (eq-eqb t.refusal 0 z)
+    derive_tables_lem = rw (eq-eqb t.refusal 0 z)
 
     -- files without a refusal: every answer of `derive` means what 01 says, and it is never 8 or 10
-    pub derive-right : Deriving t.grammar t.graph (derive_files grammar graph)
-    derive-right = subst (Deriving t.grammar t.graph) (sym derive-tables) (tables_deriving t.grammar t.graph fits)
+    pub derive_right : Deriving t.grammar t.graph (derive_files grammar graph)
+    derive_right = subst (Deriving t.grammar t.graph) (sym derive_tables_lem) (tables_deriving t.grammar t.graph fits)
 
-    replay-tables : (text : List ℕ) → replay_files grammar graph text ≡ replay_tables t.grammar t.graph text
+    replay_tables_lem : (text : List ℕ) → replay_files grammar graph text ≡ replay_tables t.grammar t.graph text
     unfolding replay_files
-    replay-tables text = rw (eq-eqb t.refusal 0 z)
+    replay_tables_lem text = rw (eq-eqb t.refusal 0 z)
 
-    replay-passes : (text : List ℕ) → length text ≤ file_bytes → replay_text (grammar_of t.grammar) (graph_of t.grammar t.graph) text ≡ true → replay_files grammar graph text ≡ 0
+    replay_passes : (text : List ℕ) → length text ≤ file_bytes → replay_text (grammar_of t.grammar) (graph_of t.grammar t.graph) text ≡ true → replay_files grammar graph text ≡ 0
     unfolding replay_tables replay_of fit_tables
-    replay-passes text l p = replay-tables text ∙ rw (le-leb (length text) file_bytes l, checked.0, checked.1, p)
+    replay_passes text l p = replay_tables_lem text ∙ rw (le-leb (length text) file_bytes l, checked.0, checked.1, p)
 
     -- a missing derivation file is none
-    pub missing-derivation : replay_files grammar graph [] ≡ 13
+    pub missing_derivation : replay_files grammar graph [] ≡ 13
     unfolding replay_tables replay_of fit_tables replay_text rows_in script_of lines_of
-    missing-derivation = replay-tables [] ∙ rw (checked.0, checked.1)
+    missing_derivation = replay_tables_lem [] ∙ rw (checked.0, checked.1)
 
     -- a text that is derived is not above the programs' limit, and replays
-    derived-passes : (d : Derived) → Deriving t.grammar t.graph d → (text : List ℕ) (steps : ℕ) → d ≡ derived text steps → replay_files grammar graph text ≡ 0
-    derived-passes _ (derives tree k few passes l sized most) text steps q =
-        subst (λ (x : List ℕ). replay_files grammar graph x ≡ 0) (ap text_in q) (replay-passes _ l passes)
-    derived-passes _ (small size sized l) text steps q = absurd (not_derived 9 text steps q)
-    derived-passes _ (underivable none) text steps q = absurd (not_derived 11 text steps q)
-    derived-passes _ (long tree few l) text steps q = absurd (not_derived 12 text steps q)
+    derived_passes : (d : Derived) → Deriving t.grammar t.graph d → (text : List ℕ) (steps : ℕ) → d ≡ derived text steps → replay_files grammar graph text ≡ 0
+    derived_passes _ (derives tree k few passes l sized most) text steps q =
+        subst (λ (x : List ℕ). replay_files grammar graph x ≡ 0) (ap text_in q) (replay_passes _ l passes)
+    derived_passes _ (small size sized l) text steps q = absurd (not_derived 9 text steps q)
+    derived_passes _ (underivable none) text steps q = absurd (not_derived 11 text steps q)
+    derived_passes _ (long tree few l) text steps q = absurd (not_derived 12 text steps q)
 
   -- What `derive` prints before its `C` line passes `replay` with the same grammar and graph.
   pub derive_replays : (text : List ℕ) (steps : ℕ) → derive_files grammar graph ≡ derived text steps → replay_files grammar graph text ≡ 0
   derive_replays text steps q = go (eqb t.refusal 0) refl
     where
       go : (b : Bool) → eqb t.refusal 0 ≡ b → replay_files grammar graph text ≡ 0
-      go true e = let z = eqb-true t.refusal 0 e in derived-passes z (derive_files grammar graph) (derive-right z) text steps q
+      go true e = let z = eqb-true t.refusal 0 e in derived_passes z (derive_files grammar graph) (derive_right z) text steps q
       go false e = absurd (not_derived t.refusal text steps (sym (derive_refused (eqb-false t.refusal 0 e)) ∙ q))

@@ -78,11 +78,11 @@ module _ (g t : List ℕ) where
   -- a plan line's first and second, by its kind
   by_kind_is : (r q kind first second : ℕ) → q < 16 → kind ≤ 2 → SoFar t r q kind first second → (first < 128) × (second < 128)
   unfolding children_of introduced_by occurs
-  by_kind_is r q zero first second l m s = leaf-of s.leaf
+  by_kind_is r q zero first second l m s = leaf_of s.leaf
     where
-      leaf-of : (◌≡◌ {A = ℕ} 0 0 → ⊥) ⊎ ((first ≡ 0) × (second ≡ 0)) → (first < 128) × (second < 128)
-      leaf-of (inl n) = absurd (n refl)
-      leaf-of (inr e) = (omega (arith, e.0), omega (arith, e.1))
+      leaf_of : (◌≡◌ {A = ℕ} 0 0 → ⊥) ⊎ ((first ≡ 0) × (second ≡ 0)) → (first < 128) × (second < 128)
+      leaf_of (inl n) = absurd (n refl)
+      leaf_of (inr e) = (omega (arith, e.0), omega (arith, e.1))
   by_kind_is r q (suc zero) first second l m s = (
     omega (arith, s.lower first (omega (arith, hit_self first))),
     omega (arith, (s.known second (omega (arith, hit_self second))).0, field_small t (rule_place r) 3),

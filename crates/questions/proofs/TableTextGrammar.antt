@@ -25,12 +25,12 @@ use Rattle.questions.specs.declared.Due.{Due}
 use Rattle.questions.specs.declared.Due.TheVariants.{Grammar, Symbol, Rule, RuleEdge, PlanLine, Graph, GraphEdge, Nothing}
 use Rattle.questions.proofs.WellFormedWalk.{IsLine, reach, room_place, Before, cond_by}
 use Rattle.questions.proofs.WellFormedLists.{build_list, tabulate_list}
-use Rattle.questions.proofs.WellFormedPlans.{NodeOk, ok-node}
-use Rattle.questions.proofs.WellFormedTables.{number_le, HasLine, GrammarIn, symbol_count_is, rule_count_is, start_symbol_is, kind-field, rank-at, rule-symbol, rule-nodes, rule-edges, rule_plan_lem, rule-external, edge_label_is, edge_nodes_lem, plan-field}
+use Rattle.questions.proofs.WellFormedPlans.{NodeOk, ok_node}
+use Rattle.questions.proofs.WellFormedTables.{number_le, HasLine, GrammarIn, symbol_count_is, rule_count_is, start_symbol_is, kind_field_lem, rank_at_lem, rule_symbol_lem, rule_nodes_lem, rule_edges_lem, rule_plan_lem, rule_external_lem, edge_label_is, edge_nodes_lem, plan_field}
 use Rattle.questions.proofs.WellFormedGrammar.{ok_passes}
 use Rattle.questions.proofs.WellFormedAccepted.{accepted_grammar}
 use Rattle.questions.proofs.StoredLaws.{field_front}
-use Rattle.questions.proofs.TableTextLines.{delivered_long, letter_at, letter_capital, small_field, small_more, small_two, small_three, small_listed, Chain, end, link, filled, In, here, there, in_left, in_right, in_series, series_chain, chain_onward, chain_holds, chain-read}
+use Rattle.questions.proofs.TableTextLines.{delivered_long, letter_at, letter_capital, small_field, small_more, small_two, small_three, small_listed, Chain, end, link, filled, In, here, there, in_left, in_right, in_series, series_chain, chain_onward, chain_holds, chain_read}
 use Rattle.questions.proofs.SmallFields.{Small}
 
 -- ---- the order of a grammar's lines
@@ -158,7 +158,7 @@ module _ (G : Grammars.Grammar) (ok : GrammarOk G) where
   plan_small r q h l = go (plan_node (plan_of G r) q) (λ c. n.lower c) (λ i o. (n.known i o).0)
     where
       n : NodeOk (length (right_of G r).edges) (plan_of G r) q
-      n = ok-node (length (right_of G r).edges) (plan_of G r) (ok.rule r h).plan q l
+      n = ok_node (length (right_of G r).edges) (plan_of G r) (ok.rule r h).plan q l
 
       size : length (plan_of G r) ≤ 16
       size = (ok.rule r h).plan.size.upper
@@ -234,41 +234,41 @@ module _ (G : Grammars.Grammar) (ok : GrammarOk G) where
 
   -- ---- in the table that holds the lines
   module _ (t : List ℕ) (held : GrammarIn G t) where
-    symbols-few : symbol_count t ≤ 64
-    symbols-few = omega (arith, symbol_count_is G t held, ok.symbol_count_is.upper)
+    symbols_few : symbol_count t ≤ 64
+    symbols_few = omega (arith, symbol_count_is G t held, ok.symbol_count_is.upper)
 
     line_before : (d : Due) → HasLine G d → Before t d
     line_before Grammar h = tt
-    line_before (Symbol s) h = symbols-few
-    line_before (Rule r) h = symbols-few
+    line_before (Symbol s) h = symbols_few
+    line_before (Rule r) h = symbols_few
     line_before (RuleEdge r i) h = (
-      symbols-few,
+      symbols_few,
       λ k l.
           let b : k < length (right_of G r).edges = omega arith in
           omega (arith, edge_label_is G t held r h.0 k b, ((ok.rule r h.0).right.edge k b).known, ok.symbol_count_is.upper),
     )
-    line_before (PlanLine r q) h = symbols-few
+    line_before (PlanLine r q) h = symbols_few
     line_before Graph h = tt
     line_before (GraphEdge e) h = tt
     line_before Nothing h = tt
 
-    line-order : (d : Due) → HasLine G d → next t d ≡ after_grammar G d
+    line_order : (d : Due) → HasLine G d → next t d ≡ after_grammar G d
     unfolding next after_grammar
-    line-order Grammar h = refl
-    line-order (Symbol s) h =
+    line_order Grammar h = refl
+    line_order (Symbol s) h =
         let count : min 64 (symbol_count t) ≡ length G.symbols = omega (arith, symbol_count_is G t held, ok.symbol_count_is.upper) in
         rw count
-    line-order (Rule r) h = refl
-    line-order (RuleEdge r i) h =
-        let count : min 8 (rule_edges t r) ≡ length (right_of G r).edges = omega (arith, rule-edges G t held r h.0, (ok.rule r h.0).right.edge_count.upper) in
+    line_order (Rule r) h = refl
+    line_order (RuleEdge r i) h =
+        let count : min 8 (rule_edges t r) ≡ length (right_of G r).edges = omega (arith, rule_edges_lem G t held r h.0, (ok.rule r h.0).right.edge_count.upper) in
         rw count
-    line-order (PlanLine r q) h =
+    line_order (PlanLine r q) h =
         let count : min 16 (rule_plan t r) ≡ length (plan_of G r) = omega (arith, rule_plan_lem G t held r h.0, (ok.rule r h.0).plan.size.upper) in
         let rules : min 64 (rule_count t) ≡ length G.rules = omega (arith, rule_count_is G t held, ok.rule_count_is.upper) in
         rw (count, rules)
-    line-order Graph h = absurd h
-    line-order (GraphEdge e) h = absurd h
-    line-order Nothing h = absurd h
+    line_order Graph h = absurd h
+    line_order (GraphEdge e) h = absurd h
+    line_order Nothing h = absurd h
 
     -- ---- the table's grammar is the grammar
     kind_back : (k : Kind) → kind_from (kind_number k) ≡ k
@@ -280,27 +280,27 @@ module _ (G : Grammars.Grammar) (ok : GrammarOk G) where
     plan_back (introduce c i) = refl
     plan_back (join a b) = refl
 
-    symbols-back : build (symbol_count t) (λ s. record { kind = kind_from (kind_field t s); rank = rank_at t s }) ≡ G.symbols
-    symbols-back =
+    symbols_back : build (symbol_count t) (λ s. record { kind = kind_from (kind_field t s); rank = rank_at t s }) ≡ G.symbols
+    symbols_back =
         build_list no_symbol G.symbols (symbol_count t) _ (symbol_count_is G t held) (λ s l. go s (omega (arith, symbol_count_is G t held)))
       where
         go : (s : ℕ) → s < length G.symbols → record { kind = kind_from (kind_field t s); rank = rank_at t s } ≡ get_or G.symbols s no_symbol
         go s h =
-            let kind : kind_from (kind_field t s) ≡ kind_of G s = ap kind_from (kind-field G t held s h) ∙ kind_back (kind_of G s) in
-            let rank = rank-at G t held s h in
+            let kind : kind_from (kind_field t s) ≡ kind_of G s = ap kind_from (kind_field_lem G t held s h) ∙ kind_back (kind_of G s) in
+            let rank = rank_at_lem G t held s h in
             λ i. record { kind = kind i; rank = rank i }
 
     module _ (r : ℕ) (h : r < length G.rules) where
-      externals-back : tabulate (rank_at t (rule_symbol t r)) (λ k. rule_external t r k) ≡ (right_of G r).externals
-      externals-back =
+      externals_back : tabulate (rank_at t (rule_symbol t r)) (λ k. rule_external t r k) ≡ (right_of G r).externals
+      externals_back =
           let R = ok.rule r h in
-          let rank : rank_at t (rule_symbol t r) ≡ rank_of G (lhs_of G r) = ap (rank_at t) (rule-symbol G t held r h) ∙ rank-at G t held (lhs_of G r) R.lhs_known in
+          let rank : rank_at t (rule_symbol t r) ≡ rank_of G (lhs_of G r) = ap (rank_at t) (rule_symbol_lem G t held r h) ∙ rank_at_lem G t held (lhs_of G r) R.lhs_known in
           tabulate_list (right_of G r).externals (rank_at t (rule_symbol t r)) (λ k. rule_external t r k) (rank ∙ sym R.right.externals.ranked)
-          (λ k l. rule-external G t held r h k (omega (arith, (ok.symbol (lhs_of G r) R.lhs_known).upper)))
+          (λ k l. rule_external_lem G t held r h k (omega (arith, (ok.symbol (lhs_of G r) R.lhs_known).upper)))
 
-      edges-back : build (rule_edges t r) (λ i. record { label = edge_label t r i; attachment = tabulate (rank_at t (edge_label t r i)) (λ k. edge_node t r i k) }) ≡ (right_of G r).edges
-      edges-back =
-          build_list no_edge (right_of G r).edges (rule_edges t r) _ (rule-edges G t held r h) (λ i l. go i (omega (arith, rule-edges G t held r h)))
+      edges_back : build (rule_edges t r) (λ i. record { label = edge_label t r i; attachment = tabulate (rank_at t (edge_label t r i)) (λ k. edge_node t r i k) }) ≡ (right_of G r).edges
+      edges_back =
+          build_list no_edge (right_of G r).edges (rule_edges t r) _ (rule_edges_lem G t held r h) (λ i l. go i (omega (arith, rule_edges_lem G t held r h)))
         where
           go : (i : ℕ) → i < length (right_of G r).edges
               → record { label = edge_label t r i; attachment = tabulate (rank_at t (edge_label t r i)) (λ k. edge_node t r i k) } ≡ edge_at (right_of G r).edges i
@@ -310,34 +310,34 @@ module _ (G : Grammars.Grammar) (ok : GrammarOk G) where
               let nodes = edge_nodes_lem G t held r h i l (E.known, E.listed.ranked) in
               λ x. record { label = label x; attachment = nodes x }
 
-      plan-all-back : build (rule_plan t r) (λ q. plan_from (plan_kind t r q) (plan_first t r q) (plan_second t r q)) ≡ plan_of G r
-      plan-all-back =
+      plan_all_back : build (rule_plan t r) (λ q. plan_from (plan_kind t r q) (plan_first t r q) (plan_second t r q)) ≡ plan_of G r
+      plan_all_back =
           build_list leaf (plan_of G r) (rule_plan t r) _ (rule_plan_lem G t held r h) (λ q l. go q (omega (arith, rule_plan_lem G t held r h)))
         where
           go : (q : ℕ) → q < length (plan_of G r) → plan_from (plan_kind t r q) (plan_first t r q) (plan_second t r q) ≡ plan_node (plan_of G r) q
           go q l =
-              rw (plan-field G t held r h q l 0 (omega arith), plan-field G t held r h q l 1 (omega arith), plan-field G t held r h q l 2 (omega arith))
+              rw (plan_field G t held r h q l 0 (omega arith), plan_field G t held r h q l 1 (omega arith), plan_field G t held r h q l 2 (omega arith))
               (plan_back (plan_node (plan_of G r) q))
 
-      rule-back : rule_from t r ≡ rule_of G r
+      rule_back : rule_from t r ≡ rule_of G r
       unfolding rule_from
-      rule-back =
-          let symbol = rule-symbol G t held r h in
-          let nodes = rule-nodes G t held r h in
-          let externals = externals-back in
-          let edges = edges-back in
-          let plan = plan-all-back in
+      rule_back =
+          let symbol = rule_symbol_lem G t held r h in
+          let nodes = rule_nodes_lem G t held r h in
+          let externals = externals_back in
+          let edges = edges_back in
+          let plan = plan_all_back in
           λ x. record {
             production = record { lhs = symbol x; right = record { nodes = nodes x; externals = externals x; edges = edges x } };
             plan = plan x;
           }
 
-    grammar-back : grammar_of t ≡ G
+    grammar_back : grammar_of t ≡ G
     unfolding grammar_of
-    grammar-back =
-        let symbols = symbols-back in
+    grammar_back =
+        let symbols = symbols_back in
         let start = start_symbol_is G t held in
-        let rules = build_list no_rule G.rules (rule_count t) (λ r. rule_from t r) (rule_count_is G t held) (λ r l. rule-back r (omega (arith, rule_count_is G t held))) in
+        let rules = build_list no_rule G.rules (rule_count t) (λ r. rule_from t r) (rule_count_is G t held) (λ r l. rule_back r (omega (arith, rule_count_is G t held))) in
         λ x. record { symbols = symbols x; start = start x; rules = rules x }
 
 -- ---- the table that the text is read into
@@ -376,19 +376,19 @@ module _ (G : Grammars.Grammar) (ok : GrammarOk G) where
   text_accepted : grammar_verdict (grammar_text G) ≡ accepted table
   unfolding grammar_verdict grammar_text table cleared
   text_accepted =
-      chain-read (grammar_fields G) (HasLine G) (after_grammar G) grammar_words (line_is G) (line_room G ok) (line_forward G ok)
-      [] table (ok_passes G table held ok) (line_before G ok table held) (line-order G ok table held) (line_writes G ok) (grammar_chain G ok) cleared cleared_size refl
+      chain_read (grammar_fields G) (HasLine G) (after_grammar G) grammar_words (line_is G) (line_room G ok) (line_forward G ok)
+      [] table (ok_passes G table held ok) (line_before G ok table held) (line_order G ok table held) (line_writes G ok) (grammar_chain G ok) cleared cleared_size refl
 
   -- Every well-formed grammar is the reading of its text.
   pub grammar_text_read : (t : List ℕ) × (grammar_verdict (grammar_text G) ≡ accepted t) × (grammar_of t ≡ G)
-  grammar_text_read = (table, text_accepted, grammar-back G ok table held)
+  grammar_text_read = (table, text_accepted, grammar_back G ok table held)
 
   -- The reader leaves it in every lent table that is long enough.
   pub grammar_text_lent : (former : List ℕ) → grammar_words ≤ length former → (t : List ℕ) × (read_grammar (grammar_text G) former ≡ record { answer = Done; table = t }) × (grammar_of t ≡ G)
   unfolding read_grammar
   grammar_text_lent former h =
       let rest = drop grammar_words former in
-      (table ++ rest, delivered_long grammar_words (grammar_verdict (grammar_text G)) table former text_accepted h, grammar-back G ok (table ++ rest) (held_longer rest))
+      (table ++ rest, delivered_long grammar_words (grammar_verdict (grammar_text G)) table former text_accepted h, grammar_back G ok (table ++ rest) (held_longer rest))
 
 -- A grammar is well-formed exactly where it is the reading of an accepted text.
 pub record ReadGrammar (G : Grammars.Grammar) : Type 0 where

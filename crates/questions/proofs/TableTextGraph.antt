@@ -1,7 +1,7 @@
 -- Every graph that is well-formed with an accepted grammar is the reading of its text.
 use mathlib.Core.Path.{◌≡◌, refl, sym, ◌∙◌, subst}
 use mathlib.Core.Bool.{true, cond}
-use mathlib.Core.List.{List, [], ◌++◌, append_nil}
+use mathlib.Core.List.{List, [], ◌++◌, append-nil}
 use Prim.Native.Nat.{ℕ, ◌+◌, ◌≤◌, ◌<◌, min}
 use native.Mathlib.Omega.{arith}
 use lib.ListN.{length, drop, replicate, length-replicate}
@@ -24,10 +24,10 @@ use Rattle.questions.proofs.WellFormedWalk.{IsLine, reach, room_place, Before, c
 use Rattle.questions.proofs.WellFormedLists.{build_list, tabulate_list}
 use Rattle.questions.proofs.WellFormedAccepted.{accepted_grammar}
 use Rattle.questions.proofs.StoredLaws.{field_front}
-use Rattle.questions.proofs.WellFormedGraph.{HasGraphLine, GraphIn, start_rank, graph_nodes_lem, graph_edges_is, graph_external_is, graph-label, graph-edge-nodes, graph-ok-passes, read_graph_ok}
+use Rattle.questions.proofs.WellFormedGraph.{HasGraphLine, GraphIn, start_rank, graph_nodes_lem, graph_edges_is, graph_external_is, graph_label_lem, graph_edge_nodes, graph_ok_passes, read_graph_ok}
 use Rattle.questions.proofs.Refusals.{grammar_passed_first}
 use Rattle.questions.proofs.SmallFields.{Small}
-use Rattle.questions.proofs.TableTextLines.{delivered_long, letter_at, letter_capital, small_field, small_more, small_two, small_listed, Chain, end, link, filled, In, here, there, in_series, series_chain, chain_onward, chain_holds, chain-read}
+use Rattle.questions.proofs.TableTextLines.{delivered_long, letter_at, letter_capital, small_field, small_more, small_two, small_listed, Chain, end, link, filled, In, here, there, in_series, series_chain, chain_onward, chain_holds, chain_read}
 
 -- ---- the order of a graph's lines
 after_graph : Grammars.Graph → Due → Due
@@ -44,7 +44,7 @@ graph_chain : (H : Grammars.Graph) → 1 ≤ length H.edges → Chain (HasGraphL
 unfolding graph_lines after_graph
 graph_chain H h =
     link tt
-    (subst (Chain (HasGraphLine H) (after_graph H) (GraphEdge 0)) (append_nil (series GraphEdge 0 (length H.edges)))
+    (subst (Chain (HasGraphLine H) (after_graph H) (GraphEdge 0)) (append-nil (series GraphEdge 0 (length H.edges)))
     (series_chain (HasGraphLine H) (after_graph H) GraphEdge Nothing (length H.edges) (λ e l. l) (λ e. refl) [] end (length H.edges) 0 h (omega arith)))
 
 in_graph_lem : (H : Grammars.Graph) (d : Due) → HasGraphLine H d → In d (graph_lines H)
@@ -145,44 +145,44 @@ module _ (g : List ℕ) (ok : GrammarOk (grammar_of g)) (H : Grammars.Graph) (go
   line_writes Nothing h = absurd h
 
   module _ (t : List ℕ) (held : GraphIn H t) where
-    line-order : (d : Due) → HasGraphLine H d → next t d ≡ after_graph H d
+    line_order : (d : Due) → HasGraphLine H d → next t d ≡ after_graph H d
     unfolding next after_graph
-    line-order Grammar h = absurd h
-    line-order (Symbol s) h = absurd h
-    line-order (Rule r) h = absurd h
-    line-order (RuleEdge r i) h = absurd h
-    line-order (PlanLine r q) h = absurd h
-    line-order Graph h = refl
-    line-order (GraphEdge e) h =
+    line_order Grammar h = absurd h
+    line_order (Symbol s) h = absurd h
+    line_order (Rule r) h = absurd h
+    line_order (RuleEdge r i) h = absurd h
+    line_order (PlanLine r q) h = absurd h
+    line_order Graph h = refl
+    line_order (GraphEdge e) h =
         let count : min 64 (graph_edges t) ≡ length H.edges = omega (arith, graph_edges_is g ok H t held, good.side.edge_count.upper) in
         rw count
-    line-order Nothing h = absurd h
+    line_order Nothing h = absurd h
 
-    externals-back : tabulate (rank_at g (start_symbol g)) (λ k. graph_external t k) ≡ H.externals
-    externals-back =
+    externals_back : tabulate (rank_at g (start_symbol g)) (λ k. graph_external t k) ≡ H.externals
+    externals_back =
         let rank = start_rank g ok H t held in
         let small = (ok.symbol (grammar_of g).start ok.start_known).upper in
         tabulate_list H.externals (rank_at g (start_symbol g)) (λ k. graph_external t k) (rank ∙ sym good.side.externals.ranked)
         (λ k l. graph_external_is g ok H t held k (omega arith))
 
-    edges-back : build (graph_edges t) (λ e. record { label = graph_label t e; attachment = tabulate (rank_at g (graph_label t e)) (λ k. graph_node t e k) }) ≡ H.edges
-    edges-back =
+    edges_back : build (graph_edges t) (λ e. record { label = graph_label t e; attachment = tabulate (rank_at g (graph_label t e)) (λ k. graph_node t e k) }) ≡ H.edges
+    edges_back =
         build_list no_edge H.edges (graph_edges t) _ (graph_edges_is g ok H t held) (λ e l. go e (omega (arith, graph_edges_is g ok H t held)))
       where
         go : (e : ℕ) → e < length H.edges
             → record { label = graph_label t e; attachment = tabulate (rank_at g (graph_label t e)) (λ k. graph_node t e k) } ≡ edge_at H.edges e
         go e l =
             let E = good.side.edge e l in
-            let label = graph-label g ok H t held e l in
-            let nodes = graph-edge-nodes g ok H t held e l (E.known, E.listed.ranked) in
+            let label = graph_label_lem g ok H t held e l in
+            let nodes = graph_edge_nodes g ok H t held e l (E.known, E.listed.ranked) in
             λ x. record { label = label x; attachment = nodes x }
 
-    graph-back : graph_of g t ≡ H
+    graph_back : graph_of g t ≡ H
     unfolding graph_of
-    graph-back =
+    graph_back =
         let nodes = graph_nodes_lem g ok H t held in
-        let externals = externals-back in
-        let edges = edges-back in
+        let externals = externals_back in
+        let edges = edges_back in
         λ x. record { nodes = nodes x; externals = externals x; edges = edges x }
 
 -- ---- the table that the text is read into
@@ -221,12 +221,12 @@ module _ (g : List ℕ) (ok : GrammarOk (grammar_of g)) (H : Grammars.Graph) (go
   text_accepted : graph_verdict g (graph_text H) ≡ accepted table
   unfolding graph_verdict graph_text table cleared
   text_accepted =
-      chain-read (graph_fields H) (HasGraphLine H) (after_graph H) graph_words (line_is H) (line_room H few) (line_forward H few)
-      g table (graph-ok-passes g ok H table held good) (line_before H table) (line-order g ok H good table held) (line_writes g ok H good) chain cleared cleared_size refl
+      chain_read (graph_fields H) (HasGraphLine H) (after_graph H) graph_words (line_is H) (line_room H few) (line_forward H few)
+      g table (graph_ok_passes g ok H table held good) (line_before H table) (line_order g ok H good table held) (line_writes g ok H good) chain cleared cleared_size refl
 
   -- Every graph that is well-formed with the grammar of g is the reading of its text with g.
   pub graph_text_read : (t : List ℕ) × (graph_verdict g (graph_text H) ≡ accepted t) × (graph_of g t ≡ H)
-  graph_text_read = (table, text_accepted, graph-back g ok H good table held)
+  graph_text_read = (table, text_accepted, graph_back g ok H good table held)
 
   -- The reader leaves it in every lent table that is long enough, where the grammar table passes question 8.
   pub graph_text_lent : check_grammar g ≡ true → (former : List ℕ) → graph_words ≤ length former → (t : List ℕ) × (read_graph g (graph_text H) former ≡ record { answer = Done; table = t }) × (graph_of g t ≡ H)
@@ -235,7 +235,7 @@ module _ (g : List ℕ) (ok : GrammarOk (grammar_of g)) (H : Grammars.Graph) (go
         table ++ rest,
         grammar_passed_first g (graph_text H) former c
             ∙ delivered_long graph_words (graph_verdict g (graph_text H)) table former text_accepted h,
-        graph-back g ok H good (table ++ rest) (held_longer rest),
+        graph_back g ok H good (table ++ rest) (held_longer rest),
       )
 
 -- A graph is well-formed with the grammar of an accepted table exactly where it is the reading of an accepted text.

@@ -140,12 +140,12 @@ pub series_chain : (has : Due → Type 0) (after : Due → Due) (kind : ℕ → 
 unfolding series
 series_chain has after kind last m known order rest tail zero k h e = absurd (omega arith)
 series_chain has after kind last m known order rest tail (suc zero) k h e =
-    let next-is : after (kind k) ≡ last = order k ∙ rw (le-ltb (k + 1) m (omega arith)) in
-    link (known k (omega arith)) (subst (λ (x : Due). Chain has after x rest) (sym next-is) tail)
+    let next_is : after (kind k) ≡ last = order k ∙ rw (le-ltb (k + 1) m (omega arith)) in
+    link (known k (omega arith)) (subst (λ (x : Due). Chain has after x rest) (sym next_is) tail)
 series_chain has after kind last m known order rest tail (suc (suc n)) k h e =
-    let next-is : after (kind k) ≡ kind (k + 1) = order k ∙ rw (lt-ltb (k + 1) m (omega arith)) in
+    let next_is : after (kind k) ≡ kind (k + 1) = order k ∙ rw (lt-ltb (k + 1) m (omega arith)) in
     link (known k (omega arith))
-    (subst (λ (x : Due). Chain has after x (series kind (k + 1) (suc n) ++ rest)) (sym next-is)
+    (subst (λ (x : Due). Chain has after x (series kind (k + 1) (suc n) ++ rest)) (sym next_is)
     (series_chain has after kind last m known order rest tail (suc n) (k + 1) (omega arith) (omega arith)))
 
 module _ (fields : Due → List ℕ) (has : Due → Type 0) (after : Due → Due) (size : ℕ)
@@ -181,11 +181,11 @@ module _ (fields : Due → List ℕ) (has : Due → Type 0) (after : Due → Due
   -- and the text of the lines is read so
   module _ (g t : List ℕ) (pass : (d : Due) → has d → judge g t d (fields d) ≡ 0) (before : (d : Due) → has d → Before t d)
       (order : (d : Due) → has d → next t d ≡ after d) (writes : (d : Due) → has d → Writable (letter_at d) (fields d)) where
-    pub chain-read : {d : Due} {ds : List Due} → Chain has after d ds → (c : List ℕ) → length c ≡ size → filled fields c ds ≡ t
+    pub chain_read : {d : Due} {ds : List Due} → Chain has after d ds → (c : List ℕ) → length c ≡ size → filled fields c ds ≡ t
         → read_lines g c d (lines_of (lines_text fields ds)) ≡ accepted t
     unfolding filled lines_text read_lines lines_of
-    chain-read end c e f = ap accepted f
-    chain-read (link {d} {ds} h rest) c e f =
+    chain_read end c e f = ap accepted f
+    chain_read (link {d} {ds} h rest) c e f =
         let p = place_of d in
         let fs = fields d in
         let c' = stored c p fs in
@@ -196,7 +196,7 @@ module _ (fields : Due → List ℕ) (has : Due → Type 0) (after : Due → Due
         λ q j l b. sym (onward_agree later q j (omega arith) b) ∙ field_stored_other c p fs q j (λ z. omega arith)
         in
         let judged : judge g c d fs ≡ 0 = sym (judge_agree g t c d fs (before d h) earlier) ∙ pass d h in
-        let next-is : next c' d ≡ after d = next_agree c' t d (λ q j l b. onward_agree later q j (omega arith) b) ∙ order d h in
+        let next_is : next c' d ≡ after d = next_agree c' t d (λ q j l b. onward_agree later q j (omega arith) b) ∙ order d h in
         written_read g c d fs (lines_text fields ds) judged (writes d h)
-        ∙ ap (λ (x : Due). read_lines g c' x (lines_of (lines_text fields ds))) next-is
-        ∙ chain-read rest c' e' f
+        ∙ ap (λ (x : Due). read_lines g c' x (lines_of (lines_text fields ds))) next_is
+        ∙ chain_read rest c' e' f

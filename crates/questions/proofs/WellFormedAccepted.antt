@@ -84,9 +84,9 @@ module _ (t : List ℕ) where
   start_is = refl
 
   module _ (s : ℕ) (h : s < symbol_count t) where
-    pub kind-is : kind_of (grammar_of t) s ≡ kind_from (kind_field t s)
+    pub kind_is : kind_of (grammar_of t) s ≡ kind_from (kind_field t s)
     unfolding grammar_of
-    kind-is = ap (λ (x : Grammars.Symbol). x.kind) (get_d_build (symbol_count t) (λ s. record { kind = kind_from (kind_field t s); rank = rank_at t s }) s no_symbol h)
+    kind_is = ap (λ (x : Grammars.Symbol). x.kind) (get_d_build (symbol_count t) (λ s. record { kind = kind_from (kind_field t s); rank = rank_at t s }) s no_symbol h)
 
     pub rank_is : rank_of (grammar_of t) s ≡ rank_at t s
     unfolding grammar_of
@@ -128,7 +128,7 @@ module _ (t : List ℕ) where
       let p = (passes_symbol t s fs).sound st.passed in
       three_of fs _ _ _ p.count
       (sym p.number)
-      (ap kind_number (kind-is t s h) ∙ kind_from_lem (kind_field t s) (omega (arith, st.there 1 (omega arith), p.kind)) ∙ st.there 1 (omega arith))
+      (ap kind_number (kind_is t s h) ∙ kind_from_lem (kind_field t s) (omega (arith, st.there 1 (omega arith), p.kind)) ∙ st.there 1 (omega arith))
       (omega (arith, rank_is t s h, st.there 2 (omega arith), p.upper))
 
   rule_fields : (r : ℕ) (fs : List ℕ) → r < rule_count t → Stands [] t (Rule r) fs → grammar_fields (grammar_of t) (Rule r) ≡ fs

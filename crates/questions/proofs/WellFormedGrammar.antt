@@ -15,8 +15,8 @@ use Rattle.questions.specs.TableText.{kind_number, plan_fields, grammar_fields}
 use Rattle.questions.specs.declared.Due.{Due}
 use Rattle.questions.specs.declared.Due.TheVariants.{Grammar, Symbol, Rule, RuleEdge, PlanLine, Graph, GraphEdge, Nothing}
 use Rattle.questions.proofs.WellFormedQuestions.{InOrder, Covers, PassedGrammar, passes_grammar, PassedSymbol, passes_symbol, PassedRule, passes_rule, PassedEdge, passes_edge, Whole, PassedPlan, passes_plan}
-use Rattle.questions.proofs.WellFormedPlans.{Complete, NodeOk, plan_ok, ok-node}
-use Rattle.questions.proofs.WellFormedTables.{in_order_listed, listed_in_order, Covering, covering_side, side_covering, number_nonterminal, nonterminal_number, number_le, children_of_lem, introduced_by_lem, plan_kind_lem, plan_three, plan_leaf, HasLine, GrammarIn, Ranked, symbol_count_is, rule_count_is, start_symbol_is, kind-field, rank-at, rule-nodes, rule-edges, rule_plan_lem, nodes-on-edges, introduced-before, children-so-far, introduced-so-far}
+use Rattle.questions.proofs.WellFormedPlans.{Complete, NodeOk, plan_ok, ok_node}
+use Rattle.questions.proofs.WellFormedTables.{in_order_listed, listed_in_order, Covering, covering_side, side_covering, number_nonterminal, nonterminal_number, number_le, children_of_lem, introduced_by_lem, plan_kind_lem, plan_three, plan_leaf, HasLine, GrammarIn, Ranked, symbol_count_is, rule_count_is, start_symbol_is, kind_field_lem, rank_at_lem, rule_nodes_lem, rule_edges_lem, rule_plan_lem, nodes_on_edges_lem, introduced_before_lem, children_so_far, introduced_so_far}
 
 -- every line passes
 abbrev pub AllPass : Grammars.Grammar → List ℕ → Type 0
@@ -53,94 +53,94 @@ module _ (G : Grammars.Grammar) (t : List ℕ) (held : GrammarIn G t) (pass : Al
       go (inr n) = absurd (n (sym (start_symbol_is G t held)))
 
   module _ (r : ℕ) (h : r < length G.rules) where
-    rule-passed : PassedRule t r (grammar_fields G (Rule r))
+    rule_passed : PassedRule t r (grammar_fields G (Rule r))
     unfolding judge
-    rule-passed = (passes_rule t r (grammar_fields G (Rule r))).sound (pass (Rule r) h)
+    rule_passed = (passes_rule t r (grammar_fields G (Rule r))).sound (pass (Rule r) h)
 
     lhs_known : lhs_of G r < length G.symbols
     unfolding grammar_fields
-    lhs_known = omega (arith, rule-passed.symbol, symbol_count_is G t held)
+    lhs_known = omega (arith, rule_passed.symbol, symbol_count_is G t held)
 
     lhs_kind : kind_of G (lhs_of G r) ≡ nonterminal
     unfolding grammar_fields
-    lhs_kind = number_nonterminal (kind_of G (lhs_of G r)) (sym (kind-field G t held (lhs_of G r) lhs_known) ∙ rule-passed.kind)
+    lhs_kind = number_nonterminal (kind_of G (lhs_of G r)) (sym (kind_field_lem G t held (lhs_of G r) lhs_known) ∙ rule_passed.kind)
 
     node_count : Between 1 (right_of G r).nodes 8
     unfolding grammar_fields
-    node_count = rule-passed.nodes
+    node_count = rule_passed.nodes
 
     edge_count : Between 1 (length (right_of G r).edges) 8
     unfolding grammar_fields
-    edge_count = rule-passed.edges
+    edge_count = rule_passed.edges
 
     plan_count : Between 2 (length (plan_of G r)) 16
     unfolding grammar_fields
-    plan_count = rule-passed.plan
+    plan_count = rule_passed.plan
 
-    externals-ok : Listed (right_of G r).nodes (rank_of G (lhs_of G r)) (right_of G r).externals
+    externals_ok : Listed (right_of G r).nodes (rank_of G (lhs_of G r)) (right_of G r).externals
     unfolding grammar_fields
-    externals-ok =
+    externals_ok =
         in_order_listed (right_of G r).nodes (rank_of G (lhs_of G r)) (right_of G r).externals
-        (omega (arith, rule-passed.count, rank-at G t held (lhs_of G r) lhs_known))
-        rule-passed.externals
+        (omega (arith, rule_passed.count, rank_at_lem G t held (lhs_of G r) lhs_known))
+        rule_passed.externals
 
     module _ (i : ℕ) (l : i < length (right_of G r).edges) where
-      edge-passed : PassedEdge t r i (grammar_fields G (RuleEdge r i))
+      edge_passed : PassedEdge t r i (grammar_fields G (RuleEdge r i))
       unfolding judge
-      edge-passed = (passes_edge t r i (grammar_fields G (RuleEdge r i))).sound (pass (RuleEdge r i) (h, l))
+      edge_passed = (passes_edge t r i (grammar_fields G (RuleEdge r i))).sound (pass (RuleEdge r i) (h, l))
 
       edge_ok : EdgeOk G (right_of G r).nodes (edge_at (right_of G r).edges i)
       unfolding grammar_fields
       edge_ok =
           let e = edge_at (right_of G r).edges i in
-          let known : e.label < length G.symbols = omega (arith, edge-passed.symbol, symbol_count_is G t held) in
-          let rank = rank-at G t held e.label known in
+          let known : e.label < length G.symbols = omega (arith, edge_passed.symbol, symbol_count_is G t held) in
+          let rank = rank_at_lem G t held e.label known in
           record {
             known = known;
-            positive = omega (arith, edge-passed.rank);
+            positive = omega (arith, edge_passed.rank);
             listed = in_order_listed (right_of G r).nodes (rank_of G e.label) e.attachment
-                (omega (arith, edge-passed.count))
-                (subst (λ (n : ℕ). InOrder n e.attachment) (rule-nodes G t held r h) edge-passed.attached);
+                (omega (arith, edge_passed.count))
+                (subst (λ (n : ℕ). InOrder n e.attachment) (rule_nodes_lem G t held r h) edge_passed.attached);
           }
 
     edge_ranked : (i : ℕ) → i < length (right_of G r).edges → Ranked G (right_of G r).edges i
     edge_ranked i l = ((edge_ok i l).known, (edge_ok i l).listed.ranked)
 
-    edge-covering : (i : ℕ) → i < length (right_of G r).edges → Covering (right_of G r).edges (right_of G r).nodes i
+    edge_covering : (i : ℕ) → i < length (right_of G r).edges → Covering (right_of G r).edges (right_of G r).nodes i
     unfolding grammar_fields
-    edge-covering i l = go (edge-passed i l).covers
+    edge_covering i l = go (edge_passed i l).covers
       where
         go : (i + 1 < rule_edges t r) ⊎ Covers (rule_nodes t r) (nodes_on_edges t r i ++ (edge_at (right_of G r).edges i).attachment) → Covering (right_of G r).edges (right_of G r).nodes i
-        go (inl k) = inl (omega (arith, rule-edges G t held r h))
+        go (inl k) = inl (omega (arith, rule_edges_lem G t held r h))
         go (inr c) =
-            let nodes = nodes-on-edges G t held r h i (omega arith) (λ k b. edge_ranked k (omega arith)) in
-            inr (λ x b. rw (← nodes) (c.all x (omega (arith, rule-nodes G t held r h, node_count.upper))))
+            let nodes = nodes_on_edges_lem G t held r h i (omega arith) (λ k b. edge_ranked k (omega arith)) in
+            inr (λ x b. rw (← nodes) (c.all x (omega (arith, rule_nodes_lem G t held r h, node_count.upper))))
 
-    side-ok : SideOk G (right_of G r) (rank_of G (lhs_of G r)) 8 8
-    side-ok = record {
+    side_ok : SideOk G (right_of G r) (rank_of G (lhs_of G r)) 8 8
+    side_ok = record {
       node_count = node_count;
       edge_count = edge_count;
-      externals = externals-ok;
+      externals = externals_ok;
       edge = edge_ok;
-      covered = covering_side (right_of G r).edges (right_of G r).nodes edge_count.lower edge-covering;
+      covered = covering_side (right_of G r).edges (right_of G r).nodes edge_count.lower edge_covering;
     }
 
     module _ (q : ℕ) (l : q < length (plan_of G r)) where
-      plan-passed : PassedPlan t r q (plan_fields (plan_node (plan_of G r) q))
+      plan_passed : PassedPlan t r q (plan_fields (plan_node (plan_of G r) q))
       unfolding judge grammar_fields
-      plan-passed = (passes_plan t r q (plan_fields (plan_node (plan_of G r) q))).sound (pass (PlanLine r q) (h, l))
+      plan_passed = (passes_plan t r q (plan_fields (plan_node (plan_of G r) q))).sound (pass (PlanLine r q) (h, l))
 
       node_ok : NodeOk (length (right_of G r).edges) (plan_of G r) q
       node_ok =
           let x = plan_node (plan_of G r) q in
-          let s = plan-passed.so_far in
+          let s = plan_passed.so_far in
           record {
             lower = λ c o. s.lower c (omega (arith, ap (occurs c) (children_of_lem x)));
-            once = λ c o. omega (arith, s.once c (omega (arith, ap (occurs c) (children_of_lem x))), children-so-far G t held r h q l c);
+            once = λ c o. omega (arith, s.once c (omega (arith, ap (occurs c) (children_of_lem x))), children_so_far G t held r h q l c);
             known = λ i o.
                 let k = s.known i (omega (arith, ap (occurs i) (introduced_by_lem x))) in
-                (omega (arith, k.0, rule-edges G t held r h), omega (arith, k.1, ap (occurs i) (introduced-before G t held r h q (omega arith))));
-            whole = go plan-passed.whole;
+                (omega (arith, k.0, rule_edges_lem G t held r h), omega (arith, k.1, ap (occurs i) (introduced_before_lem G t held r h q (omega arith))));
+            whole = go plan_passed.whole;
           }
         where
           go : (q + 1 < rule_plan t r) ⊎ Whole t r q (field (plan_fields (plan_node (plan_of G r) q)) 0) (field (plan_fields (plan_node (plan_of G r) q)) 1) (field (plan_fields (plan_node (plan_of G r) q)) 2)
@@ -148,15 +148,15 @@ module _ (G : Grammars.Grammar) (t : List ℕ) (held : GrammarIn G t) (pass : Al
           go (inl b) = inl (omega (arith, rule_plan_lem G t held r h))
           go (inr w) =
               inr (record {
-                children_all = λ c b. omega (arith, w.children c b, children-so-far G t held r h q l c);
-                edges_all = λ i b. omega (arith, w.edges i (omega (arith, rule-edges G t held r h, edge_count.upper)), introduced-so-far G t held r h q l i);
+                children_all = λ c b. omega (arith, w.children c b, children_so_far G t held r h q l c);
+                edges_all = λ i b. omega (arith, w.edges i (omega (arith, rule_edges_lem G t held r h, edge_count.upper)), introduced_so_far G t held r h q l i);
               })
 
     rule_ok : RuleOk G (rule_of G r)
     rule_ok = record {
       lhs_known = lhs_known;
       lhs_kind = lhs_kind;
-      right = side-ok;
+      right = side_ok;
       plan = plan_ok (length (right_of G r).edges) (plan_of G r) node_ok plan_count;
     }
 
@@ -198,63 +198,63 @@ module _ (G : Grammars.Grammar) (t : List ℕ) (held : GrammarIn G t) (ok : Gram
           omega arith)
 
   module _ (r : ℕ) (h : r < length G.rules) where
-    rule-pass : PassedRule t r (grammar_fields G (Rule r))
+    rule_pass : PassedRule t r (grammar_fields G (Rule r))
     unfolding grammar_fields
-    rule-pass =
+    rule_pass =
         let R = ok.rule r h in
         record {
           number = refl;
           symbol = omega (arith, R.lhs_known, symbol_count_is G t held);
-          kind = kind-field G t held (lhs_of G r) R.lhs_known ∙ nonterminal_number (kind_of G (lhs_of G r)) R.lhs_kind;
+          kind = kind_field_lem G t held (lhs_of G r) R.lhs_known ∙ nonterminal_number (kind_of G (lhs_of G r)) R.lhs_kind;
           nodes = R.right.node_count;
           edges = R.right.edge_count;
           plan = R.plan.size;
-          count = omega (arith, R.right.externals.ranked, rank-at G t held (lhs_of G r) R.lhs_known);
+          count = omega (arith, R.right.externals.ranked, rank_at_lem G t held (lhs_of G r) R.lhs_known);
           externals = listed_in_order (right_of G r).nodes (rank_of G (lhs_of G r)) (right_of G r).externals (omega (arith, R.right.node_count.upper)) R.right.externals;
         }
 
     ranked : (i : ℕ) → i < length (right_of G r).edges → Ranked G (right_of G r).edges i
     ranked i l = (((ok.rule r h).right.edge i l).known, ((ok.rule r h).right.edge i l).listed.ranked)
 
-    edge-pass : (i : ℕ) → i < length (right_of G r).edges → PassedEdge t r i (grammar_fields G (RuleEdge r i))
+    edge_pass : (i : ℕ) → i < length (right_of G r).edges → PassedEdge t r i (grammar_fields G (RuleEdge r i))
     unfolding grammar_fields
-    edge-pass i l =
+    edge_pass i l =
         let S = (ok.rule r h).right in
         let E = S.edge i l in
         let e = edge_at (right_of G r).edges i in
-        let rank = rank-at G t held e.label E.known in
+        let rank = rank_at_lem G t held e.label E.known in
         record {
           symbol = omega (arith, E.known, symbol_count_is G t held);
           rank = omega (arith, E.positive);
           count = omega (arith, E.listed.ranked);
-          attached = subst (λ (n : ℕ). InOrder n e.attachment) (sym (rule-nodes G t held r h))
+          attached = subst (λ (n : ℕ). InOrder n e.attachment) (sym (rule_nodes_lem G t held r h))
               (listed_in_order (right_of G r).nodes (rank_of G e.label) e.attachment (omega (arith, S.node_count.upper)) E.listed);
           covers = go (side_covering (right_of G r).edges (right_of G r).nodes S.covered i l);
         }
       where
         go : Covering (right_of G r).edges (right_of G r).nodes i → (i + 1 < rule_edges t r) ⊎ Covers (rule_nodes t r) (nodes_on_edges t r i ++ (edge_at (right_of G r).edges i).attachment)
-        go (inl k) = inl (omega (arith, rule-edges G t held r h))
+        go (inl k) = inl (omega (arith, rule_edges_lem G t held r h))
         go (inr k) =
-            let nodes = nodes-on-edges G t held r h i (omega arith) (λ j b. ranked j (omega arith)) in
+            let nodes = nodes_on_edges_lem G t held r h i (omega arith) (λ j b. ranked j (omega arith)) in
             inr (record {
-              few = omega (arith, rule-nodes G t held r h, (ok.rule r h).right.node_count.upper);
-              all = λ x b. rw nodes (k x (omega (arith, rule-nodes G t held r h)));
+              few = omega (arith, rule_nodes_lem G t held r h, (ok.rule r h).right.node_count.upper);
+              all = λ x b. rw nodes (k x (omega (arith, rule_nodes_lem G t held r h)));
             })
 
-    plan-pass : (q : ℕ) → q < length (plan_of G r) → PassedPlan t r q (plan_fields (plan_node (plan_of G r) q))
-    plan-pass q l =
+    plan_pass : (q : ℕ) → q < length (plan_of G r) → PassedPlan t r q (plan_fields (plan_node (plan_of G r) q))
+    plan_pass q l =
         let x = plan_node (plan_of G r) q in
-        let n = ok-node (length (right_of G r).edges) (plan_of G r) (ok.rule r h).plan q l in
+        let n = ok_node (length (right_of G r).edges) (plan_of G r) (ok.rule r h).plan q l in
         record {
           kind = plan_kind_lem x;
           count = plan_three x;
           so_far = record {
             leaf = plan_leaf x;
             lower = λ c o. n.lower c (omega (arith, ap (occurs c) (children_of_lem x)));
-            once = λ c o. omega (arith, n.once c (omega (arith, ap (occurs c) (children_of_lem x))), children-so-far G t held r h q l c);
+            once = λ c o. omega (arith, n.once c (omega (arith, ap (occurs c) (children_of_lem x))), children_so_far G t held r h q l c);
             known = λ i o.
                 let k = n.known i (omega (arith, ap (occurs i) (introduced_by_lem x))) in
-                (omega (arith, k.0, rule-edges G t held r h), omega (arith, k.1, ap (occurs i) (introduced-before G t held r h q (omega arith))));
+                (omega (arith, k.0, rule_edges_lem G t held r h), omega (arith, k.1, ap (occurs i) (introduced_before_lem G t held r h q (omega arith))));
           };
           whole = go n.whole;
         }
@@ -264,8 +264,8 @@ module _ (G : Grammars.Grammar) (t : List ℕ) (held : GrammarIn G t) (ok : Gram
         go (inl b) = inl (omega (arith, rule_plan_lem G t held r h))
         go (inr w) =
             inr (record {
-              children = λ c b. omega (arith, w.children_all c b, children-so-far G t held r h q l c);
-              edges = λ i b. omega (arith, w.edges_all i (omega (arith, rule-edges G t held r h)), introduced-so-far G t held r h q l i);
+              children = λ c b. omega (arith, w.children_all c b, children_so_far G t held r h q l c);
+              edges = λ i b. omega (arith, w.edges_all i (omega (arith, rule_edges_lem G t held r h)), introduced_so_far G t held r h q l i);
             })
 
   pub ok_passes : AllPass G t
@@ -274,9 +274,9 @@ module _ (G : Grammars.Grammar) (t : List ℕ) (held : GrammarIn G t) (ok : Gram
       (passes_grammar (grammar_fields G Grammar)).complete
       (record { symbols = ok.symbol_count_is; rules = ok.rule_count_is; start = ok.start_known; count = refl })
   ok_passes (Symbol s) h = (passes_symbol t s (grammar_fields G (Symbol s))).complete (symbol_pass s h)
-  ok_passes (Rule r) h = (passes_rule t r (grammar_fields G (Rule r))).complete (rule-pass r h)
-  ok_passes (RuleEdge r i) h = (passes_edge t r i (grammar_fields G (RuleEdge r i))).complete (edge-pass r h.0 i h.1)
-  ok_passes (PlanLine r q) h = (passes_plan t r q (plan_fields (plan_node (plan_of G r) q))).complete (plan-pass r h.0 q h.1)
+  ok_passes (Rule r) h = (passes_rule t r (grammar_fields G (Rule r))).complete (rule_pass r h)
+  ok_passes (RuleEdge r i) h = (passes_edge t r i (grammar_fields G (RuleEdge r i))).complete (edge_pass r h.0 i h.1)
+  ok_passes (PlanLine r q) h = (passes_plan t r q (plan_fields (plan_node (plan_of G r) q))).complete (plan_pass r h.0 q h.1)
   ok_passes Graph h = absurd h
   ok_passes (GraphEdge e) h = absurd h
   ok_passes Nothing h = absurd h

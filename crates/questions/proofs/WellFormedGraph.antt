@@ -25,7 +25,7 @@ use Rattle.questions.proofs.WellFormedQuestions.{InOrder, Covers, PassedGraph, p
 use Rattle.questions.proofs.WellFormedReading.{GraphStands, accepted_graph_stands}
 use Rattle.questions.proofs.WellFormedLists.{collect, length_build, get_d_build, tabulate_list}
 use Rattle.questions.proofs.WellFormedTables.{in_order_listed, listed_in_order, attached_to, Covering, covering_side, side_covering, Ranked}
-use Rattle.questions.proofs.WellFormedAccepted.{fields_listed, one_and, two_and, symbols_length, start_is, kind-is, rank_is, accepted_grammar}
+use Rattle.questions.proofs.WellFormedAccepted.{fields_listed, one_and, two_and, symbols_length, start_is, kind_is, rank_is, accepted_grammar}
 
 kind_terminal : (w : ℕ) → kind_from w ≡ terminal → w ≡ 0
 kind_terminal w = go (eqb w 0) refl
@@ -77,71 +77,71 @@ module _ (g : List ℕ) (ok : GrammarOk (grammar_of g)) (H : Grammars.Graph) (t 
       two k = omega arith
 
   module _ (e : ℕ) (l : e < length H.edges) where
-    pub graph-label : graph_label t e ≡ (edge_at H.edges e).label
+    pub graph_label_lem : graph_label t e ≡ (edge_at H.edges e).label
     unfolding place_of graph_fields
-    graph-label = held (GraphEdge e) l 0 (omega arith)
+    graph_label_lem = held (GraphEdge e) l 0 (omega arith)
 
-    graph-node : (k : ℕ) → k < 8 → graph_node t e k ≡ get_or (edge_at H.edges e).attachment k 0
+    graph_node_lem : (k : ℕ) → k < 8 → graph_node t e k ≡ get_or (edge_at H.edges e).attachment k 0
     unfolding place_of graph_fields
-    graph-node k b = held (GraphEdge e) l (1 + k) (omega arith) ∙ rw (one k)
+    graph_node_lem k b = held (GraphEdge e) l (1 + k) (omega arith) ∙ rw (one k)
       where
         one : (k : ℕ) → 1 + k ≡ suc k
         one k = omega arith
 
-    pub graph-edge-nodes : Ranked (grammar_of g) H.edges e → tabulate (rank_at g (graph_label t e)) (graph_node t e) ≡ (edge_at H.edges e).attachment
-    graph-edge-nodes k =
+    pub graph_edge_nodes : Ranked (grammar_of g) H.edges e → tabulate (rank_at g (graph_label t e)) (graph_node t e) ≡ (edge_at H.edges e).attachment
+    graph_edge_nodes k =
         let x = edge_at H.edges e in
         let known : x.label < symbol_count g = omega (arith, k.0, symbols_length g) in
-        let rank : rank_at g (graph_label t e) ≡ rank_of (grammar_of g) x.label = ap (rank_at g) graph-label ∙ sym (rank_is g x.label known) in
+        let rank : rank_at g (graph_label t e) ≡ rank_of (grammar_of g) x.label = ap (rank_at g) graph_label_lem ∙ sym (rank_is g x.label known) in
         let small = small_rank x.label known in
-        tabulate_list x.attachment (rank_at g (graph_label t e)) (graph_node t e) (rank ∙ sym k.1) (λ j b. graph-node j (omega arith))
+        tabulate_list x.attachment (rank_at g (graph_label t e)) (graph_node t e) (rank ∙ sym k.1) (λ j b. graph_node_lem j (omega arith))
 
   nodes_on_graph_is : (n : ℕ) → n ≤ length H.edges → ((i : ℕ) → i < n → Ranked (grammar_of g) H.edges i) → nodes_on_graph g t n ≡ attached_to H.edges n
   unfolding nodes_on_graph collect
   nodes_on_graph_is zero l k = refl
-  nodes_on_graph_is (suc n) l k = ap₂ ◌++◌ (nodes_on_graph_is n (omega arith) (λ i b. k i (omega arith))) (graph-edge-nodes n l (k n (omega arith)))
+  nodes_on_graph_is (suc n) l k = ap₂ ◌++◌ (nodes_on_graph_is n (omega arith) (λ i b. k i (omega arith))) (graph_edge_nodes n l (k n (omega arith)))
 
   -- ---- lines that pass
   module _ (pass : GraphPass g H t) where
-    graph-passed : PassedGraph g (graph_fields H Graph)
+    graph_passed : PassedGraph g (graph_fields H Graph)
     unfolding judge
-    graph-passed = (passes_graph g (graph_fields H Graph)).sound (pass Graph tt)
+    graph_passed = (passes_graph g (graph_fields H Graph)).sound (pass Graph tt)
 
     node_count : Between 1 H.nodes 64
     unfolding graph_fields
-    node_count = graph-passed.nodes
+    node_count = graph_passed.nodes
 
     edge_count : Between 1 (length H.edges) 64
     unfolding graph_fields
-    edge_count = graph-passed.edges
+    edge_count = graph_passed.edges
 
-    externals-ok : Listed H.nodes (rank_of (grammar_of g) (grammar_of g).start) H.externals
+    externals_ok : Listed H.nodes (rank_of (grammar_of g) (grammar_of g).start) H.externals
     unfolding graph_fields
-    externals-ok =
-        in_order_listed H.nodes (rank_of (grammar_of g) (grammar_of g).start) H.externals (omega (arith, graph-passed.count, start_rank)) graph-passed.externals
+    externals_ok =
+        in_order_listed H.nodes (rank_of (grammar_of g) (grammar_of g).start) H.externals (omega (arith, graph_passed.count, start_rank)) graph_passed.externals
 
     module _ (e : ℕ) (l : e < length H.edges) where
-      edge-passed : PassedGraphEdge g t e (graph_fields H (GraphEdge e))
+      edge_passed : PassedGraphEdge g t e (graph_fields H (GraphEdge e))
       unfolding judge
-      edge-passed = (passes_graph_edge g t e (graph_fields H (GraphEdge e))).sound (pass (GraphEdge e) l)
+      edge_passed = (passes_graph_edge g t e (graph_fields H (GraphEdge e))).sound (pass (GraphEdge e) l)
 
       label_known : (edge_at H.edges e).label < symbol_count g
       unfolding graph_fields
-      label_known = edge-passed.symbol
+      label_known = edge_passed.symbol
 
-      label-terminal : kind_of (grammar_of g) (edge_at H.edges e).label ≡ terminal
+      label_terminal : kind_of (grammar_of g) (edge_at H.edges e).label ≡ terminal
       unfolding graph_fields
-      label-terminal = kind-is g (edge_at H.edges e).label label_known ∙ ap kind_from edge-passed.kind
+      label_terminal = kind_is g (edge_at H.edges e).label label_known ∙ ap kind_from edge_passed.kind
 
       -- only the start has rank 0, and it is no terminal
-      label-positive : 1 ≤ rank_of (grammar_of g) (edge_at H.edges e).label
-      label-positive = go (ok.symbol (edge_at H.edges e).label (omega (arith, label_known, symbols_length g))).lower
+      label_positive : 1 ≤ rank_of (grammar_of g) (edge_at H.edges e).label
+      label_positive = go (ok.symbol (edge_at H.edges e).label (omega (arith, label_known, symbols_length g))).lower
         where
           go : ((edge_at H.edges e).label ≡ (grammar_of g).start) ⊎ (1 ≤ rank_of (grammar_of g) (edge_at H.edges e).label) → 1 ≤ rank_of (grammar_of g) (edge_at H.edges e).label
           go (inl p) =
               let same = ap (kind_of (grammar_of g)) p in
               let start = ok.start_kind in
-              let here = label-terminal in
+              let here = label_terminal in
               let z : ◌≡◌ {A = ℕ} 0 1 = cc in
               absurd (omega arith)
           go (inr p) = p
@@ -153,15 +153,15 @@ module _ (g : List ℕ) (ok : GrammarOk (grammar_of g)) (H : Grammars.Graph) (t 
           let rank = rank_is g x.label label_known in
           record {
             known = omega (arith, label_known, symbols_length g);
-            positive = label-positive;
+            positive = label_positive;
             listed = in_order_listed H.nodes (rank_of (grammar_of g) x.label) x.attachment
-                (omega (arith, edge-passed.count))
-                (subst (λ (n : ℕ). InOrder n x.attachment) graph_nodes_lem edge-passed.attached);
+                (omega (arith, edge_passed.count))
+                (subst (λ (n : ℕ). InOrder n x.attachment) graph_nodes_lem edge_passed.attached);
           }
 
-    edge-covering : (e : ℕ) → e < length H.edges → Covering H.edges H.nodes e
+    edge_covering : (e : ℕ) → e < length H.edges → Covering H.edges H.nodes e
     unfolding graph_fields
-    edge-covering e l = go (edge-passed e l).covers
+    edge_covering e l = go (edge_passed e l).covers
       where
         go : (e + 1 < graph_edges t) ⊎ Covers (graph_nodes t) (nodes_on_graph g t e ++ (edge_at H.edges e).attachment) → Covering H.edges H.nodes e
         go (inl k) = inl (omega (arith, graph_edges_is))
@@ -169,23 +169,23 @@ module _ (g : List ℕ) (ok : GrammarOk (grammar_of g)) (H : Grammars.Graph) (t 
             let nodes = nodes_on_graph_is e (omega arith) (λ k b. ((edge_ok k (omega arith)).known, (edge_ok k (omega arith)).listed.ranked)) in
             inr (λ x b. rw (← nodes) (c.all x (omega (arith, graph_nodes_lem, node_count.upper))))
 
-    pub passed-graph-ok : GraphOk (grammar_of g) H
-    passed-graph-ok = record {
+    pub passed_graph_ok : GraphOk (grammar_of g) H
+    passed_graph_ok = record {
       side = record {
         node_count = node_count;
         edge_count = edge_count;
-        externals = externals-ok;
+        externals = externals_ok;
         edge = edge_ok;
-        covered = covering_side H.edges H.nodes edge_count.lower edge-covering;
+        covered = covering_side H.edges H.nodes edge_count.lower edge_covering;
       };
-      terminals = label-terminal;
+      terminals = label_terminal;
     }
 
   -- ---- and the lines of a well-formed graph
   module _ (good : GraphOk (grammar_of g) H) where
-    edge-pass : (e : ℕ) → e < length H.edges → PassedGraphEdge g t e (graph_fields H (GraphEdge e))
+    edge_pass : (e : ℕ) → e < length H.edges → PassedGraphEdge g t e (graph_fields H (GraphEdge e))
     unfolding graph_fields
-    edge-pass e l =
+    edge_pass e l =
         let S = good.side in
         let E = S.edge e l in
         let x = edge_at H.edges e in
@@ -193,7 +193,7 @@ module _ (g : List ℕ) (ok : GrammarOk (grammar_of g)) (H : Grammars.Graph) (t 
         let rank = rank_is g x.label known in
         record {
           symbol = known;
-          kind = kind_terminal (kind_field g x.label) (sym (kind-is g x.label known) ∙ good.terminals e l);
+          kind = kind_terminal (kind_field g x.label) (sym (kind_is g x.label known) ∙ good.terminals e l);
           count = omega (arith, E.listed.ranked);
           attached = subst (λ (n : ℕ). InOrder n x.attachment) (sym graph_nodes_lem)
               (listed_in_order H.nodes (rank_of (grammar_of g) x.label) x.attachment S.node_count.upper E.listed);
@@ -209,25 +209,25 @@ module _ (g : List ℕ) (ok : GrammarOk (grammar_of g)) (H : Grammars.Graph) (t 
               all = λ x b. rw nodes (k x (omega (arith, graph_nodes_lem)));
             })
 
-    graph-pass : PassedGraph g (graph_fields H Graph)
+    graph_pass : PassedGraph g (graph_fields H Graph)
     unfolding graph_fields
-    graph-pass = record {
+    graph_pass = record {
       nodes = good.side.node_count;
       edges = good.side.edge_count;
       count = omega (arith, good.side.externals.ranked, start_rank);
       externals = listed_in_order H.nodes (rank_of (grammar_of g) (grammar_of g).start) H.externals good.side.node_count.upper good.side.externals;
     }
 
-    pub graph-ok-passes : GraphPass g H t
+    pub graph_ok_passes : GraphPass g H t
     unfolding judge
-    graph-ok-passes Grammar h = absurd h
-    graph-ok-passes (Symbol s) h = absurd h
-    graph-ok-passes (Rule r) h = absurd h
-    graph-ok-passes (RuleEdge r i) h = absurd h
-    graph-ok-passes (PlanLine r q) h = absurd h
-    graph-ok-passes Graph h = (passes_graph g (graph_fields H Graph)).complete graph-pass
-    graph-ok-passes (GraphEdge e) h = (passes_graph_edge g t e (graph_fields H (GraphEdge e))).complete (edge-pass e h)
-    graph-ok-passes Nothing h = absurd h
+    graph_ok_passes Grammar h = absurd h
+    graph_ok_passes (Symbol s) h = absurd h
+    graph_ok_passes (Rule r) h = absurd h
+    graph_ok_passes (RuleEdge r i) h = absurd h
+    graph_ok_passes (PlanLine r q) h = absurd h
+    graph_ok_passes Graph h = (passes_graph g (graph_fields H Graph)).complete graph_pass
+    graph_ok_passes (GraphEdge e) h = (passes_graph_edge g t e (graph_fields H (GraphEdge e))).complete (edge_pass e h)
+    graph_ok_passes Nothing h = absurd h
 
 -- ---- the graph that a table stands for
 module _ (g t : List ℕ) where
@@ -273,16 +273,16 @@ module _ (g t : List ℕ) where
         (fs, graph_edge_fields e fs known s, s)
     graph_same Nothing h = absurd h
 
-    pub standing-graph-ok : GrammarOk (grammar_of g) → GraphOk (grammar_of g) (graph_of g t)
-    standing-graph-ok ok =
-        passed-graph-ok g ok (graph_of g t) t
+    pub standing_graph_ok : GrammarOk (grammar_of g) → GraphOk (grammar_of g) (graph_of g t)
+    standing_graph_ok ok =
+        passed_graph_ok g ok (graph_of g t) t
         (λ d h j l. let (fs, e, s) = graph_same d h in s.there j l ∙ ap (λ (fs : List ℕ). field fs j) (sym e))
         (λ d h. let (fs, e, s) = graph_same d h in ap (judge g t d) e ∙ s.passed)
 
 -- An accepted graph text is read as a well-formed graph, whichever way the grammar table g came to hold a well-formed
 -- grammar.
 pub read_graph_ok : (g text t : List ℕ) → GrammarOk (grammar_of g) → graph_verdict g text ≡ accepted t → GraphOk (grammar_of g) (graph_of g t)
-read_graph_ok g text t ok h = standing-graph-ok g t (accepted_graph_stands g text t h) ok
+read_graph_ok g text t ok h = standing_graph_ok g t (accepted_graph_stands g text t h) ok
 
 pub accepted_graph : (grammar_text g text t : List ℕ) → grammar_verdict grammar_text ≡ accepted g → graph_verdict g text ≡ accepted t → GraphOk (grammar_of g) (graph_of g t)
 accepted_graph grammar_text g text t h k = read_graph_ok g text t (accepted_grammar grammar_text g h) k

@@ -22,7 +22,7 @@ use Rattle.questions.proofs.StoredLaws.{length_stored, field_front, stored_longe
 use Rattle.questions.proofs.WellFormedWalk.{and_snd, room_place, room_next, judged_line, Before, judge_agree, next_agree, before_next, walk_lines}
 use Rattle.questions.proofs.WellFormedReading.{check_walk, GrammarStands, grammar_stands, GraphStands, graph_stands}
 use Rattle.questions.proofs.WellFormedAccepted.{standing_ok}
-use Rattle.questions.proofs.WellFormedGraph.{standing-graph-ok}
+use Rattle.questions.proofs.WellFormedGraph.{standing_graph_ok}
 
 -- ---- a table with more behind it: the same lines lead through it
 pub walk_longer : {g t c : List ℕ} {d : Due} {fss : List (List ℕ)} (rest : List ℕ) → Walk g t c d fss → Room (length c) d → Before c d → Walk g (t ++ rest) (c ++ rest) d fss
@@ -77,4 +77,4 @@ pub checked_grammar_ok : (t : List ℕ) → check_grammar t ≡ true → Grammar
 checked_grammar_ok t h = standing_ok t (checked_grammar_stands t h)
 
 pub checked_graph_ok : (g t : List ℕ) → check_grammar g ≡ true → check_graph g t ≡ true → GraphOk (grammar_of g) (graph_of g t)
-checked_graph_ok g t k h = standing-graph-ok g t (checked_graph_stands g t h) (checked_grammar_ok g k)
+checked_graph_ok g t k h = standing_graph_ok g t (checked_graph_stands g t h) (checked_grammar_ok g k)

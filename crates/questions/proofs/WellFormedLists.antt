@@ -1,7 +1,7 @@
 -- Lists built from a function, and numbers collected over the first members of a list: nodes on edges, children and
 -- edges of plan nodes.
 use mathlib.Core.Path.{◌≡◌, refl, sym, ap, ◌∙◌}
-use mathlib.Core.List.{List, [], ◌∷◌, ◌++◌, append_assoc, append_nil}
+use mathlib.Core.List.{List, [], ◌∷◌, ◌++◌, append_assoc, append-nil}
 use Prim.Native.Nat.{ℕ, zero, suc, ◌≤◌, ◌<◌}
 use native.Mathlib.Omega.{arith}
 use native.Mathlib.Decide.{dec_lt}
@@ -43,7 +43,7 @@ collect f d l (suc n) = collect f d l n ++ f (get_or l n d)
 module _ {A : Type 0} (f : A → List ℕ) (d : A) where
   collect_front : (x : A) (l : List A) (n : ℕ) → collect f d (x ∷ l) (suc n) ≡ f x ++ collect f d l n
   unfolding collect
-  collect_front x l zero = sym (append_nil (f x))
+  collect_front x l zero = sym (append-nil (f x))
   collect_front x l (suc n) = ap (λ (ns : List ℕ). ns ++ f (get_or l n d)) (collect_front x l n) ∙ append_assoc (f x) (collect f d l n) (f (get_or l n d))
 
   pub collect_le : (v : ℕ) (l : List A) (m n : ℕ) → m ≤ n → occurs v (collect f d l m) ≤ occurs v (collect f d l n)

@@ -56,37 +56,37 @@ introduced_le v (join a b) = omega arith
 
 module _ (edges : ℕ) (pl : List PlanNode) where
   module _ (node : (q : ℕ) → q < length pl → NodeOk edges pl q) where
-    child-le : (c n : ℕ) → n ≤ length pl → occurs c (children_to pl n) ≤ 1
+    child_le : (c n : ℕ) → n ≤ length pl → occurs c (children_to pl n) ≤ 1
     unfolding collect occurs
-    child-le c zero h = omega arith
-    child-le c (suc q) h = go (occurs c (children (plan_node pl q))) refl (child-le c q (omega arith))
+    child_le c zero h = omega arith
+    child_le c (suc q) h = go (occurs c (children (plan_node pl q))) refl (child_le c q (omega arith))
       where
         go : (k : ℕ) → occurs c (children (plan_node pl q)) ≡ k → occurs c (children_to pl q) ≤ 1 → occurs c (children_to pl q ++ children (plan_node pl q)) ≤ 1
         go zero e ih = omega (arith, children_more pl c q)
         go (suc k) e ih = omega (arith, (node q h).once c (omega arith))
 
-    edge-le : (i n : ℕ) → n ≤ length pl → occurs i (introduced_to pl n) ≤ 1
+    edge_le : (i n : ℕ) → n ≤ length pl → occurs i (introduced_to pl n) ≤ 1
     unfolding collect occurs
-    edge-le i zero h = omega arith
-    edge-le i (suc q) h = go (occurs i (introduced (plan_node pl q))) refl (edge-le i q (omega arith))
+    edge_le i zero h = omega arith
+    edge_le i (suc q) h = go (occurs i (introduced (plan_node pl q))) refl (edge_le i q (omega arith))
       where
         go : (k : ℕ) → occurs i (introduced (plan_node pl q)) ≡ k → occurs i (introduced_to pl q) ≤ 1 → occurs i (introduced_to pl q ++ introduced (plan_node pl q)) ≤ 1
         go zero e ih = omega (arith, introduced_more pl i q)
         go (suc k) e ih = omega (arith, introduced_more pl i q, ((node q h).known i (omega arith)).1, introduced_le i (plan_node pl q))
 
     module _ (last : ℕ) (end : suc last ≡ length pl) where
-      last-whole : Complete edges pl last
-      last-whole = go (node last (omega arith)).whole
+      last_whole : Complete edges pl last
+      last_whole = go (node last (omega arith)).whole
         where
           go : (last + 1 < length pl) ⊎ Complete edges pl last → Complete edges pl last
           go (inl h) = absurd (omega arith)
           go (inr w) = w
 
-      child-there : (c : ℕ) → suc c < length pl → 0 < occurs c (children_to pl (length pl))
-      child-there c h =
+      child_there : (c : ℕ) → suc c < length pl → 0 < occurs c (children_to pl (length pl))
+      child_there c h =
           omega (
             arith,
-            last-whole.children_all c (omega arith),
+            last_whole.children_all c (omega arith),
             occurs_append c (children_to pl last) (children (plan_node pl last)),
             children_more pl c last,
             ap (λ (n : ℕ). occurs c (children_to pl n)) end,
@@ -96,7 +96,7 @@ module _ (edges : ℕ) (pl : List PlanNode) where
       edge_there i h =
           omega (
             arith,
-            last-whole.edges_all i h,
+            last_whole.edges_all i h,
             occurs_append i (introduced_to pl last) (introduced (plan_node pl last)),
             introduced_more pl i last,
             ap (λ (n : ℕ). occurs i (introduced_to pl n)) end,
@@ -108,8 +108,8 @@ module _ (edges : ℕ) (pl : List PlanNode) where
         record {
           size = size;
           lower = λ p c h o. (node p h).lower c o;
-          child_once = λ q h. omega (arith, children_end pl q, child-there (pred (length pl)) end q h, child-le q (length pl) (omega arith));
-          edge_once = λ i h. omega (arith, introduced_end pl i, edge_there (pred (length pl)) end i h, edge-le i (length pl) (omega arith));
+          child_once = λ q h. omega (arith, children_end pl q, child_there (pred (length pl)) end q h, child_le q (length pl) (omega arith));
+          edge_once = λ i h. omega (arith, introduced_end pl i, edge_there (pred (length pl)) end i h, edge_le i (length pl) (omega arith));
           edge_known = λ i h.
               let t = collect_find introduced leaf i pl (length pl) (omega (arith, introduced_end pl i)) in
               ((node t.0 t.1).known i t.2).0;
@@ -117,11 +117,11 @@ module _ (edges : ℕ) (pl : List PlanNode) where
 
   module _ (ok : PlanOk edges pl) where
     -- the plan nodes below are some of all
-    children-to : (c q : ℕ) → q ≤ length pl → occurs c (children_to pl q) ≤ occurs c (all_children pl)
-    children-to c q h = omega (arith, children_end pl c, collect_le children leaf c pl q (length pl) h)
+    children_to_lem : (c q : ℕ) → q ≤ length pl → occurs c (children_to pl q) ≤ occurs c (all_children pl)
+    children_to_lem c q h = omega (arith, children_end pl c, collect_le children leaf c pl q (length pl) h)
 
-    introduced-to : (i q : ℕ) → q ≤ length pl → occurs i (introduced_to pl q) ≤ occurs i (all_introduced pl)
-    introduced-to i q h = omega (arith, introduced_end pl i, collect_le introduced leaf i pl q (length pl) h)
+    introduced_to_lem : (i q : ℕ) → q ≤ length pl → occurs i (introduced_to pl q) ≤ occurs i (all_introduced pl)
+    introduced_to_lem i q h = omega (arith, introduced_end pl i, collect_le introduced leaf i pl q (length pl) h)
 
     complete : (q : ℕ) → suc q ≡ length pl → Complete edges pl q
     complete q e = record {
@@ -145,22 +145,22 @@ module _ (edges : ℕ) (pl : List PlanNode) where
           );
     }
 
-    pub ok-node : (q : ℕ) → q < length pl → NodeOk edges pl q
-    ok-node q h = record {
+    pub ok_node : (q : ℕ) → q < length pl → NodeOk edges pl q
+    ok_node q h = record {
       lower = λ c o. ok.lower q c h o;
       once = λ c o.
           let below = ok.lower q c h o in
           omega (
             arith,
             ok.child_once c (omega arith),
-            children-to c (suc q) h,
+            children_to_lem c (suc q) h,
             children_more pl c q,
             occurs_append c (children_to pl q) (children (plan_node pl q)),
           );
       known = λ i o.
-          let among : 0 < occurs i (all_introduced pl) = omega (arith, introduced-to i (suc q) h, introduced_more pl i q) in
+          let among : 0 < occurs i (all_introduced pl) = omega (arith, introduced_to_lem i (suc q) h, introduced_more pl i q) in
           let i-known = ok.edge_known i among in
-          (i-known, omega (arith, ok.edge_once i i-known, introduced-to i (suc q) h, introduced_more pl i q));
+          (i-known, omega (arith, ok.edge_once i i-known, introduced_to_lem i (suc q) h, introduced_more pl i q));
       whole = go (dec_lt (q + 1) (length pl));
     }
       where

@@ -147,34 +147,34 @@ module _ (G : Grammars.Grammar) (t : List ℕ) (held : GrammarIn G t) where
   start_symbol_is = held.lines Grammar tt 2 (omega arith)
 
   module _ (s : ℕ) (h : s < length G.symbols) where
-    pub kind-field : kind_field t s ≡ kind_number (kind_of G s)
+    pub kind_field_lem : kind_field t s ≡ kind_number (kind_of G s)
     unfolding place_of grammar_fields
-    kind-field = held.lines (Symbol s) h 1 (omega arith)
+    kind_field_lem = held.lines (Symbol s) h 1 (omega arith)
 
-    pub rank-at : rank_at t s ≡ rank_of G s
+    pub rank_at_lem : rank_at t s ≡ rank_of G s
     unfolding place_of grammar_fields
-    rank-at = omega (arith, held.lines (Symbol s) h 2 (omega arith), held.ranks s h)
+    rank_at_lem = omega (arith, held.lines (Symbol s) h 2 (omega arith), held.ranks s h)
 
   module _ (r : ℕ) (h : r < length G.rules) where
-    pub rule-symbol : rule_symbol t r ≡ lhs_of G r
+    pub rule_symbol_lem : rule_symbol t r ≡ lhs_of G r
     unfolding place_of grammar_fields
-    rule-symbol = held.lines (Rule r) h 1 (omega arith)
+    rule_symbol_lem = held.lines (Rule r) h 1 (omega arith)
 
-    pub rule-nodes : rule_nodes t r ≡ (right_of G r).nodes
+    pub rule_nodes_lem : rule_nodes t r ≡ (right_of G r).nodes
     unfolding place_of grammar_fields
-    rule-nodes = held.lines (Rule r) h 2 (omega arith)
+    rule_nodes_lem = held.lines (Rule r) h 2 (omega arith)
 
-    pub rule-edges : rule_edges t r ≡ length (right_of G r).edges
+    pub rule_edges_lem : rule_edges t r ≡ length (right_of G r).edges
     unfolding place_of grammar_fields
-    rule-edges = held.lines (Rule r) h 3 (omega arith)
+    rule_edges_lem = held.lines (Rule r) h 3 (omega arith)
 
     pub rule_plan_lem : rule_plan t r ≡ length (plan_of G r)
     unfolding place_of grammar_fields
     rule_plan_lem = held.lines (Rule r) h 4 (omega arith)
 
-    pub rule-external : (k : ℕ) → k < 4 → rule_external t r k ≡ get_or (right_of G r).externals k 0
+    pub rule_external_lem : (k : ℕ) → k < 4 → rule_external t r k ≡ get_or (right_of G r).externals k 0
     unfolding place_of grammar_fields
-    rule-external k l = held.lines (Rule r) h (5 + k) (omega arith) ∙ rw (five k)
+    rule_external_lem k l = held.lines (Rule r) h (5 + k) (omega arith) ∙ rw (five k)
       where
         five : (k : ℕ) → 5 + k ≡ suc (suc (suc (suc (suc k))))
         five k = omega arith
@@ -194,41 +194,41 @@ module _ (G : Grammars.Grammar) (t : List ℕ) (held : GrammarIn G t) where
       pub edge_nodes_lem : Ranked G (right_of G r).edges i → tabulate (rank_at t (edge_label t r i)) (edge_node t r i) ≡ (edge_at (right_of G r).edges i).attachment
       edge_nodes_lem k =
           let e = edge_at (right_of G r).edges i in
-          let rank : rank_at t (edge_label t r i) ≡ rank_of G e.label = ap (rank_at t) edge_label_is ∙ rank-at e.label k.0 in
+          let rank : rank_at t (edge_label t r i) ≡ rank_of G e.label = ap (rank_at t) edge_label_is ∙ rank_at_lem e.label k.0 in
           let small = held.ranks e.label k.0 in
           tabulate_list e.attachment (rank_at t (edge_label t r i)) (edge_node t r i) (rank ∙ sym k.1) (λ j b. edge_node_is j (omega arith))
 
-    pub nodes-on-edges : (n : ℕ) → n ≤ length (right_of G r).edges → ((i : ℕ) → i < n → Ranked G (right_of G r).edges i)
+    pub nodes_on_edges_lem : (n : ℕ) → n ≤ length (right_of G r).edges → ((i : ℕ) → i < n → Ranked G (right_of G r).edges i)
         → nodes_on_edges t r n ≡ attached_to (right_of G r).edges n
     unfolding nodes_on_edges collect
-    nodes-on-edges zero l k = refl
-    nodes-on-edges (suc n) l k = ap₂ ◌++◌ (nodes-on-edges n (omega arith) (λ i b. k i (omega arith))) (edge_nodes_lem n l (k n (omega arith)))
+    nodes_on_edges_lem zero l k = refl
+    nodes_on_edges_lem (suc n) l k = ap₂ ◌++◌ (nodes_on_edges_lem n (omega arith) (λ i b. k i (omega arith))) (edge_nodes_lem n l (k n (omega arith)))
 
     module _ (q : ℕ) (l : q < length (plan_of G r)) where
-      pub plan-field : (j : ℕ) → j < 9 → line_field t (plan_place r q) j ≡ field (plan_fields (plan_node (plan_of G r) q)) j
+      pub plan_field : (j : ℕ) → j < 9 → line_field t (plan_place r q) j ≡ field (plan_fields (plan_node (plan_of G r) q)) j
       unfolding place_of grammar_fields
-      plan-field j b = held.lines (PlanLine r q) (h, l) j b
+      plan_field j b = held.lines (PlanLine r q) (h, l) j b
 
-      children-words : children_of (plan_kind t r q) (plan_first t r q) (plan_second t r q) ≡ children (plan_node (plan_of G r) q)
-      children-words = rw (plan-field 0 (omega arith), plan-field 1 (omega arith), plan-field 2 (omega arith)) (children_of_lem (plan_node (plan_of G r) q))
+      children_words : children_of (plan_kind t r q) (plan_first t r q) (plan_second t r q) ≡ children (plan_node (plan_of G r) q)
+      children_words = rw (plan_field 0 (omega arith), plan_field 1 (omega arith), plan_field 2 (omega arith)) (children_of_lem (plan_node (plan_of G r) q))
 
-      introduced-words : introduced_by (plan_kind t r q) (plan_first t r q) (plan_second t r q) ≡ introduced (plan_node (plan_of G r) q)
-      introduced-words = rw (plan-field 0 (omega arith), plan-field 1 (omega arith), plan-field 2 (omega arith)) (introduced_by_lem (plan_node (plan_of G r) q))
+      introduced_words : introduced_by (plan_kind t r q) (plan_first t r q) (plan_second t r q) ≡ introduced (plan_node (plan_of G r) q)
+      introduced_words = rw (plan_field 0 (omega arith), plan_field 1 (omega arith), plan_field 2 (omega arith)) (introduced_by_lem (plan_node (plan_of G r) q))
 
-    pub children-before : (n : ℕ) → n ≤ length (plan_of G r) → children_before t r n ≡ children_to (plan_of G r) n
+    pub children_before_lem : (n : ℕ) → n ≤ length (plan_of G r) → children_before t r n ≡ children_to (plan_of G r) n
     unfolding children_before collect
-    children-before zero l = refl
-    children-before (suc n) l = ap₂ ◌++◌ (children-before n (omega arith)) (children-words n l)
+    children_before_lem zero l = refl
+    children_before_lem (suc n) l = ap₂ ◌++◌ (children_before_lem n (omega arith)) (children_words n l)
 
-    pub introduced-before : (n : ℕ) → n ≤ length (plan_of G r) → introduced_before t r n ≡ introduced_to (plan_of G r) n
+    pub introduced_before_lem : (n : ℕ) → n ≤ length (plan_of G r) → introduced_before t r n ≡ introduced_to (plan_of G r) n
     unfolding introduced_before collect
-    introduced-before zero l = refl
-    introduced-before (suc n) l = ap₂ ◌++◌ (introduced-before n (omega arith)) (introduced-words n l)
+    introduced_before_lem zero l = refl
+    introduced_before_lem (suc n) l = ap₂ ◌++◌ (introduced_before_lem n (omega arith)) (introduced_words n l)
 
     -- how often numbers stand among the children and edges up to plan line q
     module _ (q : ℕ) (l : q < length (plan_of G r)) where
-      pub children-so-far : (c : ℕ) → occurs c (children_before t r q ++ line_children (plan_node (plan_of G r) q)) ≡ occurs c (children_to (plan_of G r) q ++ children (plan_node (plan_of G r) q))
-      children-so-far c = rw (children-before q (omega arith), children_of_lem (plan_node (plan_of G r) q))
+      pub children_so_far : (c : ℕ) → occurs c (children_before t r q ++ line_children (plan_node (plan_of G r) q)) ≡ occurs c (children_to (plan_of G r) q ++ children (plan_node (plan_of G r) q))
+      children_so_far c = rw (children_before_lem q (omega arith), children_of_lem (plan_node (plan_of G r) q))
 
-      pub introduced-so-far : (i : ℕ) → occurs i (introduced_before t r q ++ line_introduced (plan_node (plan_of G r) q)) ≡ occurs i (introduced_to (plan_of G r) q ++ introduced (plan_node (plan_of G r) q))
-      introduced-so-far i = rw (introduced-before q (omega arith), introduced_by_lem (plan_node (plan_of G r) q))
+      pub introduced_so_far : (i : ℕ) → occurs i (introduced_before t r q ++ line_introduced (plan_node (plan_of G r) q)) ≡ occurs i (introduced_to (plan_of G r) q ++ introduced (plan_node (plan_of G r) q))
+      introduced_so_far i = rw (introduced_before_lem q (omega arith), introduced_by_lem (plan_node (plan_of G r) q))

@@ -1,6 +1,9 @@
 // The questions of grammar and graph files: the types that definitions and contracts speak of. Definitions in specs/,
 // theorems in proofs/, no code. What is due: the next line of a grammar file, or of a graph file.
-#[derive(Drop)]
+
+#![tactic(auto)]
+
+#[derive(Clone, Copy)]
 pub enum Due {
     Grammar,
     Symbol(u64),
@@ -13,7 +16,7 @@ pub enum Due {
 }
 
 // A reader's answer: done, or one of 01's refusals.
-#[derive(Drop)]
+#[derive(Clone, Copy)]
 pub enum Answer {
     Done,
     Refused(u64),

@@ -1,7 +1,7 @@
 -- The bits of a word: one set, one cleared, and the first that is set.
 use Prim.Native.Nat.{ℕ, zero, suc, ◌-◌, ◌*◌, ◌/◌, ◌%◌, ◌^◌, ◌<◌, min}
 use mathlib.Core.Path.{◌≡◌, refl, sym, ap, ◌∙◌}
-use mathlib.Core.Bool.{Bool, true, false, ◌||◌, or_false}
+use mathlib.Core.Bool.{Bool, true, false, ◌||◌, or-false}
 use native.Mathlib.Nat.{div-one, one-mul, mod-eq_of_lt, pow-suc}
 use native.Mathlib.Omega.{arith}
 use lib.Bits.{bit_and, and_shr, and_step}
@@ -51,7 +51,7 @@ set_self w k = member_union w (single k) k ∙ ap (λ (t : Bool). member w k || 
     or_true false = refl
 
 pub set_other : (w k e : ℕ) → (e ≡ k → ⊥) → member (w ∪ single k) e ≡ member w e
-set_other w k e n = member_union w (single k) e ∙ ap (λ (t : Bool). member w e || t) (false_member (single k) e (bit_single_other k e n)) ∙ or_false (member w e)
+set_other w k e n = member_union w (single k) e ∙ ap (λ (t : Bool). member w e || t) (false_member (single k) e (bit_single_other k e n)) ∙ or-false (member w e)
 
 -- as the machine makes it, by a shift
 pub shifted : (e : ℕ) → e < 32 → 1 * 2 ^ e % 2 ^ 32 ≡ single e

@@ -302,25 +302,25 @@ module _ (ws : List ℕ) (p a b : ℕ) (x : a ≡ p / 32) (y : b ≡ a / 32) (si
 
   -- the lowest word is 0 now
   module _ (none : get_or (without_bit ws (132 + a) (p % 32)) (132 + a) 0 ≡ 0) where
-    lesser-but : Levels ws → But lesser (4 + b)
+    lesser_but : Levels ws → But lesser (4 + b)
     unfolding lesser less
-    lesser-but L = lower_next less (132 + a) (4 + b) (a % 32) (omega arith) (less_but L) (omega arith) (omega arith) none
+    lesser_but L = lower_next less (132 + a) (4 + b) (a % 32) (omega arith) (less_but L) (omega arith) (omega arith) none
 
-    pub removed-middle : 0 < get_or (without_bit (without_bit ws (132 + a) (p % 32)) (4 + b) (a % 32)) (4 + b) 0 → Removed ws p (without_bit (without_bit ws (132 + a) (p % 32)) (4 + b) (a % 32))
+    pub removed_middle : 0 < get_or (without_bit (without_bit ws (132 + a) (p % 32)) (4 + b) (a % 32)) (4 + b) 0 → Removed ws p (without_bit (without_bit ws (132 + a) (p % 32)) (4 + b) (a % 32))
     unfolding lesser less
-    removed-middle some = record {
+    removed_middle some = record {
       size = lesser_size;
-      levels = λ L. lower_alive less (132 + a) (4 + b) (a % 32) (omega arith) (omega arith) (less_but L) (λ m n. omega arith) (lesser-but L) some;
+      levels = λ L. lower_alive less (132 + a) (4 + b) (a % 32) (omega arith) (omega arith) (less_but L) (λ m n. omega arith) (lesser_but L) some;
       self = lesser_holds p ∙ less_self;
       others = λ q m n. lesser_holds q ∙ less_others q n;
     }
 
-    pub removed-high : get_or (without_bit (without_bit ws (132 + a) (p % 32)) (4 + b) (a % 32)) (4 + b) 0 ≡ 0
+    pub removed_high : get_or (without_bit (without_bit ws (132 + a) (p % 32)) (4 + b) (a % 32)) (4 + b) 0 ≡ 0
         → Removed ws p (without_bit (without_bit (without_bit ws (132 + a) (p % 32)) (4 + b) (a % 32)) (b / 32) (b % 32))
     unfolding lesser less
-    removed-high gone = record {
+    removed_high gone = record {
       size = (lowered lesser (b / 32) (b % 32)).size ∙ lesser_size;
-      levels = λ L. but_top _ (b / 32) (omega arith) (lower_next lesser (4 + b) (b / 32) (b % 32) (omega arith) (lesser-but L) (omega arith) (omega arith) gone);
+      levels = λ L. but_top _ (b / 32) (omega arith) (lower_next lesser (4 + b) (b / 32) (b % 32) (omega arith) (lesser_but L) (omega arith) (omega arith) gone);
       self = least_holds p ∙ lesser_holds p ∙ less_self;
       others = λ q m n. least_holds q ∙ lesser_holds q ∙ less_others q n;
     }
@@ -435,12 +435,12 @@ module _ (ws : List ℕ) (k : ℕ) (size : length ws ≡ 4229) where
     below : k < 4096
     below = omega (arith, S.most)
 
-    pub hint-found : (length (set ws 4228 k) ≡ 4229) × (k < 4096) × Reached (set ws 4228 k) 132 k
-    hint-found =
+    pub hint_found : (length (set ws 4228 k) ≡ 4229) × (k < 4096) × Reached (set ws 4228 k) 132 k
+    hint_found =
         (length-set ws 4228 k ∙ size, below, record { here = rw (beside (132 + k) (λ e. omega (arith, below))) (S.here below); none = λ i b. beside (132 + i) (λ e. omega (arith, below)) ∙ S.none i b })
 
-    pub left-hinted : (p : ℕ) (new : List ℕ) → Left (set ws 4228 k) p new → Left ws p new
-    left-hinted p new G =
+    pub left_hinted : (p : ℕ) (new : List ℕ) → Left (set ws 4228 k) p new → Left ws p new
+    left_hinted p new G =
         let l = G.least.within in
         record {
           least = record { within = l; here = sym (holds_beside p l) ∙ G.least.here; none = λ q b. sym (holds_beside q (omega arith)) ∙ G.least.none q b };
@@ -498,11 +498,11 @@ module _ (ws : List ℕ) (p a b : ℕ) (x : a ≡ p / 32) (y : b ≡ a / 32) (si
     word : s ≡ get_or (without_bit (without_bit ws (132 + a) (p % 32)) (4 + b) (a % 32)) (4 + b) 0
     word = t ∙ ap (λ w. get_or w (4 + b) 0) second
 
-    pub removed-by-middle : (s ≡ 0 → ⊥) → Removed ws p v
-    removed-by-middle n = rw second (removed-middle ws p a b x y size l gone (omega (arith, word)))
+    pub removed_by_middle : (s ≡ 0 → ⊥) → Removed ws p v
+    removed_by_middle n = rw second (removed_middle ws p a b x y size l gone (omega (arith, word)))
 
-    pub removed-by-high : (w : List ℕ) → s ≡ 0 → w ≡ without_bit v (b / 32) (b % 32) → Removed ws p w
-    removed-by-high w n g = rw (g, second) (removed-high ws p a b x y size l gone (sym word ∙ n))
+    pub removed_by_high : (w : List ℕ) → s ≡ 0 → w ≡ without_bit v (b / 32) (b % 32) → Removed ws p w
+    removed_by_high w n g = rw (g, second) (removed_high ws p a b x y size l gone (sym word ∙ n))
 
 -- the first word of four that is not 0
 pub started_at : (r : ℕ) (ws : List ℕ) → r ≤ 4 → (r < 4 → 0 < get_or ws r 0) → (0 < r → get_or ws 0 0 ≡ 0) → (1 < r → get_or ws 1 0 ≡ 0) → (2 < r → get_or ws 2 0 ≡ 0) → (3 < r → get_or ws 3 0 ≡ 0) → Started ws 0 4 r

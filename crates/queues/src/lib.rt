@@ -2,11 +2,14 @@
 // above them tell which words are not 0, so that a number comes, goes and the least is found by three words. The last
 // word is a hint: of the lowest words those before word 132 + hint are 0, so that this word has the least number
 // where it is not 0.
+
+#![tactic(auto)]
+
 ghost use Rattle.std.specs.Prelude.{◌≡◌, ◌+◌, ◌≤◌, ◌<◌, length, get_or};
 ghost use Rattle.queues.specs.Queues.{Levels, with_bit, without_bit, with_hint, Inserted, Removed, Left, LeastTaken, Started, Reached, Stepped, Cleared};
 
 // The least number of a set that left it, or nothing where the set had none.
-#[derive(Drop)]
+#[derive(Clone, Copy)]
 pub enum Taken {
     Number(u64),
     Nothing,

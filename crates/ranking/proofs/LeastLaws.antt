@@ -117,12 +117,12 @@ module _ (rs : List Record) where
         go (yes d) t u s = absurd (none_below w r R z (omega (arith, L.within)) L.none j (omega arith) b (omega (arith, order_least)))
         go (no d) t u s = omega arith
 
-    least-held : At (r % 4096) ≡ least_waiting rs (length rs)
-    least-held = told (least_waiting rs (length rs)) (chosen (length rs) (omega arith) m)
+    least_held : At (r % 4096) ≡ least_waiting rs (length rs)
+    least_held = told (least_waiting rs (length rs)) (chosen (length rs) (omega arith) m)
 
     -- .. and it leaves the set
-    taken-held : (new : List ℕ) → Removed (set_of w) r new → Ranked (put 2 4229 w new) (taken_from rs (At (r % 4096)))
-    taken-held new I =
+    taken_held : (new : List ℕ) → Removed (set_of w) r new → Ranked (put 2 4229 w new) (taken_from rs (At (r % 4096)))
+    taken_held new I =
         let j = r % 4096 in
         let n = (record_in rs j).item.count in
         let s = order_some rs j (λ q. omega (arith, order_least)) in
@@ -132,19 +132,19 @@ module _ (rs : List Record) where
 
   -- ---- what was taken out of the set
   module _ (w new : List ℕ) (t : Taken) (R : Ranked w rs) (z : get_or w 0 0 < 2) (m : length rs ≤ 4096) (L : LeastTaken (set_of w) t new) where
-    pub number-taken : (p : ℕ) → t ≡ Number p → (At (p % 4096) ≡ least_waiting rs (length rs)) × Ranked (put 2 4229 w new) (taken_from rs (At (p % 4096)))
-    number-taken p e =
+    pub number_taken : (p : ℕ) → t ≡ Number p → (At (p % 4096) ≡ least_waiting rs (length rs)) × Ranked (put 2 4229 w new) (taken_from rs (At (p % 4096)))
+    number_taken p e =
         let G : Left (set_of w) p new = subst (λ (s : Taken). LeastTaken (set_of w) s new) e L in
-        (least-held w p R z m G.least, taken-held w p R z m G.least new G.removed)
+        (least_held w p R z m G.least, taken_held w p R z m G.least new G.removed)
 
-    nothing-told : t ≡ Nothing → Empty (set_of w) × (new ≡ set_of w)
-    nothing-told e = subst (λ (s : Taken). LeastTaken (set_of w) s new) e L
+    nothing_told : t ≡ Nothing → Empty (set_of w) × (new ≡ set_of w)
+    nothing_told e = subst (λ (s : Taken). LeastTaken (set_of w) s new) e L
 
-    pub nothing-taken : t ≡ Nothing → Ranked (put 2 4229 w new) rs
-    nothing-taken e = ranked_back w new rs R (nothing-told e).1
+    pub nothing_taken : t ≡ Nothing → Ranked (put 2 4229 w new) rs
+    nothing_taken e = ranked_back w new rs R (nothing_told e).1
 
-    pub nothing-waits : t ≡ Nothing → get_or w 0 0 ≡ 0 → (Nowhere ≡ least_waiting rs (length rs)) × Ranked (put 2 4229 w new) rs
-    nothing-waits e q = (none_held w R q m (nothing-told e).0, nothing-taken e)
+    pub nothing_waits : t ≡ Nothing → get_or w 0 0 ≡ 0 → (Nowhere ≡ least_waiting rs (length rs)) × Ranked (put 2 4229 w new) rs
+    nothing_waits e q = (none_held w R q m (nothing_told e).0, nothing_taken e)
 
 -- ---- the records looked through
 pub least_all : (w : List ℕ) (n : ℕ) (r : Found) → n ≡ item_count w → r ≡ least_waiting (records_at w n) n → r ≡ least_waiting (chart_of w).records (length (chart_of w).records)

@@ -3,6 +3,9 @@
 // n, with n below 32. Word 0 is 0 where the set holds every waiting record, 1 where those of a count of base + 32 or
 // more may be missing, and 2 where the other words say nothing. Where an empty set does not tell that no record
 // waits, it is made anew for the next 32 counts, or from the least count.
+
+#![tactic(auto)]
+
 ghost use Rattle.std.specs.Prelude.{◌≡◌, true, List, [], ℕ, ◌≤◌, ◌<◌, length};
 ghost use Rattle.agenda.specs.declared.Record.{Record};
 ghost use Rattle.agenda.specs.Steps.{least_waiting};

@@ -88,10 +88,10 @@ not_graph Nothing h = refl
 -- ---- the letter of a known kind, and any other
 pub known_letter : (b : ℕ) (kind x : Letter) (due : Due) (r : Bool) → kind ≡ letter_kind b → kind ≡ x → tag_of letter-type x < 8 → r ≡ eqb (kind_letter x) (kind_letter (letter_due due))
     → r ≡ eqb b (kind_letter (letter_due due))
-known_letter b kind x due r e is known h = h ∙ ap (λ (l : ℕ). eqb l (kind_letter (letter_due due))) (sym (kind_letter_lem b x (sym e ∙ is) not-other))
+known_letter b kind x due r e is known h = h ∙ ap (λ (l : ℕ). eqb l (kind_letter (letter_due due))) (sym (kind_letter_lem b x (sym e ∙ is) not_other))
   where
-    not-other : x ≡ Other → ⊥
-    not-other o =
+    not_other : x ≡ Other → ⊥
+    not_other o =
         let last : tag_of letter-type x ≡ 8 = ap (tag_of letter-type) o in
         omega arith
 

@@ -35,18 +35,18 @@ module _ (g t : List ℕ) (due : Due) (line : List ℕ) (ended : Bool) where
   judged_open h = rw h
 
   module _ (h : ended ≡ true) (b : Bool) (e : b ≡ shape_of line) where
-    pub judged-shape : b ≡ false → 1 ≡ judge_line g t due (line_with line ended)
+    pub judged_shape : b ≡ false → 1 ≡ judge_line g t due (line_with line ended)
     unfolding judge_line
-    judged-shape n = rw (h, ← e, n)
+    judged_shape n = rw (h, ← e, n)
 
     module _ (y : b ≡ true) (due-here : Bool) (fits : due-here ≡ eqb (letter_of line) (kind_letter (letter_due due))) where
-      pub judged-letter : due-here ≡ false → 2 ≡ judge_line g t due (line_with line ended)
+      pub judged_letter : due-here ≡ false → 2 ≡ judge_line g t due (line_with line ended)
       unfolding judge_line
-      judged-letter n = rw (h, ← e, y, ← fits, n)
+      judged_letter n = rw (h, ← e, y, ← fits, n)
 
-      pub judged-rest : due-here ≡ true → (k : ℕ) → k ≡ judge g t due (fields_of line) → k ≡ judge_line g t due (line_with line ended)
+      pub judged_rest : due-here ≡ true → (k : ℕ) → k ≡ judge g t due (fields_of line) → k ≡ judge_line g t due (line_with line ended)
       unfolding judge_line
-      judged-rest s k j = rw (h, ← e, y, ← fits, s) j
+      judged_rest s k j = rw (h, ← e, y, ← fits, s) j
 
 -- the fields of a line of the shape
 module _ (t : List ℕ) (due : Due) (line fs : List ℕ) (room : Room (length t) due) (f : fs ≡ fields_of line) where
@@ -77,9 +77,9 @@ module _ (g t : List ℕ) (due : Due) (text : List ℕ) (at : ℕ) where
 
   -- a line is there: it is refused, or stored and the next one is due
   module _ (h : at < length text) (k : ℕ) (e : k ≡ judge_line g t due (line_with (counting_of text at) (is_ended text (counting_start text at)))) where
-    pub reads-no : (k ≡ 0 → ⊥) → (v : Verdict) → read_lines g t due (counting_lines (drop at text)) ≡ go_on k v
+    pub reads_no : (k ≡ 0 → ⊥) → (v : Verdict) → read_lines g t due (counting_lines (drop at text)) ≡ go_on k v
     unfolding read_lines
-    reads-no n v = rw (counting_lines_at text at h, ← e) (stops k n _ _)
+    reads_no n v = rw (counting_lines_at text at h, ← e) (stops k n _ _)
       where
         stops : (k : ℕ) → (k ≡ 0 → ⊥) → (a b : Verdict) → go_on k a ≡ go_on k b
         stops zero n a b = absurd (n refl)
@@ -103,7 +103,7 @@ module _ (g t₀ : List ℕ) (first : Due) (text t : List ℕ) (due : Due) (at :
   known = judged ∙ rw (part, feed, from)
 
   pub turn_no : (k ≡ 0 → ⊥) → (t' : List ℕ) → verdict_of k t' ≡ read_lines g t₀ first (counting_lines text)
-  turn_no n t' = sym (reads-no g t due text at h k known n (accepted t')) ∙ inv.rest
+  turn_no n t' = sym (reads_no g t due text at h k known n (accepted t')) ∙ inv.rest
 
   pub turn_on : k ≡ 0 → (t' : List ℕ) (due' : Due) (at' : ℕ) → length t' ≡ length t → Stores t due line k t' → due' ≡ cond (in_table due) (next t' due) Nothing → at' ≡ after_line text start
       → Reading g t₀ first text t' due' at'

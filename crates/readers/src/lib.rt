@@ -1,5 +1,8 @@
 // The readers of a grammar text and a graph text: line by line into a local table, which is copied to the lent one
 // when the whole text has passed.
+
+#![tactic(auto)]
+
 ghost use Rattle.std.specs.Prelude.{◌≡◌, true, ◌++◌, ◌≤◌, ◌<◌, length, drop, eqb};
 ghost use Rattle.format.specs.Fields.{fields_of};
 ghost use Rattle.format.specs.Shape.{letter_of, shape_of, kind_letter};

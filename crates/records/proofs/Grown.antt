@@ -86,21 +86,21 @@ module _ (w : List ℕ) (f : Fits w) where
     whole : Grown w (chart_of w) (added_all (capacity w) xs (chart_of w))
     whole = grown_all w xs (chart_of w) (holds_own w f) e
 
-    pub grown-fits : Fits (grown_by w xs)
+    pub grown_fits : Fits (grown_by w xs)
     unfolding grown_by
-    grown-fits = fits_written w _ whole.holds
+    grown_fits = fits_written w _ whole.holds
 
-    pub grown-capacity : capacity (grown_by w xs) ≡ capacity w
+    pub grown_capacity : capacity (grown_by w xs) ≡ capacity w
     unfolding grown_by
-    grown-capacity = capacity_written w _ whole.holds
+    grown_capacity = capacity_written w _ whole.holds
 
-    pub grown-chart : chart_of (grown_by w xs) ≡ added_all (capacity w) xs (chart_of w)
+    pub grown_chart : chart_of (grown_by w xs) ≡ added_all (capacity w) xs (chart_of w)
     unfolding grown_by
-    grown-chart = chart_of_written w _ whole.holds
+    grown_chart = chart_of_written w _ whole.holds
 
-    grown-is : grown_by w xs ≡ written w (added_all (capacity w) xs (chart_of w))
+    grown_is : grown_by w xs ≡ written w (added_all (capacity w) xs (chart_of w))
     unfolding grown_by
-    grown-is = refl
+    grown_is = refl
 
     more_by : (ys : List Record) → Whole ys → (v : List ℕ) → capacity v ≡ capacity w → chart_of v ≡ added_all (capacity w) xs (chart_of w)
         → v ≡ written w (added_all (capacity w) xs (chart_of w)) → grown_by v ys ≡ grown_by w (xs ++ ys)
@@ -116,12 +116,12 @@ module _ (w : List ℕ) (f : Fits w) where
         ∙ ap (written w) (sym (all_append (capacity w) xs ys (chart_of w)))
 
     -- further records
-    pub grown-more : (ys : List Record) → Whole ys → grown_by (grown_by w xs) ys ≡ grown_by w (xs ++ ys)
-    grown-more ys e' = more_by ys e' (grown_by w xs) grown-capacity grown-chart grown-is
+    pub grown_more : (ys : List Record) → Whole ys → grown_by (grown_by w xs) ys ≡ grown_by w (xs ++ ys)
+    grown_more ys e' = more_by ys e' (grown_by w xs) grown_capacity grown_chart grown_is
 
     -- records that stay where they are
     grew : Grew (chart_of w).records (chart_of (grown_by w xs)).records
-    grew = subst (λ (c : Chart). Grew (chart_of w).records c.records) (sym grown-chart) (all_grown (capacity w) xs (chart_of w))
+    grew = subst (λ (c : Chart). Grew (chart_of w).records c.records) (sym grown_chart) (all_grown (capacity w) xs (chart_of w))
 
     counted : (v : List ℕ) → length (chart_of v).records ≡ item_count v
     unfolding chart_of
@@ -131,13 +131,13 @@ module _ (w : List ℕ) (f : Fits w) where
     unfolding chart_of
     at v k l = record_in_lem v (item_count v) k l
 
-    pub grown-longer : item_count w ≤ item_count (grown_by w xs)
-    grown-longer = omega (arith, grew.longer, counted w, counted (grown_by w xs))
+    pub grown_longer : item_count w ≤ item_count (grown_by w xs)
+    grown_longer = omega (arith, grew.longer, counted w, counted (grown_by w xs))
 
-    pub grown-flag : (k : ℕ) → k < item_count w → is_handled (record_at (grown_by w xs) k) ≡ is_handled (record_at w k)
-    grown-flag k l =
-        sym (ap is_handled (at (grown_by w xs) k (omega (arith, grown-longer)))) ∙ grew.mark k (omega (arith, counted w)) ∙ ap is_handled (at w k l)
+    pub grown_flag : (k : ℕ) → k < item_count w → is_handled (record_at (grown_by w xs) k) ≡ is_handled (record_at w k)
+    grown_flag k l =
+        sym (ap is_handled (at (grown_by w xs) k (omega (arith, grown_longer)))) ∙ grew.mark k (omega (arith, counted w)) ∙ ap is_handled (at w k l)
 
-    pub grown-record : (k : ℕ) → k < item_count w → is_handled (record_at w k) ≡ true → record_at (grown_by w xs) k ≡ record_at w k
-    grown-record k l h =
-        sym (at (grown_by w xs) k (omega (arith, grown-longer))) ∙ grew.stays k (omega (arith, counted w)) (ap is_handled (at w k l) ∙ h) ∙ at w k l
+    pub grown_record : (k : ℕ) → k < item_count w → is_handled (record_at w k) ≡ true → record_at (grown_by w xs) k ≡ record_at w k
+    grown_record k l h =
+        sym (at (grown_by w xs) k (omega (arith, grown_longer))) ∙ grew.stays k (omega (arith, counted w)) (ap is_handled (at w k l) ∙ h) ∙ at w k l

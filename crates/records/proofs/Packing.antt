@@ -41,10 +41,10 @@ module _ (h e m t : ℕ) where
   -- and one where it becomes handled
   handled_from : words_of (handled_now (record_from h e m t)) ≡ (h % 4294967296 + 4294967296) ∷ e ∷ m ∷ t ∷ []
   unfolding words_of head_of tail_of record_from item_from
-  handled_from = rw (head-handled, word_places m, tail_digits t)
+  handled_from = rw (head_handled, word_places m, tail_digits t)
     where
-      head-handled : ((1 * 256 + h / 65536 / 256 % 256) * 256 + h / 65536 % 256) * 65536 + h % 65536 ≡ h % 4294967296 + 4294967296
-      head-handled = omega arith
+      head_handled : ((1 * 256 + h / 65536 / 256 % 256) * 256 + h / 65536 % 256) * 65536 + h % 65536 ≡ h % 4294967296 + 4294967296
+      head_handled = omega arith
 
 -- a record that is read has the words that it was read from
 module _ (w : List ℕ) (j : ℕ) where

@@ -240,13 +240,13 @@ module _ (w : List ℕ) (j : ℕ) (x : Record) where
   improve_handled h = rw h
 
   module _ (z : is_handled (record_at w j) ≡ false) where
-    pub improve-less : (record_at w j).item.count ≤ x.item.count → w ≡ improved_at w j x
+    pub improve_less : (record_at w j).item.count ≤ x.item.count → w ≡ improved_at w j x
     unfolding improved_at
-    improve-less l = rw (z, le-leb (record_at w j).item.count x.item.count l)
+    improve_less l = rw (z, le-leb (record_at w j).item.count x.item.count l)
 
-    pub improve-more : j < capacity w → x.item.count < (record_at w j).item.count → set w (2 + 4 * j + 3) (tail_of x) ≡ improved_at w j x
+    pub improve_more : j < capacity w → x.item.count < (record_at w j).item.count → set w (2 + 4 * j + 3) (tail_of x) ≡ improved_at w j x
     unfolding improved_at
-    improve-more h l =
+    improve_more h l =
         rw (z, lt-leb (record_at w j).item.count x.item.count l)
         (save_some w _ j (improved (record_at w j) x) h (sym (put_tail w j (tail_of x)) ∙ ap (put w (2 + 4 * j)) (sym (words_improved w j x))))
 

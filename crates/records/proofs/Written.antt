@@ -3,7 +3,7 @@
 use Prim.Native.Nat.{ℕ, zero, suc, ◌+◌, ◌-◌, ◌*◌, ◌/◌, ◌≤◌, ◌<◌, min}
 use mathlib.Core.Path.{◌≡◌, refl, sym, ap, ap₂, ◌∙◌, subst}
 use mathlib.Core.Logic.{◌≢◌}
-use mathlib.Core.List.{List, [], ◌∷◌, ◌++◌, append_assoc, append_nil}
+use mathlib.Core.List.{List, [], ◌∷◌, ◌++◌, append_assoc, append-nil}
 use mathlib.Core.Bool.{Bool, true, false, cond, ◌||◌}
 use native.Mathlib.Omega.{arith}
 use native.Mathlib.Decide.{dec_lt}
@@ -107,7 +107,7 @@ all_records v (suc n) h =
     ∙ ap (λ (l : List ℕ). all_words (records_at v n) ++ l) (next_record v n (omega arith) ∙ ap (λ m. words_of (record_at v n) ++ drop m v) (let q : 2 + 4 * n + 4 ≡ 2 + 4 * suc n = omega arith in q))
     ∙ sym (append_assoc (all_words (records_at v n)) (words_of (record_at v n)) (drop (2 + 4 * suc n) v))
     ∙ ap (λ (l : List ℕ). l ++ drop (2 + 4 * suc n) v)
-    (ap (λ (l : List ℕ). all_words (records_at v n) ++ l) (sym (append_nil (words_of (record_at v n)))) ∙ sym (words_append (records_at v n) (record_at v n ∷ [])))
+    (ap (λ (l : List ℕ). all_words (records_at v n) ++ l) (sym (append-nil (words_of (record_at v n)))) ∙ sym (words_append (records_at v n) (record_at v n ∷ [])))
 
 two_words : (v : List ℕ) → 2 ≤ length v → v ≡ get_or v 0 0 ∷ get_or v 1 0 ∷ drop 2 v
 two_words [] h = absurd (omega arith)
@@ -186,18 +186,18 @@ module _ (w : List ℕ) (n : ℕ) (f : Fits w) (ne : n ≡ get_or w 0 0) where
   -- words that differ from w in one record
   module _ (j : ℕ) (h : j < n) (v : List ℕ) (y : Record) (long : length v ≡ length w) (same : record_at v j ≡ y)
       (before : (i : ℕ) → i < 2 + 4 * j → get_or v i 0 ≡ get_or w i 0) (behind : (i : ℕ) → 2 + 4 * j + 4 ≤ i → get_or v i 0 ≡ get_or w i 0) where
-    record-else : (k : ℕ) → k ≢ j → record_at v k ≡ record_at w k
-    record-else k d = record_by v w k (λ i l. go i l (dec_lt k j))
+    record_else : (k : ℕ) → k ≢ j → record_at v k ≡ record_at w k
+    record_else k d = record_by v w k (λ i l. go i l (dec_lt k j))
       where
         go : (i : ℕ) → i < 4 → Dec (k < j) → get_or v (2 + 4 * k + i) 0 ≡ get_or w (2 + 4 * k + i) 0
         go i l (yes q) = before (2 + 4 * k + i) (omega arith)
         go i l (no q) = behind (2 + 4 * k + i) (omega arith)
 
-    one-record : (k : ℕ) → k < n → record_at v k ≡ record_in (set (records_at w n) j y) k
-    one-record k l = go (dec_lt k j) (dec_lt j k)
+    one_record : (k : ℕ) → k < n → record_at v k ≡ record_in (set (records_at w n) j y) k
+    one_record k l = go (dec_lt k j) (dec_lt j k)
       where
         else : k ≢ j → record_at v k ≡ record_in (set (records_at w n) j y) k
-        else d = record-else k d ∙ sym (record_in_lem w n k l) ∙ sym (get_or-set_other (records_at w n) j k y no_record d)
+        else d = record_else k d ∙ sym (record_in_lem w n k l) ∙ sym (get_or-set_other (records_at w n) j k y no_record d)
 
         go : Dec (k < j) → Dec (j < k) → record_at v k ≡ record_in (set (records_at w n) j y) k
         go (yes d) q = else (λ z. omega arith)
@@ -216,7 +216,7 @@ module _ (w : List ℕ) (n : ℕ) (f : Fits w) (ne : n ≡ get_or w 0 0) where
           long = long;
           first = before 0 (omega arith) ∙ sym ne;
           second = before 1 (omega arith);
-          at = one-record;
+          at = one_record;
           behind = λ i l. behind i (omega arith);
         })
 

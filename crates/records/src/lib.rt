@@ -1,5 +1,8 @@
 // A chart's words: two header words, then four words for each record. Only this crate knows where a field stands:
 // records are loaded and stored by value, and what is looked at in place has a name.
+
+#![tactic(auto)]
+
 ghost use Rattle.std.specs.Prelude.{◌≡◌, List, ℕ, ◌≤◌, ◌<◌, ◌+◌, ◌*◌, length, get_or};
 ghost use Rattle.records.specs.Words.{header_words, words_for, cleared, capacity, item_count, word_at, item_from, record_from, record_at, records_at, item_head, Headed, Compact, saved, lesser_at, improved_at, appended_to, added_to, marked_at};
 ghost use Rattle.agenda.specs.Records.{new_record, same_chart_item, is_handled};

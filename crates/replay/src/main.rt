@@ -1,5 +1,7 @@
 // Reads grammar.txt, graph.txt and derivation.txt, and prints the first refusal, 0 for a pass.
 
+#![tactic(auto)]
+
 // Each of these reads one file more. A file that cannot be read is no text: nothing is printed.
 fn replay_with(grammar: &[u8], graph: &[u8]) {
     let mut text = [0u8; 32769];

@@ -55,49 +55,49 @@ module _ (g h row : List ℕ) (accepted : Accepted g h) (sized : SizedRow (gramm
     rank_same : rank ≡ rank_at g (edge_label g q i)
     rank_same = t ∙ ap (rank_at g) l
 
-    pub edge-node-there : (k x : ℕ) → k < rank → x ≡ edge_node g q i k → (x < 8) × (2 + x < length row)
-    edge-node-there k x b e = node_there g h row accepted sized x (omega (arith, e, node_known g q i known k (omega (arith, rank_same))))
+    pub edge_node_there : (k x : ℕ) → k < rank → x ≡ edge_node g q i k → (x < 8) × (2 + x < length row)
+    edge_node_there k x b e = node_there g h row accepted sized x (omega (arith, e, node_known g q i known k (omega (arith, rank_same))))
 
     read_here : nodes ≡ tabulate rank (λ k. node_in row (edge_node g q i k))
     read_here = nodes_read ∙ ap (λ n. tabulate n (λ k. node_in row (edge_node g q i k))) (sym rank_same)
 
     -- the nodes in four places
-    pub nodes-all : (k : ℕ) (l : List ℕ) → k ≤ rank → rank ≤ k → Placed (λ k. node_in row (edge_node g q i k)) k l → l ≡ four_of nodes
-    nodes-all k l a b p = placed_all (λ k. node_in row (edge_node g q i k)) rank k l a b p ∙ ap four_of (sym read_here)
+    pub nodes_all : (k : ℕ) (l : List ℕ) → k ≤ rank → rank ≤ k → Placed (λ k. node_in row (edge_node g q i k)) k l → l ≡ four_of nodes
+    nodes_all k l a b p = placed_all (λ k. node_in row (edge_node g q i k)) rank k l a b p ∙ ap four_of (sym read_here)
 
     -- a graph edge of the same label
     module _ (e : ℕ) (there : e < graph_edges h) (same : graph_label h e ≡ edge_label g q i) where
       abbrev on : Bool
       on = same_list (edge_at (graph_of g h).edges e).attachment nodes
 
-      as-tests : on ≡ every rank (λ k. eqb (graph_node h e k) (node_in row (edge_node g q i k)))
-      as-tests =
+      as_tests : on ≡ every rank (λ k. eqb (graph_node h e k) (node_in row (edge_node g q i k)))
+      as_tests =
           let rank_is : rank_at g (graph_label h e) ≡ rank = ap (rank_at g) same ∙ sym rank_same in
           ap₂ same_list (graph_nodes_are g h e there ∙ ap (λ n. tabulate n (λ k. graph_node h e k)) rank_is) read_here
           ∙ same_tabulated rank (λ k. graph_node h e k) (λ k. node_in row (edge_node g q i k))
 
-      pub nodes-no : (k x u : ℕ) → k < rank → x ≡ edge_node g q i k → u ≡ graph_node h e k → (u ≡ node_in row x → ⊥) → false ≡ on
-      nodes-no k x u b s a d =
-          every_false rank (λ k. eqb (graph_node h e k) (node_in row (edge_node g q i k))) k b (other_node h row e k x (edge_node g q i k) u s a d) ∙ sym as-tests
+      pub nodes_no : (k x u : ℕ) → k < rank → x ≡ edge_node g q i k → u ≡ graph_node h e k → (u ≡ node_in row x → ⊥) → false ≡ on
+      nodes_no k x u b s a d =
+          every_false rank (λ k. eqb (graph_node h e k) (node_in row (edge_node g q i k))) k b (other_node h row e k x (edge_node g q i k) u s a d) ∙ sym as_tests
 
-      pub nodes-same : (k : ℕ) → rank ≤ k → PassedTo (λ k. eqb (graph_node h e k) (node_in row (edge_node g q i k))) k → true ≡ on
-      nodes-same k b all = passed_all (λ k. eqb (graph_node h e k) (node_in row (edge_node g q i k))) rank k b all ∙ sym as-tests
+      pub nodes_same : (k : ℕ) → rank ≤ k → PassedTo (λ k. eqb (graph_node h e k) (node_in row (edge_node g q i k))) k → true ≡ on
+      nodes_same k b all = passed_all (λ k. eqb (graph_node h e k) (node_in row (edge_node g q i k))) rank k b all ∙ sym as_tests
 
   -- ---- the tests of a graph edge
   module _ (e used count : ℕ) (counted : count ≡ graph_edges h) where
     abbrev passes : Bool
     passes = edge_passes (graph_of g h) edge.label nodes used e
 
-    pub edge-unknown : count ≤ e → false ≡ passes
+    pub edge_unknown : count ≤ e → false ≡ passes
     unfolding edge_passes
-    edge-unknown b = rw (le-ltb e (length (graph_of g h).edges) (omega (arith, graph_size g h)))
+    edge_unknown b = rw (le-ltb e (length (graph_of g h).edges) (omega (arith, graph_size g h)))
 
     module _ (b : e < count) (label : ℕ) (l : label ≡ edge_label g q i) (own : ℕ) (o : own ≡ graph_label h e) where
       there : e < graph_edges h
       there = omega arith
 
-      known-test : ltb e (length (graph_of g h).edges) ≡ true
-      known-test = lt-ltb e (length (graph_of g h).edges) (omega (arith, graph_size g h))
+      known_test : ltb e (length (graph_of g h).edges) ≡ true
+      known_test = lt-ltb e (length (graph_of g h).edges) (omega (arith, graph_size g h))
 
       own_is : own ≡ (edge_at (graph_of g h).edges e).label
       own_is = o ∙ sym (graph_label_is g h e there)
@@ -105,26 +105,26 @@ module _ (g h row : List ℕ) (accepted : Accepted g h) (sized : SizedRow (gramm
       label_here : label ≡ edge.label
       label_here = l ∙ sym (label_is g q i known)
 
-      pub edge-label-no : (own ≡ label → ⊥) → false ≡ passes
+      pub edge_label_no : (own ≡ label → ⊥) → false ≡ passes
       unfolding edge_passes
-      edge-label-no d =
-          rw (known-test, ne_eqb (edge_at (graph_of g h).edges e).label edge.label (λ s. d (own_is ∙ s ∙ sym label_here)))
+      edge_label_no d =
+          rw (known_test, ne_eqb (edge_at (graph_of g h).edges e).label edge.label (λ s. d (own_is ∙ s ∙ sym label_here)))
 
       module _ (s : own ≡ label) where
         pub edge_there : e < graph_edges h
         edge_there = there
 
-        pub edge-labelled : graph_label h e ≡ edge_label g q i
-        edge-labelled = sym o ∙ s ∙ l
+        pub edge_labelled : graph_label h e ≡ edge_label g q i
+        edge_labelled = sym o ∙ s ∙ l
 
         label_test : eqb (edge_at (graph_of g h).edges e).label edge.label ≡ true
         label_test = eq-eqb (edge_at (graph_of g h).edges e).label edge.label (sym own_is ∙ s ∙ label_here)
 
         module _ (f : Bool) (fit : f ≡ same_list (edge_at (graph_of g h).edges e).attachment nodes) where
-          pub edge-nodes-no : f ≡ false → false ≡ passes
+          pub edge_nodes_no : f ≡ false → false ≡ passes
           unfolding edge_passes
-          edge-nodes-no z = rw (known-test, label_test, ← fit, z)
+          edge_nodes_no z = rw (known_test, label_test, ← fit, z)
 
-          pub edge-new : f ≡ true → (b : Bool) → Found used e b → not b ≡ passes
+          pub edge_new : f ≡ true → (b : Bool) → Found used e b → not b ≡ passes
           unfolding edge_passes
-          edge-new z b found = rw (known-test, label_test, ← fit, z, ← found.value)
+          edge_new z b found = rw (known_test, label_test, ← fit, z, ← found.value)

@@ -153,29 +153,29 @@ module _ (G : Grammar) (H : Graph) (text : List ℕ) (s : ℕ) (L : List ℕ) (p
     row_here : get_or (text_rows text) p.next [] ≡ row
     row_here = row_is text p.next p.at r h line e row f
 
-    row-known : p.next < length (text_rows text)
-    row-known = (place_row text p.next p.at r h).known
+    row_known : p.next < length (text_rows text)
+    row_known = (place_row text p.next p.at r h).known
 
     tested : {es : List ℕ} (vs : List ℕ) → Reaches H p p.next es vs → row_test G H p.next s L vs row ≡ passes
     tested vs w = sym (row_test_lem G H p.next s L p.nodes vs row (held w.used_nodes))
 
     module _ (t : Taken) (a : t ≡ taken_if passes (with_all p.nodes new)) where
-      pub applied-refused : (q : Progress) → t ≡ Not → q.ok ≡ false → Applied G H text s L p q
-      applied-refused q c d =
+      pub applied_refused : (q : Progress) → t ≡ Not → q.ok ≡ false → Applied G H text s L p q
+      applied_refused q c d =
           let no = of_not passes _ (sym a ∙ c) in
           applied_failed q d
-          (λ k es vs w. at_refused G H (text_rows text) k s L p.next es vs row row-known row_here (tested vs w ∙ no))
+          (λ k es vs w. at_refused G H (text_rows text) k s L p.next es vs row row_known row_here (tested vs w ∙ no))
 
       module _ (m : ℕ) (c : t ≡ With m) where
         passed : passes ≡ true
         passed = (of_with passes _ m (sym a ∙ c)).0
 
-        pub taken-sized : SizedRow G H row
-        taken-sized = row_sized G H p.next s L p.nodes row passed
+        pub taken_sized : SizedRow G H row
+        taken_sized = row_sized G H p.next s L p.nodes row passed
 
         module _ (o : Progress) (q : o ≡ record { ok = p.ok; next = p.next + 1; at = after_line text p.at; edges = p.edges; nodes = m }) where
-          opened-reaches : (es vs : List ℕ) → Reaches H p p.next es vs → Reaches H o o.next es (vs ++ new)
-          opened-reaches es vs w =
+          opened_reaches : (es vs : List ℕ) → Reaches H p p.next es vs → Reaches H o o.next es (vs ++ new)
+          opened_reaches es vs w =
               subst (λ (x : Progress). Reaches H x x.next es (vs ++ new)) (sym q)
               (record {
                 passing = w.passing;
@@ -183,37 +183,37 @@ module _ (G : Grammar) (H : Graph) (text : List ℕ) (s : ℕ) (L : List ℕ) (p
                 used_edges = w.used_edges;
                 used_nodes =
                     subst (λ (k : ℕ). Marks H.nodes k (vs ++ new)) (sym (of_with passes _ m (sym a ∙ c)).1)
-                    (marks_append H.nodes p.nodes vs _ (new_inside G H row taken-sized) w.used_nodes);
+                    (marks_append H.nodes p.nodes vs _ (new_inside G H row taken_sized) w.used_nodes);
               })
 
           module _ (few : length (right_of G (rule_in row)).edges ≤ 8) where
             -- the definition over the edges of the row's rule
-            abbrev edgesWith : ℕ → State → State
-            edgesWith k st =
+            abbrev edges_with : ℕ → State → State
+            edges_with k st =
                 let P = right_of G (rule_in row) in
                 replay_edges k G H (text_rows text) (place_in P row) P.edges (fields_in P row) st
 
-            opened-left : left_from G text row 0 (p.next + 1) < left_at text p.next
-            opened-left = omega (arith, row-known)
+            opened_left : left_from G text row 0 (p.next + 1) < left_at text p.next
+            opened_left = omega (arith, row_known)
 
             -- an application is left behind, and its edges count less
-            pub opened-falls : left_from G text row 0 o.next < left_at text p.next
-            opened-falls =
-                subst (λ (x : Progress). left_from G text row 0 x.next < left_at text p.next) (sym q) opened-left
+            pub opened_falls : left_from G text row 0 o.next < left_at text p.next
+            opened_falls =
+                subst (λ (x : Progress). left_from G text row 0 x.next < left_at text p.next) (sym q) opened_left
 
-            pub applied-opened : (u : Progress) → Followed G H text row 0 o u → Applied G H text s L p u
-            applied-opened u d =
+            pub applied_opened : (u : Progress) → Followed G H text row 0 o u → Applied G H text s L p u
+            applied_opened u d =
                 let next : o.next ≡ p.next + 1 = ap (λ (x : Progress). x.next) q in
                 record { onward = d.onward; further = λ y. omega (arith, d.further y); stands = go }
               where
                 go : (k : ℕ) → left_at text p.next ≤ k
                     → (es vs : List ℕ) → Reaches H p p.next es vs → Stands H u (at_with k es vs)
-                go zero l es vs w = absurd (omega (arith, row-known))
+                go zero l es vs w = absurd (omega (arith, row_known))
                 go (suc k) l es vs w =
                     stands_as H u _ _
-                    (at_passed G H (text_rows text) k s L p.next es vs row row-known row_here (tested vs w ∙ passed)
-                    ∙ ap (λ (j : ℕ). edgesWith k (reached j es (vs ++ new))) (sym (ap (λ (x : Progress). x.next) q)))
-                    (d.stands k (omega (arith, opened-falls)) es (vs ++ new) (opened-reaches es vs w))
+                    (at_passed G H (text_rows text) k s L p.next es vs row row_known row_here (tested vs w ∙ passed)
+                    ∙ ap (λ (j : ℕ). edges_with k (reached j es (vs ++ new))) (sym (ap (λ (x : Progress). x.next) q)))
+                    (d.stands k (omega (arith, opened_falls)) es (vs ++ new) (opened_reaches es vs w))
 
   pub applied_passing : (b : Bool) (st : List ℕ) → b ≡ true
       → Applied G H text s L p (progress_in b st) → Applied G H text s L p (progress_in true st)
@@ -274,9 +274,9 @@ module _ (G : Grammar) (H : Graph) (text row : List ℕ) (z : SizedRow G H row) 
   -- a graph edge
   module _ (f : ℕ) (e : part_of G row i ≡ GraphEdge f) where
     module _ (b : Bool) (t : b ≡ edge_passes H label nodes p.edges f) where
-      edge-step : (k : ℕ) {es vs : List ℕ} → Reaches H p p.next es vs
+      edge_step : (k : ℕ) {es vs : List ℕ} → Reaches H p p.next es vs
           → on_from i (suc k) (reached p.next es vs) ≡ check b (on_from (i + 1) k (reached p.next (es ++ f ∷ []) vs))
-      edge-step k {es} {vs} w =
+      edge_step k {es} {vs} w =
           let o = of_edge G row i f e in
           let field = get_or (fields_in P row) i 0 in
           edges_step G H (text_rows text) k place P.edges (fields_in P row) i p.next es vs o.known fields_length
@@ -287,45 +287,45 @@ module _ (G : Grammar) (H : Graph) (text row : List ℕ) (z : SizedRow G H row) 
           ∙ ap (λ (x : Bool). check x (on_from (i + 1) k (reached p.next (es ++ f ∷ []) vs)))
           (sym (edge_test_lem H label nodes p.edges es f (held w.used_edges)) ∙ sym t)
 
-      pub followed-refused : (q : Progress) → b ≡ false → q.ok ≡ false → Followed G H text row i p q
-      followed-refused q c d =
+      pub followed_refused : (q : Progress) → b ≡ false → q.ok ≡ false → Followed G H text row i p q
+      followed_refused q c d =
           followed_failed q d
           (λ k es vs w.
-          edge-step k w ∙ ap (λ (x : Bool). check x (on_from (i + 1) k (reached p.next (es ++ f ∷ []) vs))) c)
+          edge_step k w ∙ ap (λ (x : Bool). check x (on_from (i + 1) k (reached p.next (es ++ f ∷ []) vs))) c)
 
-      edge-listed : b ≡ true → f < length H.edges
-      edge-listed c = edge_known H label nodes p.edges f (sym t ∙ c)
+      edge_listed : b ≡ true → f < length H.edges
+      edge_listed c = edge_known H label nodes p.edges f (sym t ∙ c)
 
       module _ (c : b ≡ true) (o : Progress) (q : o ≡ record { ok = p.ok; next = p.next; at = p.at; edges = p.edges ∪ single f; nodes = p.nodes }) where
-        used-reaches : (es vs : List ℕ) → Reaches H p p.next es vs → Reaches H o o.next (es ++ f ∷ []) vs
-        used-reaches es vs w =
+        used_reaches : (es vs : List ℕ) → Reaches H p p.next es vs → Reaches H o o.next (es ++ f ∷ []) vs
+        used_reaches es vs w =
             subst (λ (x : Progress). Reaches H x x.next (es ++ f ∷ []) vs) (sym q)
-            (record { passing = w.passing; row = refl; used_edges = marks_snoc (length H.edges) p.edges f es (edge-listed c) w.used_edges; used_nodes = w.used_nodes })
+            (record { passing = w.passing; row = refl; used_edges = marks_snoc (length H.edges) p.edges f es (edge_listed c) w.used_edges; used_nodes = w.used_nodes })
 
-        used-next : o.next ≡ p.next
-        used-next = ap (λ (x : Progress). x.next) q
+        used_next : o.next ≡ p.next
+        used_next = ap (λ (x : Progress). x.next) q
 
-        pub used-falls : left_from G text row (i + 1) o.next < left_from G text row i p.next
-        used-falls = falls_on (of_edge G row i f e).known o.next (omega (arith, used-next))
+        pub used_falls : left_from G text row (i + 1) o.next < left_from G text row i p.next
+        used_falls = falls_on (of_edge G row i f e).known o.next (omega (arith, used_next))
 
-        pub followed-edge : (u : Progress) → Followed G H text row (i + 1) o u → Followed G H text row i p u
-        followed-edge u g =
-            record { onward = g.onward; further = λ y. omega (arith, g.further y, used-next); stands = go }
+        pub followed_edge : (u : Progress) → Followed G H text row (i + 1) o u → Followed G H text row i p u
+        followed_edge u g =
+            record { onward = g.onward; further = λ y. omega (arith, g.further y, used_next); stands = go }
           where
             go : (k : ℕ) → StandsWith u k
             go zero l es vs w = absurd (omega arith)
             go (suc k) l es vs w =
                 stands_as H u _ _
-                (edge-step k w
+                (edge_step k w
                 ∙ ap (λ (x : Bool). check x (on_from (i + 1) k (reached p.next (es ++ f ∷ []) vs))) c
-                ∙ ap (λ (m : ℕ). on_from (i + 1) k (reached m (es ++ f ∷ []) vs)) (sym used-next))
-                (g.stands k (omega (arith, used-falls)) (es ++ f ∷ []) vs (used-reaches es vs w))
+                ∙ ap (λ (m : ℕ). on_from (i + 1) k (reached m (es ++ f ∷ []) vs)) (sym used_next))
+                (g.stands k (omega (arith, used_falls)) (es ++ f ∷ []) vs (used_reaches es vs w))
 
   -- an application
   module _ (s f : ℕ) (e : part_of G row i ≡ Application s f) where
-    under-step : (k : ℕ) (es vs : List ℕ)
+    under_step : (k : ℕ) (es vs : List ℕ)
         → on_from i (suc k) (reached p.next es vs) ≡ check (part_test p.next f) (on_from (i + 1) k (replay_at k G H (text_rows text) s nodes (reached p.next es vs)))
-    under-step k es vs =
+    under_step k es vs =
         let o = of_row G row i s f e in
         let field = get_or (fields_in P row) i 0 in
         edges_step G H (text_rows text) k place P.edges (fields_in P row) i p.next es vs o.known fields_length
@@ -335,25 +335,25 @@ module _ (G : Grammar) (H : Graph) (text row : List ℕ) (z : SizedRow G H row) 
         ∙ ap₂ (λ (y m : ℕ). check (part_test p.next y) (on_from (i + 1) k (replay_at k G H (text_rows text) m nodes (reached p.next es vs)))) (sym o.number) (sym o.symbol)
 
     -- its edge counts one more
-    pub under-falls : left_at text p.next < left_from G text row i p.next
-    under-falls = omega arith
+    pub under_falls : left_at text p.next < left_from G text row i p.next
+    under_falls = omega arith
 
-    pub followed-unnumbered : (q : Progress) → (f ≡ p.next → ⊥) → q.ok ≡ false → Followed G H text row i p q
-    followed-unnumbered q c d =
+    pub followed_unnumbered : (q : Progress) → (f ≡ p.next → ⊥) → q.ok ≡ false → Followed G H text row i p q
+    followed_unnumbered q c d =
         followed_failed q d
         (λ k es vs w.
         let st = replay_at k G H (text_rows text) s nodes (reached p.next es vs) in
-        under-step k es vs ∙ ap (λ (x : Bool). check x (on_from (i + 1) k st)) (ne_eqb f p.next c))
+        under_step k es vs ∙ ap (λ (x : Bool). check x (on_from (i + 1) k st)) (ne_eqb f p.next c))
 
     module _ (c : f ≡ p.next) (L : List ℕ) (l : L ≡ nodes) (u : Progress) where
       numbered : (k : ℕ) (es vs : List ℕ) → on_from i (suc k) (reached p.next es vs) ≡ on_from (i + 1) k (replay_at k G H (text_rows text) s L (reached p.next es vs))
       numbered k es vs =
-          under-step k es vs ∙ ap (λ (x : Bool). check x (on_from (i + 1) k (replay_at k G H (text_rows text) s nodes (reached p.next es vs)))) (eq-eqb f p.next c)
+          under_step k es vs ∙ ap (λ (x : Bool). check x (on_from (i + 1) k (replay_at k G H (text_rows text) s nodes (reached p.next es vs)))) (eq-eqb f p.next c)
           ∙ ap (λ (m : List ℕ). on_from (i + 1) k (replay_at k G H (text_rows text) s m (reached p.next es vs))) (sym l)
 
       module _ (a : Applied G H text s L p u) where
-        pub followed-under-failed : u.ok ≡ false → (q : Progress) → q.ok ≡ false → Followed G H text row i p q
-        followed-under-failed d q f =
+        pub followed_under_failed : u.ok ≡ false → (q : Progress) → q.ok ≡ false → Followed G H text row i p q
+        followed_under_failed d q f =
             record {
               onward = λ o. absurd (passing_failed q f o);
               further = λ o. absurd (passing_failed q f o);
@@ -369,14 +369,14 @@ module _ (G : Grammar) (H : Graph) (text row : List ℕ) (z : SizedRow G H row) 
             stood (suc k) l es vs w =
                 let after = replay_at k G H (text_rows text) s L (reached p.next es vs) in
                 stands_as H q _ failed
-                (numbered k es vs ∙ go k after (a.stands k (omega (arith, under-falls)) es vs w)) f
+                (numbered k es vs ∙ go k after (a.stands k (omega (arith, under_falls)) es vs w)) f
 
         module _ (d : u.ok ≡ true) where
-          pub after-falls : left_from G text row (i + 1) u.next < left_from G text row i p.next
-          after-falls = falls_on (of_row G row i s f e).known u.next (a.further d)
+          pub after_falls : left_from G text row (i + 1) u.next < left_from G text row i p.next
+          after_falls = falls_on (of_row G row i s f e).known u.next (a.further d)
 
-          pub followed-under : (v : Progress) → Followed G H text row (i + 1) u v → Followed G H text row i p v
-          followed-under v g =
+          pub followed_under : (v : Progress) → Followed G H text row (i + 1) u v → Followed G H text row i p v
+          followed_under v g =
               record { onward = g.onward; further = λ y. omega (arith, a.further d, g.further y); stands = stood }
             where
               go : (k : ℕ) → left_from G text row (i + 1) u.next ≤ k
@@ -393,4 +393,4 @@ module _ (G : Grammar) (H : Graph) (text row : List ℕ) (z : SizedRow G H row) 
               stood (suc k) l es vs w =
                   let after = replay_at k G H (text_rows text) s L (reached p.next es vs) in
                   stands_as H v _ _ (numbered k es vs)
-                  (go k (omega (arith, after-falls)) after (a.stands k (omega (arith, under-falls)) es vs w))
+                  (go k (omega (arith, after_falls)) after (a.stands k (omega (arith, under_falls)) es vs w))

@@ -51,20 +51,20 @@ module _ (g : List ℕ) (r : ℕ) (checked : check_grammar g ≡ true) (known : 
     rank_same : rank ≡ rank_at g (rule_symbol g r)
     rank_same = t ∙ ap (rank_at g) s
 
-    outside-are : outside ≡ tabulate rank (λ k. rule_external g r k)
-    outside-are = externals_are g r checked known ∙ ap (λ n. tabulate n (λ k. rule_external g r k)) (sym rank_same)
+    outside_are : outside ≡ tabulate rank (λ k. rule_external g r k)
+    outside_are = externals_are g r checked known ∙ ap (λ n. tabulate n (λ k. rule_external g r k)) (sym rank_same)
 
-    outside-length : length outside ≡ rank
-    outside-length = ap length outside-are ∙ length_tabulate rank (λ k. rule_external g r k)
+    outside_length : length outside ≡ rank
+    outside_length = ap length outside_are ∙ length_tabulate rank (λ k. rule_external g r k)
 
-    pub outer-next : (k x m n : ℕ) → k < rank → x ≡ rule_external g r k → Added m x n → m ≡ with_all 0 (take k outside) → n ≡ with_all 0 (take (k + 1) outside)
-    outer-next k x m n h e added before =
-        let here : x ≡ get_or outside k 0 = e ∙ sym (ap (λ (l : List ℕ). get_or l k 0) outside-are ∙ get_d_tabulate rank (λ k. rule_external g r k) k 0 h) in
+    pub outer_next : (k x m n : ℕ) → k < rank → x ≡ rule_external g r k → Added m x n → m ≡ with_all 0 (take k outside) → n ≡ with_all 0 (take (k + 1) outside)
+    outer_next k x m n h e added before =
+        let here : x ≡ get_or outside k 0 = e ∙ sym (ap (λ (l : List ℕ). get_or l k 0) outside_are ∙ get_d_tabulate rank (λ k. rule_external g r k) k 0 h) in
         let small : get_or outside k 0 < 64 = omega (arith, here, e, external_known g r checked known k (omega (arith, rank_same)), nodes_few g r checked known) in
-        mask_next outside k m n (omega (arith, outside-length)) small before (subst (λ (y : ℕ). Added m y n) here added)
+        mask_next outside k m n (omega (arith, outside_length)) small before (subst (λ (y : ℕ). Added m y n) here added)
 
-    pub outer-all : (k m : ℕ) → rank ≤ k → m ≡ with_all 0 (take k outside) → m ≡ with_all 0 outside
-    outer-all k m h e = e ∙ ap (with_all 0) (take_all k outside (omega (arith, outside-length)))
+    pub outer_all : (k m : ℕ) → rank ≤ k → m ≡ with_all 0 (take k outside) → m ≡ with_all 0 outside
+    outer_all k m h e = e ∙ ap (with_all 0) (take_all k outside (omega (arith, outside_length)))
 
 -- ---- the graph node of an inner rule node
 -- the graph node of rule node x, 64 where x is one of the outer ones
@@ -118,19 +118,19 @@ module _ (g h row : List ℕ) (accepted : Accepted g h) (sized : SizedRow (gramm
     known : rule_in row < rule_count g
     known = rule_known g h row accepted sized
 
-    sized-nodes : P.nodes ≡ rule_nodes g (rule_in row)
-    sized-nodes = right_nodes g (rule_in row) accepted.grammar known
+    sized_nodes : P.nodes ≡ rule_nodes g (rule_in row)
+    sized_nodes = right_nodes g (rule_in row) accepted.grammar known
 
-    pub inner-there : (x : ℕ) → x < n → (x ≤ 8) × (2 + x < length row)
-    inner-there x l = let there = node_there g h row accepted sized x (omega (arith, count)) in (omega (arith, there), there.1)
+    pub inner_there : (x : ℕ) → x < n → (x ≤ 8) × (2 + x < length row)
+    inner_there x l = let there = node_there g h row accepted sized x (omega (arith, count)) in (omega (arith, there), there.1)
 
-    pub new-all : (used seen x : ℕ) → n ≤ x → new_in seen (inner_from P row x) ≡ new_in used (new_nodes P row) → true ≡ new_in used (new_nodes P row)
+    pub new_all : (used seen x : ℕ) → n ≤ x → new_in seen (inner_from P row x) ≡ new_in used (new_nodes P row) → true ≡ new_in used (new_nodes P row)
     unfolding new_in
-    new-all used seen x h inv = ap (new_in seen) (sym (from_end P row x (omega (arith, count, sized-nodes)))) ∙ inv
+    new_all used seen x h inv = ap (new_in seen) (sym (from_end P row x (omega (arith, count, sized_nodes)))) ∙ inv
 
-    pub with-all-lem : (used m x : ℕ) → n ≤ x → with_all m (inner_from P row x) ≡ with_all used (new_nodes P row) → m ≡ with_all used (new_nodes P row)
+    pub with_all_lem : (used m x : ℕ) → n ≤ x → with_all m (inner_from P row x) ≡ with_all used (new_nodes P row) → m ≡ with_all used (new_nodes P row)
     unfolding with_all
-    with-all-lem used m x h inv = ap (with_all m) (sym (from_end P row x (omega (arith, count, sized-nodes)))) ∙ inv
+    with_all_lem used m x h inv = ap (with_all m) (sym (from_end P row x (omega (arith, count, sized_nodes)))) ∙ inv
 
     -- one rule node
     module _ (outer : ℕ) (o : outer ≡ with_all 0 P.externals) (x v : ℕ) (more : x < n) (node : v ≡ inner_at row outer x) where
@@ -142,11 +142,11 @@ module _ (g h row : List ℕ) (accepted : Accepted g h) (sized : SizedRow (gramm
 
       from_next : inner_from P row x ≡ images (place_in P row) (cons_if inner x (select (λ y. eqb (occurs y P.externals) 0) (drop (x + 1) (up_to P.nodes))))
       unfolding inner_from select
-      from_next = rw (drop_up_to P.nodes x (omega (arith, count, sized-nodes)))
+      from_next = rw (drop_up_to P.nodes x (omega (arith, count, sized_nodes)))
 
-      from-external : inner ≡ false → inner_from P row x ≡ inner_from P row (x + 1)
+      from_external : inner ≡ false → inner_from P row x ≡ inner_from P row (x + 1)
       unfolding inner_from
-      from-external e = from_next ∙ rw e
+      from_external e = from_next ∙ rw e
 
       from_inner : inner ≡ true → inner_from P row x ≡ v ∷ inner_from P row (x + 1)
       unfolding inner_from
@@ -160,9 +160,9 @@ module _ (g h row : List ℕ) (accepted : Accepted g h) (sized : SizedRow (gramm
       none : inner ≡ false → v ≡ 64
       none e = value ∙ rw e
 
-      pub new-used : (used seen : ℕ) (b : Bool) → seen < 2 ^ 64 → Found seen v b → b ≡ true → new_in seen (inner_from P row x) ≡ new_in used (new_nodes P row) → false ≡ new_in used (new_nodes P row)
+      pub new_used : (used seen : ℕ) (b : Bool) → seen < 2 ^ 64 → Found seen v b → b ≡ true → new_in seen (inner_from P row x) ≡ new_in used (new_nodes P row) → false ≡ new_in used (new_nodes P row)
       unfolding new_in
-      new-used used seen b bound found y inv = go inner refl ∙ inv
+      new_used used seen b bound found y inv = go inner refl ∙ inv
         where
           there : member seen v ≡ true
           there = sym found.value ∙ y
@@ -171,20 +171,20 @@ module _ (g h row : List ℕ) (accepted : Accepted g h) (sized : SizedRow (gramm
           go true e = rw (from_inner e, there)
           go false e = absurd (true≢false (sym there ∙ ap (member seen) (none e) ∙ false_member seen 64 (lt_bits 64 seen 64 bound (omega arith))))
 
-      pub new-next : (used seen m : ℕ) (b : Bool) → Found seen v b → b ≡ false → Added seen v m → new_in seen (inner_from P row x) ≡ new_in used (new_nodes P row)
+      pub new_next : (used seen m : ℕ) (b : Bool) → Found seen v b → b ≡ false → Added seen v m → new_in seen (inner_from P row x) ≡ new_in used (new_nodes P row)
           → new_in m (inner_from P row (x + 1)) ≡ new_in used (new_nodes P row)
       unfolding new_in
-      new-next used seen m b found n added inv = sym (go inner refl) ∙ inv
+      new_next used seen m b found n added inv = sym (go inner refl) ∙ inv
         where
           go : (p : Bool) → inner ≡ p → new_in seen (inner_from P row x) ≡ new_in m (inner_from P row (x + 1))
           go true e = rw (from_inner e, sym found.value ∙ n, ← added.value (small e))
-          go false e = rw (from-external e, added.same (omega (arith, none e)))
+          go false e = rw (from_external e, added.same (omega (arith, none e)))
 
-      pub with-next : (used before m : ℕ) → Added before v m → with_all before (inner_from P row x) ≡ with_all used (new_nodes P row)
+      pub with_next : (used before m : ℕ) → Added before v m → with_all before (inner_from P row x) ≡ with_all used (new_nodes P row)
           → with_all m (inner_from P row (x + 1)) ≡ with_all used (new_nodes P row)
       unfolding with_all
-      with-next used before m added inv = sym (go inner refl) ∙ inv
+      with_next used before m added inv = sym (go inner refl) ∙ inv
         where
           go : (p : Bool) → inner ≡ p → with_all before (inner_from P row x) ≡ with_all m (inner_from P row (x + 1))
           go true e = ap (with_all before) (from_inner e) ∙ ap (λ k. with_all k (inner_from P row (x + 1))) (sym (added.value (small e)))
-          go false e = rw (from-external e, added.same (omega (arith, none e)))
+          go false e = rw (from_external e, added.same (omega (arith, none e)))

@@ -1,7 +1,7 @@
 -- The tests with masks are those with lists, where the masks stand for the lists.
 use mathlib.Core.Path.{◌≡◌, refl, sym, ap, ap₂, subst, ◌∙◌}
 use mathlib.Core.Bool.{Bool, true, false, not, ◌&&◌}
-use mathlib.Core.List.{List, [], ◌∷◌, ◌++◌, append_assoc, append_nil}
+use mathlib.Core.List.{List, [], ◌∷◌, ◌++◌, append_assoc, append-nil}
 use Prim.Native.Nat.{ℕ, zero, suc, ◌+◌, ◌≤◌, ◌<◌, min}
 use native.Mathlib.Omega.{arith}
 use native.Mathlib.Numerals.{add-one}
@@ -40,7 +40,7 @@ marks_snoc n m a l h k =
 
 pub marks_append : (n m : ℕ) (l xs : List ℕ) → ((v : ℕ) → 0 < occurs v xs → v < n) → Marks n m l → Marks n (with_all m xs) (l ++ xs)
 unfolding with_all occurs hit
-marks_append n m l [] h k = rw append_nil k
+marks_append n m l [] h k = rw append-nil k
 marks_append n m l (x ∷ xs) h k =
     subst (λ (z : List ℕ). Marks n (with_all (m ∪ single x) xs) z) (append_assoc l (x ∷ []) xs)
     (marks_append n (m ∪ single x) (l ++ x ∷ []) xs (λ v p. h v (omega arith)) (marks_snoc n m x l (h x (first x xs)) k))

@@ -14,7 +14,7 @@ use Rattle.hrg.specs.WellFormed.{EdgeOk}
 use Rattle.questions.specs.Layout.{rule_count, rule_nodes, rule_edges, edge_label, kind_field}
 use Rattle.questions.specs.Abstract.{kind_from, grammar_of}
 use Rattle.questions.proofs.WellFormedLent.{checked_grammar_ok}
-use Rattle.questions.proofs.WellFormedAccepted.{symbols_length, rules_length, rule_is, edge_is, kind-is}
+use Rattle.questions.proofs.WellFormedAccepted.{symbols_length, rules_length, rule_is, edge_is, kind_is}
 use Rattle.questions.specs.Checking.{check_grammar}
 use Rattle.joins.proofs.Known.{rule_ok, right_nodes, right_edges, nodes_few, edges_few}
 use Rattle.preorder.specs.Replay.{rule_in, place_in, fields_in}
@@ -122,16 +122,16 @@ module _ (g row : List ℕ) (checked : check_grammar g ≡ true) (z : RuledRow (
         let at : 2 + (right.nodes + i) ≡ 2 + rule_nodes g rule + i = omega (arith, right_nodes g rule checked rule_listed) in
         get_or-drop right.nodes (drop 2 row) i 0 ∙ get_or-drop 2 row (right.nodes + i) 0 ∙ ap (λ (j : ℕ). get_or row j 0) at
 
-    kind-read : kind_of (grammar_of g) (edge_at right.edges i).label ≡ kind_from (kind_field g (edge_label g rule i))
-    kind-read =
-        kind-is g (edge_at right.edges i).label (omega (arith, edge_ok.known, symbols_length g))
+    kind_read : kind_of (grammar_of g) (edge_at right.edges i).label ≡ kind_from (kind_field g (edge_label g rule i))
+    kind_read =
+        kind_is g (edge_at right.edges i).label (omega (arith, edge_ok.known, symbols_length g))
         ∙ ap (λ (s : ℕ). kind_from (kind_field g s)) label_is
 
     -- the nodes of the edge fill as many of four places as the rank says
-    pub listed-take : (s : ℕ) (listed : List ℕ) → s ≡ (edge_at right.edges i).label
+    pub listed_take : (s : ℕ) (listed : List ℕ) → s ≡ (edge_at right.edges i).label
         → listed ≡ four_of (images (place_in right row) (edge_at right.edges i).attachment)
         → take (rank_of (grammar_of g) s) listed ≡ images (place_in right row) (edge_at right.edges i).attachment
-    listed-take s listed e q =
+    listed_take s listed e q =
         let L = images (place_in right row) (edge_at right.edges i).attachment in
         let ranked : rank_of (grammar_of g) s ≡ length L =
         ap (rank_of (grammar_of g)) e ∙ sym edge_ok.listed.ranked ∙ sym (length-map (edge_at right.edges i).attachment (λ (x : ℕ). at (place_in right row) x)) in
@@ -150,8 +150,8 @@ module _ (g row : List ℕ) (checked : check_grammar g ≡ true) (z : RuledRow (
       inside : i < length right.edges
       inside = omega (arith, edge_count)
 
-      pub part-there : (n ≤ 8) × (i < 8) × (2 + n + i < length row)
-      part-there = (
+      pub part_there : (n ≤ 8) × (i < 8) × (2 + n + i < length row)
+      part_there = (
         omega (arith, nodes_few g rule checked rule_listed),
         omega (arith, edges_few g rule checked rule_listed),
         omega (arith, z.sized, edge_count, right_nodes g rule checked rule_listed),
@@ -161,19 +161,19 @@ module _ (g row : List ℕ) (checked : check_grammar g ≡ true) (z : RuledRow (
         abbrev here : ℕ
         here = get_or row (2 + n + i) 0
 
-        field-read : here ≡ get_or (fields_in right row) i 0
-        field-read = ap (λ (m : ℕ). get_or row (2 + m + i) 0) nodes ∙ sym (field_is i inside)
+        field_read : here ≡ get_or (fields_in right row) i 0
+        field_read = ap (λ (m : ℕ). get_or row (2 + m + i) 0) nodes ∙ sym (field_is i inside)
 
         part_by : (kind : Kind) → kind_from k ≡ kind → part_by kind s here ≡ part_of (grammar_of g) row i
         part_by kind p =
             let same : kind_of (grammar_of g) (edge_at right.edges i).label ≡ kind =
-            kind-read i inside ∙ ap (λ (y : ℕ). kind_from (kind_field g y)) (sym named) ∙ ap kind_from (sym word) ∙ p in
-            ap₂ (part_by kind) (named ∙ sym (label_is i inside)) field-read
+            kind_read i inside ∙ ap (λ (y : ℕ). kind_from (kind_field g y)) (sym named) ∙ ap kind_from (sym word) ∙ p in
+            ap₂ (part_by kind) (named ∙ sym (label_is i inside)) field_read
             ∙ ap (λ (y : Kind). part_by y (edge_at right.edges i).label (get_or (fields_in right row) i 0)) (sym same)
             ∙ sym (part_in (grammar_of g) row i inside)
 
         pub part_edge : k ≡ 0 → GraphEdge here ≡ part_of (grammar_of g) row i
         part_edge p = part_by terminal (rw p refl)
 
-        pub part-row : (k ≡ 0 → ⊥) → Application s here ≡ part_of (grammar_of g) row i
-        part-row p = part_by nonterminal (rw (ne_eqb k 0 p) refl)
+        pub part_row : (k ≡ 0 → ⊥) → Application s here ≡ part_of (grammar_of g) row i
+        part_row p = part_by nonterminal (rw (ne_eqb k 0 p) refl)

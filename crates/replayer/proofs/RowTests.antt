@@ -60,8 +60,8 @@ module _ (g h row : List ℕ) (accepted : Accepted g h) (sized : SizedRow (gramm
     abbrev fits : Bool
     fits = same_list (images (place_in P row) P.externals) (take (rank_of (grammar_of g) (lhs_of (grammar_of g) r)) listed)
 
-    as-tests : fits ≡ every rank (λ k. eqb (node_in row (rule_external g r k)) (get_or listed k 0))
-    as-tests =
+    as_tests : fits ≡ every rank (λ k. eqb (node_in row (rule_external g r k)) (get_or listed k 0))
+    as_tests =
         let known = rule_known g h row accepted sized in
         let n = rank_at g (rule_symbol g r) in
         ap₂ same_list
@@ -70,12 +70,12 @@ module _ (g h row : List ℕ) (accepted : Accepted g h) (sized : SizedRow (gramm
         ∙ same_tabulated n (λ k. node_in row (rule_external g r k)) (λ k. get_or listed k 0)
         ∙ ap (λ n. every n (λ k. eqb (node_in row (rule_external g r k)) (get_or listed k 0))) (sym rank_same)
 
-    pub externals-no : (k x : ℕ) → k < rank → x ≡ rule_external g r k → (node_in row x ≡ get_or listed k 0 → ⊥) → false ≡ fits
-    externals-no k x h e d =
-        every_false rank (λ k. eqb (node_in row (rule_external g r k)) (get_or listed k 0)) k h (other_place row x (rule_external g r k) (get_or listed k 0) e d) ∙ sym as-tests
+    pub externals_no : (k x : ℕ) → k < rank → x ≡ rule_external g r k → (node_in row x ≡ get_or listed k 0 → ⊥) → false ≡ fits
+    externals_no k x h e d =
+        every_false rank (λ k. eqb (node_in row (rule_external g r k)) (get_or listed k 0)) k h (other_place row x (rule_external g r k) (get_or listed k 0) e d) ∙ sym as_tests
 
     pub externals_all : (k : ℕ) → rank ≤ k → PassedTo (λ k. eqb (node_in row (rule_external g r k)) (get_or listed k 0)) k → true ≡ fits
-    externals_all k h all = passed_all (λ k. eqb (node_in row (rule_external g r k)) (get_or listed k 0)) rank k h all ∙ sym as-tests
+    externals_all k h all = passed_all (λ k. eqb (node_in row (rule_external g r k)) (get_or listed k 0)) rank k h all ∙ sym as_tests
 
 -- ---- the number, the rule and the number of fields
 and_false : (a : Bool) → (a && false) ≡ false
@@ -99,40 +99,40 @@ module _ (g row : List ℕ) (n s : ℕ) (checked : check_grammar g ≡ true) whe
   head_number d = rw (ne_eqb (number_in row) n d)
 
   module _ (same : number_in row ≡ n) (rules : ℕ) (counted : rules ≡ rule_count g) where
-    own-test : eqb (number_in row) n ≡ true
-    own-test = eq-eqb (number_in row) n same
+    own_test : eqb (number_in row) n ≡ true
+    own_test = eq-eqb (number_in row) n same
 
-    pub head-rule : rules ≤ rule_in row → false ≡ head
+    pub head_rule : rules ≤ rule_in row → false ≡ head
     unfolding head_passes
-    head-rule h = rw (own-test, le-ltb (rule_in row) (length (grammar_of g).rules) (omega (arith, rules_length g)))
+    head_rule h = rw (own_test, le-ltb (rule_in row) (length (grammar_of g).rules) (omega (arith, rules_length g)))
 
     module _ (h : rule_in row < rules) (symbol : ℕ) (lhs : symbol ≡ rule_symbol g (rule_in row)) where
       rule_listed : rule_in row < rule_count g
       rule_listed = omega arith
 
-      rule-test : ltb (rule_in row) (length (grammar_of g).rules) ≡ true
-      rule-test = lt-ltb (rule_in row) (length (grammar_of g).rules) (omega (arith, rules_length g))
+      rule_test_lem : ltb (rule_in row) (length (grammar_of g).rules) ≡ true
+      rule_test_lem = lt-ltb (rule_in row) (length (grammar_of g).rules) (omega (arith, rules_length g))
 
-      symbol-is : symbol ≡ lhs_of (grammar_of g) (rule_in row)
-      symbol-is = lhs ∙ sym (lhs_is g (rule_in row) checked rule_listed)
+      symbol_is : symbol ≡ lhs_of (grammar_of g) (rule_in row)
+      symbol_is = lhs ∙ sym (lhs_is g (rule_in row) checked rule_listed)
 
-      pub head-symbol : (symbol ≡ s → ⊥) → false ≡ head
+      pub head_symbol : (symbol ≡ s → ⊥) → false ≡ head
       unfolding head_passes
-      head-symbol d = rw (own-test, rule-test, ne_eqb (lhs_of (grammar_of g) (rule_in row)) s (λ e. d (symbol-is ∙ e)))
+      head_symbol d = rw (own_test, rule_test_lem, ne_eqb (lhs_of (grammar_of g) (rule_in row)) s (λ e. d (symbol_is ∙ e)))
 
       module _ (nodes edges : ℕ) (a : nodes ≡ rule_nodes g (rule_in row)) (b : edges ≡ rule_edges g (rule_in row)) where
         pub head_small : (nodes ≤ 8) × (edges ≤ 8)
         head_small = (omega (arith, nodes_few g (rule_in row) checked rule_listed), omega (arith, edges_few g (rule_in row) checked rule_listed))
 
-        pub head-fields : symbol ≡ s → eqb (length row) (2 + nodes + edges) ≡ head
+        pub head_fields : symbol ≡ s → eqb (length row) (2 + nodes + edges) ≡ head
         unfolding head_passes
-        head-fields e =
+        head_fields e =
             let G = grammar_of g in
             let q = rule_in row in
             let m : nodes ≡ (right_of G q).nodes = a ∙ sym (right_nodes g q checked rule_listed) in
             let k : edges ≡ length (right_of G q).edges = b ∙ sym (right_edges g q checked rule_listed) in
             let sum : 2 + nodes + edges ≡ 2 + ((right_of G q).nodes + length (right_of G q).edges) = omega arith in
-            rw (own-test, rule-test, eq-eqb (lhs_of G q) s (sym symbol-is ∙ e), ← sum)
+            rw (own_test, rule_test_lem, eq-eqb (lhs_of G q) s (sym symbol_is ∙ e), ← sum)
 
 -- ---- the whole row
 -- what the head's test says
@@ -194,48 +194,48 @@ module _ (g h row : List ℕ) (n s used : ℕ) (listed : List ℕ) (accepted : A
     passed : head_passes G n s row ≡ true
     passed = sym headed ∙ y
 
-    row-rule : q < rule_count g
-    row-rule = omega (arith, ltb-true q (length G.rules) (head_known G n s row passed), rules_length g)
+    row_rule : q < rule_count g
+    row_rule = omega (arith, ltb-true q (length G.rules) (head_known G n s row passed), rules_length g)
 
-    row-size : length row ≡ 2 + (Q.nodes + length Q.edges)
-    row-size = eqb-true (length row) (2 + (Q.nodes + length Q.edges)) (head_sized G n s row passed)
+    row_size : length row ≡ 2 + (Q.nodes + length Q.edges)
+    row_size = eqb-true (length row) (2 + (Q.nodes + length Q.edges)) (head_sized G n s row passed)
 
-    pub row-ruled : 1 < length row
-    row-ruled = omega (arith, row-size)
+    pub row_ruled : 1 < length row
+    row_ruled = omega (arith, row_size)
 
     module _ (count : ℕ) (c : count ≡ rule_nodes g q) where
-      row-nodes : Q.nodes ≡ count
-      row-nodes = right_nodes g q accepted.grammar row-rule ∙ sym c
+      row_nodes : Q.nodes ≡ count
+      row_nodes = right_nodes g q accepted.grammar row_rule ∙ sym c
 
       pub row_few : (count ≤ 8) × (2 + count ≤ length row)
-      row_few = (omega (arith, c, nodes_few g q accepted.grammar row-rule), omega (arith, row-size, row-nodes))
+      row_few = (omega (arith, c, nodes_few g q accepted.grammar row_rule), omega (arith, row_size, row_nodes))
 
       module _ (nodes : ℕ) (d : nodes ≡ graph_nodes h) (p : Bool) (placed : p ≡ every count (λ x. ltb (node_in row x) nodes)) where
-        places-test : p ≡ each (place_in Q row) (λ v. ltb v H.nodes)
-        places-test =
+        places_test : p ≡ each (place_in Q row) (λ v. ltb v H.nodes)
+        places_test =
             let k : nodes ≡ H.nodes = d ∙ sym (graph_nodes_lem g h) in
             placed
             ∙ ap (λ k. every count (λ x. ltb (node_in row x) k)) k
-            ∙ sym (ap (λ (l : List ℕ). each l (λ v. ltb v H.nodes)) (ap (λ m. take m (drop 2 row)) row-nodes ∙ places_are row count row_few.1)
+            ∙ sym (ap (λ (l : List ℕ). each l (λ v. ltb v H.nodes)) (ap (λ m. take m (drop 2 row)) row_nodes ∙ places_are row count row_few.1)
             ∙ each_tabulated count (λ x. node_in row x) (λ v. ltb v H.nodes))
 
-        pub row-places : p ≡ false → Not ≡ whole
-        row-places z = taken_not passes _ (rw (parts, passed, ← places-test, z))
+        pub row_places : p ≡ false → Not ≡ whole
+        row_places z = taken_not passes _ (rw (parts, passed, ← places_test, z))
 
         module _ (z : p ≡ true) where
           pub row_sized : SizedRow G H row
           row_sized = record {
             rule = head_known G n s row passed;
             sized = head_sized G n s row passed;
-            placed = sym places-test ∙ z;
+            placed = sym places_test ∙ z;
           }
 
           module _ (e : Bool) (fit : e ≡ same_list (images (place_in Q row) Q.externals) (take (rank_of G (lhs_of G q)) listed)) where
-            fit-test : e ≡ same_list (images (place_in Q row) Q.externals) (take (rank_of G s) listed)
-            fit-test = fit ∙ ap (λ s. same_list (images (place_in Q row) Q.externals) (take (rank_of G s) listed)) (head_lhs G n s row passed)
+            fit_test : e ≡ same_list (images (place_in Q row) Q.externals) (take (rank_of G s) listed)
+            fit_test = fit ∙ ap (λ s. same_list (images (place_in Q row) Q.externals) (take (rank_of G s) listed)) (head_lhs G n s row passed)
 
-            pub row-externals : e ≡ false → Not ≡ whole
-            row-externals f = taken_not passes _ (rw (parts, passed, ← places-test, z, ← fit-test, f))
+            pub row_externals : e ≡ false → Not ≡ whole
+            row_externals f = taken_not passes _ (rw (parts, passed, ← places_test, z, ← fit_test, f))
 
-            pub row-inner : e ≡ true → (t : Taken) → t ≡ taken_if (new_in used (new_nodes Q row)) (with_all used (new_nodes Q row)) → t ≡ whole
-            row-inner f t new = rw (parts, passed, ← places-test, z, ← fit-test, f) new
+            pub row_inner : e ≡ true → (t : Taken) → t ≡ taken_if (new_in used (new_nodes Q row)) (with_all used (new_nodes Q row)) → t ≡ whole
+            row_inner f t new = rw (parts, passed, ← places_test, z, ← fit_test, f) new

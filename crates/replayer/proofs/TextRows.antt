@@ -31,14 +31,14 @@ module _ (text : List ℕ) (from : ℕ) (ended : Bool) (feed : ended ≡ is_ende
   letter_open h = rw (← feed, h)
 
   module _ (closed : ended ≡ true) (line : List ℕ) (part : line ≡ line_of (drop from text)) (s : Bool) (shaped : s ≡ shape_of line) where
-    pub letter-shape : s ≡ false → Other ≡ letter_in (line_from text from)
+    pub letter_shape : s ≡ false → Other ≡ letter_in (line_from text from)
     unfolding letter_in
-    letter-shape h = rw (← feed, closed, ← part, ← shaped, h)
+    letter_shape h = rw (← feed, closed, ← part, ← shaped, h)
 
-    pub letter-kept : s ≡ true → (x : Letter) → x ≡ letter_kind (letter_of line)
+    pub letter_kept : s ≡ true → (x : Letter) → x ≡ letter_kind (letter_of line)
         → x ≡ letter_in (line_from text from)
     unfolding letter_in
-    letter-kept h x e = rw (← feed, closed, ← part, ← shaped, h, ← e)
+    letter_kept h x e = rw (← feed, closed, ← part, ← shaped, h, ← e)
 
 -- a line has the letter that is found in it, and no other of the three files
 letter_has : (l : Line) (x : Letter) → letter_in l ≡ x → (x ≡ Other → ⊥) → has_letter (kind_letter x) l ≡ true
@@ -74,10 +74,10 @@ not_a = 0 ∷ 1 ∷ 2 ∷ 3 ∷ 4 ∷ 5 ∷ 6 ∷ 8 ∷ []
 
 module _ (l : Line) (x : Letter) (e : x ≡ letter_in l) where
   found : (y : Letter) → tag_of the_type y < 8 → x ≡ y → true ≡ has_letter (kind_letter y) l
-  found y known is = sym (letter_has l y (sym e ∙ is) not-other)
+  found y known is = sym (letter_has l y (sym e ∙ is) not_other)
     where
-      not-other : y ≡ Other → ⊥
-      not-other o =
+      not_other : y ≡ Other → ⊥
+      not_other o =
           let last : tag_of the_type y ≡ 8 = ap (tag_of the_type) o in
           omega arith
 
@@ -116,18 +116,18 @@ module _ (text : List ℕ) (b : Bool) (lettered : b ≡ has_letter 68 (line_from
   said_letter h = rw (← lettered, h)
 
   module _ (y : b ≡ true) (line : List ℕ) (part : line ≡ line_of (drop 0 text)) (f : ℕ) (fields : f ≡ field_count line) where
-    pub said-fields : (f ≡ 1 → ⊥) → 0 ≡ said_count text
+    pub said_fields : (f ≡ 1 → ⊥) → 0 ≡ said_count text
     unfolding said_count opens
-    said-fields h = rw (← lettered, y, ← part, ← fields, ne_eqb f 1 h)
+    said_fields h = rw (← lettered, y, ← part, ← fields, ne_eqb f 1 h)
 
     module _ (one : f ≡ 1) (n : ℕ) (number : n ≡ number_of line 0) where
-      pub said-few : n < 1 → 0 ≡ said_count text
+      pub said_few : n < 1 → 0 ≡ said_count text
       unfolding said_count opens
-      said-few h = rw (← lettered, y, ← part, ← fields, eq-eqb f 1 one, ← number, lt-leb 1 n h)
+      said_few h = rw (← lettered, y, ← part, ← fields, eq-eqb f 1 one, ← number, lt-leb 1 n h)
 
-      pub said-many : 1 ≤ n → 4096 < n → 0 ≡ said_count text
+      pub said_many : 1 ≤ n → 4096 < n → 0 ≡ said_count text
       unfolding said_count opens
-      said-many l h = rw (← lettered, y, ← part, ← fields, eq-eqb f 1 one, ← number, le-leb 1 n l, lt-leb n 4096 h)
+      said_many l h = rw (← lettered, y, ← part, ← fields, eq-eqb f 1 one, ← number, le-leb 1 n l, lt-leb n 4096 h)
 
       pub said_all : 1 ≤ n → n ≤ 4096 → n ≡ said_count text
       unfolding said_count opens
@@ -174,7 +174,7 @@ module _ (text : List ℕ) (n : ℕ) (said : n ≡ said_count text) where
       go true d =
           let number : n ≡ number_of (line_of text) 0 = said ∙ rw d in
           let same : n - 0 ≡ number_of (line_of text) 0 = omega arith in
-          let inside = letter_inside text 0 68 (omega arith) (opens-letter d) in
+          let inside = letter_inside text 0 68 (omega arith) (opens_letter d) in
           let whole : rows_from (n - 0) (lines_of (drop at text)) ≡ rows_in text = rw (same, e) (sym (script_opened_at text inside d)) in
           record {
             passed = omega arith;
@@ -182,16 +182,16 @@ module _ (text : List ℕ) (n : ℕ) (said : n ≡ said_count text) where
             rest = counted_all (rows_from (n - 0) (lines_of (drop at text))) ∙ ap count_in whole;
           }
         where
-          opens-letter : opens (line_from text 0) ≡ true → has_letter 68 (line_from text 0) ≡ true
-          opens-letter d = lettered_has 68 (line_from text 0) (opens_opening (line_from text 0) d).lettered
+          opens_letter : opens (line_from text 0) ≡ true → has_letter 68 (line_from text 0) ≡ true
+          opens_letter d = lettered_has 68 (line_from text 0) (opens_opening (line_from text 0) d).lettered
 
 module _ (text : List ℕ) (n at k : ℕ) (here : Counting text n at k) where
   module _ (more : k < n) (b : Bool) (lettered : b ≡ has_letter 65 (line_from text at)) where
     left : n - k ≡ suc (n - (k + 1))
     left = omega arith
 
-    pub count-refused : b ≡ false → 0 ≡ count_in (rows_in text)
-    count-refused h =
+    pub count_refused : b ≡ false → 0 ≡ count_in (rows_in text)
+    count_refused h =
         ap (counted k) (sym (ap (λ m. rows_from m (lines_of (drop at text))) left ∙ go (dec_lt at (length text)))) ∙ here.rest
       where
         go : Dec (at < length text) → rows_from (suc (n - (k + 1))) (lines_of (drop at text)) ≡ bad
@@ -216,8 +216,8 @@ module _ (text : List ℕ) (n at k : ℕ) (here : Counting text n at k) where
     none : n - k ≡ 0
     none = omega arith
 
-    pub count-behind : at < length text → 0 ≡ count_in (rows_in text)
-    count-behind h = ap (counted k) (sym (ap (λ m. rows_from m (lines_of (drop at text))) none ∙ line_behind_at text at h)) ∙ here.rest
+    pub count_behind : at < length text → 0 ≡ count_in (rows_in text)
+    count_behind h = ap (counted k) (sym (ap (λ m. rows_from m (lines_of (drop at text))) none ∙ line_behind_at text at h)) ∙ here.rest
 
     pub count_all : length text ≤ at → n ≡ count_in (rows_in text)
     count_all h =

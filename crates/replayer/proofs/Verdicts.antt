@@ -60,11 +60,11 @@ module _ (g h : List ℕ) (ok : Accepted g h) (s : ℕ) (e : s ≡ start_symbol 
   externals_inside = (graph_ok g h ok).side.externals.inside
 
   module _ (listed : List ℕ) (l : listed ≡ tabulate 4 (λ k. graph_external h k)) (few : x ≤ 4) where
-    externals-take : take x listed ≡ (graph_of g h).externals
-    externals-take = ap (take x) l ∙ take_tabulate x 4 (λ k. graph_external h k) few ∙ externals_are
+    externals_take : take x listed ≡ (graph_of g h).externals
+    externals_take = ap (take x) l ∙ take_tabulate x 4 (λ k. graph_external h k) few ∙ externals_are
 
-    pub externals-small : (k : ℕ) → k < x → get_or listed k 0 < 64
-    externals-small k i =
+    pub externals_small : (k : ℕ) → k < x → get_or listed k 0 < 64
+    externals_small k i =
         let read : get_or listed k 0 ≡ at (graph_of g h).externals k =
         ap (λ (m : List ℕ). get_or m k 0) l ∙ four_at (λ j. graph_external h j) k (omega arith) ∙ sym (at_tabulate x (λ j. graph_external h j) k i)
         ∙ ap (λ (m : List ℕ). at m k) externals_are in
@@ -80,19 +80,19 @@ module _ (g h : List ℕ) (ok : Accepted g h) (s : ℕ) (e : s ≡ start_symbol 
     module _ (text : List ℕ) (place m : ℕ) (w : m ≡ with_all 0 (take x listed)) (p r : Progress)
         (d : p ≡ record { ok = true; next = 0; at = place; edges = 0; nodes = m })
         (a : Applied (grammar_of g) (graph_of g h) text s (take (rank_of (grammar_of g) s) listed) p r) where
-      start-nodes : Marks (graph_of g h).nodes m (graph_of g h).externals
-      start-nodes =
-          subst (λ (y : ℕ). Marks (graph_of g h).nodes y (graph_of g h).externals) (sym (w ∙ ap (with_all 0) externals-take))
+      start_nodes : Marks (graph_of g h).nodes m (graph_of g h).externals
+      start_nodes =
+          subst (λ (y : ℕ). Marks (graph_of g h).nodes y (graph_of g h).externals) (sym (w ∙ ap (with_all 0) externals_take))
           (marks_append (graph_of g h).nodes 0 [] (graph_of g h).externals externals_inside (marks_none (graph_of g h).nodes))
 
-      start-reaches : Reaches (graph_of g h) p p.next [] (graph_of g h).externals
-      start-reaches =
+      start_reaches : Reaches (graph_of g h) p p.next [] (graph_of g h).externals
+      start_reaches =
           subst (λ (x : Progress). Reaches (graph_of g h) x x.next [] (graph_of g h).externals) (sym d)
           (record {
             passing = refl;
             row = refl;
             used_edges = marks_none (length (graph_of g h).edges);
-            used_nodes = start-nodes;
+            used_nodes = start_nodes;
           })
 
       -- the definition from a row on, for an edge y on the nodes L, with its number of calls
@@ -103,15 +103,15 @@ module _ (g h : List ℕ) (ok : Accepted g h) (s : ℕ) (e : s ≡ start_symbol 
           replay_at (calls R) (grammar_of g) (graph_of g h) R y L (reached k [] nodes)
 
       -- its number of calls is what is left at the start
-      pub start-stands : Stands (graph_of g h) r (replayed (grammar_of g) (graph_of g h) (text_rows text))
+      pub start_stands : Stands (graph_of g h) r (replayed (grammar_of g) (graph_of g h) (text_rows text))
       unfolding replayed
-      start-stands =
+      start_stands =
           let begun : p.next ≡ 0 = ap (λ (x : Progress). x.next) d in
-          let listed-are = ap (λ (k : ℕ). take k listed) rank_read ∙ externals-take in
+          let listed-are = ap (λ (k : ℕ). take k listed) rank_read ∙ externals_take in
           subst (Stands (graph_of g h) r)
           (ap (λ (k : ℕ). from s (take (rank_of (grammar_of g) s) listed) k) begun
           ∙ ap₂ (λ (y : ℕ) (L : List ℕ). from y L 0) (e ∙ sym (start_is g)) listed-are)
-          (a.stands (calls (text_rows text)) (omega arith) [] (graph_of g h).externals start-reaches)
+          (a.stands (calls (text_rows text)) (omega arith) [] (graph_of g h).externals start_reaches)
 
 -- the four words at the start
 module _ (st : List ℕ) (none : st ≡ replicate 4 0) (place m : ℕ) where
@@ -198,9 +198,9 @@ module _ (g h : List ℕ) where
   accepted_fit a = rw (a.grammar, a.graph)
 
   module _ (text : List ℕ) where
-    answer-is : replay_of g h text ≡ answer_by (fit_tables g h) (replay_text (grammar_of g) (graph_of g h) text)
+    answer_is : replay_of g h text ≡ answer_by (fit_tables g h) (replay_text (grammar_of g) (graph_of g h) text)
     unfolding replay_of
-    answer-is = refl
+    answer_is = refl
 
     exact : Exact g h text (answer_by (fit_tables g h) (replay_text (grammar_of g) (graph_of g h) text))
     exact =
@@ -219,18 +219,18 @@ module _ (g h : List ℕ) where
     answered : (f t : Bool) → fit_tables g h ≡ f → replay_text (grammar_of g) (graph_of g h) text ≡ t → (answer_by f t ≡ replay_of g h text) × Exact g h text (answer_by f t)
     answered f t e q =
         let same : answer_by (fit_tables g h) (replay_text (grammar_of g) (graph_of g h) text) ≡ answer_by f t = ap₂ answer_by e q in
-        (sym same ∙ sym answer-is, subst (Exact g h text) same exact)
+        (sym same ∙ sym answer_is, subst (Exact g h text) same exact)
 
-    pub answer-unfit-grammar : check_grammar g ≡ false → (Unfit ≡ replay_of g h text) × Exact g h text Unfit
+    pub answer_unfit_grammar : check_grammar g ≡ false → (Unfit ≡ replay_of g h text) × Exact g h text Unfit
     unfolding fit_tables
-    answer-unfit-grammar e = answered false _ (rw e) refl
+    answer_unfit_grammar e = answered false _ (rw e) refl
 
-    pub answer-unfit-graph : check_grammar g ≡ true → check_graph g h ≡ false → (Unfit ≡ replay_of g h text) × Exact g h text Unfit
+    pub answer_unfit_graph : check_grammar g ≡ true → check_graph g h ≡ false → (Unfit ≡ replay_of g h text) × Exact g h text Unfit
     unfolding fit_tables
-    answer-unfit-graph e q = answered false _ (rw (e, q)) refl
+    answer_unfit_graph e q = answered false _ (rw (e, q)) refl
 
-    pub answer-refused : Accepted g h → replay_text (grammar_of g) (graph_of g h) text ≡ false → (Refused ≡ replay_of g h text) × Exact g h text Refused
-    answer-refused a q = answered true false (accepted_fit a) q
+    pub answer_refused : Accepted g h → replay_text (grammar_of g) (graph_of g h) text ≡ false → (Refused ≡ replay_of g h text) × Exact g h text Refused
+    answer_refused a q = answered true false (accepted_fit a) q
 
-    pub answer-passed : Accepted g h → replay_text (grammar_of g) (graph_of g h) text ≡ true → (Passed ≡ replay_of g h text) × Exact g h text Passed
-    answer-passed a q = answered true true (accepted_fit a) q
+    pub answer_passed : Accepted g h → replay_text (grammar_of g) (graph_of g h) text ≡ true → (Passed ≡ replay_of g h text) × Exact g h text Passed
+    answer_passed a q = answered true true (accepted_fit a) q

@@ -1,4 +1,7 @@
 // The replay of a derivation file.
+
+#![tactic(auto)]
+
 ghost use Rattle.std.specs.Prelude.{◌≡◌, true, ◌&&◌, ℕ, ◌+◌, ◌≤◌, ◌<◌, length, get_or, set, take, drop, replicate, eqb};
 ghost use Rattle.masks.specs.Masks.{◌∪◌, single, full};
 ghost use Rattle.format.specs.Lines.{line_of, after_line};
@@ -18,7 +21,7 @@ ghost use Rattle.replayer.specs.Verdicts.{replay_of, Exact};
 mod fitting;
 
 // What a replay answers: the tables are refused (8), the file is no derivation of the graph (13), or it is one.
-#[derive(Drop)]
+#[derive(Clone, Copy)]
 pub enum Verdict {
     Unfit,
     Refused,
@@ -26,7 +29,7 @@ pub enum Verdict {
 }
 
 // What the tests of a row answer: it is not taken, or it is, and then these graph nodes are used.
-#[derive(Drop)]
+#[derive(Clone, Copy)]
 enum Taken {
     Not,
     With(u64),
@@ -34,7 +37,7 @@ enum Taken {
 
 // What a row says of an edge of its rule: it has no such edge, a graph edge, or an application for a symbol by its
 // number.
-#[derive(Drop)]
+#[derive(Clone, Copy)]
 enum Part {
     End,
     GraphEdge(u64),

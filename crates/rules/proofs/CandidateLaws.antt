@@ -1,7 +1,7 @@
 -- A graph edge that makes nothing with an item: of another label, in the item's set, or on another node than the map
 -- has at a place.
 use mathlib.Core.Path.{◌≡◌, refl, sym, ap, ◌∙◌, subst}
-use mathlib.Core.Bool.{Bool, true, false, ◌&&◌, not, cond, false≢true, or_true}
+use mathlib.Core.Bool.{Bool, true, false, ◌&&◌, not, cond, false≢true, or-true}
 use mathlib.Core.List.{List, [], ◌∷◌, ◌++◌, map}
 use Prim.Native.Nat.{ℕ, zero, suc, ◌+◌, ◌-◌, ◌*◌, ◌%◌, ◌^◌, ◌≤◌, ◌<◌}
 use native.Mathlib.Omega.{arith}
@@ -41,7 +41,7 @@ use Rattle.rules.specs.Wants.{wants_at, want_of}
 use Rattle.rules.specs.Plans.{ParentAt}
 use Rattle.rules.specs.Candidates.{Introduces, Candidates}
 use Rattle.rules.proofs.NodeLists.{label_is}
-use Rattle.rules.proofs.RuleItems.{guard_none, terminal-place, with_terminal_lem, item_active, item_edges, binary_apart, edge_pair}
+use Rattle.rules.proofs.RuleItems.{guard_none, terminal_place, with_terminal_lem, item_active, item_edges, binary_apart, edge_pair}
 use Rattle.rules.proofs.RuleAnswers.{terminal_passive}
 use Rattle.rules.proofs.WantLaws.{want_missing, want_found}
 use Rattle.rules.proofs.Meeting.{passive_none}
@@ -108,20 +108,20 @@ module _ (g h : List ℕ) (accepted : Accepted g h) (x : ChartItem) where
 
   -- ---- what an active item wants
   module _ (is_active : x.kind ≡ 0) (want : ℕ) (is : want ≡ want_of G x.of x.plan) where
-    x-is : item_of G x ≡ active x.of x.plan x.edges (take (right_of G x.of).nodes x.nodes)
-    x-is = item_active G x (eq-eqb x.kind 0 is_active)
+    x_is : item_of G x ≡ active x.of x.plan x.edges (take (right_of G x.of).nodes x.nodes)
+    x_is = item_active G x (eq-eqb x.kind 0 is_active)
 
-    label-none : (e : ℕ) → e < graph_edges h → (graph_label h e ≡ want → ⊥) → items e ≡ []
-    label-none e l n =
+    label_none : (e : ℕ) → e < graph_edges h → (graph_label h e ≡ want → ⊥) → items e ≡ []
+    label_none e l n =
         as_pair e l
-        ∙ ap (λ (i : Item). binary_of G H i (passive (edge_at H.edges e).label (single e) (nodes_of g h e))) x-is
+        ∙ ap (λ (i : Item). binary_of G H i (passive (edge_at H.edges e).label (single e) (nodes_of g h e))) x_is
         ∙ passive_none g accepted.grammar H x.of x.plan x.edges (take (right_of G x.of).nodes x.nodes) (edge_at H.edges e).label (single e) (nodes_of g h e)
         (λ k s. n (sym (label_is g h e l) ∙ sym s ∙ sym is))
 
     pub candidates_none : 64 ≤ want → Candidates g h x 0
     candidates_none far = record {
       known = λ e l t. none_known e t;
-      others = λ e l t. label-none e l (λ s. omega (arith, label_few g h accepted e l (graph_label h e) refl));
+      others = λ e l t. label_none e l (λ s. omega (arith, label_few g h accepted e l (graph_label h e) refl));
     }
 
     module _ (near : want < 64) where
@@ -130,8 +130,8 @@ module _ (g h : List ℕ) (accepted : Accepted g h) (x : ChartItem) where
         abbrev q : ℕ
         q = up.word % 32
 
-        pub candidates-nowhere : 16 ≤ q → Candidates g h x 0
-        candidates-nowhere far = absurd (omega (arith, is, want_missing g x.of x.plan _ there.above (le-ltb q 16 far)))
+        pub candidates_nowhere : 16 ≤ q → Candidates g h x 0
+        candidates_nowhere far = absurd (omega (arith, is, want_missing g x.of x.plan _ there.above (le-ltb q 16 far)))
 
         pub introduces : q < 16 → (i : ℕ) → i ≡ plan_second g x.of q → Introduces g h x want i
         introduces l i second =
@@ -158,8 +158,8 @@ module _ (g h : List ℕ) (accepted : Accepted g h) (x : ChartItem) where
         unfolding marks_to
         marked e l s = labelled e (edge_few g h accepted e l) ∙ rw (lt-ltb e (graph_edges h) l, s, eq-eqb (257 + want) (257 + want) refl)
 
-        pub candidates-first : Candidates g h x (bit_and (get_or t (257 + want) 0) (2 ^ 64 - 1 - x.edges))
-        candidates-first = record {
+        pub candidates_first : Candidates g h x (bit_and (get_or t (257 + want) 0) (2 ^ 64 - 1 - x.edges))
+        candidates_first = record {
           known = λ e l m.
               let both = and_true (member (get_or t (257 + want) 0) e) (not (member x.edges e)) (sym (without (get_or t (257 + want) 0) x.edges e small l) ∙ m) in
               ltb-true e (graph_edges h) (and_true (ltb e (graph_edges h)) (marks g h e (257 + want)) (sym (labelled e l) ∙ both.0)).0;
@@ -167,7 +167,7 @@ module _ (g h : List ℕ) (accepted : Accepted g h) (x : ChartItem) where
         }
           where
             go : (e : ℕ) → e < graph_edges h → (b : Bool) → eqb (graph_label h e) want ≡ b → (member (get_or t (257 + want) 0) e && not (member x.edges e)) ≡ false → items e ≡ []
-            go e l false s m = label-none e l (eqb-false (graph_label h e) want s)
+            go e l false s m = label_none e l (eqb-false (graph_label h e) want s)
             go e l true s m =
                 own_none e l (not-false (member x.edges e) (sym (ap (λ b. b && not (member x.edges e)) (marked e l (eqb-true (graph_label h e) want s))) ∙ m))
 
@@ -217,12 +217,12 @@ module _ (g h : List ℕ) (x : ChartItem) (want i : ℕ) (up : Introduces g h x 
     abbrev made : List Item
     made = combine 𝐇 R x.of up.above x.edges (single e) f (attach R.production.right.nodes rule_edge.attachment (nodes_of g h e))
 
-    items-are : terminal_items 𝐆 𝐇 (item_of 𝐆 x) e
+    items_are : terminal_items 𝐆 𝐇 (item_of 𝐆 x) e
         ≡ guard (eqb x.plan x.plan && is_terminal (kind_of 𝐆 rule_edge.label)) (guard (eqb (edge_at 𝐇.edges e).label rule_edge.label) made)
     unfolding terminal_at with_edge
-    items-are =
+    items_are =
         ap (λ (it : Item). terminal_items 𝐆 𝐇 it e) (item_active 𝐆 x (eq-eqb x.kind 0 up.here.is_active))
-        ∙ terminal-place 𝐆 𝐇 x.of x.plan x.edges f up.above (omega (arith, up.here.node.node, size))
+        ∙ terminal_place 𝐆 𝐇 x.of x.plan x.edges f up.above (omega (arith, up.here.node.node, size))
         (λ q l n. none_left _ (λ o. n (up.parent.only q (omega (arith, l, size)) o))) e
         ∙ ap (terminal_at 𝐆 𝐇 x.of x.plan x.edges f e up.above) up.node
 
@@ -258,7 +258,7 @@ module _ (g h : List ℕ) (x : ChartItem) (want i : ℕ) (up : Introduces g h x 
             (omega (arith, first)) (omega (arith, second, node_few g h up.here.accepted e known k (graph_node h e k) place refl)) (λ q. n (sym second ∙ sym q ∙ first))
 
       other_node : (k < rank_at g (graph_label h e) → graph_node h e k ≡ a → ⊥) → terminal_items 𝐆 𝐇 (item_of 𝐆 x) e ≡ []
-      other_node n = items-are ∙ go (eqb (edge_at 𝐇.edges e).label rule_edge.label) refl
+      other_node n = items_are ∙ go (eqb (edge_at 𝐇.edges e).label rule_edge.label) refl
         where
           test : Bool
           test = eqb x.plan x.plan && is_terminal (kind_of 𝐆 rule_edge.label)
@@ -269,8 +269,8 @@ module _ (g h : List ℕ) (x : ChartItem) (want i : ℕ) (up : Introduces g h x 
 
   -- one place more
   module _ (t : List ℕ) (table : GraphTable g h t) (k y a m : ℕ) (place : k < rank_at g (edge_label g x.of i)) (node : y ≡ edge_node g x.of i k) (image : a ≡ get_or x.nodes y 0) (c : Candidates g h x m) where
-    few-places : k < 4
-    few-places = omega (arith, place)
+    few_places : k < 4
+    few_places = omega (arith, place)
 
     abbrev w : ℕ
     w = get_or t (321 + 64 * k + a) 0
@@ -279,12 +279,12 @@ module _ (g h : List ℕ) (x : ChartItem) (want i : ℕ) (up : Introduces g h x 
       marked_place : (e : ℕ) → e < graph_edges h → k < rank_at g (graph_label h e) → graph_node h e k ≡ a → member w e ≡ true
       unfolding marks_to
       marked_place e l p s =
-          table.marked (321 + 64 * k + a) e (omega arith) (omega (arith, few-places)) (edge_few g h up.here.accepted e l)
+          table.marked (321 + 64 * k + a) e (omega arith) (omega (arith, few_places)) (edge_few g h up.here.accepted e l)
           ∙ rw (
             lt-ltb e (graph_edges h) l,
             some_in (λ j. true) (λ j. eqb (321 + 64 * k + a) (321 + 64 * j + graph_node h e j)) (rank_at g (graph_label h e)) k p refl
                 (eq-eqb (321 + 64 * k + a) (321 + 64 * k + graph_node h e k) (ap (λ b. 321 + 64 * k + b) (sym s))),
-          ) (or_true (eqb (321 + 64 * k + a) (257 + graph_label h e)))
+          ) (or-true (eqb (321 + 64 * k + a) (257 + graph_label h e)))
 
       narrow : Candidates g h x (bit_and m w)
       narrow = record {
@@ -298,8 +298,8 @@ module _ (g h : List ℕ) (x : ChartItem) (want i : ℕ) (up : Introduces g h x 
               other_node e l k y a place node image few
               (λ p r. false≢true (sym (sym (ap (λ b. b && member w e) s) ∙ q) ∙ marked_place e l p r))
 
-    candidates-next : (r : ℕ) → r ≡ cond (ltb a 64) (bit_and m (get_or t (321 + 64 * k + a) 0)) m → Candidates g h x r
-    candidates-next r e = rw e (go (ltb a 64) refl)
+    candidates_next : (r : ℕ) → r ≡ cond (ltb a 64) (bit_and m (get_or t (321 + 64 * k + a) 0)) m → Candidates g h x r
+    candidates_next r e = rw e (go (ltb a 64) refl)
       where
         go : (b : Bool) → ltb a 64 ≡ b → Candidates g h x (cond b (bit_and m (get_or t (321 + 64 * k + a) 0)) m)
         go true s = narrow (ltb-true a 64 s)
@@ -311,7 +311,7 @@ module _ (g h : List ℕ) (x : ChartItem) (want i : ℕ) (up : Introduces g h x 
   unfolding fitted
   places_fitted t table zero m l c = c
   places_fitted t table (suc k) m l c =
-      candidates-next t table k (edge_node g x.of i k) _ _ (place_known k (rank_at g want) refl (omega arith)) refl refl
+      candidates_next t table k (edge_node g x.of i k) _ _ (place_known k (rank_at g want) refl (omega arith)) refl refl
       (places_fitted t table k m (omega arith) c) _ refl
 
   pub candidates_fitted : (t : List ℕ) → GraphTable g h t → (n m r : ℕ) → n ≤ rank_at g want → Candidates g h x m

@@ -44,8 +44,8 @@ module _ (g : List ℕ) (r q : ℕ) (known : KnownNode g r q) where
     child_first p h =
         sym (eqb-true p (plan_first g r q) (sym (some_one p (plan_first g r q)) ∙ ap (λ (n : PlanNode). ltb 0 (occurs p (children n))) (sym introduced) ∙ lt-ltb 0 (occurs p (children node)) h))
 
-    pub second-known : KnownEdge g r (plan_second g r q)
-    second-known = record {
+    pub second_known : KnownEdge g r (plan_second g r q)
+    second_known = record {
       grammar = known.grammar;
       rule = known.rule;
       edge = introduce_known (rule_edges g r) (plan_of (grammar_of g) r) (plan_ok g r known.grammar known.rule) q (plan_first g r q) (plan_second g r q) introduced;
@@ -67,20 +67,20 @@ module _ (g : List ℕ) (r q w : ℕ) (is : w ≡ second_word g r q) where
       go : (b : Bool) → eqb (plan_kind g r q) 1 ≡ b → (plan_kind g r q ≡ 1) × (w / 4 % 64 ≡ edge_label g r i) × (w / 4 / 64 ≡ nodes_word g r i)
       go true t =
           let kind = eqb-true (plan_kind g r q) 1 t in
-          let (label, nodes) = parts (w / 4) (edge_label g r i) (nodes_word g r i) (omega (arith, by_kind_is true t)) (edge_label_few g r i (second-known g r q known kind)) in
+          let (label, nodes) = parts (w / 4) (edge_label g r i) (nodes_word g r i) (omega (arith, by_kind_is true t)) (edge_label_few g r i (second_known g r q known kind)) in
           (kind, label, nodes)
       go false t = absurd (omega (arith, by_kind_is false t))
 
   -- the same for the number i of that edge
   module _ (one : w % 4 ≡ 1) (known : KnownNode g r q) (i : ℕ) (second : i ≡ plan_second g r q) where
-    pub asked-known : KnownEdge g r i
-    asked-known = subst (λ i. KnownEdge g r i) (sym second) (second-known g r q known (second_edge one known).0)
+    pub asked_known : KnownEdge g r i
+    asked_known = subst (λ i. KnownEdge g r i) (sym second) (second_known g r q known (second_edge one known).0)
 
-    pub asked-label : w / 4 % 64 ≡ edge_label g r i
-    asked-label = (second_edge one known).1 ∙ ap (edge_label g r) (sym second)
+    pub asked_label : w / 4 % 64 ≡ edge_label g r i
+    asked_label = (second_edge one known).1 ∙ ap (edge_label g r) (sym second)
 
-    pub asked-nodes : w / 4 / 64 ≡ nodes_word g r i
-    asked-nodes = (second_edge one known).2 ∙ ap (nodes_word g r) (sym second)
+    pub asked_nodes : w / 4 / 64 ≡ nodes_word g r i
+    asked_nodes = (second_edge one known).2 ∙ ap (nodes_word g r) (sym second)
 
   pub second_other : (w % 4 ≡ 1 → ⊥) → (plan_kind g r q ≡ 1 → ⊥) × (w / 4 ≡ plan_second g r q)
   second_other other = go (eqb (plan_kind g r q) 1) refl
@@ -122,5 +122,5 @@ module _ (g : List ℕ) (r p w : ℕ) (at-child : JoinAt g r p w) where
         go false t = (eqb-false (plan_first g r above) p t, omega (arith, by_child false t))
 
     -- an item at the second child is below a join
-    pub later-joins : KnownNode g r above → (plan_kind g r above ≡ 0 → ⊥) × (plan_kind g r above ≡ 1 → ⊥)
-    later-joins known = (child_kind g r above known p at-child.child, λ e. join_later.0 (child_first g r above known e p at-child.child))
+    pub later_joins : KnownNode g r above → (plan_kind g r above ≡ 0 → ⊥) × (plan_kind g r above ≡ 1 → ⊥)
+    later_joins known = (child_kind g r above known p at-child.child, λ e. join_later.0 (child_first g r above known e p at-child.child))

@@ -141,9 +141,9 @@ module _ (g : List ℕ) (checked : check_grammar g ≡ true) (x : ChartItem) whe
           first_other x.plan (plan_kind g x.of up) c (plan_second g x.of up) n
           (ap (first_of (suc x.plan)) (sym from) ∙ ap (λ q. first_of (suc x.plan) (plan_node pl q)) (sym s) ∙ e)
 
-      not-second : c ≡ x.plan → (q a b : ℕ) → q < length pl → plan_node pl q ≡ join a b → b ≡ x.plan → ⊥
+      not_second : c ≡ x.plan → (q a b : ℕ) → q < length pl → plan_node pl q ≡ join a b → b ≡ x.plan → ⊥
       unfolding occurs
-      not-second n q a b d node e =
+      not_second n q a b d node e =
           let two : occurs x.plan (children (plan_node pl q)) ≡ hit x.plan a + (hit x.plan b + 0) = ap (λ (n : PlanNode). occurs x.plan (children n)) node in
           let hit-b : hit x.plan b ≡ 1 = ap (hit x.plan) e ∙ hit_self x.plan in
           let s : q ≡ up = only q d (omega arith) in
@@ -156,12 +156,12 @@ module _ (g : List ℕ) (checked : check_grammar g ≡ true) (x : ChartItem) whe
           omega (arith, child_some pl x.plan q, (plan_ok g x.of checked known.rule).child_once x.plan (omega arith))
 
       second_none : c ≡ x.plan → (H : Graph) (y : ChartItem) (t : Bool) → eqb y.kind 0 ≡ t → binary_of G H (item_of G y) (item_of G x) ≡ []
-      second_none n H y true t = ap₂ (binary_of G H) (item_active G y t) item ∙ binary_earlier G H _ _ _ _ (not-second n) _ _ _ _
+      second_none n H y true t = ap₂ (binary_of G H) (item_active G y t) item ∙ binary_earlier G H _ _ _ _ (not_second n) _ _ _ _
       second_none n H y false t = pair_passive G H y x t
 
       -- which of its parent's children x is at, is told by the word
-      pub leads-first : Leads g x (not (eqb (above.word / 32 % 4) 3))
-      leads-first = record {
+      pub leads_first : Leads g x (not (eqb (above.word / 32 % 4) 3))
+      leads_first = record {
         not = λ e H y.
             ap (λ (i : Item). binary_of G H i (item_of G y)) item
             ∙ binary_later G H _ _ _ _ (not_first (word-later g x.of x.plan above.word (is.join l) (eqb-true (above.word / 32 % 4) 3 (not-false _ e))).0) (item_of G y);

@@ -69,9 +69,9 @@ module _ (g : List ℕ) (checked : check_grammar g ≡ true) where
           let known : KnownEdge g r i = record { grammar = checked; rule = rule; edge = introduce_known (rule_edges g r) (plan_of G r) (plan_ok g r checked rule) q c i node } in
           omega (arith, (edge_ok g r i known).known, (checked_grammar_ok g checked).symbol_count_is.upper)
 
-      pub want-label : want_of G r c ≡ (edge_at (right_of G r).edges i).label
+      pub want_label : want_of G r c ≡ (edge_at (right_of G r).edges i).label
       unfolding wants_at occurs
-      want-label =
+      want_label =
           want_is c (omega (arith, ap (λ (n : PlanNode). occurs c (children n)) node, hit_self c))
           ∙ ap (λ (n : PlanNode). get_or (wants_at G r c n) 0 80) node
           ∙ rw (eq-eqb c c refl)
@@ -84,16 +84,16 @@ module _ (g : List ℕ) (checked : check_grammar g ≡ true) where
           let n = plan_few g r checked rule in
           (omega (arith, l.0, n, inside), omega (arith, l.1, n, inside))
 
-      pub want-second : want_of G r a ≡ 64 + b
+      pub want_second : want_of G r a ≡ 64 + b
       unfolding wants_at occurs
-      want-second =
+      want_second =
           want_is a (omega (arith, ap (λ (n : PlanNode). occurs a (children n)) node, hit_self a))
           ∙ ap (λ (n : PlanNode). get_or (wants_at G r a n) 0 80) node
           ∙ rw (eq-eqb a a refl)
 
-      pub want-first : want_of G r b ≡ 64 + a
+      pub want_first : want_of G r b ≡ 64 + a
       unfolding wants_at occurs
-      want-first =
+      want_first =
           want_is b (omega (arith, ap (λ (n : PlanNode). occurs b (children n)) node, hit_self b))
           ∙ ap (λ (n : PlanNode). get_or (wants_at G r b n) 0 80) node
           ∙ go (eqb a b) refl
@@ -113,7 +113,7 @@ module _ (g : List ℕ) (checked : check_grammar g ≡ true) where
         node q l (introduce c i) e =
             both_or_none (eqb c p) (eqb s (edge_at (right_of G r).edges i).label) _
             (λ x y. let k : s ≡ (edge_at (right_of G r).edges i).label = eqb-true s (edge_at (right_of G r).edges i).label y in
-            unwanted (omega (arith, k, label_few r q l c i e)) (ap (λ p. want_of G r p) (sym (eqb-true c p x)) ∙ want-label r q l c i e ∙ sym k))
+            unwanted (omega (arith, k, label_few r q l c i e)) (ap (λ p. want_of G r p) (sym (eqb-true c p x)) ∙ want_label r q l c i e ∙ sym k))
         node q l (join a b) e = refl
 
     module _ (r' p' m' : ℕ) (k : List ℕ) (unwanted : p' < 16 → want_of G r p ≡ 64 + p' → ⊥) where
@@ -128,7 +128,7 @@ module _ (g : List ℕ) (checked : check_grammar g ≡ true) where
           node q l (join a b) e =
               both_or_none (eqb a p) (eqb b p') _
               (λ x y. let s : b ≡ p' = eqb-true b p' y in
-              unwanted (omega (arith, s, (few r q l a b e).1)) (ap (λ p. want_of G r p) (sym (eqb-true a p x)) ∙ want-second r q l a b e ∙ ap (λ n. 64 + n) s))
+              unwanted (omega (arith, s, (few r q l a b e).1)) (ap (λ p. want_of G r p) (sym (eqb-true a p x)) ∙ want_second r q l a b e ∙ ap (λ n. 64 + n) s))
 
       -- which comes first
       pub first_none : binary_of G H (active r' p' m' k) (active r p m f) ≡ []
@@ -141,7 +141,7 @@ module _ (g : List ℕ) (checked : check_grammar g ≡ true) where
           node t q l (join a b) e =
               both_or_none (eqb a p') (eqb b p) _
               (λ x y. let s : a ≡ p' = eqb-true a p' x in
-              unwanted (omega (arith, s, (few r' q l a b e).0)) (ap₂ (λ r p. want_of G r p) (sym t) (sym (eqb-true b p y)) ∙ want-first r' q l a b e ∙ ap (λ n. 64 + n) s))
+              unwanted (omega (arith, s, (few r' q l a b e).0)) (ap₂ (λ r p. want_of G r p) (sym t) (sym (eqb-true b p y)) ∙ want_first r' q l a b e ∙ ap (λ n. 64 + n) s))
 
 -- ---- two items of a chart
 module _ (g : List ℕ) (checked : check_grammar g ≡ true) (H : Graph) (x y : ChartItem) (want : ℕ) (is : want ≡ want_of (grammar_of g) x.of x.plan) where

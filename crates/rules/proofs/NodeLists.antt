@@ -48,15 +48,15 @@ module _ (g : List ℕ) (r : ℕ) (checked : check_grammar g ≡ true) (known : 
     abbrev pub image : ℕ → ℕ
     image k = at (take (rule_nodes g r) f) (rule_external g r k)
 
-    pub image-next : (k x v : ℕ) (l : List ℕ) → k < rank → rank ≤ 4 → v ≡ get_or f x 0 → x ≡ rule_external g r k → Placed image k l → Placed image (k + 1) (set l k v)
-    image-next k x v l h few read e before =
+    pub image_next : (k x v : ℕ) (l : List ℕ) → k < rank → rank ≤ 4 → v ≡ get_or f x 0 → x ≡ rule_external g r k → Placed image k l → Placed image (k + 1) (set l k v)
+    image_next k x v l h few read e before =
         placed_next image k v l (omega arith)
         (read ∙ get_d_any f x 0 unplaced (omega (arith, external_few k x h e))
         ∙ sym (get_or-take (rule_nodes g r) f x unplaced (external_known k x h e)) ∙ ap (λ y. at (take (rule_nodes g r) f) y) e)
         before
 
-    pub image-all : (k : ℕ) (l : List ℕ) → k ≤ rank → rank ≤ k → Placed image k l → l ≡ padded (images (take (rule_nodes g r) f) (right_of (grammar_of g) r).externals)
-    image-all k l a b p =
+    pub image_all : (k : ℕ) (l : List ℕ) → k ≤ rank → rank ≤ k → Placed image k l → l ≡ padded (images (take (rule_nodes g r) f) (right_of (grammar_of g) r).externals)
+    image_all k l a b p =
         placed_all image rank k l a b p
         ∙ ap padded (sym (ap (images (take (rule_nodes g r) f)) externals_are ∙ map_tabulate rank (λ x. at (take (rule_nodes g r) f) x) (λ k. rule_external g r k)))
 

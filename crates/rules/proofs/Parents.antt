@@ -49,11 +49,11 @@ module _ (g : List ℕ) (r q p : ℕ) (known : KnownNode g r q) where
   child_leaf kind a e = test_is leaf (node_is g r q known kind a ∙ rw e)
 
   module _ (kind first second : ℕ) (a : kind ≡ plan_kind g r q) (b : first ≡ plan_first g r q) (c : second ≡ plan_second g r q) where
-    pub child-introduce : kind ≡ 1 → eqb p first ≡ test
-    child-introduce e = sym (some_one p first) ∙ test_is (introduce first second) (introduced_is g r q known kind first second a b c e)
+    pub child_introduce : kind ≡ 1 → eqb p first ≡ test
+    child_introduce e = sym (some_one p first) ∙ test_is (introduce first second) (introduced_is g r q known kind first second a b c e)
 
-    pub child-join : (kind ≡ 0 → ⊥) → (kind ≡ 1 → ⊥) → (eqb p first || eqb p second) ≡ test
-    child-join x y =
+    pub child_join : (kind ≡ 0 → ⊥) → (kind ≡ 1 → ⊥) → (eqb p first || eqb p second) ≡ test
+    child_join x y =
         rw (← some_one p first, ← some_one p second)
         (sym (some_append p (first ∷ []) (second ∷ [])) ∙ test_is (join first second) (joined_is g r q known kind first second a b c x y))
 

@@ -23,16 +23,16 @@ use Rattle.questions.specs.Checking.{check_grammar}
 use Rattle.questions.specs.Abstract.{grammar_of}
 use Rattle.joins.specs.Joins.{KnownNode, KnownEdge, OpenAt, nodes_word}
 use Rattle.joins.proofs.Known.{rule_ok, plan_ok, plan_few, plan_size, rule_few}
-use Rattle.joins.proofs.PlanMasks.{joined_is, below_few, leaf_mask, join-both}
+use Rattle.joins.proofs.PlanMasks.{joined_is, below_few, leaf_mask, join_both}
 use Rattle.joins.proofs.Touching.{open_none}
 use Rattle.joins.proofs.EdgeMaps.{edge_label_few, nodes_word_few}
 use Rattle.rules.specs.declared.plans.Parent.{Parent}
 use Rattle.rules.specs.Rules.{ParentOf, Childless}
 use Rattle.rules.specs.Plans.{plan_table_words, edge_word, second_word, join_word, ParentAt, WordsAt, PlacedAt, PlanTable}
 use Rattle.rules.specs.Filling.{ChildOf, Placed, Put, ToldTo}
-use Rattle.rules.proofs.Parents.{child_leaf, child-introduce, child-join, child_lower, once, parent_found, above_unknown, above_past}
+use Rattle.rules.proofs.Parents.{child_leaf, child_introduce, child_join, child_lower, once, parent_found, above_unknown, above_past}
 use Rattle.rules.proofs.Leading.{child_some}
-use Rattle.rules.proofs.JoinWords.{second-known}
+use Rattle.rules.proofs.JoinWords.{second_known}
 use Rattle.rules.proofs.WantLaws.{rules_few}
 
 -- ---- one plan node
@@ -94,7 +94,7 @@ edge_told g r i known label n a b = (rw (a, b), omega (arith, edge_label_few g r
 
 module _ (g : List ℕ) (r q : ℕ) (known : KnownNode g r q) (kind second : ℕ) (a : kind ≡ plan_kind g r q) (d : second ≡ plan_second g r q) where
   pub edge_there : kind ≡ 1 → KnownEdge g r second
-  edge_there e = subst (KnownEdge g r) (sym d) (second-known g r q known (sym a ∙ e))
+  edge_there e = subst (KnownEdge g r) (sym d) (second_known g r q known (sym a ∙ e))
 
   pub edge_asked : kind ≡ 1 → (w : ℕ) → w ≡ edge_word g r second → 1 + 4 * w ≡ second_word g r q
   unfolding second_word
@@ -104,7 +104,7 @@ module _ (g : List ℕ) (r q : ℕ) (known : KnownNode g r q) (kind second : ℕ
   unfolding second_word
   child_asked x y = (
     rw (ne_eqb (plan_kind g r q) 1 (λ e. y (a ∙ e)), ← d) refl,
-    omega (arith, join-both g r q known kind (plan_first g r q) second a refl d (λ e. x (sym a ∙ e)) y, below_few g r q known),
+    omega (arith, join_both g r q known kind (plan_first g r q) second a refl d (λ e. x (sym a ∙ e)) y, below_few g r q known),
   )
 
 -- ---- its first child, where it has children
@@ -117,8 +117,8 @@ module _ (g : List ℕ) (r q : ℕ) (known : KnownNode g r q) (kind first : ℕ)
       or_first s false e = absurd (false≢true e)
 
       go : (t : Bool) → eqb kind 1 ≡ t → ChildOf g r first q
-      go true e = ltb-true 0 _ (sym (child-introduce g r q first known kind first (plan_second g r q) a b refl (eqb-true kind 1 e)) ∙ eq-eqb first first refl)
-      go false e = ltb-true 0 _ (sym (child-join g r q first known kind first (plan_second g r q) a b refl x (eqb-false kind 1 e)) ∙ or_first (plan_second g r q) (eqb first first) (eq-eqb first first refl))
+      go true e = ltb-true 0 _ (sym (child_introduce g r q first known kind first (plan_second g r q) a b refl (eqb-true kind 1 e)) ∙ eq-eqb first first refl)
+      go false e = ltb-true 0 _ (sym (child_join g r q first known kind first (plan_second g r q) a b refl x (eqb-false kind 1 e)) ∙ or_first (plan_second g r q) (eqb first first) (eq-eqb first first refl))
 
   pub first_few : first < 16
   first_few = omega (arith, child_lower g r first known.grammar known.rule q known.node first_child, below_few g r q known)
@@ -185,11 +185,11 @@ module _ (g : List ℕ) (r q o : ℕ) (t : List ℕ) (known : KnownNode g r q) (
     unfolding join_word
     first_word = rw (eq-eqb (plan_first g r q) first (sym b)) (omega arith)
 
-    pub put-introduce : kind ≡ 1 → (u : List ℕ) → Placed t u (16 * r + first) (q + 32 * w) o → Put g r q o t u
-    put-introduce e u here = record { size = here.size; told = told; kept = λ k l n. here.other k l (λ s. n first s (child_of first (only first ∙ eq-eqb first first refl))) }
+    pub put_introduce : kind ≡ 1 → (u : List ℕ) → Placed t u (16 * r + first) (q + 32 * w) o → Put g r q o t u
+    put_introduce e u here = record { size = here.size; told = told; kept = λ k l n. here.other k l (λ s. n first s (child_of first (only first ∙ eq-eqb first first refl))) }
       where
         only : (p : ℕ) → ltb 0 (occurs p (children (plan_node (plan_of (grammar_of g) r) q))) ≡ eqb p first
-        only p = sym (child-introduce g r q p known kind first (plan_second g r q) a b refl e)
+        only p = sym (child_introduce g r q p known kind first (plan_second g r q) a b refl e)
 
         told : (p : ℕ) → ChildOf g r p q → (get_or u (16 * r + p) 0 ≡ join_word g r p q) × (get_or u (1024 + (16 * r + p)) 0 ≡ o)
         told p c =
@@ -198,7 +198,7 @@ module _ (g : List ℕ) (r q o : ℕ) (t : List ℕ) (known : KnownNode g r q) (
 
     module _ (second : ℕ) (d : second ≡ plan_second g r q) (x : kind ≡ 0 → ⊥) (y : kind ≡ 1 → ⊥) where
       both : (p : ℕ) → ltb 0 (occurs p (children (plan_node (plan_of (grammar_of g) r) q))) ≡ (eqb p first || eqb p second)
-      both p = sym (child-join g r q p known kind first second a b d x y)
+      both p = sym (child_join g r q p known kind first second a b d x y)
 
       apart : first ≡ second → ⊥
       unfolding occurs
@@ -214,17 +214,17 @@ module _ (g : List ℕ) (r q o : ℕ) (t : List ℕ) (known : KnownNode g r q) (
       unfolding join_word
       second_word = rw (ne_eqb (plan_first g r q) second (λ e. apart (b ∙ e))) (omega arith)
 
-      pub put-join : (u v : List ℕ) → Placed t u (16 * r + first) (q + 32 * w) o → Placed u v (16 * r + second) (q + 32 * (3 + 4 * first)) o → Put g r q o t v
-      put-join u v one two = record { size = two.size; told = told; kept = kept }
+      pub put_join : (u v : List ℕ) → Placed t u (16 * r + first) (q + 32 * w) o → Placed u v (16 * r + second) (q + 32 * (3 + 4 * first)) o → Put g r q o t v
+      put_join u v one two = record { size = two.size; told = told; kept = kept }
         where
           few : (p : ℕ) → ChildOf g r p q → p < 16
           few p c = omega (arith, child_lower g r p known.grammar known.rule q known.node c, below_few g r q known)
 
-          is-first : ChildOf g r first q
-          is-first = child_of first (both first ∙ rw (eq-eqb first first refl))
+          is_first : ChildOf g r first q
+          is_first = child_of first (both first ∙ rw (eq-eqb first first refl))
 
-          is-second : ChildOf g r second q
-          is-second = child_of second (both second ∙ or_true (eqb second first) (eqb second second) (eq-eqb second second refl))
+          is_second : ChildOf g r second q
+          is_second = child_of second (both second ∙ or_true (eqb second first) (eqb second second) (eq-eqb second second refl))
             where
               or_true : (a b : Bool) → b ≡ true → (a || b) ≡ true
               or_true true b e = refl
@@ -240,7 +240,7 @@ module _ (g : List ℕ) (r q o : ℕ) (t : List ℕ) (known : KnownNode g r q) (
               go : (b : Bool) → eqb p first ≡ b → (get_or v (16 * r + p) 0 ≡ join_word g r p q) × (get_or v (1024 + (16 * r + p)) 0 ≡ o)
               go true e =
                   let s : p ≡ first = eqb-true p first e in
-                  let k : 16 * r + first < 1024 = omega (arith, few first is-first, rule_few g r known.grammar known.rule) in
+                  let k : 16 * r + first < 1024 = omega (arith, few first is_first, rule_few g r known.grammar known.rule) in
                   let same = two.other (16 * r + first) k (λ e. apart (omega arith)) in
                   rw s (same.0 ∙ one.word ∙ first_word, same.1 ∙ one.opened)
               go false e =
@@ -249,8 +249,8 @@ module _ (g : List ℕ) (r q o : ℕ) (t : List ℕ) (known : KnownNode g r q) (
 
           kept : (k : ℕ) → k < 1024 → ((p : ℕ) → k ≡ 16 * r + p → ChildOf g r p q → ⊥) → (get_or v k 0 ≡ get_or t k 0) × (get_or v (1024 + k) 0 ≡ get_or t (1024 + k) 0)
           kept k l n =
-              let x = two.other k l (λ e. n second e is-second) in
-              let y = one.other k l (λ e. n first e is-first) in
+              let x = two.other k l (λ e. n second e is_second) in
+              let y = one.other k l (λ e. n first e is_first) in
               (x.0 ∙ y.0, x.1 ∙ y.1)
 
 -- ---- the table

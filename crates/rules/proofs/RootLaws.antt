@@ -93,20 +93,20 @@ module _ (g : List ℕ) (x : ChartItem) where
         ∙ inner_none G x.of x.plan x.edges x.count f
         (ne_eqb (suc x.plan) (length (plan_of G x.of)) (λ q. h (q ∙ plan_size g x.of checked known ∙ sym size)))
 
-    pub root-inner : (suc x.plan ≡ n → ⊥) → GivesRoot g x nothing
-    root-inner h = gives_none (not_root h)
+    pub root_inner : (suc x.plan ≡ n → ⊥) → GivesRoot g x nothing
+    root_inner h = gives_none (not_root h)
 
     -- the item that the function makes
-    abbrev passiveItem : ℕ → ℕ → List ℕ → ChartItem
-    passiveItem s c l = record { kind = 1; of = s; plan = 0; edges = x.edges; count = c; nodes = l }
+    abbrev passive_item : ℕ → ℕ → List ℕ → ChartItem
+    passive_item s c l = record { kind = 1; of = s; plan = 0; edges = x.edges; count = c; nodes = l }
 
     lhs_is : lhs_of G x.of ≡ rule_symbol g x.of
     unfolding rule_from
     lhs_is = ap (λ (R : Rule). R.production.lhs) (rule_is g x.of known)
 
-    pub root-made : (s c : ℕ) (l : List ℕ) → suc x.plan ≡ n → s ≡ rule_symbol g x.of → c ≡ plus x.count 1
-        → l ≡ padded (images (take (rule_nodes g x.of) x.nodes) (right_of G x.of).externals) → GivesRoot g x (record { ok = true; item = passiveItem s c l })
-    root-made s c l h qs qc ql = record {
+    pub root_made : (s c : ℕ) (l : List ℕ) → suc x.plan ≡ n → s ≡ rule_symbol g x.of → c ≡ plus x.count 1
+        → l ≡ padded (images (take (rule_nodes g x.of) x.nodes) (right_of G x.of).externals) → GivesRoot g x (record { ok = true; item = passive_item s c l })
+    root_made s c l h qs qc ql = record {
       none = λ p. absurd (true≢false p);
       one = λ _.
           as_active e
@@ -118,8 +118,8 @@ module _ (g : List ℕ) (x : ChartItem) where
         nodes : l ≡ padded (images f (right_of G x.of).externals)
         nodes = ql ∙ ap (λ k. padded (images (take k x.nodes) (right_of G x.of).externals)) (sym (right_nodes g x.of checked known))
 
-        is : passiveItem s c l ≡ chart_item (passive (lhs_of G x.of) x.edges (images f (right_of G x.of).externals)) (plus x.count 1)
-        is = λ i. passiveItem ((qs ∙ sym lhs_is) i) (qc i) (nodes i)
+        is : passive_item s c l ≡ chart_item (passive (lhs_of G x.of) x.edges (images f (right_of G x.of).externals)) (plus x.count 1)
+        is = λ i. passive_item ((qs ∙ sym lhs_is) i) (qc i) (nodes i)
 
 -- ---- what callers read off an answer: the records that the rule makes
 pub root_records : (G : Grammar) (i : Item) (n j : ℕ) → at_root G i n j ≡ map (λ (x : ChartItem). made_of x j 0) (root_items G i n)

@@ -38,10 +38,10 @@ use Rattle.joins.proofs.PlanMasks.{node_is, joined_is}
 use Rattle.joins.proofs.EdgeMaps.{edge_ok, edge_label_is as rule-label, edge_rank, rank_cap, node_there, edge_node_known, at_padded, at_past, take_padded, padded_bare, length_attach, attach_place}
 use Rattle.joins.proofs.Openness.{open_single}
 use Rattle.joins.proofs.GraphPlaces.{Placeable, in_padded, in_take, in_attach}
-use Rattle.rules.proofs.JoinWords.{introduced, second_edge, asked-known, asked-label, second_other}
+use Rattle.rules.proofs.JoinWords.{introduced, second_edge, asked_known, asked_label, second_other}
 use Rattle.rules.proofs.NodeLists.{label_is, edge_ranked}
 use Rattle.rules.proofs.Covering.{made_covering}
-use Rattle.rules.proofs.RuleItems.{guard_none, binary-nowhere, binary-place, first_is, first_none, item_active, item_passive, item_edges, with_terminal_lem, binary_apart, pair_passive, edge_pair}
+use Rattle.rules.proofs.RuleItems.{guard_none, binary_nowhere, binary_place, first_is, first_none, item_active, item_passive, item_edges, with_terminal_lem, binary_apart, pair_passive, edge_pair}
 
 -- ---- the one plan node above
 module _ (g : List ℕ) (H : Graph) (r p m : ℕ) (f : List ℕ) (x : Place) (above : Above g r p x) where
@@ -54,10 +54,10 @@ module _ (g : List ℕ) (H : Graph) (r p m : ℕ) (f : List ℕ) (x : Place) (ab
   inside found = let k = above.known found in omega (arith, k.node, plan_size g r k.grammar k.rule)
 
   binary_above : x.found ≡ true → (b : Item) → binary_of (grammar_of g) H (active r p m f) b ≡ binary_at (grammar_of g) H (active r p m f) b x.node
-  binary_above found b = binary-place (grammar_of g) H r p m f x.node (inside found) (only found) b
+  binary_above found b = binary_place (grammar_of g) H r p m f x.node (inside found) (only found) b
 
   binary_missing : x.found ≡ false → (b : Item) → binary_of (grammar_of g) H (active r p m f) b ≡ []
-  binary_missing found b = binary-nowhere (grammar_of g) H r p m f (above.nowhere found).none b
+  binary_missing found b = binary_nowhere (grammar_of g) H r p m f (above.nowhere found).none b
 
 pub terminal_passive : (G : Grammar) (H : Graph) (x : ChartItem) (e : ℕ) → eqb x.kind 0 ≡ false → terminal_items G H (item_of G x) e ≡ []
 unfolding terminal_items
@@ -121,7 +121,7 @@ module _ (g : List ℕ) (r q : ℕ) (known : KnownNode g r q) where
       edge_node_is = introduced g r q known (second_edge g r q w asks for-edge known).0 ∙ ap (introduce (plan_first g r q)) (sym second)
 
       edge_known : KnownEdge g r i
-      edge_known = asked-known g r q w asks for-edge known i second
+      edge_known = asked_known g r q w asks for-edge known i second
 
       abbrev edge : Edge
       edge = edge_at R.production.right.edges i
@@ -129,9 +129,9 @@ module _ (g : List ℕ) (r q : ℕ) (known : KnownNode g r q) where
       edge_label_is : edge.label ≡ edge_label g r i
       edge_label_is = rule-label g r i edge_known
 
-      pub filled-active : y.kind ≡ 0 → Second g r q y t false
+      pub filled_active : y.kind ≡ 0 → Second g r q y t false
       unfolding join_at
-      filled-active e =
+      filled_active e =
           second_none
           (λ H p m f.
           with_active e H p m f
@@ -141,29 +141,29 @@ module _ (g : List ℕ) (r q : ℕ) (known : KnownNode g r q) where
       abbrev joint : Graph → ℕ → List ℕ → List Item
       joint H m f = combine H R r q m y.edges f (attach R.production.right.nodes edge.attachment (take (rank_of G y.of) y.nodes))
 
-      filled-items : (y.kind ≡ 0 → ⊥) → (H : Graph) (p m : ℕ) (f : List ℕ)
+      filled_items : (y.kind ≡ 0 → ⊥) → (H : Graph) (p m : ℕ) (f : List ℕ)
           → binary_at G H (active r p m f) (item_of G y) q ≡ guard (eqb (plan_first g r q) p && eqb y.of edge.label) (joint H m f)
       unfolding nonterminal_at
-      filled-items e H p m f =
+      filled_items e H p m f =
           with_passive e H p m f
           ∙ ap (λ (n : PlanNode). nonterminal_at H R r p m f y.of y.edges (take (rank_of G y.of) y.nodes) q n) edge_node_is
 
       module _ (is_passive : y.kind ≡ 0 → ⊥) where
         label : w / 4 % 64 ≡ edge_label g r i
-        label = asked-label g r q w asks for-edge known i second
+        label = asked_label g r q w asks for-edge known i second
 
-        pub filled-label : (w / 4 % 64 ≡ y.of → ⊥) → Second g r q y t false
-        filled-label e =
+        pub filled_label : (w / 4 % 64 ≡ y.of → ⊥) → Second g r q y t false
+        filled_label e =
             second_none
             (λ H p m f.
-            filled-items is_passive H p m f
+            filled_items is_passive H p m f
             ∙ ap (λ b. guard b (joint H m f)) (and_no (eqb (plan_first g r q) p) (eqb y.of edge.label) (ne_eqb y.of edge.label (λ s. e (label ∙ sym (s ∙ edge_label_is))))))
 
-        pub filled-made : w / 4 % 64 ≡ y.of → length y.nodes ≡ 8 → t ≡ padded (attach n (edge_nodes g r i) (take (rank_at g (edge_label g r i)) y.nodes)) → Second g r q y t true
-        filled-made s eight t-is =
+        pub filled_made : w / 4 % 64 ≡ y.of → length y.nodes ≡ 8 → t ≡ padded (attach n (edge_nodes g r i) (take (rank_at g (edge_label g r i)) y.nodes)) → Second g r q y t true
+        filled_made s eight t-is =
             second_some
             (λ H p m f d.
-            filled-items is_passive H p m f
+            filled_items is_passive H p m f
             ∙ ap₂ (λ a b. guard (a && b) (joint H m f)) (eq-eqb (plan_first g r q) p d) (eq-eqb y.of edge.label same)
             ∙ ap (combine H R r q m y.edges f) map_is)
             (subst (BareFrom n) (sym t-is) (padded_bare n (attach n edge.attachment L) (omega (arith, length_attach n edge.attachment L))))
@@ -216,9 +216,9 @@ module _ (g : List ℕ) (r q : ℕ) (known : KnownNode g r q) where
           let other = second_other g r q w asks not_edge in
           joined_is g r q known (plan_kind g r q) (plan_first g r q) d refl refl other.1 not-leaf other.0
 
-      pub joined-passive : (y.kind ≡ 0 → ⊥) → Second g r q y t false
+      pub joined_passive : (y.kind ≡ 0 → ⊥) → Second g r q y t false
       unfolding nonterminal_at
-      joined-passive e =
+      joined_passive e =
           second_none
           (λ H p m f. with_passive e H p m f ∙ ap (λ (n : PlanNode). nonterminal_at H R r p m f y.of y.edges (take (rank_of G y.of) y.nodes) q n) join_node)
 
@@ -234,15 +234,15 @@ module _ (g : List ℕ) (r q : ℕ) (known : KnownNode g r q) where
             with_active is_active H p m f
             ∙ ap (λ (n : PlanNode). guard (eqb r y.of) (join_at H R r p m f y.plan y.edges (take (right_of G y.of).nodes y.nodes) q n)) join_node
 
-        pub joined-rule : (y.of ≡ r → ⊥) → Second g r q y t false
-        joined-rule e =
+        pub joined_rule : (y.of ≡ r → ⊥) → Second g r q y t false
+        joined_rule e =
             second_none
             (λ H p m f.
             joined_items H p m f
             ∙ ap (λ b. guard b (guard (eqb (plan_first g r q) p && eqb d y.plan) (both H m f (take (right_of G y.of).nodes y.nodes)))) (ne_eqb r y.of (λ s. e (sym s))))
 
-        pub joined-second : (d ≡ y.plan → ⊥) → Second g r q y t false
-        joined-second e =
+        pub joined_second : (d ≡ y.plan → ⊥) → Second g r q y t false
+        joined_second e =
             second_none
             (λ H p m f.
             joined_items H p m f
@@ -284,33 +284,33 @@ module _ (g h : List ℕ) where
     abbrev pairs : List Item
     pairs = binary_of G' H (item_of G' x) (item_of G' y)
 
-    pub pair-not : (x.kind ≡ 0 → ⊥) → pairs ≡ []
-    pair-not k = pair_passive G' H x y (ne_eqb x.kind 0 k)
+    pub pair_not : (x.kind ≡ 0 → ⊥) → pairs ≡ []
+    pair_not k = pair_passive G' H x y (ne_eqb x.kind 0 k)
 
     module _ (k : x.kind ≡ 0) (p : Place) (above : Above g x.of x.plan p) where
       is : item_of G' x ≡ active x.of x.plan x.edges (take (right_of G' x.of).nodes x.nodes)
       is = item_active G' x (eq-eqb x.kind 0 k)
 
-      pub pair-nowhere : p.found ≡ false → pairs ≡ []
-      pair-nowhere t = ap (λ (i : Item). binary_of G' H i (item_of G' y)) is ∙ binary_missing g H _ _ _ _ p above t (item_of G' y)
+      pub pair_nowhere : p.found ≡ false → pairs ≡ []
+      pair_nowhere t = ap (λ (i : Item). binary_of G' H i (item_of G' y)) is ∙ binary_missing g H _ _ _ _ p above t (item_of G' y)
 
       module _ (found : p.found ≡ true) where
-        pair-at : pairs ≡ binary_at G' H (active x.of x.plan x.edges (take (right_of G' x.of).nodes x.nodes)) (item_of G' y) p.node
-        pair-at = ap (λ (i : Item). binary_of G' H i (item_of G' y)) is ∙ binary_above g H _ _ _ _ p above found (item_of G' y)
+        pair_at : pairs ≡ binary_at G' H (active x.of x.plan x.edges (take (right_of G' x.of).nodes x.nodes)) (item_of G' y) p.node
+        pair_at = ap (λ (i : Item). binary_of G' H i (item_of G' y)) is ∙ binary_above g H _ _ _ _ p above found (item_of G' y)
 
-        pub pair-other : (plan_first g x.of p.node ≡ x.plan → ⊥) → pairs ≡ []
-        pair-other other = pair-at ∙ first_other g x.of p.node (above.known found) H _ _ _ (item_of G' y) other
+        pub pair_other : (plan_first g x.of p.node ≡ x.plan → ⊥) → pairs ≡ []
+        pair_other other = pair_at ∙ first_other g x.of p.node (above.known found) H _ _ _ (item_of G' y) other
 
         module _ (t : List ℕ) (b : Bool) (second : Second g x.of p.node y t b) where
-          pub pair-neither : b ≡ false → pairs ≡ []
-          pair-neither e = pair-at ∙ second.none e H _ _ _
+          pub pair_neither : b ≡ false → pairs ≡ []
+          pair_neither e = pair_at ∙ second.none e H _ _ _
 
-          pair-both : b ≡ true → plan_first g x.of p.node ≡ x.plan
+          pair_both : b ≡ true → plan_first g x.of p.node ≡ x.plan
               → combine H (rule_of G' x.of) x.of p.node x.edges y.edges (take (rule_nodes g x.of) x.nodes) (take (rule_nodes g x.of) t) ≡ pairs
-          pair-both e first =
+          pair_both e first =
               let known = above.known found in
               sym
-              (pair-at ∙ second.some e H _ _ _ first
+              (pair_at ∙ second.some e H _ _ _ first
               ∙ ap (λ i. combine H (rule_of G' x.of) x.of p.node x.edges y.edges (take i x.nodes) (take (rule_nodes g x.of) t))
               (right_nodes g x.of known.grammar known.rule))
 
@@ -320,10 +320,10 @@ module _ (g h : List ℕ) where
               → Accepted g h → Gives g h sure pairs n (record { ok = j; item = record { kind = 0; of = x.of; plan = p.node; edges = bit_or x.edges y.edges; count = n; nodes = made } })
           unfolding ◌∪◌
           pair_made sure made j n e first makes accepted = record {
-            none = λ f. sym (pair-both e first) ∙ makes.none f;
+            none = λ f. sym (pair_both e first) ∙ makes.none f;
             one = λ f.
                 let one = makes.one f in
-                ap (map (λ (i : Item). chart_item i n)) (sym (pair-both e first) ∙ one.item) ∙ ap (λ (l : List ℕ). item l ∷ []) (sym one.places);
+                ap (map (λ (i : Item). chart_item i n)) (sym (pair_both e first) ∙ one.item) ∙ ap (λ (l : List ℕ). item l ∷ []) (sym one.places);
             covering = λ s f.
                 made_covering g h x.of p.node x.edges y.edges x.nodes t made accepted (above.known found) j makes f n;
           }
@@ -348,8 +348,8 @@ module _ (g h : List ℕ) where
 
       -- the item of the edge
       module _ (s : ℕ) (l : List ℕ) (label : s ≡ graph_label h e) (nodes : l ≡ padded graph_edge.attachment) where
-        abbrev edge-item : ChartItem
-        edge-item = record { kind = 1; of = s; plan = 0; edges = m; count = 0; nodes = l }
+        abbrev edge_item : ChartItem
+        edge_item = record { kind = 1; of = s; plan = 0; edges = m; count = 0; nodes = l }
 
         ok : EdgeOk G' H.nodes graph_edge
         ok = (graph_ok g h accepted).side.edge e edge_inside
@@ -357,20 +357,20 @@ module _ (g h : List ℕ) where
         few : rank_of G' graph_edge.label ≤ 8
         few = omega (arith, ((checked_grammar_ok g accepted.grammar).symbol graph_edge.label ok.known).upper)
 
-        list-is : take (rank_of G' s) l ≡ graph_edge.attachment
-        list-is =
+        list_is : take (rank_of G' s) l ≡ graph_edge.attachment
+        list_is =
             ap₂ (λ (k : ℕ) (l : List ℕ). take (rank_of G' k) l) (label ∙ sym (label_is g h e known)) nodes
             ∙ take_padded (rank_of G' graph_edge.label) graph_edge.attachment ok.listed.ranked few
 
-        y-is : item_of G' edge-item ≡ passive graph_edge.label (single e) graph_edge.attachment
-        y-is =
-            item_passive G' edge-item refl
-            ∙ ap₂ (λ (s m : ℕ). passive s m (take (rank_of G' edge-item.of) l)) (label ∙ sym (label_is g h e known)) set_is
-            ∙ ap (passive graph_edge.label (single e)) list-is
+        y_is : item_of G' edge_item ≡ passive graph_edge.label (single e) graph_edge.attachment
+        y_is =
+            item_passive G' edge_item refl
+            ∙ ap₂ (λ (s m : ℕ). passive s m (take (rank_of G' edge_item.of) l)) (label ∙ sym (label_is g h e known)) set_is
+            ∙ ap (passive graph_edge.label (single e)) list_is
 
         -- its open nodes are those of the edge
-        pub edge-covering : Covering g h edge-item
-        edge-covering = record {
+        pub edge_covering : Covering g h edge_item
+        edge_covering = record {
           shown = λ v l p.
               let on = open_single g h e v (ap (λ i. is_open H i v) (sym set_is) ∙ p) in
               let (k, d, q) = occurs_find v graph_edge.attachment (ltb-true 0 (occurs v graph_edge.attachment) on) in
@@ -381,21 +381,21 @@ module _ (g h : List ℕ) where
         }
 
         -- so a rule may take it
-        edge-usable : (sure : Bool) → Usable g h sure edge-item
-        edge-usable sure = record {
+        edge_usable : (sure : Bool) → Usable g h sure edge_item
+        edge_usable sure = record {
           into = subst (Into (graph_nodes h)) (sym nodes) (in_padded (graph_nodes h) graph_edge.attachment (λ i. place i (dec_lt i (length graph_edge.attachment))));
           bare = λ z. absurd (omega (arith, z));
-          covering = λ _. edge-covering;
+          covering = λ _. edge_covering;
         }
           where
             place : (i : ℕ) → Dec (i < length graph_edge.attachment) → Placeable (graph_nodes h) (at graph_edge.attachment i)
             place i (yes d) = inr (omega (arith, ok.listed.inside (at graph_edge.attachment i) (occurs_at graph_edge.attachment i d), graph_nodes_lem g h))
             place i (no d) = inl (at_past graph_edge.attachment i (omega (arith, d)))
 
-        pub edge-stands : StandsFor g h e edge-item
-        edge-stands = record {
-          usable = edge-usable;
-          pairs = λ x. ap (binary_of G' H (item_of G' x)) y-is ∙ sym (as_pair (item_of G' x));
+        pub edge_stands : StandsFor g h e edge_item
+        edge_stands = record {
+          usable = edge_usable;
+          pairs = λ x. ap (binary_of G' H (item_of G' x)) y_is ∙ sym (as_pair (item_of G' x));
         }
 
   -- ---- what callers read off an answer: the records that the rule makes
@@ -404,21 +404,21 @@ module _ (g h : List ℕ) where
   fresh_records (i ∷ l) n a b = ap (λ (rs : List Record). record_of i n a b ∷ rs) (fresh_records l n a b)
 
   module _ (sure : Bool) (m : Made) where
-    one-record : (l : List Item) (n a b : ℕ) → Gives g h sure l n m → m.ok ≡ true → map (λ (i : Item). record_of i n a b) l ≡ made_of m.item a b ∷ []
-    one-record l n a b answer p = fresh_records l n a b ∙ ap (map (λ (x : ChartItem). made_of x a b)) (answer.one p)
+    one_record : (l : List Item) (n a b : ℕ) → Gives g h sure l n m → m.ok ≡ true → map (λ (i : Item). record_of i n a b) l ≡ made_of m.item a b ∷ []
+    one_record l n a b answer p = fresh_records l n a b ∙ ap (map (λ (x : ChartItem). made_of x a b)) (answer.one p)
 
     module _ (x y : Record) (j k : ℕ) (answer : Gives g h sure (binary_of G' H (item_of G' x.item) (item_of G' y.item)) (plus x.item.count y.item.count) m) where
-      pub pair-none : m.ok ≡ false → pair G' H x j y k ≡ []
+      pub pair_none : m.ok ≡ false → pair G' H x j y k ≡ []
       unfolding pair
-      pair-none p = ap (map (λ (i : Item). record_of i (plus x.item.count y.item.count) j k)) (answer.none p)
+      pair_none p = ap (map (λ (i : Item). record_of i (plus x.item.count y.item.count) j k)) (answer.none p)
 
       pub pair_one : m.ok ≡ true → pair G' H x j y k ≡ made_of m.item j k ∷ []
       unfolding pair
-      pair_one p = one-record (binary_of G' H (item_of G' x.item) (item_of G' y.item)) (plus x.item.count y.item.count) j k answer p
+      pair_one p = one_record (binary_of G' H (item_of G' x.item) (item_of G' y.item)) (plus x.item.count y.item.count) j k answer p
 
     module _ (x : ChartItem) (n j e : ℕ) (answer : Gives g h sure (terminal_items G' H (item_of G' x) e) n m) where
       pub terminal_none : m.ok ≡ false → with_terminal G' H (item_of G' x) n j e ≡ []
       terminal_none p = with_terminal_lem G' H (item_of G' x) n j e ∙ ap (map (λ (i : Item). record_of i n j e)) (answer.none p)
 
-      pub terminal-one : m.ok ≡ true → with_terminal G' H (item_of G' x) n j e ≡ made_of m.item j e ∷ []
-      terminal-one p = with_terminal_lem G' H (item_of G' x) n j e ∙ one-record (terminal_items G' H (item_of G' x) e) n j e answer p
+      pub terminal_one : m.ok ≡ true → with_terminal G' H (item_of G' x) n j e ≡ made_of m.item j e ∷ []
+      terminal_one p = with_terminal_lem G' H (item_of G' x) n j e ∙ one_record (terminal_items G' H (item_of G' x) e) n j e answer p

@@ -1,7 +1,7 @@
 -- What a rule makes, over any grammar and graph: nothing but at one plan node.
 use mathlib.Core.Path.{◌≡◌, refl, sym, ap, ap₂, ◌∙◌}
 use mathlib.Core.Bool.{Bool, true, false, ◌&&◌, cond}
-use mathlib.Core.List.{List, [], ◌∷◌, ◌++◌, map, append_nil}
+use mathlib.Core.List.{List, [], ◌∷◌, ◌++◌, map, append-nil}
 use Prim.Native.Nat.{ℕ, zero, suc, ◌<◌}
 use native.Mathlib.Omega.{arith}
 use native.Mathlib.Decide.{dec_lt}
@@ -38,7 +38,7 @@ each_only {A} (suc n) q F l h = go (dec_lt q n) (λ d. each_only n q F d (λ q' 
     go (yes d) rest = ap₂ ◌++◌ (h n (omega arith) (λ e. omega arith)) (rest d)
     go (no d) rest =
         let e : n ≡ q = omega arith in
-        ap₂ ◌++◌ (ap F e) (each_none n F (λ q' k. h q' (omega arith) (λ s. omega arith))) ∙ append_nil (F q)
+        ap₂ ◌++◌ (ap F e) (each_none n F (λ q' k. h q' (omega arith) (λ s. omega arith))) ∙ append-nil (F q)
 
 each_same : {A : Type 0} (n : ℕ) (F K : ℕ → List A) → ((q : ℕ) → q < n → F q ≡ K q) → each_to n F ≡ each_to n K
 each_same zero F K h = refl
@@ -72,26 +72,26 @@ module _ (G : Grammar) (H : Graph) (r p m : ℕ) (f : List ℕ) where
   pl = plan_of G r
 
   module _ (none : (q : ℕ) → q < length pl → occurs p (children (plan_node pl q)) ≡ 0) where
-    pub binary-nowhere : (b : Item) → binary_of G H (active r p m f) b ≡ []
+    pub binary_nowhere : (b : Item) → binary_of G H (active r p m f) b ≡ []
     unfolding binary_of
-    binary-nowhere (passive s m' L) = each_none (length pl) _ (λ q l. nonterminal_none H (rule_of G r) r p m f s m' L q (plan_node pl q) (none q l))
-    binary-nowhere (active r' p' m' k) =
+    binary_nowhere (passive s m' L) = each_none (length pl) _ (λ q l. nonterminal_none H (rule_of G r) r p m f s m' L q (plan_node pl q) (none q l))
+    binary_nowhere (active r' p' m' k) =
         ap (guard (eqb r r')) (each_none (length pl) _ (λ q l. join_none H (rule_of G r) r p m f p' m' k q (plan_node pl q) (none q l))) ∙ guard_none (eqb r r')
 
   module _ (q : ℕ) (known : q < length pl) (only : (q' : ℕ) → q' < length pl → (q' ≡ q → ⊥) → occurs p (children (plan_node pl q')) ≡ 0) where
-    pub binary-place : (b : Item) → binary_of G H (active r p m f) b ≡ binary_at G H (active r p m f) b q
+    pub binary_place : (b : Item) → binary_of G H (active r p m f) b ≡ binary_at G H (active r p m f) b q
     unfolding binary_of binary_at
-    binary-place (passive s m' L) =
+    binary_place (passive s m' L) =
         each_only (length pl) q (λ q. nonterminal_at H (rule_of G r) r p m f s m' L q (plan_node pl q)) known
         (λ q' l n. nonterminal_none H (rule_of G r) r p m f s m' L q' (plan_node pl q') (only q' l n))
-    binary-place (active r' p' m' k) =
+    binary_place (active r' p' m' k) =
         ap (guard (eqb r r'))
         (each_only (length pl) q (λ q. join_at H (rule_of G r) r p m f p' m' k q (plan_node pl q)) known
         (λ q' l n. join_none H (rule_of G r) r p m f p' m' k q' (plan_node pl q') (only q' l n)))
 
-    pub terminal-place : (e : ℕ) → terminal_items G H (active r p m f) e ≡ terminal_at G H r p m f e q (plan_node pl q)
+    pub terminal_place : (e : ℕ) → terminal_items G H (active r p m f) e ≡ terminal_at G H r p m f e q (plan_node pl q)
     unfolding terminal_items
-    terminal-place e =
+    terminal_place e =
         each_only (length pl) q (λ q. terminal_at G H r p m f e q (plan_node pl q)) known (λ q' l n. terminal_none G H r p m f e q' (plan_node pl q') (only q' l n))
 
 -- ---- a plan node whose first child is not p makes nothing of a first item at p

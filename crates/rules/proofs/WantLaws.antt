@@ -28,8 +28,8 @@ use Rattle.rules.specs.Rules.{Above}
 use Rattle.rules.specs.declared.plans.Parent.{Parent}
 use Rattle.rules.specs.Plans.{JoinAt, ParentAt}
 use Rattle.rules.specs.Wants.{wants_at, want_of, want_by}
-use Rattle.rules.proofs.Parents.{child-join, above_unknown, above_past}
-use Rattle.rules.proofs.JoinWords.{child_kind, second_edge, second_other, join_first, join_later, later-joins}
+use Rattle.rules.proofs.Parents.{child_join, above_unknown, above_past}
+use Rattle.rules.proofs.JoinWords.{child_kind, second_edge, second_other, join_first, join_later, later_joins}
 use Rattle.rules.proofs.RuleItems.{each_none, each_only}
 
 -- ---- a plan node that has no child p wants nothing of an item at p
@@ -89,9 +89,9 @@ module _ (g : List ℕ) (r p q : ℕ) (known : KnownNode g r q) (kind first seco
         edge_label_is g r second
         (record { grammar = known.grammar; rule = known.rule; edge = introduce_known (rule_edges g r) (plan_of (grammar_of g) r) (plan_ok g r known.grammar known.rule) q first second introduced })
 
-    pub told-edge : (w : ℕ) → first ≡ p → w ≡ edge_label g r second → w ≡ told
+    pub told_edge : (w : ℕ) → first ≡ p → w ≡ edge_label g r second → w ≡ told
     unfolding wants_at
-    told-edge w e l =
+    told_edge w e l =
         l ∙ sym label_is
         ∙ ap (λ (t : Bool). get_or (guard t ((edge_at (right_of (grammar_of g) r).edges second).label ∷ [])) 0 80) (sym (eq-eqb first p e))
         ∙ told_is (introduce first second) introduced
@@ -104,13 +104,13 @@ module _ (g : List ℕ) (r p q : ℕ) (known : KnownNode g r q) (kind first seco
     abbrev either : Bool → Bool → ℕ
     either s t = get_or (guard s ((64 + second) ∷ []) ++ guard t ((64 + first) ∷ [])) 0 80
 
-    pub told-second : first ≡ p → 64 + second ≡ told
+    pub told_second : first ≡ p → 64 + second ≡ told
     unfolding wants_at
-    told-second e = ap (λ (s : Bool). either s (eqb second p)) (sym (eq-eqb first p e)) ∙ told_is (join first second) joined
+    told_second e = ap (λ (s : Bool). either s (eqb second p)) (sym (eq-eqb first p e)) ∙ told_is (join first second) joined
 
-    pub told-first : (first ≡ p → ⊥) → second ≡ p → 64 + first ≡ told
+    pub told_first : (first ≡ p → ⊥) → second ≡ p → 64 + first ≡ told
     unfolding wants_at
-    told-first e d = ap₂ either (sym (ne_eqb first p e)) (sym (eq-eqb second p d)) ∙ told_is (join first second) joined
+    told_first e d = ap₂ either (sym (ne_eqb first p e)) (sym (eq-eqb second p d)) ∙ told_is (join first second) joined
 
 -- ---- what the word of a plan node tells
 module _ (g : List ℕ) (r p : ℕ) (x : Parent) (is : ParentAt g r p x) where
@@ -130,28 +130,28 @@ module _ (g : List ℕ) (r p : ℕ) (x : Parent) (is : ParentAt g r p x) where
     child : JoinAt g r p w
     child = is.join l
 
-    want-edge : w / 32 % 4 ≡ 1 → w / 32 / 4 % 64 ≡ want_of (grammar_of g) r p
-    want-edge one =
+    want_edge : w / 32 % 4 ≡ 1 → w / 32 / 4 % 64 ≡ want_of (grammar_of g) r p
+    want_edge one =
         let first = join_first g r p w child (λ e. omega arith) in
         let edge = second_edge g r q (w / 32) first.1 one above in
-        want_found g r p _ is.above found _ (told-edge g r p q above (plan_kind g r q) (plan_first g r q) (plan_second g r q) refl refl refl edge.0 _ first.0 edge.1)
+        want_found g r p _ is.above found _ (told_edge g r p q above (plan_kind g r q) (plan_first g r q) (plan_second g r q) refl refl refl edge.0 _ first.0 edge.1)
 
-    want-second : (w / 32 % 4 ≡ 1 → ⊥) → (w / 32 % 4 ≡ 3 → ⊥) → 64 + w / 32 / 4 ≡ want_of (grammar_of g) r p
-    want-second one three =
+    want_second : (w / 32 % 4 ≡ 1 → ⊥) → (w / 32 % 4 ≡ 3 → ⊥) → 64 + w / 32 / 4 ≡ want_of (grammar_of g) r p
+    want_second one three =
         let first = join_first g r p w child three in
         let other = second_other g r q (w / 32) first.1 one in
         want_found g r p _ is.above found _
         (ap (λ k. 64 + k) other.1
-        ∙ told-second g r p q above (plan_kind g r q) (plan_first g r q) (plan_second g r q) refl refl refl (child_kind g r q above p child.child) other.0 first.0)
+        ∙ told_second g r p q above (plan_kind g r q) (plan_first g r q) (plan_second g r q) refl refl refl (child_kind g r q above p child.child) other.0 first.0)
 
-    want-first : w / 32 % 4 ≡ 3 → 64 + w / 32 / 4 ≡ want_of (grammar_of g) r p
-    want-first three =
+    want_first : w / 32 % 4 ≡ 3 → 64 + w / 32 / 4 ≡ want_of (grammar_of g) r p
+    want_first three =
         let later = join_later g r p w child three in
-        let joins = later-joins g r p w child three above in
-        let is-second : plan_second g r q ≡ p = sym (second_of (eqb p (plan_first g r q)) (ne_eqb p (plan_first g r q) (λ e. later.0 (sym e))) (child-join g r q p above (plan_kind g r q) (plan_first g r q) (plan_second g r q) refl refl refl joins.0 joins.1 ∙ lt-ltb 0 _ child.child)) in
+        let joins = later_joins g r p w child three above in
+        let is_second : plan_second g r q ≡ p = sym (second_of (eqb p (plan_first g r q)) (ne_eqb p (plan_first g r q) (λ e. later.0 (sym e))) (child_join g r q p above (plan_kind g r q) (plan_first g r q) (plan_second g r q) refl refl refl joins.0 joins.1 ∙ lt-ltb 0 _ child.child)) in
         want_found g r p _ is.above found _
         (ap (λ k. 64 + k) later.1
-        ∙ told-first g r p q above (plan_kind g r q) (plan_first g r q) (plan_second g r q) refl refl refl joins.0 joins.1 later.0 is-second)
+        ∙ told_first g r p q above (plan_kind g r q) (plan_first g r q) (plan_second g r q) refl refl refl joins.0 joins.1 later.0 is_second)
       where
         second_of : (b : Bool) → b ≡ false → (b || eqb p (plan_second g r q)) ≡ true → p ≡ plan_second g r q
         second_of true e h = absurd (false≢true (sym e))
@@ -162,9 +162,9 @@ module _ (g : List ℕ) (r p : ℕ) (x : Parent) (is : ParentAt g r p x) where
   want_told = go (dec_lt q 16)
     where
       kinds : q < 16 → (a b : Bool) → eqb (w / 32 % 4) 1 ≡ a → eqb (w / 32 % 4) 3 ≡ b → cond a (w / 32 / 4 % 64) (64 + w / 32 / 4) ≡ want_of (grammar_of g) r p
-      kinds l true b e d = want-edge l (eqb-true (w / 32 % 4) 1 e)
-      kinds l false true e d = want-first l (eqb-true (w / 32 % 4) 3 d)
-      kinds l false false e d = want-second l (eqb-false (w / 32 % 4) 1 e) (eqb-false (w / 32 % 4) 3 d)
+      kinds l true b e d = want_edge l (eqb-true (w / 32 % 4) 1 e)
+      kinds l false true e d = want_first l (eqb-true (w / 32 % 4) 3 d)
+      kinds l false false e d = want_second l (eqb-false (w / 32 % 4) 1 e) (eqb-false (w / 32 % 4) 3 d)
 
       go : Dec (q < 16) → cond (ltb q 16) (cond (eqb (w / 32 % 4) 1) (w / 32 / 4 % 64) (64 + w / 32 / 4)) 80 ≡ want_of (grammar_of g) r p
       go (yes l) = rw (lt-ltb q 16 l) (kinds l (eqb (w / 32 % 4) 1) (eqb (w / 32 % 4) 3) refl refl)

@@ -1,4 +1,7 @@
 // What one rule of the closure makes of one or two items of a chart: at most one new item.
+
+#![tactic(auto)]
+
 ghost use Rattle.std.specs.Prelude.{◌≡◌, true, cond, ◌+◌, ◌*◌, ◌<◌, get_or, ltb};
 ghost use Rattle.std.specs.Int.Bits.{bit_and};
 ghost use Rattle.hrg.specs.Grammars.{edge_at};
@@ -24,14 +27,14 @@ pub mod plans;
 pub mod wants;
 
 // A plan node: none where found is false.
-#[derive(Drop)]
+#[derive(Clone, Copy)]
 pub struct Place {
     pub found: bool,
     pub node: u64,
 }
 
 // What a rule makes: no item where ok is false. The item comes first, so that its words are copied as words.
-#[derive(Drop)]
+#[derive(Clone, Copy)]
 pub struct Made {
     pub item: ChartItem,
     pub ok: bool,
@@ -82,7 +85,7 @@ pub fn edge_nodes(g: &[u64], h: &[u64], e: u64) -> [u8; PLACES]
 
 // ---- the rules of two premises
 // The map of the second of two items: none where ok is false.
-#[derive(Drop)]
+#[derive(Clone, Copy)]
 struct SecondMap {
     nodes: [u8; PLACES],
     ok: bool,

@@ -11,7 +11,7 @@ use crate::Place;
 
 // A plan node as one number (`join_word`), which has 16 for its number where there is none, and the rule nodes that
 // are open there.
-#[derive(Drop)]
+#[derive(Clone, Copy)]
 pub struct Parent {
     pub word: u64,
     pub stays: u64,

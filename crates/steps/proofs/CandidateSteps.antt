@@ -19,7 +19,7 @@ use Rattle.rules.proofs.CandidateLaws.{no_terminal}
 use Rattle.records.specs.Words.{Fits, record_at, grown_by}
 use Rattle.records.proofs.Grown.{Whole, whole_gather}
 use Rattle.steps.specs.Ready.{Tables, Ready, Handled}
-use Rattle.steps.proofs.KnownLaws.{edge-whole}
+use Rattle.steps.proofs.KnownLaws.{edge_whole}
 use Rattle.steps.proofs.ReadyLaws.{stays_record, stays_handled}
 use Rattle.steps.proofs.StepLaws.{Gathered, nothing_added, gathered_none, gathered_next, gathered_skip, gathered_all}
 
@@ -33,10 +33,10 @@ module _ (g h : List ℕ) (x : ChartItem) (m : ℕ) (C : Candidates g h x m) (w 
   pub candidates_none : m ≡ 0 → (n : ℕ) → n ≡ graph_edges h → w ≡ grown_by w (gather n made)
   candidates_none z n q =
       gathered_all w o made w n n refl
-      (gathered_skip w o made w 0 n (λ e a b. no_terminal g h x m C x.count j e (omega arith) (subst-member e)) (omega arith) (gathered_none w o made))
+      (gathered_skip w o made w 0 n (λ e a b. no_terminal g h x m C x.count j e (omega arith) (subst_member e)) (omega arith) (gathered_none w o made))
     where
-      subst-member : (e : ℕ) → member m e ≡ false
-      subst-member e = rw z (member_none e)
+      subst_member : (e : ℕ) → member m e ≡ false
+      subst_member e = rw z (member_none e)
 
 -- ---- the loop over the graph edges: the record at place j stays as it is
 -- the words v, with the index jx and the lists ms, are w with what it makes with the first e graph edges
@@ -53,7 +53,7 @@ module _ {g h plans keys graph w ix ls : List ℕ} {j : ℕ} (P : Tables g h pla
   with e = with_terminal (grammar_of g) (graph_of g h) (item_of (grammar_of g) own) own.count j e
 
   with_whole : (e : ℕ) → e < length (graph_of g h).edges → Whole (with e)
-  with_whole e = edge-whole g h P.0.accepted w P.1.known P.1.small j P.2.there own.count e
+  with_whole e = edge_whole g h P.0.accepted w P.1.known P.1.small j P.2.there own.count e
 
   edges_whole : (n : ℕ) → n ≤ length (graph_of g h).edges → Whole (gather n with)
   edges_whole n l = whole_gather n with (λ e h. with_whole e (omega arith))
@@ -67,26 +67,26 @@ module _ {g h plans keys graph w ix ls : List ℕ} {j : ℕ} (P : Tables g h pla
   edge_start = record { gathered = gathered_none w P.1.fits with; ready = P.1; within = omega arith }
 
   module _ {v jx ms : List ℕ} {e : ℕ} (E : Edging g h keys w j v jx ms e) where
-    edge-item : (record_at v j).item ≡ own
-    edge-item = ap (λ (y : Record). y.item) (stays_record w v j (gather e with) P.1.fits (edges_whole e E.within) E.gathered.is P.2)
+    edge_item : (record_at v j).item ≡ own
+    edge_item = ap (λ (y : Record). y.item) (stays_record w v j (gather e with) P.1.fits (edges_whole e E.within) E.gathered.is P.2)
 
-    pub edge-handled : Handled v j
-    edge-handled = stays_handled w v j (gather e with) P.1.fits (edges_whole e E.within) E.gathered.is P.2
+    pub edge_handled : Handled v j
+    edge_handled = stays_handled w v j (gather e with) P.1.fits (edges_whole e E.within) E.gathered.is P.2
 
-    pub edge-candidates : {y : ChartItem} {m : ℕ} → y ≡ own → Candidates g h y m → Candidates g h (record_at v j).item m
-    edge-candidates {m = m} q C = subst (λ (y : ChartItem). Candidates g h y m) (q ∙ sym edge-item) C
+    pub edge_candidates : {y : ChartItem} {m : ℕ} → y ≡ own → Candidates g h y m → Candidates g h (record_at v j).item m
+    edge_candidates {m = m} q C = subst (λ (y : ChartItem). Candidates g h y m) (q ∙ sym edge_item) C
 
-    pub edge-next : {u kx ns : List ℕ} → e < graph_edges h
+    pub edge_next : {u kx ns : List ℕ} → e < graph_edges h
         → (u ≡ grown_by v (with_terminal (grammar_of g) (graph_of g h) (item_of (grammar_of g) (record_at v j).item) (record_at v j).item.count j e)) × Ready g h keys u kx ns
         → Edging g h keys w j u kx ns (e + 1)
-    edge-next {u} l made = record {
+    edge_next {u} l made = record {
       gathered =
           gathered_next w P.1.fits with v u e (e + 1) (omega arith) (λ n d. with_whole n (omega (arith, graph_size g h))) E.gathered
-          (made.0 ∙ ap (λ (y : ChartItem). grown_by v (with_terminal (grammar_of g) (graph_of g h) (item_of (grammar_of g) y) y.count j e)) edge-item);
+          (made.0 ∙ ap (λ (y : ChartItem). grown_by v (with_terminal (grammar_of g) (graph_of g h) (item_of (grammar_of g) y) y.count j e)) edge_item);
       ready = made.1;
       within = omega (arith, graph_size g h);
     }
 
-    pub edge-end : {n : ℕ} → n ≡ graph_edges h → e ≤ n → n ≤ e → (v ≡ grown_by w (gather (length (graph_of g h).edges) with)) × Ready g h keys v jx ms
-    edge-end q a b =
+    pub edge_end : {n : ℕ} → n ≡ graph_edges h → e ≤ n → n ≤ e → (v ≡ grown_by w (gather (length (graph_of g h).edges) with)) × Ready g h keys v jx ms
+    edge_end q a b =
         (gathered_all w P.1.fits with v e (length (graph_of g h).edges) (omega (arith, q, graph_size g h)) E.gathered, E.ready)

@@ -6,7 +6,7 @@ use mathlib.Core.Bool.{Bool, true, false, cond}
 use mathlib.Core.List.Memᴰ.{head as here}
 use mathlib.Core.List.Memᴰ.{not-nil as in-nil}
 use mathlib.Core.List.Memᴰ.{tail as there}
-use mathlib.Core.List.{List, [], ◌∷◌, ◌++◌, map, map_append, Memᴰ as In}
+use mathlib.Core.List.{List, [], ◌∷◌, ◌++◌, map, map-append, Memᴰ as In}
 use lib.Dec.{eqb}
 use lib.ListN.{length, replicate, length-replicate}
 use borrow.Author.Tests.{eq-eqb, ne_eqb}
@@ -29,7 +29,7 @@ use Rattle.joins.proofs.Known.{plan_size, plan_node_is}
 use Rattle.joins.proofs.EdgeMaps.{is_padded, at_none}
 use Rattle.records.specs.Words.{Fits, Compact, added_to, grown_by}
 use Rattle.records.proofs.Packing.{compact_new, compact_active}
-use Rattle.records.proofs.Grown.{Whole, whole_map, whole_each, grown_none, grown_one, grown-fits, grown-more}
+use Rattle.records.proofs.Grown.{Whole, whole_map, whole_each, grown_none, grown_one, grown_fits, grown_more}
 use Rattle.steps.specs.Leaves.{leaf_item, leaf_record, rule_leaves}
 
 -- ---- a loop from the last number on
@@ -44,8 +44,8 @@ module _ (w : List ℕ) (n : ℕ) (f : ℕ → List Record) where
 
   pub left_next : (v u : List ℕ) (i k : ℕ) → i ≡ suc k → ((j : ℕ) → j < i → Whole (f j)) → Left w n f v i → u ≡ grown_by v (f k) → Left w n f u k
   left_next v u i k q e o p = record {
-    fits = rw p (grown-fits v o.fits (f k) (e k (omega arith)));
-    whole = ap (λ (t : List ℕ). grown_by t (each_to k f)) p ∙ grown-more v o.fits (f k) (e k (omega arith)) (each_to k f) (whole_each k f (λ j l. e j (omega arith))) ∙ ap (λ j. grown_by v (each_to j f)) (sym q) ∙ o.whole;
+    fits = rw p (grown_fits v o.fits (f k) (e k (omega arith)));
+    whole = ap (λ (t : List ℕ). grown_by t (each_to k f)) p ∙ grown_more v o.fits (f k) (e k (omega arith)) (each_to k f) (whole_each k f (λ j l. e j (omega arith))) ∙ ap (λ j. grown_by v (each_to j f)) (sym q) ∙ o.whole;
   }
 
   pub left_none : (v : List ℕ) (i : ℕ) → i ≡ 0 → Left w n f v i → v ≡ grown_by w (each_to n f)
@@ -61,22 +61,22 @@ at_unplaced (suc n) (suc k) = at_unplaced n k
 -- the record of a leaf item can be read again from its words
 module _ (G : Grammar) (ok : GrammarOk G) (r : ℕ) (known : r < length G.rules) where
   module _ (p : ℕ) (inside : p < length (plan_of G r)) where
-    leaf-compact : (node : PlanNode) (i : Item) → In i (leaf_at G r p node) → Compact (record_of i 0 0 0)
+    leaf_compact : (node : PlanNode) (i : Item) → In i (leaf_at G r p node) → Compact (record_of i 0 0 0)
     unfolding leaf_at
-    leaf-compact leaf i (here q) =
+    leaf_compact leaf i (here q) =
         subst (λ (j : Item). Compact (record_of j 0 0 0)) (sym q)
         (compact_new (compact_active (tabulate (right_of G r).nodes (λ x. unplaced)) (λ k l. omega (arith, at_unplaced (right_of G r).nodes k)) 0 (omega (arith, ok.rule_count_is.upper)) (omega (arith, (ok.rule r known).plan.size.upper))) (omega arith) (omega arith))
-    leaf-compact leaf i (there m) = absurd (in-nil m)
-    leaf-compact (introduce c e) i m = absurd (in-nil m)
-    leaf-compact (join a b) i m = absurd (in-nil m)
+    leaf_compact leaf i (there m) = absurd (in-nil m)
+    leaf_compact (introduce c e) i m = absurd (in-nil m)
+    leaf_compact (join a b) i m = absurd (in-nil m)
 
-    pub leaf-whole : Whole (leaf_record G r p)
+    pub leaf_whole : Whole (leaf_record G r p)
     unfolding leaf_record
-    leaf-whole = whole_map (λ (i : Item). record_of i 0 0 0) (leaf_at G r p (plan_node (plan_of G r) p)) (leaf-compact (plan_node (plan_of G r) p))
+    leaf_whole = whole_map (λ (i : Item). record_of i 0 0 0) (leaf_at G r p (plan_node (plan_of G r) p)) (leaf_compact (plan_node (plan_of G r) p))
 
   pub rule_whole : Whole (rule_leaves G r)
   unfolding rule_leaves
-  rule_whole = whole_each (length (plan_of G r)) (λ p. leaf_record G r p) (λ p l. leaf-whole p l)
+  rule_whole = whole_each (length (plan_of G r)) (λ p. leaf_record G r p) (λ p l. leaf_whole p l)
 
 no_places : (n : ℕ) → replicate 8 unplaced ≡ padded (tabulate n (λ x. unplaced))
 no_places n = is_padded (replicate 8 unplaced) (tabulate n (λ x. unplaced)) (length-replicate 8 unplaced) (λ x h. at_none 8 x ∙ sym (at_unplaced n x))
@@ -134,7 +134,7 @@ leaves_rule G r w v q = q
 
 map_each : {A B : Type 0} (f : A → B) (n : ℕ) (F : ℕ → List A) → map f (each_to n F) ≡ each_to n (λ k. map f (F k))
 map_each f zero F = refl
-map_each f (suc n) F = map_append f (F n) (each_to n F) ∙ ap (λ (l : List _). map f (F n) ++ l) (map_each f n F)
+map_each f (suc n) F = map-append f (F n) (each_to n F) ∙ ap (λ (l : List _). map f (F n) ++ l) (map_each f n F)
 
 each_same : {A : Type 0} (n : ℕ) (F K : ℕ → List A) → ((k : ℕ) → F k ≡ K k) → each_to n F ≡ each_to n K
 each_same zero F K e = refl

@@ -18,7 +18,7 @@ use Rattle.questions.specs.Abstract.{grammar_of, graph_of}
 use Rattle.questions.specs.Checking.{check_grammar}
 use Rattle.records.specs.Words.{Fits, capacity, item_count, record_at, chart_of, grown_by}
 use Rattle.records.proofs.WordLaws.{length_records, record_in_lem}
-use Rattle.records.proofs.Grown.{Whole, whole_gather, whole_guard, grown_none, grown-flag, grown-record}
+use Rattle.records.proofs.Grown.{Whole, whole_gather, whole_guard, grown_none, grown_flag, grown_record}
 use Rattle.lists.specs.Lists.{Within}
 use Rattle.lists.specs.Cursors.{starts_of, least_of, passed_of, left_all, Ahead, SkimsAll}
 use Rattle.lists.proofs.CursorLaws.{ahead_start, ahead_within, least_none, ahead_passed, ahead_grown, left_falls, skims_by, ahead_skims, left_skims}
@@ -31,10 +31,10 @@ use Rattle.index.proofs.KeyLists.{keys_length, keys_at, keys_grown}
 use Rattle.steps.specs.Partners.{with_record}
 use Rattle.rules.specs.Plans.{Leads}
 use Rattle.steps.specs.Ready.{Ready, Handled, Joining}
-use Rattle.steps.proofs.KnownLaws.{known-placed, record-whole}
+use Rattle.steps.proofs.KnownLaws.{known_placed, record_whole}
 use Rattle.steps.proofs.PartnerLaws.{unjoined_none, waiting_none, overlap_none}
 use Rattle.steps.proofs.ReadyLaws.{stays_record, stays_handled}
-use Rattle.steps.proofs.StepLaws.{Gathered, nothing_added, added_longer, partners_whole as gather-whole, again-whole, gathered_none, gathered_skip, gathered_all, partners-next}
+use Rattle.steps.proofs.StepLaws.{Gathered, nothing_added, added_longer, partners_whole as gather-whole, again_whole, gathered_none, gathered_skip, gathered_all, partners_next}
 
 -- ---- a record that may be done already
 pub next_done : (w : List ℕ) → Fits w → (done k : ℕ) (xs : List Record) → k < done → w ≡ grown_by w (guard (leb done k) xs)
@@ -91,8 +91,8 @@ quiet_grown w v xs edges k f e p l = ap (λ (u : List ℕ). quiet_in u edges k) 
     waits false = refl
 
     go : (b : Bool) → is_handled (record_at w k) ≡ b → quiet_in (grown_by w xs) edges k ≡ quiet_in w edges k
-    go true h = ap (λ (y : Record). cond (disjoint edges y.item.edges) (cond (is_handled y) false true) true) (grown-record w f xs e k l h)
-    go false h = rw (grown-flag w f xs e k l ∙ h, h) (waits (disjoint edges (record_at (grown_by w xs) k).item.edges) ∙ sym (waits (disjoint edges (record_at w k).item.edges)))
+    go true h = ap (λ (y : Record). cond (disjoint edges y.item.edges) (cond (is_handled y) false true) true) (grown_record w f xs e k l h)
+    go false h = rw (grown_flag w f xs e k l ∙ h, h) (waits (disjoint edges (record_at (grown_by w xs) k).item.edges) ∙ sym (waits (disjoint edges (record_at w k).item.edges)))
 
 -- ---- the record at place j is what it was while its partners are dealt with
 module _ (g h w : List ℕ) (H : Graph) (j : ℕ) (f : Fits w) (D : Handled w j) (e : (i : ℕ) → i < item_count w → Whole (with_record (grammar_of g) H (record_at w j) j (record_at w i) i))
@@ -166,16 +166,16 @@ module _ (g h keys : List ℕ) (H : Graph) (w : List ℕ) (x : Record) (j n : �
     }
 
     module _ (v ix ls cs : List ℕ) (k done : ℕ) (S : Going v ix ls cs k done) where
-      dealt-whole : (m : ℕ) → m ≤ n → Whole (gather m partner)
-      dealt-whole m l = gather-whole G H w f x j partner-whole m (omega arith)
+      dealt_whole : (m : ℕ) → m ≤ n → Whole (gather m partner)
+      dealt_whole m l = gather-whole G H w f x j partner-whole m (omega arith)
 
       grown : v ≡ grown_by w (gather done partner)
       grown = S.gathered.is
 
       -- the key of a record of w is where it was
-      key-there : (i e : ℕ) → i < item_count w → e < 5 → get_or (keys_in v) (5 * i + e) 0 ≡ get_or (keys_of keys (record_at w i).item) e 0
-      key-there i e l h =
-          let m = keys_grown keys w v (gather done partner) f (dealt-whole done S.low) grown in
+      key_there : (i e : ℕ) → i < item_count w → e < 5 → get_or (keys_in v) (5 * i + e) 0 ≡ get_or (keys_of keys (record_at w i).item) e 0
+      key_there i e l h =
+          let m = keys_grown keys w v (gather done partner) f (dealt_whole done S.low) grown in
           let size = keys_length keys (chart_of w).records in
           ap (λ (ks : List ℕ). get_or ks (5 * i + e) 0) m.is
           ∙ get_or-append (keys_in w) m.more 0 (5 * i + e) (omega (arith, size, counted w))
@@ -188,7 +188,7 @@ module _ (g h keys : List ℕ) (H : Graph) (w : List ℕ) (x : Record) (j n : �
         unkeyed i a b c s =
             let u = keyless g keys checked keyed H x.item (record_at w i).item own (others i (omega arith))
             (λ q e p r pos eq. least_none quiet (keys_in v) (query_of keys x.item) n done cs S.ahead i a (omega (arith, S.at)) c s (5 * i + e) (omega arith) (omega arith) q p pos
-            (key-there i e (omega arith) r ∙ sym eq))
+            (key_there i e (omega arith) r ∙ sym eq))
             in
             unjoined_none G H x (record_at w i) j i u.forth u.back
 
@@ -204,27 +204,27 @@ module _ (g h keys : List ℕ) (H : Graph) (w : List ℕ) (x : Record) (j n : �
           dealt : (b : Bool) → leb done k ≡ b → u ≡ grown_by v (guard b (with_record G H x j (record_at v k) k)) → Gathered w partner u later
           dealt true e h =
               let skip = gathered_skip w f partner v done k (λ i a b. passed_over i a b (omega arith)) (leb-true done k e) S.gathered in
-              partners-next G H w f x j partner-whole v u k later (omega (arith, leb-true done k e)) (omega arith) skip h
+              partners_next G H w f x j partner-whole v u k later (omega (arith, leb-true done k e)) (omega arith) skip h
           dealt false e h =
               let same : u ≡ v = h ∙ grown_none v S.ready.fits in
               subst (λ (t : List ℕ). Gathered w partner t later) (sym same) (subst (Gathered w partner v) (let o : done ≡ later = omega (arith, leb-false done k e) in o) S.gathered)
 
-          grown-ahead : Ahead quiet (keys_in u) (query_of keys x.item) n done cs
-          grown-ahead =
+          grown_ahead : Ahead quiet (keys_in u) (query_of keys x.item) n done cs
+          grown_ahead =
               let ys = guard (leb done k) (with_record G H x j (record_at v k) k) in
-              let m = keys_grown keys v u ys S.ready.fits (whole_guard (leb done k) (with_record G H x j (record_at v k) k) (λ _. again-whole G H w f x j partner-whole v done k (omega (arith, S.low)) (omega arith) S.gathered)) p in
+              let m = keys_grown keys v u ys S.ready.fits (whole_guard (leb done k) (with_record G H x j (record_at v k) k) (λ _. again_whole G H w f x j partner-whole v done k (omega (arith, S.low)) (omega arith) S.gathered)) p in
               subst (λ (ks : List ℕ). Ahead quiet ks (query_of keys x.item) n done cs) (sym m.is) (ahead_grown quiet (keys_in v) m.more (query_of keys x.item) n done cs S.ahead)
 
           module _ (bs ds : List ℕ) (e : bs ≡ passed_of ms cs k) (s : SkimsAll (quiet_in u x.item.edges) ms n bs ds) where
             -- the cursors that pass record k
             gone : Ahead quiet (keys_in u) (query_of keys x.item) n later bs
-            gone = ahead_passed quiet ms (keys_in u) (query_of keys x.item) n done later k cs bs R.indexed.listed grown-ahead (omega arith) (omega arith) e
+            gone = ahead_passed quiet ms (keys_in u) (query_of keys x.item) n done later k cs bs R.indexed.listed grown_ahead (omega arith) (omega arith) e
 
             skims : SkimsAll quiet ms n bs ds
             skims i h =
                 let o = dealt (leb done k) refl p in
                 skims_by (quiet_in u x.item.edges) quiet ms n (get_or bs i 0) (get_or ds i 0)
-                (λ m a. quiet_grown w u (gather later partner) x.item.edges m f (dealt-whole later (omega (arith, S.low))) o.is (omega arith)) (s i h)
+                (λ m a. quiet_grown w u (gather later partner) x.item.edges m f (dealt_whole later (omega (arith, S.low))) o.is (omega arith)) (s i h)
 
             going_next : (i : ℕ) → i ≡ least_of ds → i ≤ 4096 → Going u jx ms ds i later
             going_next i a b = record {
@@ -241,11 +241,11 @@ module _ (g h keys : List ℕ) (H : Graph) (w : List ℕ) (x : Record) (j n : �
                 omega (
                   arith,
                   left_skims quiet ms (keys_in u) (query_of keys x.item) n later bs ds R.indexed.listed gone skims,
-                  left_falls quiet ms (keys_in u) (query_of keys x.item) n done k cs bs R.indexed.listed grown-ahead S.at l e,
+                  left_falls quiet ms (keys_in u) (query_of keys x.item) n done k cs bs R.indexed.listed grown_ahead S.at l e,
                 )
 
-          next-within : Within 20480 cs
-          next-within = ahead_within quiet (keys_in u) (query_of keys x.item) n done cs grown-ahead R.indexed.listed.few
+          next_within : Within 20480 cs
+          next_within = ahead_within quiet (keys_in u) (query_of keys x.item) n done cs grown_ahead R.indexed.listed.few
 
         going_end : n ≤ k → v ≡ grown_by w (gather n partner)
         going_end l =
@@ -255,10 +255,10 @@ module _ (g h keys : List ℕ) (H : Graph) (w : List ℕ) (x : Record) (j n : �
 -- ---- the loop over the partners of the record at place j, which stays as it is
 module _ {g h plans keys graph w ix₀ ls₀ : List ℕ} {lead : Bool} {j n : ℕ} (P : Joining g h plans keys graph w ix₀ ls₀ lead j) (all : n ≤ item_count w) where
   placed : (i : ℕ) → i < item_count w → AllPlaced (grammar_of g) (record_at w i).item
-  placed = known-placed g h P.tables.accepted w P.ready.known
+  placed = known_placed g h P.tables.accepted w P.ready.known
 
   pub partners_each : (i : ℕ) → i < item_count w → Whole (with_record (grammar_of g) (graph_of g h) (record_at w j) j (record_at w i) i)
-  partners_each = record-whole g h P.tables.accepted w P.ready.known P.ready.small j P.handled.there
+  partners_each = record_whole g h P.tables.accepted w P.ready.known P.ready.small j P.handled.there
 
   pub partners_few : n ≤ 4096
   partners_few = few_items w n all P.ready.small
@@ -271,8 +271,8 @@ module _ {g h plans keys graph w ix₀ ls₀ : List ℕ} {lead : Bool} {j n : �
   partners_quiet {v = v} {past = past} S = dealt_quiet g h w (graph_of g h) j P.ready.fits P.handled partners_each v past (low S) S.gathered
 
   module _ {v ix ls cs : List ℕ} {k past : ℕ} (S : Going g h keys (graph_of g h) w (record_at w j) j n v ix ls cs k past) where
-    pub partners-joining : Joining g h plans keys graph v ix ls lead j
-    partners-joining = record {
+    pub partners_joining : Joining g h plans keys graph v ix ls lead j
+    partners_joining = record {
       tables = P.tables;
       ready = S.ready;
       handled = dealt_handled g h w (graph_of g h) j P.ready.fits P.handled partners_each v past (low S) S.gathered;
@@ -282,11 +282,11 @@ module _ {g h plans keys graph w ix₀ ls₀ : List ℕ} {lead : Bool} {j n : �
     longer : item_count w ≤ item_count v
     longer = dealt_longer g h w (graph_of g h) j P.ready.fits P.handled partners_each v past (low S) S.gathered
 
-    pub partners-known : k < n → k < item_count v
-    partners-known l = omega (arith, longer)
+    pub partners_known : k < n → k < item_count v
+    partners_known l = omega (arith, longer)
 
-    pub partners-end : n ≤ k → v ≡ grown_by w (gather n (λ i. with_record (grammar_of g) (graph_of g h) (record_at w j) j (record_at w i) i))
-    partners-end l =
+    pub partners_end : n ≤ k → v ≡ grown_by w (gather n (λ i. with_record (grammar_of g) (graph_of g h) (record_at w j) j (record_at w i) i))
+    partners_end l =
         going_end g h keys (graph_of g h) w (record_at w j) j n P.ready.fits all partners_each v ix ls cs k past S P.tables.accepted.grammar P.tables.keyed (placed j P.handled.there) placed l
 
     -- one turn: record k is dealt with unless it was, and the cursors at it go on, over quiet records
@@ -297,24 +297,24 @@ module _ {g h plans keys graph w ix₀ ls₀ : List ℕ} {lead : Bool} {j n : �
           p ∙ ap (λ (y : Record). grown_by v (guard (leb past k) (with_record (grammar_of g) (graph_of g h) y j (record_at v k) k)))
           (dealt_record g h w (graph_of g h) j P.ready.fits P.handled partners_each v past (low S) S.gathered)
 
-      pub turn-room : n ≤ item_count u
-      turn-room =
+      pub turn_room : n ≤ item_count u
+      turn_room =
           omega (
             arith,
             longer,
             added_longer v u _ S.ready.fits
-                (whole_guard (leb past k) (with_record (grammar_of g) (graph_of g h) (record_at w j) j (record_at v k) k) (λ _. again-whole (grammar_of g) (graph_of g h) w P.ready.fits (record_at w j) j partners_each v past k (low S) (omega arith) S.gathered))
+                (whole_guard (leb past k) (with_record (grammar_of g) (graph_of g h) (record_at w j) j (record_at v k) k) (λ _. again_whole (grammar_of g) (graph_of g h) w P.ready.fits (record_at w j) j partners_each v past k (low S) (omega arith) S.gathered))
                 made,
           )
 
-      pub turn-within : Within 20480 cs
-      turn-within =
-          next-within g h keys (graph_of g h) w (record_at w j) j n P.ready.fits all partners_each v ix ls cs k past S P.tables.accepted.grammar P.tables.keyed (placed j P.handled.there) placed u jx ms later l
+      pub turn_within : Within 20480 cs
+      turn_within =
+          next_within g h keys (graph_of g h) w (record_at w j) j n P.ready.fits all partners_each v ix ls cs k past S P.tables.accepted.grammar P.tables.keyed (placed j P.handled.there) placed u jx ms later l
           made R q
 
       module _ (bs ds : List ℕ) (e : bs ≡ passed_of ms cs k) (s : SkimsAll (quiet_in u (record_at w j).item.edges) ms n bs ds) where
-        pub turn-next : (i : ℕ) → i ≡ least_of ds → i ≤ 4096 → Going g h keys (graph_of g h) w (record_at w j) j n u jx ms ds i later
-        turn-next =
+        pub turn_next : (i : ℕ) → i ≡ least_of ds → i ≤ 4096 → Going g h keys (graph_of g h) w (record_at w j) j n u jx ms ds i later
+        turn_next =
             going_next g h keys (graph_of g h) w (record_at w j) j n P.ready.fits all partners_each v ix ls cs k past S P.tables.accepted.grammar P.tables.keyed (placed j P.handled.there) placed u jx ms later l
             made R q bs ds e s
 

@@ -19,14 +19,14 @@ use Rattle.joins.proofs.Known.{graph_size}
 use Rattle.rules.specs.declared.Made.{Made}
 use Rattle.rules.specs.Coverage.{Covering}
 use Rattle.rules.specs.Rules.{pair_items, terminal_items, StandsFor, Gives, GivesRoot}
-use Rattle.rules.proofs.RuleAnswers.{gives_same, pair-none, pair_one, terminal_none, terminal-one}
+use Rattle.rules.proofs.RuleAnswers.{gives_same, pair_none, pair_one, terminal_none, terminal_one}
 use Rattle.rules.proofs.RootLaws.{root_none, root_one}
 use Rattle.records.specs.Words.{item_count, record_at, chart_of, grown_by}
 use Rattle.records.proofs.Grown.{grown_one}
 use Rattle.index.specs.Index.{doubt_of, Adds}
 use Rattle.steps.specs.Ready.{Ready, Handled, Joined}
 use Rattle.steps.proofs.ReadyLaws.{added_ready, covering_at}
-use Rattle.steps.proofs.StepLaws.{nothing_added, among-root, among-edges, among-records}
+use Rattle.steps.proofs.StepLaws.{nothing_added, among_root, among_edges, among_records}
 
 module _ {g h keys w ix ls : List ℕ} (accepted : Accepted g h) (R : Ready g h keys w ix ls) where
   abbrev G : Grammar
@@ -60,37 +60,37 @@ module _ {g h keys w ix ls : List ℕ} (accepted : Accepted g h) (R : Ready g h 
 
   -- ---- the root rule
   module _ (j : ℕ) {x : ChartItem} (own : x ≡ (record_at w j).item) {m : Made} (answer : GivesRoot g x m) where
-    abbrev rootRecords : ChartItem → List Record
-    rootRecords y = at_root G (item_of G y) y.count j
+    abbrev root_records_lem : ChartItem → List Record
+    root_records_lem y = at_root G (item_of G y) y.count j
 
-    pub root-missed : m.ok ≡ false → Grows w ix ls (rootRecords (record_at w j).item)
-    root-missed not_made = none (ap rootRecords (sym own) ∙ root_none g x j m answer not_made)
+    pub root_missed : m.ok ≡ false → Grows w ix ls (root_records_lem (record_at w j).item)
+    root_missed not_made = none (ap root_records_lem (sym own) ∙ root_none g x j m answer not_made)
 
-    pub root-added : m.ok ≡ true → j < item_count w → {v jx ms : List ℕ} → Adds keys w ix v jx ms (new_record m.item j 0)
-        → Grows v jx ms (rootRecords (record_at w j).item)
-    root-added made l added =
-        one added (ap rootRecords (sym own) ∙ root_one g x j m answer made)
-        (λ d. answer.covering h (subst (Covering g h) (sym own) (covering_at g h w ix j R.covered l d)) made) l (among-root G H w j l)
+    pub root_added : m.ok ≡ true → j < item_count w → {v jx ms : List ℕ} → Adds keys w ix v jx ms (new_record m.item j 0)
+        → Grows v jx ms (root_records_lem (record_at w j).item)
+    root_added made l added =
+        one added (ap root_records_lem (sym own) ∙ root_one g x j m answer made)
+        (λ d. answer.covering h (subst (Covering g h) (sym own) (covering_at g h w ix j R.covered l d)) made) l (among_root G H w j l)
 
   -- ---- the rules that may be sure
   module _ {sure : Bool} (known : sure ≡ eqb (doubt_of ix) 0) {v jx ms : List ℕ} where
     -- with a graph edge, for which the item y stands
     module _ (j e : ℕ) {x y : ChartItem} (own : x ≡ (record_at w j).item) (edge : StandsFor g h e y)
         (joined : Joined g h sure (pair_items g h x y) x.count j e keys w ix ls v jx ms) where
-      abbrev edgeRecords : ChartItem → List Record
-      edgeRecords y = with_terminal G H (item_of G y) y.count j e
+      abbrev edge_records : ChartItem → List Record
+      edge_records y = with_terminal G H (item_of G y) y.count j e
 
       of_edge : Gives g h sure (terminal_items G H (item_of G x) e) x.count joined.made
       of_edge = gives_same g h sure (pair_items g h x y) (terminal_items G H (item_of G x) e) x.count joined.made (edge.pairs x) joined.gives
 
-      pub edge-grown : j < item_count w → e < graph_edges h → Grows v jx ms (edgeRecords (record_at w j).item)
-      edge-grown l d = by joined.made.ok refl
+      pub edge_grown : j < item_count w → e < graph_edges h → Grows v jx ms (edge_records (record_at w j).item)
+      edge_grown l d = by joined.made.ok refl
         where
-          by : (b : Bool) → joined.made.ok ≡ b → Grows v jx ms (edgeRecords (record_at w j).item)
-          by false p = kept (joined.missed p) (ap edgeRecords (sym own) ∙ terminal_none g h sure joined.made x x.count j e of_edge p)
+          by : (b : Bool) → joined.made.ok ≡ b → Grows v jx ms (edge_records (record_at w j).item)
+          by false p = kept (joined.missed p) (ap edge_records (sym own) ∙ terminal_none g h sure joined.made x x.count j e of_edge p)
           by true p =
-              one (joined.added p) (ap edgeRecords (sym own) ∙ terminal-one g h sure joined.made x x.count j e of_edge p)
-              (λ z. of_edge.covering (known ∙ eq-eqb (doubt_of ix) 0 z) p) l (among-edges G H w j l e (omega (arith, graph_size g h)))
+              one (joined.added p) (ap edge_records (sym own) ∙ terminal_one g h sure joined.made x x.count j e of_edge p)
+              (λ z. of_edge.covering (known ∙ eq-eqb (doubt_of ix) 0 z) p) l (among_edges G H w j l e (omega (arith, graph_size g h)))
 
     -- with another record
     module _ (j k : ℕ) {x y : ChartItem} (first : x ≡ (record_at w j).item) (second : y ≡ (record_at w k).item)
@@ -101,16 +101,16 @@ module _ {g h keys w ix ls : List ℕ} (accepted : Accepted g h) (R : Ready g h 
       abbrev m : Made
       m = joined.made
 
-      of-records : Gives g h sure (pair_items g h (record_at w j).item (record_at w k).item) (plus (record_at w j).item.count (record_at w k).item.count) m
-      of-records =
+      of_records : Gives g h sure (pair_items g h (record_at w j).item (record_at w k).item) (plus (record_at w j).item.count (record_at w k).item.count) m
+      of_records =
           subst (λ (t : ChartItem). Gives g h sure (pair_items g h (record_at w j).item t) (plus (record_at w j).item.count t.count) m) second
           (subst (λ (s : ChartItem). Gives g h sure (pair_items g h s y) (plus s.count y.count) m) first joined.gives)
 
-      pub pair-grown : Handled w j → Handled w k → Grows v jx ms both
-      pair-grown at other = by m.ok refl
+      pub pair_grown : Handled w j → Handled w k → Grows v jx ms both
+      pair_grown at other = by m.ok refl
         where
           by : (b : Bool) → m.ok ≡ b → Grows v jx ms both
-          by false p = kept (joined.missed p) (pair-none g h sure m (record_at w j) (record_at w k) j k of-records p)
+          by false p = kept (joined.missed p) (pair_none g h sure m (record_at w j) (record_at w k) j k of_records p)
           by true p =
-              one (joined.added p) (pair_one g h sure m (record_at w j) (record_at w k) j k of-records p)
-              (λ d. of-records.covering (known ∙ eq-eqb (doubt_of ix) 0 d) p) at.there (among-records G H w j at.there k other.there other.done)
+              one (joined.added p) (pair_one g h sure m (record_at w j) (record_at w k) j k of_records p)
+              (λ d. of_records.covering (known ∙ eq-eqb (doubt_of ix) 0 d) p) at.there (among_records G H w j at.there k other.there other.done)

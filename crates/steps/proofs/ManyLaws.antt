@@ -14,7 +14,7 @@ use Rattle.index.specs.Quiet.{quiet_in}
 use Rattle.steps.specs.Partners.{with_record}
 use Rattle.steps.specs.Ready.{Ready, Joining}
 use Rattle.steps.specs.Ways.{Rests}
-use Rattle.steps.proofs.ListedLaws.{Going, going_start, partners_each, turn-next, turn_less}
+use Rattle.steps.proofs.ListedLaws.{Going, going_start, partners_each, turn_next, turn_less}
 
 -- where the loop is: the first `past` partners are dealt with, and record k is next
 abbrev pub Turning : List ℕ → List ℕ → List ℕ → List ℕ → ℕ → ℕ → List ℕ → List ℕ → List ℕ → List ℕ → ℕ → ℕ → Type 0
@@ -33,8 +33,8 @@ module _ {g h plans keys graph w ix₀ ls₀ : List ℕ} {lead : Bool} {j n : �
   module _ {v ix ls cs : List ℕ} {k past : ℕ} (S : Turning g h keys w j n v ix ls cs k past) {u jx ms : List ℕ} {later : ℕ} (l : k < n)
       (p : u ≡ grown_by v (guard (leb past k) (with_record (grammar_of g) (graph_of g h) (record_at v j) j (record_at v k) k))) (R : Ready g h keys u jx ms) (q : later ≡ max past (k + 1))
       {ds : List ℕ} {i : ℕ} (O : Rests (quiet_in u y.edges) ms n (passed_of ms cs k) i ds) where
-    pub turning-next : Turning g h keys w j n u jx ms ds i later
-    turning-next = turn-next P.0 P.1 S l p R q (passed_of ms cs k) ds refl (skims u ms (passed_of ms cs k) ds O.skims) i O.least O.few
+    pub turning_next : Turning g h keys w j n u jx ms ds i later
+    turning_next = turn_next P.0 P.1 S l p R q (passed_of ms cs k) ds refl (skims u ms (passed_of ms cs k) ds O.skims) i O.least O.few
 
-    pub turning-less : left_all ds < left_all cs
-    turning-less = turn_less P.0 P.1 S l p R q (passed_of ms cs k) ds refl (skims u ms (passed_of ms cs k) ds O.skims)
+    pub turning_less : left_all ds < left_all cs
+    turning_less = turn_less P.0 P.1 S l p R q (passed_of ms cs k) ds refl (skims u ms (passed_of ms cs k) ds O.skims)

@@ -25,14 +25,14 @@ use Rattle.records.specs.Words.{Fits, Compact, capacity, item_count, record_at, 
 use Rattle.records.proofs.WordLaws.{length_records, record_in_lem, Below, one, least_below}
 use Rattle.records.proofs.Written.{handle_written, capacity_written, fits_written, marked_count as count-marked, marked_handled}
 use Rattle.records.proofs.Rewritten.{handled_in, grown_handled}
-use Rattle.records.proofs.Grown.{Whole, whole_one, holds_own, grown_one, grown-fits, grown-capacity, grown-longer, grown-record}
+use Rattle.records.proofs.Grown.{Whole, whole_one, holds_own, grown_one, grown_fits, grown_capacity, grown_longer, grown_record}
 use Rattle.index.specs.Index.{Indexed, doubt_of, Covered, DoubtKept}
 use Rattle.index.proofs.CoverLaws.{covered_kept}
 use Rattle.index.proofs.AddLaws.{handled_beside, handled_covered}
 use Rattle.ranking.specs.Ranking.{taken_from}
 use Rattle.steps.specs.Runs.{marked_by}
 use Rattle.steps.specs.Ready.{Tables, Ready, Runnable, Handled}
-use Rattle.steps.proofs.KnownLaws.{known_into, known_bare, known_handled, known-added}
+use Rattle.steps.proofs.KnownLaws.{known_into, known_bare, known_handled, known_added}
 
 module _ (g h keys w ix ls : List ℕ) (R : Ready g h keys w ix ls) (v jx ms : List ℕ) (I : Indexed keys jx ms (chart_of v).records) (S : Covered g h jx (chart_of v).records) where
   -- a record is added that the one at place j makes
@@ -40,8 +40,8 @@ module _ (g h keys w ix ls : List ℕ) (R : Ready g h keys w ix ls) (v jx ms : L
       → v ≡ added_to w x → Ready g h keys v jx ms
   added_ready A j l x e new made p = record {
     fits = fits;
-    small = omega (arith, ap capacity is, grown-capacity w R.fits (x ∷ []) whole, R.small);
-    known = known-added g h A w R.known j l v x R.fits fits e new made is;
+    small = omega (arith, ap capacity is, grown_capacity w R.fits (x ∷ []) whole, R.small);
+    known = known_added g h A w R.known j l v x R.fits fits e new made is;
     indexed = I;
     covered = S;
   }
@@ -53,7 +53,7 @@ module _ (g h keys w ix ls : List ℕ) (R : Ready g h keys w ix ls) (v jx ms : L
       whole = whole_one e
 
       fits : Fits v
-      fits = subst Fits (sym is) (grown-fits w R.fits (x ∷ []) whole)
+      fits = subst Fits (sym is) (grown_fits w R.fits (x ∷ []) whole)
 
   -- a record is handled
   handled_ready : (j : ℕ) → j < item_count w → v ≡ marked_at w j → Ready g h keys v jx ms
@@ -124,11 +124,11 @@ handled_now_lem w v j l p = record {
 -- it stays as it is while others are added
 module _ (w v : List ℕ) (j : ℕ) (xs : List Record) (f : Fits w) (e : Whole xs) (p : v ≡ grown_by w xs) (D : Handled w j) where
   pub stays_record : record_at v j ≡ record_at w j
-  stays_record = ap (λ (u : List ℕ). record_at u j) p ∙ grown-record w f xs e j D.there D.done
+  stays_record = ap (λ (u : List ℕ). record_at u j) p ∙ grown_record w f xs e j D.there D.done
 
   pub stays_handled : Handled v j
   stays_handled = record {
-    there = omega (arith, D.there, ap item_count p, grown-longer w f xs e);
+    there = omega (arith, D.there, ap item_count p, grown_longer w f xs e);
     done = ap is_handled stays_record ∙ D.done;
   }
 

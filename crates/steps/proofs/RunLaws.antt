@@ -22,7 +22,7 @@ use Rattle.records.proofs.Rewritten.{Grown, handled_in, grown_handled}
 use Rattle.records.proofs.Grown.{holds_own, grown_all}
 use Rattle.steps.specs.Runs.{next_in, is_some, marked_by}
 use Rattle.validity.proofs.KnownCharts.{AllKnown}
-use Rattle.validity.proofs.Own.{handled_known, run-known}
+use Rattle.validity.proofs.Own.{handled_known, run_known}
 use Rattle.validity.proofs.Made.{consequences_sound, sound_whole}
 use Rattle.steps.proofs.LeafLoops.{leaves_whole}
 
@@ -130,9 +130,9 @@ module _ (G : Grammar) (H : Graph) where
 
   -- a run on known records that keeps to the words' capacity stays within the words, and loses no record
   module _ (ok : GrammarOk G) (good : GraphOk G H) (w : List ℕ) (small : capacity w ≤ 4096) where
-    handled-grown : (d : Chart) (j : ℕ) → Holds w d → AllKnown G H d.records → j < length d.records → Grown w d (handled_at G H (capacity w) j d)
+    handled_grown : (d : Chart) (j : ℕ) → Holds w d → AllKnown G H d.records → j < length d.records → Grown w d (handled_at G H (capacity w) j d)
     unfolding handled_at
-    handled-grown d j o all l =
+    handled_grown d j o all l =
         let one = grown_handled w d o j in
         let rs = (handled_in j d).records in
         let size : length rs ≡ length d.records = length-set d.records j (handled_now (record_in d.records j)) in
@@ -140,22 +140,22 @@ module _ (G : Grammar) (H : Graph) where
         let rest = grown_all w (consequences G H rs j) (handled_in j d) one.holds (sound_whole whole) in
         record { holds = rest.holds; longer = omega (arith, one.longer, rest.longer) }
 
-    pub step-grown : (d : Chart) → Holds w d → AllKnown G H d.records → (f : Found) → Below (length d.records) f → Grown w d (step_with G H (capacity w) d f)
-    step-grown d o all Nowhere b = record { holds = o; longer = omega arith }
-    step-grown d o all (At j) b = handled-grown d j o all (below_at b)
+    pub step_grown : (d : Chart) → Holds w d → AllKnown G H d.records → (f : Found) → Below (length d.records) f → Grown w d (step_with G H (capacity w) d f)
+    step_grown d o all Nowhere b = record { holds = o; longer = omega arith }
+    step_grown d o all (At j) b = handled_grown d j o all (below_at b)
 
-    again-grown : (d : Chart) → Holds w d → AllKnown G H d.records → Grown w d (again G H (capacity w) d)
+    again_grown : (d : Chart) → Holds w d → AllKnown G H d.records → Grown w d (again G H (capacity w) d)
     unfolding step_chart
-    again-grown d o all =
+    again_grown d o all =
         cond_by (Grown w d) (eqb d.mark 0) {x = step_chart G H (capacity w) d} {y = d}
-        (λ t. step-grown d o all (least_waiting d.records (length d.records)) (least_below d.records (length d.records)))
+        (λ t. step_grown d o all (least_waiting d.records (length d.records)) (least_below d.records (length d.records)))
         (λ t. record { holds = o; longer = omega arith })
 
-    pub run-grown : (c : Chart) → Holds w c → AllKnown G H c.records → (k : ℕ) → Grown w c (run_chart G H (capacity w) k c)
-    run-grown c o all zero = subst (Grown w c) (sym (run_none G H (capacity w) c)) (record { holds = o; longer = omega arith })
-    run-grown c o all (suc k) =
-        let one = run-grown c o all k in
-        let rest = again-grown (run_chart G H (capacity w) k c) one.holds (run-known G H ok good (capacity w) k c all) in
+    pub run_grown : (c : Chart) → Holds w c → AllKnown G H c.records → (k : ℕ) → Grown w c (run_chart G H (capacity w) k c)
+    run_grown c o all zero = subst (Grown w c) (sym (run_none G H (capacity w) c)) (record { holds = o; longer = omega arith })
+    run_grown c o all (suc k) =
+        let one = run_grown c o all k in
+        let rest = again_grown (run_chart G H (capacity w) k c) one.holds (run_known G H ok good (capacity w) k c all) in
         subst (Grown w c) (sym (run_more G H (capacity w) k c)) (record { holds = rest.holds; longer = omega (arith, one.longer, rest.longer) })
 
   -- v are the words w after k steps
@@ -164,8 +164,8 @@ module _ (G : Grammar) (H : Graph) where
     pub holds : Holds w (run_chart G H (capacity w) k (chart_of w))
 
   module _ (w : List ℕ) where
-    pub ran-none : Fits w → Ran w 0 w
-    ran-none o =
+    pub ran_none : Fits w → Ran w 0 w
+    ran_none o =
         let e = run_none G H (capacity w) (chart_of w) in
         record { is = chart_written w o ∙ ap (written w) (sym e); holds = subst (Holds w) (sym e) (holds_own w o) }
 
@@ -173,35 +173,35 @@ module _ (G : Grammar) (H : Graph) where
       abbrev d : Chart
       d = run_chart G H (capacity w) k (chart_of w)
 
-      pub ran-fits : Fits v
-      ran-fits = subst Fits (sym r.is) (fits_written w d r.holds)
+      pub ran_fits : Fits v
+      ran_fits = subst Fits (sym r.is) (fits_written w d r.holds)
 
-      chart-is : chart_of v ≡ d
-      chart-is = ap chart_of r.is ∙ chart_of_written w d r.holds
+      chart_is : chart_of v ≡ d
+      chart_is = ap chart_of r.is ∙ chart_of_written w d r.holds
 
-      capacity-is : capacity v ≡ capacity w
-      capacity-is = ap capacity r.is ∙ capacity_written w d r.holds
+      capacity_is : capacity v ≡ capacity w
+      capacity_is = ap capacity r.is ∙ capacity_written w d r.holds
 
-      pub ran-step : GrammarOk G → GraphOk G H → capacity w ≤ 4096 → AllKnown G H (chart_of v).records → (m : ℕ) (u : List ℕ) → m ≡ suc k → u ≡ written v (step_with G H (capacity v) (chart_of v) (next_in (chart_of v))) → Ran w m u
-      ran-step ok good small all m u q p =
+      pub ran_step : GrammarOk G → GraphOk G H → capacity w ≤ 4096 → AllKnown G H (chart_of v).records → (m : ℕ) (u : List ℕ) → m ≡ suc k → u ≡ written v (step_with G H (capacity v) (chart_of v) (next_in (chart_of v))) → Ran w m u
+      ran_step ok good small all m u q p =
           let e : run_chart G H (capacity w) m (chart_of w) ≡ step_with G H (capacity w) d (next_in d) =
           ap (λ n. run_chart G H (capacity w) n (chart_of w)) q ∙ run_more G H (capacity w) k (chart_of w) ∙ next_again (capacity w) d in
-          let g = step-grown ok good w small d r.holds (subst (λ (c : Chart). AllKnown G H c.records) chart-is all) (next_in d) (next_below d) in
+          let g = step_grown ok good w small d r.holds (subst (λ (c : Chart). AllKnown G H c.records) chart_is all) (next_in d) (next_below d) in
           record {
             is =
-                p ∙ ap (λ n. written v (step_with G H n (chart_of v) (next_in (chart_of v)))) capacity-is ∙ ap (λ (c : Chart). written v (step_with G H (capacity w) c (next_in c))) chart-is
+                p ∙ ap (λ n. written v (step_with G H n (chart_of v) (next_in (chart_of v)))) capacity_is ∙ ap (λ (c : Chart). written v (step_with G H (capacity w) c (next_in c))) chart_is
                 ∙ ap (λ (t : List ℕ). written t (step_with G H (capacity w) d (next_in d))) r.is ∙ written_over w d r.holds (step_with G H (capacity w) d (next_in d)) g.longer
                 ∙ ap (written w) (sym e);
             holds = subst (Holds w) (sym e) g.holds;
           }
 
-      pub ran-idle : (n : ℕ) (t : Bool) (u : List ℕ) → k ≤ n → not t ≡ true → t ≡ is_some (next_in (chart_of v)) → u ≡ written v (step_with G H (capacity v) (chart_of v) (next_in (chart_of v)))
+      pub ran_idle : (n : ℕ) (t : Bool) (u : List ℕ) → k ≤ n → not t ≡ true → t ≡ is_some (next_in (chart_of v)) → u ≡ written v (step_with G H (capacity v) (chart_of v) (next_in (chart_of v)))
           → u ≡ written w (run_chart G H (capacity w) n (chart_of w))
-      ran-idle n t u l e a p =
+      ran_idle n t u l e a p =
           let none = nowhere (next_in (chart_of v)) (ap not (sym a) ∙ e) in
           let q : n ≡ k + (n - k) = omega arith in
-          p ∙ ap (λ (f : Found). written v (step_with G H (capacity v) (chart_of v) f)) none ∙ sym (chart_written v ran-fits) ∙ r.is
-          ∙ ap (written w) (sym (ap (λ i. run_chart G H (capacity w) i (chart_of w)) q ∙ run_split G H (capacity w) k (n - k) (chart_of w) ∙ next_none (capacity w) (n - k) d (sym none ∙ ap next_in chart-is)))
+          p ∙ ap (λ (f : Found). written v (step_with G H (capacity v) (chart_of v) f)) none ∙ sym (chart_written v ran_fits) ∙ r.is
+          ∙ ap (written w) (sym (ap (λ i. run_chart G H (capacity w) i (chart_of w)) q ∙ run_split G H (capacity w) k (n - k) (chart_of w) ∙ next_none (capacity w) (n - k) d (sym none ∙ ap next_in chart_is)))
 
-      pub ran-all : (n : ℕ) → k ≡ n → v ≡ written w (run_chart G H (capacity w) n (chart_of w))
-      ran-all n q = r.is ∙ ap (λ i. written w (run_chart G H (capacity w) i (chart_of w))) q
+      pub ran_all : (n : ℕ) → k ≡ n → v ≡ written w (run_chart G H (capacity w) n (chart_of w))
+      ran_all n q = r.is ∙ ap (λ i. written w (run_chart G H (capacity w) i (chart_of w))) q

@@ -23,7 +23,7 @@ use Rattle.keys.specs.Keys.{query_of}
 use Rattle.index.specs.Quiet.{quiet_in}
 use Rattle.steps.specs.Partners.{with_record}
 use Rattle.steps.specs.Ready.{Ready, Joining}
-use Rattle.steps.proofs.ListedLaws.{query_within, Going, going_start, partners_each, partners_quiet, partners_few, partners-joining, partners-known, partners-end, turn-next, turn_less}
+use Rattle.steps.proofs.ListedLaws.{query_within, Going, going_start, partners_each, partners_quiet, partners_few, partners_joining, partners_known, partners_end, turn_next, turn_less}
 
 -- the test of the loop
 test_yes : (c m : ℕ) → not (eqb c 0) && leb c m ≡ true → (c ≢ 0) × (c ≤ m)
@@ -71,11 +71,11 @@ module _ {g h plans keys graph w ix₀ ls₀ : List ℕ} {lead : Bool} {j n key 
       (skims_none (quiet_in w x.item.edges) ls₀ n (alone c)) refl (least_few (alone c))
 
   module _ {v ix ls : List ℕ} {c past : ℕ} (S : Along g h keys w j n v ix ls c past) where
-    pub single-joining : Joining g h plans keys graph v ix ls lead j
-    single-joining = partners-joining P.0 P.1 S
+    pub single_joining : Joining g h plans keys graph v ix ls lead j
+    single_joining = partners_joining P.0 P.1 S
 
-    pub single-end : not (eqb c 0) && leb c (5 * n) ≡ false → v ≡ grown_by w (gather n (λ k. with_record (grammar_of g) H x j (record_at w k) k))
-    single-end t = partners-end P.0 P.1 S (alone_past c n single_few (test_no c (5 * n) t))
+    pub single_end : not (eqb c 0) && leb c (5 * n) ≡ false → v ≡ grown_by w (gather n (λ k. with_record (grammar_of g) H x j (record_at w k) k))
+    single_end t = partners_end P.0 P.1 S (alone_past c n single_few (test_no c (5 * n) t))
 
     module _ (t : not (eqb c 0) && leb c (5 * n) ≡ true) where
       abbrev k : ℕ
@@ -84,53 +84,53 @@ module _ {g h plans keys graph w ix₀ ls₀ : List ℕ} {lead : Bool} {j n key 
       z : c ≢ 0
       z = (test_yes c (5 * n) t).0
 
-      pub single-low : c ≤ 5 * n
-      single-low = (test_yes c (5 * n) t).1
+      pub single_low : c ≤ 5 * n
+      single_low = (test_yes c (5 * n) t).1
 
-      pub single-some : 1 ≤ c
-      single-some = omega (arith, z)
+      pub single_some : 1 ≤ c
+      single_some = omega (arith, z)
 
       here : Going g h keys H w x j n v ix ls (alone c) k past
-      here = subst (λ i. Going g h keys H w x j n v ix ls (alone c) i past) (sym (alone_least c z (omega (arith, single-low, single_few)))) S
+      here = subst (λ i. Going g h keys H w x j n v ix ls (alone c) i past) (sym (alone_least c z (omega (arith, single_low, single_few)))) S
 
-      pub single-known : k < item_count v
-      single-known = partners-known P.0 P.1 here (omega (arith, z, single-low))
+      pub single_known : k < item_count v
+      single_known = partners_known P.0 P.1 here (omega (arith, z, single_low))
 
       passed : (ws : List ℕ) (d : ℕ) → d ≡ after_of ws c → alone d ≡ passed_of ws (alone c) k
-      passed ws d e = alone_passed ws c k d (omega (arith, z, single-low)) (omega (arith, z, single-low)) e
+      passed ws d e = alone_passed ws c k d (omega (arith, z, single_low)) (omega (arith, z, single_low)) e
 
       -- past a quiet record
       module _ (s : quiet_in v x.item.edges k ≡ true) (d : ℕ) (e : d ≡ after_of ls c) where
         hushed : quiet_in w x.item.edges k ≡ true
-        hushed = sym (partners_quiet P.0 P.1 S x.item.edges k (omega (arith, z, single-low, P.1))) ∙ s
+        hushed = sym (partners_quiet P.0 P.1 S x.item.edges k (omega (arith, z, single_low, P.1))) ∙ s
 
         quiet_next : Along g h keys w j n v ix ls d past
         quiet_next = record {
           ready = S.ready;
           gathered = S.gathered;
-          ahead = ahead_skims _ ls _ _ n past (alone c) (alone d) S.ready.indexed.listed S.ahead (alone_skims _ ls n c d z single-low hushed e);
+          ahead = ahead_skims _ ls _ _ n past (alone c) (alone d) S.ready.indexed.listed S.ahead (alone_skims _ ls n c d z single_low hushed e);
           at = refl;
           few = least_few (alone d);
           low = S.low;
         }
 
-        quiet-less : left_all (alone d) < left_all (alone c)
-        quiet-less = left_falls _ ls _ _ n past k (alone c) (alone d) S.ready.indexed.listed S.ahead here.at (omega (arith, z, single-low)) (passed ls d e)
+        quiet_less : left_all (alone d) < left_all (alone c)
+        quiet_less = left_falls _ ls _ _ n past k (alone c) (alone d) S.ready.indexed.listed S.ahead here.at (omega (arith, z, single_low)) (passed ls d e)
 
       -- past one that is dealt with
       module _ (u jx ms : List ℕ) (later : ℕ) (p : u ≡ grown_by v (guard (leb past k) (with_record (grammar_of g) H (record_at v j) j (record_at v k) k))) (R : Ready g h keys u jx ms) (q : later ≡ max past (k + 1)) (d : ℕ) (e : d ≡ after_of ms c) where
-        loud-next : Along g h keys w j n u jx ms d later
-        loud-next =
-            turn-next P.0 P.1 here (omega (arith, z, single-low)) p R q (alone d) (alone d) (passed ms d e) (skims_none (quiet_in u x.item.edges) ms n (alone d)) (least_of (alone d)) refl
+        loud_next : Along g h keys w j n u jx ms d later
+        loud_next =
+            turn_next P.0 P.1 here (omega (arith, z, single_low)) p R q (alone d) (alone d) (passed ms d e) (skims_none (quiet_in u x.item.edges) ms n (alone d)) (least_of (alone d)) refl
             (least_few (alone d))
 
-        loud-less : left_all (alone d) < left_all (alone c)
-        loud-less = turn_less P.0 P.1 here (omega (arith, z, single-low)) p R q (alone d) (alone d) (passed ms d e) (skims_none (quiet_in u x.item.edges) ms n (alone d))
+        loud_less : left_all (alone d) < left_all (alone c)
+        loud_less = turn_less P.0 P.1 here (omega (arith, z, single_low)) p R q (alone d) (alone d) (passed ms d e) (skims_none (quiet_in u x.item.edges) ms n (alone d))
 
       -- past either
-      pub single-size : {u jx ms : List ℕ} {later : ℕ} → Met g h keys w j n v ix ls c past u jx ms later → length ms ≡ list_words
-      single-size (quiet _ _ _ e _) = ap length e ∙ S.ready.indexed.listed.size
-      single-size (loud _ _ _ _ _ _ e _ _ R _) = ap length e ∙ R.indexed.listed.size
+      pub single_size : {u jx ms : List ℕ} {later : ℕ} → Met g h keys w j n v ix ls c past u jx ms later → length ms ≡ list_words
+      single_size (quiet _ _ _ e _) = ap length e ∙ S.ready.indexed.listed.size
+      single_size (loud _ _ _ _ _ _ e _ _ R _) = ap length e ∙ R.indexed.listed.size
 
       reading : (ms ns : List ℕ) (d : ℕ) → ms ≡ ns → d ≡ after_of ms c → d ≡ after_of ns c
       reading ms ns d b e = e ∙ ap (λ (t : List ℕ). after_of t c) b
@@ -142,10 +142,10 @@ module _ {g h plans keys graph w ix₀ ls₀ : List ℕ} {lead : Bool} {j n key 
           (subst (λ (y : List ℕ). Along g h keys w j n t kx y d later) (sym l) (subst (Along g h keys w j n t kx ns d) (sym o) A)))
 
       module _ {u jx ms : List ℕ} {later : ℕ} (d : ℕ) (e : d ≡ after_of ms c) where
-        pub single-next : Met g h keys w j n v ix ls c past u jx ms later → Along g h keys w j n u jx ms d later
-        single-next (quiet s a b l o) = along u jx ms v ix ls d later past a b l o (quiet_next s d (reading ms ls d l e))
-        single-next (loud t kx ns m a b l o p R q) = along u jx ms t kx ns d later m a b l o (loud-next t kx ns m p R q d (reading ms ns d l e))
+        pub single_next : Met g h keys w j n v ix ls c past u jx ms later → Along g h keys w j n u jx ms d later
+        single_next (quiet s a b l o) = along u jx ms v ix ls d later past a b l o (quiet_next s d (reading ms ls d l e))
+        single_next (loud t kx ns m a b l o p R q) = along u jx ms t kx ns d later m a b l o (loud_next t kx ns m p R q d (reading ms ns d l e))
 
-        pub single-less : Met g h keys w j n v ix ls c past u jx ms later → left_all (alone d) < left_all (alone c)
-        single-less (quiet s a b l o) = quiet-less s d (reading ms ls d l e)
-        single-less (loud t kx ns m a b l o p R q) = loud-less t kx ns m p R q d (reading ms ns d l e)
+        pub single_less : Met g h keys w j n v ix ls c past u jx ms later → left_all (alone d) < left_all (alone c)
+        single_less (quiet s a b l o) = quiet_less s d (reading ms ls d l e)
+        single_less (loud t kx ns m a b l o p R q) = loud_less t kx ns m p R q d (reading ms ns d l e)

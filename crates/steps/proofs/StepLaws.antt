@@ -18,7 +18,7 @@ use Rattle.records.specs.Words.{Fits, capacity, item_count, record_at, records_a
 use Rattle.records.proofs.WordLaws.{length_records, record_in_lem}
 use Rattle.records.proofs.Written.{handle_written, chart_of_written, written_over}
 use Rattle.records.proofs.Rewritten.{Grown, handled_in, grown_handled, capacity_on}
-use Rattle.records.proofs.Grown.{Whole, whole_gather, holds_own, grown_all, grown_none, grown-fits, grown-more, grown-longer, grown-flag, grown-record}
+use Rattle.records.proofs.Grown.{Whole, whole_gather, holds_own, grown_all, grown_none, grown_fits, grown_more, grown_longer, grown_flag, grown_record}
 use Rattle.steps.specs.Partners.{with_record}
 use Rattle.steps.proofs.PartnerLaws.{append_nil}
 
@@ -39,7 +39,7 @@ module _ (w : List ℕ) (o : Fits w) (f : ℕ → List Record) where
   pub gathered_next : (v u : List ℕ) (i k : ℕ) → k ≡ suc i → ((n : ℕ) → n < k → Whole (f n)) → Gathered w f v i → u ≡ grown_by v (f i) → Gathered w f u k
   gathered_next v u i k q e g p = record {
     is =
-        p ∙ ap (λ (t : List ℕ). grown_by t (f i)) g.is ∙ grown-more w o (gather i f) (whole_gather i f (λ n l. e n (omega arith))) (f i) (e i (omega arith)) ∙ ap (grown_by w) (sym (gather_next i))
+        p ∙ ap (λ (t : List ℕ). grown_by t (f i)) g.is ∙ grown_more w o (gather i f) (whole_gather i f (λ n l. e n (omega arith))) (f i) (e i (omega arith)) ∙ ap (grown_by w) (sym (gather_next i))
         ∙ ap (λ n. grown_by w (gather n f)) (sym q);
   }
 
@@ -67,14 +67,14 @@ pub nothing_added : (w : List ℕ) (xs : List Record) → Fits w → xs ≡ [] �
 nothing_added w xs o q = sym (grown_none w o) ∙ ap (grown_by w) (sym q)
 
 pub added_fits : (w v : List ℕ) (xs : List Record) → Fits w → Whole xs → v ≡ grown_by w xs → Fits v
-added_fits w v xs o e p = subst Fits (sym p) (grown-fits w o xs e)
+added_fits w v xs o e p = subst Fits (sym p) (grown_fits w o xs e)
 
 pub added_longer : (w v : List ℕ) (xs : List Record) → Fits w → Whole xs → v ≡ grown_by w xs → item_count w ≤ item_count v
-added_longer w v xs o e p = subst (λ (u : List ℕ). item_count w ≤ item_count u) (sym p) (grown-longer w o xs e)
+added_longer w v xs o e p = subst (λ (u : List ℕ). item_count w ≤ item_count u) (sym p) (grown_longer w o xs e)
 
 -- first these, then those
 pub added_then : (w v u : List ℕ) (xs ys : List Record) → Fits w → Whole xs → Whole ys → v ≡ grown_by w xs → u ≡ grown_by v ys → u ≡ grown_by w (xs ++ ys)
-added_then w v u xs ys o e e' p q = q ∙ ap (λ (t : List ℕ). grown_by t ys) p ∙ grown-more w o xs e ys e'
+added_then w v u xs ys o e e' p q = q ∙ ap (λ (t : List ℕ). grown_by t ys) p ∙ grown_more w o xs e ys e'
 
 gather_empty : (f : ℕ → List Record) → ((k : ℕ) → f k ≡ []) → (n : ℕ) → gather n f ≡ []
 unfolding gather
@@ -104,7 +104,7 @@ module _ (G : Grammar) (H : Graph) where
       → with_record G H x j (record_at v k) k ≡ with_record G H x j (record_at w k) k
   partner_same w xs v x j k o e p l =
       ap (λ (u : List ℕ). with_record G H x j (record_at u k) k) p
-      ∙ record_same x j (record_at (grown_by w xs) k) (record_at w k) k (grown-flag w o xs e k l) (grown-record w o xs e k l)
+      ∙ record_same x j (record_at (grown_by w xs) k) (record_at w k) k (grown_flag w o xs e k l) (grown_record w o xs e k l)
 
   -- no partner makes anything
   pub no_partners : (w : List ℕ) (f : ℕ → List Record) (n : ℕ) → Fits w → ((k : ℕ) → f k ≡ []) → w ≡ grown_by w (gather n f)
@@ -119,11 +119,11 @@ module _ (G : Grammar) (H : Graph) where
     partners_whole n l = whole_gather n partners (λ i h. e i (omega arith))
 
     -- a partner that is read again, after some were dealt with
-    pub again-whole : (v : List ℕ) (n k : ℕ) → n ≤ item_count w → k < item_count w → Gathered w partners v n → Whole (with_record G H x j (record_at v k) k)
-    again-whole v n k few l g = subst Whole (sym (partner_same w (gather n partners) v x j k o (partners_whole n few) g.is l)) (e k l)
+    pub again_whole : (v : List ℕ) (n k : ℕ) → n ≤ item_count w → k < item_count w → Gathered w partners v n → Whole (with_record G H x j (record_at v k) k)
+    again_whole v n k few l g = subst Whole (sym (partner_same w (gather n partners) v x j k o (partners_whole n few) g.is l)) (e k l)
 
-    pub partners-next : (v u : List ℕ) (k m : ℕ) → m ≡ suc k → k < item_count w → Gathered w partners v k → u ≡ grown_by v (with_record G H x j (record_at v k) k) → Gathered w partners u m
-    partners-next v u k m q l g p =
+    pub partners_next : (v u : List ℕ) (k m : ℕ) → m ≡ suc k → k < item_count w → Gathered w partners v k → u ≡ grown_by v (with_record G H x j (record_at v k) k) → Gathered w partners u m
+    partners_next v u k m q l g p =
         gathered_next w o partners v u k m q (λ i h. e i (omega arith)) g (p ∙ ap (grown_by v) (partner_same w (gather k partners) v x j k o (partners_whole k (omega arith)) g.is l))
 
   -- ---- all that a record makes
@@ -148,9 +148,9 @@ module _ (G : Grammar) (H : Graph) where
     abbrev x : Record
     x = record_at w j
 
-    read-consequences : (by_root x j ++ with_edges x j) ++ gather (item_count w) (λ k. with_record G H x j (record_at w k) k) ≡ consequences G H (chart_of w).records j
+    read_consequences : (by_root x j ++ with_edges x j) ++ gather (item_count w) (λ k. with_record G H x j (record_at w k) k) ≡ consequences G H (chart_of w).records j
     unfolding consequences with_partner with_record chart_of
-    read-consequences =
+    read_consequences =
         let rs = records_at w (item_count w) in
         let size = length_records w (item_count w) in
         let y = record_in rs j in
@@ -164,20 +164,20 @@ module _ (G : Grammar) (H : Graph) where
     abbrev Among : Record → Type 0
     Among z = In z (consequences G H (chart_of w).records j)
 
-    pub among-root : (z : Record) → In z (by_root x j) → Among z
-    among-root z m = subst (In z) read-consequences (in_left _ (in_left _ m))
+    pub among_root : (z : Record) → In z (by_root x j) → Among z
+    among_root z m = subst (In z) read_consequences (in_left _ (in_left _ m))
 
-    pub among-edges : (e : ℕ) → e < length H.edges → (z : Record) → In z (with_terminal G H (item_of G x.item) x.item.count j e) → Among z
-    among-edges e h z m = subst (In z) read-consequences (in_left _ (in_right (by_root x j) (in_gather (length H.edges) _ e h m)))
+    pub among_edges : (e : ℕ) → e < length H.edges → (z : Record) → In z (with_terminal G H (item_of G x.item) x.item.count j e) → Among z
+    among_edges e h z m = subst (In z) read_consequences (in_left _ (in_right (by_root x j) (in_gather (length H.edges) _ e h m)))
 
-    pub among-records : (k : ℕ) → k < item_count w → is_handled (record_at w k) ≡ true → (z : Record) → In z (pair G H x j (record_at w k) k) → Among z
+    pub among_records : (k : ℕ) → k < item_count w → is_handled (record_at w k) ≡ true → (z : Record) → In z (pair G H x j (record_at w k) k) → Among z
     unfolding with_record
-    among-records k h t z m =
-        subst (In z) read-consequences (in_right (by_root x j ++ with_edges x j) (in_gather (item_count w) (λ i. with_record G H x j (record_at w i) i) k h (rw t (in_left _ m))))
+    among_records k h t z m =
+        subst (In z) read_consequences (in_right (by_root x j ++ with_edges x j) (in_gather (item_count w) (λ i. with_record G H x j (record_at w i) i) k h (rw t (in_left _ m))))
 
-    pub all-added : (v u : List ℕ) → Fits w → Whole (by_root x j ++ with_edges x j) → ((k : ℕ) → k < item_count w → Whole (with_record G H x j (record_at w k) k)) → v ≡ grown_by w (by_root x j ++ with_edges x j) → (n : ℕ) → n ≡ item_count w → u ≡ grown_by v (gather n (λ k. with_record G H x j (record_at v k) k))
+    pub all_added : (v u : List ℕ) → Fits w → Whole (by_root x j ++ with_edges x j) → ((k : ℕ) → k < item_count w → Whole (with_record G H x j (record_at w k) k)) → v ≡ grown_by w (by_root x j ++ with_edges x j) → (n : ℕ) → n ≡ item_count w → u ≡ grown_by v (gather n (λ k. with_record G H x j (record_at v k) k))
         → u ≡ grown_by w (consequences G H (chart_of w).records j)
-    all-added v u o a e p n q r =
+    all_added v u o a e p n q r =
         let xs = by_root x j ++ with_edges x j in
         let ys = gather n (λ k. with_record G H x j (record_at w k) k) in
         let same : gather n (λ k. with_record G H x j (record_at v k) k) ≡ ys =
@@ -185,7 +185,7 @@ module _ (G : Grammar) (H : Graph) where
         (λ k h. partner_same w xs v x j k o a p (omega arith)) in
         added_then w v u xs ys o a (whole_gather n (λ k. with_record G H x j (record_at w k) k) (λ k h. e k (omega arith))) p (r ∙ ap (grown_by v) same)
         ∙ ap (λ m. grown_by w (xs ++ gather m (λ k. with_record G H x j (record_at w k) k))) q
-        ∙ ap (grown_by w) read-consequences
+        ∙ ap (grown_by w) read_consequences
 
   -- ---- the step: all that a record makes, added where it is handled
   module _ (w : List ℕ) (o : Fits w) (j : ℕ) (l : j < item_count w) where

@@ -261,7 +261,7 @@ fn add_listed(
 }
 
 // Where the partners are gone through: the next one, and the cursors on lists by which it was found.
-#[derive(Drop)]
+#[derive(Clone, Copy)]
 struct Cursors {
     k: u64,
     cs: [u64; 5],

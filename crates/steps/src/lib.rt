@@ -1,4 +1,7 @@
 // What a start and the steps of a run make of a lent chart's words, over accepted tables.
+
+#![tactic(auto)]
+
 ghost use Rattle.std.specs.Prelude.{◌≡◌, true, List, ℕ, ◌≤◌, length};
 ghost use Rattle.agenda.specs.declared.Found.TheVariants.{Nowhere};
 ghost use Rattle.agenda.specs.Steps.{start_chart, step_with, run_chart};

@@ -30,14 +30,14 @@ module _ {fixed nodes : Bool} {n base rank rest x : ℕ} (asked : Asked fixed n 
     four t = sym (past_three ∙ refused 4 (eqb n (base + k)) _ (ne_eqb _ _ t))
 
     module _ (due : n ≡ base + k) (ok : Bool) (kept : ok ≡ nodes) where
-      past-four : x ≡ ask 5 ok rest
-      past-four = rw kept (past_three ∙ passed 4 (eqb n (base + k)) _ (eq-eqb _ _ due))
+      past_four : x ≡ ask 5 ok rest
+      past_four = rw kept (past_three ∙ passed 4 (eqb n (base + k)) _ (eq-eqb _ _ due))
 
       pub five : not ok ≡ true → 5 ≡ x
-      five t = sym (past-four ∙ refused 5 ok _ (not-true ok t))
+      five t = sym (past_four ∙ refused 5 ok _ (not-true ok t))
 
-      pub past-five : not ok ≡ false → x ≡ rest
-      past-five t = past-four ∙ passed 5 ok _ (not-false ok t)
+      pub past_five : not ok ≡ false → x ≡ rest
+      past_five t = past_four ∙ passed 5 ok _ (not-false ok t)
 
 -- .. and of an edge's line, by whether more edges follow and whether every node is on an edge
 pub record EdgeAsked (fixed : Bool) (n base rank : ℕ) (nodes : Bool) (j edges : ℕ) (cover : Bool) (x : ℕ) : Type 0 where
@@ -47,17 +47,17 @@ module _ {fixed nodes cover : Bool} {n base rank j edges x : ℕ} (edge : EdgeAs
     (left : not fixed ≡ false) (k : ℕ) (same : k ≡ rank) (due : n ≡ base + k) (ok : Bool) (kept : ok ≡ nodes) (listed : not ok ≡ false)
     (m : ℕ) (count : m ≡ edges) where
   past_all : x ≡ ask 6 (ltb j m || cover) 0
-  past_all = rw count (past-five edge.asked left k same due ok kept listed)
+  past_all = rw count (past_five edge.asked left k same due ok kept listed)
 
   pub more_edges : j < m → 0 ≡ x
   more_edges t = sym (past_all ∙ passed 6 (ltb j m || cover) 0 (rw (lt-ltb _ _ t)))
 
   module _ (last : m ≤ j) (all : Bool) (covers : all ≡ cover) where
-    past-last : x ≡ ask 6 all 0
-    past-last = rw covers (rw (le-ltb _ _ last) at past_all)
+    past_last : x ≡ ask 6 all 0
+    past_last = rw covers (rw (le-ltb _ _ last) at past_all)
 
     pub six : not all ≡ true → 6 ≡ x
-    six t = sym (past-last ∙ refused 6 all 0 (not-true all t))
+    six t = sym (past_last ∙ refused 6 all 0 (not-true all t))
 
-    pub all-covered : not all ≡ false → 0 ≡ x
-    all-covered t = sym (past-last ∙ passed 6 all 0 (not-false all t))
+    pub all_covered : not all ≡ false → 0 ≡ x
+    all_covered t = sym (past_last ∙ passed 6 all 0 (not-false all t))

@@ -22,7 +22,7 @@ use Rattle.tables.proofs.LineFields.{ends_yes, ends_no}
 use Rattle.tables.specs.Concluding.{behind, Standing, Stands, Leads, Reaches, Count, rule_after}
 use Rattle.tables.proofs.Covering.{marks_append, marks_bit}
 use Rattle.tables.proofs.Planning.{leaf_ok, introduce_ok, join_ok, marks_none, marks_no_edge, marks_one, marks_two, marks_edge, marked_next, every_marked, whole_ok}
-use Rattle.tables.proofs.Leading.{reaches_no, reaches_yes, lines_start, lines_end, lines-no, lines_next, next_plan}
+use Rattle.tables.proofs.Leading.{reaches_no, reaches_yes, lines_start, lines_end, lines_no, lines_next, next_plan}
 
 -- ---- tests
 and_if : (a x y : Bool) → (a ≡ true → x ≡ y) → (a && x) ≡ (a && y)
@@ -185,17 +185,17 @@ module _ (t : List ℕ) (r q : ℕ) where
   standing_kept s = answered (leb (plan_kind t r q) 2) (plan_so_far t r q (plan_kind t r q) (plan_first t r q) (plan_second t r q)) closes (sym plan_answer ∙ s.passed)
 
   module _ (b : Bool) (so : b ≡ line_kept t r q) where
-    pub line-not-kept : not b ≡ true → Stands [] t (PlanLine r q) false
-    line-not-kept e = record { yes = λ y. absurd (false≢true y); no = λ y s. false≢true (sym (not-true b e) ∙ so ∙ (standing_kept s).0) }
+    pub line_not_kept : not b ≡ true → Stands [] t (PlanLine r q) false
+    line_not_kept e = record { yes = λ y. absurd (false≢true y); no = λ y s. false≢true (sym (not-true b e) ∙ so ∙ (standing_kept s).0) }
 
     module _ (z : Bool) (zs : z ≡ eqb (behind t (plan_place r q) 3) 0) where
-      pub line-not-zero : not z ≡ true → Stands [] t (PlanLine r q) false
+      pub line_not_zero : not z ≡ true → Stands [] t (PlanLine r q) false
       unfolding place_of fields_due
-      line-not-zero e = record { yes = λ y. absurd (false≢true y); no = λ y s. ends_no t (plan_place r q) 3 z zs (not-true z e) s.rest }
+      line_not_zero e = record { yes = λ y. absurd (false≢true y); no = λ y s. ends_no t (plan_place r q) 3 z zs (not-true z e) s.rest }
 
-      pub line-stands : not b ≡ false → not z ≡ false → (w : Bool) → w ≡ closes → Stands [] t (PlanLine r q) w
+      pub line_stands : not b ≡ false → not z ≡ false → (w : Bool) → w ≡ closes → Stands [] t (PlanLine r q) w
       unfolding place_of fields_due line_kept
-      line-stands kept clear w e = record {
+      line_stands kept clear w e = record {
         yes = λ y. record {
           passed = plan_answer ∙ passing (leb (plan_kind t r q) 2) (plan_so_far t r q (plan_kind t r q) (plan_first t r q) (plan_second t r q)) closes (sym so ∙ not-false b kept) (sym e ∙ y);
           rest = ends_yes t (plan_place r q) 3 z zs (not-false z clear);
@@ -213,7 +213,7 @@ passed_start t r n some = record { before = λ h. lines_start grammar_words [] t
 
 module _ (t : List ℕ) (r n q : ℕ) (P : Passed t r n q) (h : q < n) where
   pub passed_no : Stands [] t (PlanLine r q) false → Reaches grammar_words [] t (PlanLine r 0) (plans_from r) (rule_after t r) (plan_place r n) false
-  passed_no s = reaches_no grammar_words [] t (PlanLine r 0) (rule_after t r) _ _ (lines-no grammar_words [] t (PlanLine r 0) _ (PlanLine r) (rule_after t r) n q _ (P.before h) h tt false s refl)
+  passed_no s = reaches_no grammar_words [] t (PlanLine r 0) (rule_after t r) _ _ (lines_no grammar_words [] t (PlanLine r 0) _ (PlanLine r) (rule_after t r) n q _ (P.before h) h tt false s refl)
 
   module _ (c : Count n (rule_plan t r) 16) (stands : (w : Bool) → w ≡ closes t r q → Stands [] t (PlanLine r q) w) where
     over : Stands [] t (PlanLine r q) true → Leads grammar_words [] t (PlanLine r 0) (plans_from r) (cond (ltb (q + 1) n) (PlanLine r (q + 1)) (rule_after t r)) (plan_place r (q + 1))

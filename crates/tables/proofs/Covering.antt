@@ -192,15 +192,15 @@ module _ (nodes : ℕ) (t : List ℕ) (p n seen k : ℕ) (s : Sought nodes (node
     refused : (m : ℕ) → false ≡ listed nodes own → Distinct nodes own false m
     refused m f = record { kept = f; set = λ y. absurd (false≢true y) }
 
-    pub sought-out : nodes ≤ x → (m : ℕ) → Distinct nodes own false m
-    sought-out l m = refused m (seen_out nodes own seen k x inside value (omega arith))
+    pub sought_out : nodes ≤ x → (m : ℕ) → Distinct nodes own false m
+    sought_out l m = refused m (seen_out nodes own seen k x inside value (omega arith))
 
-    pub sought-twice : bit_and (seen / 2 ^ x) 1 ≡ 1 → (m : ℕ) → Distinct nodes own false m
-    sought-twice b m = refused m (seen_twice nodes own seen k x inside value s.part (true_member seen x (sym (shifted_bit seen x) ∙ b)))
+    pub sought_twice : bit_and (seen / 2 ^ x) 1 ≡ 1 → (m : ℕ) → Distinct nodes own false m
+    sought_twice b m = refused m (seen_twice nodes own seen k x inside value s.part (true_member seen x (sym (shifted_bit seen x) ∙ b)))
 
-    pub sought-more : x < nodes → (bit_and (seen / 2 ^ x) 1 ≡ 1 → ⊥) → Sought nodes own (bit_or seen (1 * 2 ^ x % 2 ^ 64)) (k + 1)
+    pub sought_more : x < nodes → (bit_and (seen / 2 ^ x) 1 ≡ 1 → ⊥) → Sought nodes own (bit_or seen (1 * 2 ^ x % 2 ^ 64)) (k + 1)
     unfolding ◌∪◌
-    sought-more l b =
+    sought_more l b =
         let new : bit seen x ≡ 0 = omega (arith, bit_le seen x, go) in
         let one : bit_or seen (1 * 2 ^ x % 2 ^ 64) ≡ seen ∪ single x = ap (bit_or seen) (shifted_single x (omega arith)) in
         record {

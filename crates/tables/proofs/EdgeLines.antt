@@ -30,7 +30,7 @@ use Rattle.tables.proofs.LineAnswers.{rule_edge_asked, graph_edge_asked}
 use Rattle.tables.proofs.LineFields.{ends_yes, ends_no}
 use Rattle.tables.proofs.Listing.{listed_top}
 use Rattle.tables.proofs.Covering.{marks_append, marks_union, marks_covered}
-use Rattle.tables.proofs.Leading.{lines_start, lines_end, lines-no, lines_next, next_edge, next_graph_edge}
+use Rattle.tables.proofs.Leading.{lines_start, lines_end, lines_no, lines_next, next_edge, next_graph_edge}
 
 -- ---- the nodes of a line, and what is behind them
 module _ (nodes : ℕ) (t : List ℕ) (p n : ℕ) (ok : Bool) (seen : ℕ) (D : Distinct nodes (nodes_at t p n) ok seen) where
@@ -43,16 +43,16 @@ module _ (nodes : ℕ) (t : List ℕ) (p n : ℕ) (ok : Bool) (seen : ℕ) (D : 
   }
 
   module _ (z : Bool) (zs : z ≡ eqb (behind t p (1 + n)) 0) where
-    pub behind-no : not z ≡ true → (m : ℕ) → Attached nodes t p n false m
-    behind-no h m = record {
+    pub behind_no : not z ≡ true → (m : ℕ) → Attached nodes t p n false m
+    behind_no h m = record {
       kept = λ y. absurd (false≢true y);
       rest = λ y. absurd (false≢true y);
       set = λ y. absurd (false≢true y);
       no = λ y l r. ends_no t p (1 + n) z zs (not-true z h) r;
     }
 
-    pub attached-yes : not ok ≡ false → not z ≡ false → Attached nodes t p n ok seen
-    attached-yes k h = record {
+    pub attached_yes : not ok ≡ false → not z ≡ false → Attached nodes t p n ok seen
+    attached_yes k h = record {
       kept = λ y. sym D.kept ∙ y;
       rest = λ y. ends_yes t p (1 + n) z zs (not-false z h);
       set = D.set;
@@ -248,9 +248,9 @@ module _ (size : ℕ) (g t : List ℕ) (kind : ℕ → Due) (after : Due) (first
   passed_none = record { set = ap (marks 0) (sym E.none); lines = λ k h. absurd (omega arith) }
 
   module _ (i mask : ℕ) (P : Passed g t kind on i mask) where
-    pub passed-more : (ok : Bool) (seen : ℕ) → NearlyStands g t (kind i) ok seen → not ok ≡ false → Passed g t kind on (i + 1) (bit_or mask seen)
+    pub passed_more : (ok : Bool) (seen : ℕ) → NearlyStands g t (kind i) ok seen → not ok ≡ false → Passed g t kind on (i + 1) (bit_or mask seen)
     unfolding ◌∪◌
-    passed-more ok seen s h = record {
+    passed_more ok seen s h = record {
       set =
           ap (λ m. bit_or m seen) P.set ∙ ap (bit_or (marks 0 (on i))) (s.set (not-false ok h) ∙ ap (marks 0) (E.lines i).own)
           ∙ sym (marks_union (marks 0 (on i)) (nodes_at t (place_of (kind i)) (E.rank i))) ∙ sym (marks_append 0 (on i) (nodes_at t (place_of (kind i)) (E.rank i)))
@@ -263,16 +263,16 @@ module _ (size : ℕ) (g t : List ℕ) (kind : ℕ → Due) (after : Due) (first
         go k l (no d) = subst (λ j. Nearly g t (kind j)) (let e : i ≡ k = omega arith in e) (s.yes (not-false ok h))
 
     -- up to a line before which no one is the last
-    to-line : (k : ℕ) → k < n → k ≤ i → Leads size g t (kind 0) first (cond (ltb k n) (kind k) after) (first + k)
-    to-line zero h l = lines_start size g t kind after n first (first + 0) (omega arith) h
-    to-line (suc k) h l =
+    to_line : (k : ℕ) → k < n → k ≤ i → Leads size g t (kind 0) first (cond (ltb k n) (kind k) after) (first + k)
+    to_line zero h l = lines_start size g t kind after n first (first + 0) (omega arith) h
+    to_line (suc k) h l =
         subst (λ j. Leads size g t (kind 0) first (cond (ltb j n) (kind j) after) (first + suc k)) (add-one k)
-        (lines_next size g t (kind 0) first kind after n k (first + k) (to-line k (omega arith) (omega arith)) (omega arith) (E.known k) true
+        (lines_next size g t (kind 0) first kind after n k (first + k) (to_line k (omega arith) (omega arith)) (omega arith) (E.known k) true
         (does (kind k) (nearly_before g t (kind k) _ _ _ _ _ _ (E.lines k) (omega arith) (P.lines k (omega arith)))) refl (E.place k) (E.order k) (first + suc k) (omega arith))
 
     pub passed_no : i < n → (ok : Bool) (seen : ℕ) → NearlyStands g t (kind i) ok seen → not ok ≡ true → Rest size g t (kind 0) first → ⊥
     passed_no h ok seen s e =
-        lines-no size g t (kind 0) first kind after n i (first + i) (to-line i h (omega arith)) h (E.known i) false
+        lines_no size g t (kind 0) first kind after n i (first + i) (to_line i h (omega arith)) h (E.known i) false
         (does_not (kind i) (λ q. s.no (not-true ok e) (stands_nearly g t (kind i) _ _ _ _ _ _ (E.lines i) q))) refl
 
     -- after the last one
@@ -285,17 +285,17 @@ module _ (size : ℕ) (g t : List ℕ) (kind : ℕ → Due) (after : Due) (first
           B ∙ ap (λ k. leb k 64 && eqb (mask ∪ full (min k 64)) mask) same ∙ ap (λ k. leb nodes 64 && eqb (k ∪ full (min nodes 64)) k) P.set ∙ marks_covered nodes (on i)
           ∙ ap (λ k. covered nodes (on k)) (let e : i ≡ l + 1 = omega arith in e) ∙ ap (covered nodes) (E.more l)
 
-      pub passed-uncovered : not b ≡ true → Rest size g t (kind 0) first → ⊥
-      passed-uncovered e =
-          lines-no size g t (kind 0) first kind after n l (first + l) (to-line l (omega arith) (omega arith)) (omega arith) (E.known l) false
+      pub passed_uncovered : not b ≡ true → Rest size g t (kind 0) first → ⊥
+      passed_uncovered e =
+          lines_no size g t (kind 0) first kind after n l (first + l) (to_line l (omega arith) (omega arith)) (omega arith) (E.known l) false
           (does_not (kind l) (λ q. absurd (false≢true (sym (not-true b e) ∙ covers ∙ last_covers g t (kind l) _ _ _ _ _ _ (E.lines l) (omega arith) q)))) refl
 
       pub passed_all : not b ≡ false → (to : ℕ) → first + n ≡ to → Leads size g t (kind 0) first after to
       passed_all e to q =
           lines_end size g t (kind 0) first kind after n (l + 1) (first + l + 1)
-          (lines_next size g t (kind 0) first kind after n l (first + l) (to-line l (omega arith) (omega arith)) (omega arith) (E.known l) true
+          (lines_next size g t (kind 0) first kind after n l (first + l) (to_line l (omega arith) (omega arith)) (omega arith) (E.known l) true
           (does (kind l) (nearly_last g t (kind l) _ _ _ _ _ _ (E.lines l) (sym covers ∙ not-false b e) (P.lines l (omega arith)))) refl (E.place l) (E.order l) _ refl)
           (omega arith) to (omega arith)
 
-      pub passed-reaches : (to : ℕ) → first + n ≡ to → Reaches size g t (kind 0) first after to b
-      passed-reaches to q = record { yes = λ y. passed_all (ap not y) to q; no = λ y. passed-uncovered (ap not y) }
+      pub passed_reaches : (to : ℕ) → first + n ≡ to → Reaches size g t (kind 0) first after to b
+      passed_reaches to q = record { yes = λ y. passed_all (ap not y) to q; no = λ y. passed_uncovered (ap not y) }

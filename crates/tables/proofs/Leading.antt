@@ -36,21 +36,21 @@ module _ (size : ℕ) (g t : List ℕ) where
 
   -- over the words before a line
   module _ (due : Due) (from : ℕ) (l : IsLine due) where
-    leads-gap : Zero t from (place_of due) → Leads size g t due from due (place_of due)
-    leads-gap z = record {
+    leads_gap : Zero t from (place_of due) → Leads size g t due from due (place_of due)
+    leads_gap z = record {
       onward = λ r. let s = rest_line due from l r in line (zero_none t (place_of due)) s.1 s.2;
       back = λ r. let s = rest_line due (place_of due) l r in line z s.1 s.2;
     }
 
-    gap-no : (Zero t from (place_of due) → ⊥) → Rest size g t due from → ⊥
-    gap-no n r = n (rest_line due from l r).0
+    gap_no : (Zero t from (place_of due) → ⊥) → Rest size g t due from → ⊥
+    gap_no n r = n (rest_line due from l r).0
 
-    line-no : (Standing g t due → ⊥) → Rest size g t due from → ⊥
-    line-no n r = n (rest_line due from l r).1
+    line_no : (Standing g t due → ⊥) → Rest size g t due from → ⊥
+    line_no n r = n (rest_line due from l r).1
 
     -- over a line
-    leads-line : from ≡ place_of due → Standing g t due → Leads size g t due from (next t due) (from + 1)
-    leads-line e s = record {
+    leads_line : from ≡ place_of due → Standing g t due → Leads size g t due from (next t due) (from + 1)
+    leads_line e s = record {
       onward = λ r. subst (λ i. Rest size g t (next t due) (i + 1)) (sym e) (rest_line due from l r).2;
       back = λ r. line (subst (λ i. Zero t i (place_of due)) (sym e) (zero_none t (place_of due))) s (subst (λ i. Rest size g t (next t due) (i + 1)) e r);
     }
@@ -69,17 +69,17 @@ module _ (size : ℕ) (g t : List ℕ) where
   concludes_at due from to b e q = subst (λ (k : ℕ). Concludes size g t due k b) e q
 
   module _ (due then : Due) (from to : ℕ) (p : Leads size g t due from then to) (b : Bool) where
-    reaches-on : (after : Due) (end : ℕ) → Reaches size g t then to after end b → Reaches size g t due from after end b
-    reaches-on after end q = record { yes = λ y. leads_on due then after from to end p (q.yes y); no = λ y r. q.no y (p.onward r) }
+    reaches_on : (after : Due) (end : ℕ) → Reaches size g t then to after end b → Reaches size g t due from after end b
+    reaches_on after end q = record { yes = λ y. leads_on due then after from to end p (q.yes y); no = λ y r. q.no y (p.onward r) }
 
     pub through : (after : Due) (end : ℕ) → Reaches size g t then to after end b → not b ≡ false → Leads size g t due from after end
     through after end q e = leads_on due then after from to end p (q.yes (not-false b e))
 
-    pub through-no : (after : Due) (end : ℕ) → Reaches size g t then to after end b → not b ≡ true → Rest size g t due from → ⊥
-    through-no after end q e r = q.no (not-true b e) (p.onward r)
+    pub through_no : (after : Due) (end : ℕ) → Reaches size g t then to after end b → not b ≡ true → Rest size g t due from → ⊥
+    through_no after end q e r = q.no (not-true b e) (p.onward r)
 
-    pub concludes-on : Concludes size g t then to b → Concludes size g t due from b
-    concludes-on q = record { yes = λ y. p.back (q.yes y); no = λ y r. q.no y (p.onward r) }
+    pub concludes_on : Concludes size g t then to b → Concludes size g t due from b
+    concludes_on q = record { yes = λ y. p.back (q.yes y); no = λ y r. q.no y (p.onward r) }
 
   -- the words behind the last line
   pub concludes_last : (from : ℕ) (b : Bool) → Zeros t from size b → Concludes size g t Nothing from b
@@ -105,15 +105,15 @@ module _ (size : ℕ) (g t : List ℕ) where
       lines_at = rw (lt-ltb i n h) at p
 
       module _ (l : IsLine (kind i)) (r : Bool) (s : Stands g t (kind i) r) where
-        pub lines-no : not r ≡ true → Rest size g t first f → ⊥
-        lines-no e x = line-no (kind i) at l (s.no (not-true r e)) (lines_at.onward x)
+        pub lines_no : not r ≡ true → Rest size g t first f → ⊥
+        lines_no e x = line_no (kind i) at l (s.no (not-true r e)) (lines_at.onward x)
 
         pub lines_next : not r ≡ false → at ≡ place_of (kind i) → next t (kind i) ≡ cond (ltb (i + 1) n) (kind (i + 1)) after → (to : ℕ) → at + 1 ≡ to
             → Leads size g t first f (cond (ltb (i + 1) n) (kind (i + 1)) after) to
         lines_next e place then to end =
             leads_on first (kind i) _ f at to lines_at
             (subst (λ (k : ℕ). Leads size g t (kind i) at (cond (ltb (i + 1) n) (kind (i + 1)) after) k) end
-            (subst (λ (d : Due). Leads size g t (kind i) at d (at + 1)) then (leads-line (kind i) at l place (s.yes (not-false r e)))))
+            (subst (λ (d : Due). Leads size g t (kind i) at d (at + 1)) then (leads_line (kind i) at l place (s.yes (not-false r e)))))
 
 -- ---- what is due next, by a count that stands in the table
 count_min : (n w most : ℕ) → Count n w most → min most w ≡ n
@@ -149,9 +149,9 @@ count_of n w x low most e same b = record { same = e; some = omega (arith, b.low
 
 module _ (t : List ℕ) (n : ℕ) where
   module _ (s : Standing [] t Grammar) where
-    pub symbols-few : n ≡ symbol_count t → Count n (symbol_count t) 64
+    pub symbols_few : n ≡ symbol_count t → Count n (symbol_count t) 64
     unfolding judge place_of fields_due
-    symbols-few e = count_of n _ _ 0 64 e (own_field [] t Grammar 0 (omega arith)) ((passes_grammar (stored_fields [] t t Grammar)).sound s.passed).symbols
+    symbols_few e = count_of n _ _ 0 64 e (own_field [] t Grammar 0 (omega arith)) ((passes_grammar (stored_fields [] t t Grammar)).sound s.passed).symbols
 
     pub rules_few : n ≡ rule_count t → Count n (rule_count t) 64
     unfolding judge place_of fields_due
@@ -173,37 +173,37 @@ module _ (t : List ℕ) (n : ℕ) where
 -- ---- the lines of a rule
 module _ (size : ℕ) (t : List ℕ) (r : ℕ) (b : Bool) (s : Stands [] t (Rule r) b) (then : Due) (end : ℕ) where
   pub rule_no : not b ≡ true → Reaches size [] t (Rule r) (rule_place r) then end false
-  rule_no e = reaches_no size [] t (Rule r) then _ end (line-no size [] t (Rule r) _ tt (s.no (not-true b e)))
+  rule_no e = reaches_no size [] t (Rule r) then _ end (line_no size [] t (Rule r) _ tt (s.no (not-true b e)))
 
   module _ (ok : not b ≡ false) (n : ℕ) (e : Bool) (E : Reaches size [] t (RuleEdge r 0) (edges_from r) (PlanLine r 0) (edge_place r n) e) where
-    to-edges : Leads size [] t (Rule r) (rule_place r) (RuleEdge r 0) (edges_from r)
+    to_edges : Leads size [] t (Rule r) (rule_place r) (RuleEdge r 0) (edges_from r)
     unfolding next place_of
-    to-edges =
+    to_edges =
         subst (Leads size [] t (Rule r) (rule_place r) (RuleEdge r 0)) (let x : rule_place r + 1 ≡ edges_from r = omega arith in x)
-        (leads-line size [] t (Rule r) (rule_place r) tt refl (s.yes (not-false b ok)))
+        (leads_line size [] t (Rule r) (rule_place r) tt refl (s.yes (not-false b ok)))
 
-    pub rule-edges-no : not e ≡ true → Reaches size [] t (Rule r) (rule_place r) then end false
-    rule-edges-no h = reaches_no size [] t (Rule r) then _ end (through-no size [] t (Rule r) (RuleEdge r 0) _ _ to-edges e _ _ E h)
+    pub rule_edges_no : not e ≡ true → Reaches size [] t (Rule r) (rule_place r) then end false
+    rule_edges_no h = reaches_no size [] t (Rule r) then _ end (through_no size [] t (Rule r) (RuleEdge r 0) _ _ to_edges e _ _ E h)
 
     module _ (passed : not e ≡ false) (z : Bool) (zs : Zeros t (edge_place r n) (plans_from r) z) where
-      to-gap : Leads size [] t (Rule r) (rule_place r) (PlanLine r 0) (edge_place r n)
-      to-gap = through size [] t (Rule r) (RuleEdge r 0) _ _ to-edges e _ _ E passed
+      to_gap : Leads size [] t (Rule r) (rule_place r) (PlanLine r 0) (edge_place r n)
+      to_gap = through size [] t (Rule r) (RuleEdge r 0) _ _ to_edges e _ _ E passed
 
       here : plans_from r ≡ place_of (PlanLine r 0)
       unfolding place_of
       here = omega arith
 
-      pub rule-gap-no : not z ≡ true → Reaches size [] t (Rule r) (rule_place r) then end false
-      rule-gap-no h =
+      pub rule_gap_no : not z ≡ true → Reaches size [] t (Rule r) (rule_place r) then end false
+      rule_gap_no h =
           reaches_no size [] t (Rule r) then _ end
-          (λ x. gap-no size [] t (PlanLine r 0) _ tt (λ q. zs.no (not-true z h) (subst (Zero t (edge_place r n)) (sym here) q)) (to-gap.onward x))
+          (λ x. gap_no size [] t (PlanLine r 0) _ tt (λ q. zs.no (not-true z h) (subst (Zero t (edge_place r n)) (sym here) q)) (to_gap.onward x))
 
       pub rule_plan_lem : not z ≡ false → (to : ℕ) → to ≡ end → (p : Bool) → Reaches size [] t (PlanLine r 0) (plans_from r) then to p
           → Reaches size [] t (Rule r) (rule_place r) then end p
       rule_plan_lem h to x p plan =
-          let over = leads-gap size [] t (PlanLine r 0) (edge_place r n) tt (subst (Zero t (edge_place r n)) here (zs.yes (not-false z h))) in
-          reaches-on size [] t (Rule r) (PlanLine r 0) _ (plans_from r)
-          (leads_on size [] t (Rule r) (PlanLine r 0) (PlanLine r 0) _ _ _ to-gap (subst (Leads size [] t (PlanLine r 0) (edge_place r n) (PlanLine r 0)) (sym here) over))
+          let over = leads_gap size [] t (PlanLine r 0) (edge_place r n) tt (subst (Zero t (edge_place r n)) here (zs.yes (not-false z h))) in
+          reaches_on size [] t (Rule r) (PlanLine r 0) _ (plans_from r)
+          (leads_on size [] t (Rule r) (PlanLine r 0) (PlanLine r 0) _ _ _ to_gap (subst (Leads size [] t (PlanLine r 0) (edge_place r n) (PlanLine r 0)) (sym here) over))
           p then end (subst (λ (k : ℕ). Reaches size [] t (PlanLine r 0) (plans_from r) then k p) x plan)
 
 -- ---- rule after rule
@@ -214,33 +214,33 @@ module _ (size : ℕ) (t : List ℕ) (first : Due) (f n r from : ℕ) (p : Leads
 
   pub rules_gap_no : not z ≡ true → Concludes size [] t first f false
   unfolding place_of
-  rules_gap_no e = concludes_no size [] t first f (λ x. gap-no size [] t (Rule r) from tt (zs.no (not-true z e)) (before.onward x))
+  rules_gap_no e = concludes_no size [] t first f (λ x. gap_no size [] t (Rule r) from tt (zs.no (not-true z e)) (before.onward x))
 
   module _ (ok : not z ≡ false) (b : Bool) (end : ℕ) (R : Reaches size [] t (Rule r) (rule_place r) (rule_after t r) end b) where
-    here-rule : Leads size [] t first f (Rule r) (rule_place r)
+    here_rule : Leads size [] t first f (Rule r) (rule_place r)
     unfolding place_of
-    here-rule = leads_on size [] t first (Rule r) (Rule r) f from _ before (leads-gap size [] t (Rule r) from tt (zs.yes (not-false z ok)))
+    here_rule = leads_on size [] t first (Rule r) (Rule r) f from _ before (leads_gap size [] t (Rule r) from tt (zs.yes (not-false z ok)))
 
-    pub rules-no : not b ≡ true → Concludes size [] t first f false
-    rules-no e = concludes_no size [] t first f (through-no size [] t first (Rule r) f _ here-rule b _ end R e)
+    pub rules_no : not b ≡ true → Concludes size [] t first f false
+    rules_no e = concludes_no size [] t first f (through_no size [] t first (Rule r) f _ here_rule b _ end R e)
 
-    pub rules-next : not b ≡ false → Count n (rule_count t) 64 → (to : ℕ) → end ≡ to → Leads size [] t first f (cond (ltb (r + 1) n) (Rule (r + 1)) Nothing) to
-    rules-next e c to x =
+    pub rules_next : not b ≡ false → Count n (rule_count t) 64 → (to : ℕ) → end ≡ to → Leads size [] t first f (cond (ltb (r + 1) n) (Rule (r + 1)) Nothing) to
+    rules_next e c to x =
         subst (λ (k : ℕ). Leads size [] t first f (cond (ltb (r + 1) n) (Rule (r + 1)) Nothing) k) x
-        (subst (λ (d : Due). Leads size [] t first f d end) (next_rule t n r c) (through size [] t first (Rule r) f _ here-rule b _ end R e))
+        (subst (λ (d : Due). Leads size [] t first f d end) (next_rule t n r c) (through size [] t first (Rule r) f _ here_rule b _ end R e))
 
 -- ---- the first line of a table
 module _ (size : ℕ) (g t : List ℕ) (b : Bool) where
   pub grammar_no : Stands g t Grammar b → not b ≡ true → Concludes size g t Grammar 0 false
-  grammar_no s e = concludes_no size g t Grammar 0 (line-no size g t Grammar 0 tt (s.no (not-true b e)))
+  grammar_no s e = concludes_no size g t Grammar 0 (line_no size g t Grammar 0 tt (s.no (not-true b e)))
 
   pub grammar_line_is : Stands g t Grammar b → not b ≡ false → Leads size g t Grammar 0 (Symbol 0) (symbol_place 0)
   unfolding next place_of
-  grammar_line_is s e = leads-line size g t Grammar 0 tt refl (s.yes (not-false b e))
+  grammar_line_is s e = leads_line size g t Grammar 0 tt refl (s.yes (not-false b e))
 
   pub graph_no : Stands g t Graph b → not b ≡ true → Concludes size g t Graph 0 false
-  graph_no s e = concludes_no size g t Graph 0 (line-no size g t Graph 0 tt (s.no (not-true b e)))
+  graph_no s e = concludes_no size g t Graph 0 (line_no size g t Graph 0 tt (s.no (not-true b e)))
 
   pub graph_line_lem : Stands g t Graph b → not b ≡ false → Leads size g t Graph 0 (GraphEdge 0) (graph_edge_place 0)
   unfolding next place_of
-  graph_line_lem s e = leads-line size g t Graph 0 tt refl (s.yes (not-false b e))
+  graph_line_lem s e = leads_line size g t Graph 0 tt refl (s.yes (not-false b e))

@@ -105,8 +105,8 @@ module _ (nodes : ℕ) (fs : List ℕ) (start : ℕ) where
       record { begun = omega arith; part = subst (Seen nodes (drop start fs) 0) (let e : 0 ≡ start - start = omega arith in e) (seen_none nodes (drop start fs)) }
 
   module _ (seen k : ℕ) (s : Looked nodes fs start seen k) where
-    pub look-all : length fs ≤ k → true ≡ listed nodes (drop start fs)
-    look-all h = seen_all nodes (drop start fs) seen (k - start) s.part (omega (arith, length-drop start fs))
+    pub look_all : length fs ≤ k → true ≡ listed nodes (drop start fs)
+    look_all h = seen_all nodes (drop start fs) seen (k - start) s.part (omega (arith, length-drop start fs))
 
     module _ (x : ℕ) (h : k < length fs) (v : x ≡ get_or fs k 0) where
       inner : k - start < length (drop start fs)
@@ -115,14 +115,14 @@ module _ (nodes : ℕ) (fs : List ℕ) (start : ℕ) where
       value : x ≡ get_or (drop start fs) (k - start) 0
       value = v ∙ ap (λ j. get_or fs j 0) (let q : k ≡ start + (k - start) = omega (arith, s.begun) in q) ∙ sym (get_or-drop start fs (k - start) 0)
 
-      pub look-out : (top : ℕ) → top ≡ min 64 nodes → top ≤ x → false ≡ listed nodes (drop start fs)
-      look-out top w p = seen_out nodes (drop start fs) seen (k - start) x inner value (omega arith)
+      pub look_out : (top : ℕ) → top ≡ min 64 nodes → top ≤ x → false ≡ listed nodes (drop start fs)
+      look_out top w p = seen_out nodes (drop start fs) seen (k - start) x inner value (omega arith)
 
       pub look_twice : (b : Bool) → Found seen x b → b ≡ true → false ≡ listed nodes (drop start fs)
       look_twice b w p = seen_twice nodes (drop start fs) seen (k - start) x inner value s.part (sym w.value ∙ p)
 
-      pub look-more : (top : ℕ) (b : Bool) (m : ℕ) → top ≡ min 64 nodes → x < top → Found seen x b → b ≡ false → Added seen x m → Looked nodes fs start m (k + 1)
-      look-more top b m w p f q a = record {
+      pub look_more : (top : ℕ) (b : Bool) (m : ℕ) → top ≡ min 64 nodes → x < top → Found seen x b → b ≡ false → Added seen x m → Looked nodes fs start m (k + 1)
+      look_more top b m w p f q a = record {
         begun = omega (arith, s.begun);
         part =
             subst (Seen nodes (drop start fs) m) (let z : k - start + 1 ≡ k + 1 - start = omega (arith, s.begun) in z)

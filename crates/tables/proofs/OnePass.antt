@@ -182,30 +182,30 @@ module _ (size : ℕ) (g t : List ℕ) (goal : Bool) (fits : size ≤ length t) 
         same : (u : List ℕ) → accepted c ≡ accepted u → c ≡ u
         same u e = cc
 
-    pass-last : goal ≡ true → Zero t from size
-    pass-last y = cleared (own y)
+    pass_last : goal ≡ true → Zero t from size
+    pass_last y = cleared (own y)
 
-    pass-whole : Zero t from size → goal ≡ true
-    pass-whole z = sym ended ∙ by_filled size t c fits (whole z)
+    pass_whole : Zero t from size → goal ≡ true
+    pass_whole z = sym ended ∙ by_filled size t c fits (whole z)
 
   -- a line is due
   module _ (is_line : IsLine due) where
-    pass-at : place_of due < size
-    pass-at = room_place size due P.room
+    pass_at : place_of due < size
+    pass_at = room_place size due P.room
 
-    pass-clear : goal ≡ true → Zero t from (place_of due)
-    pass-clear y q a k = as_before y q (omega (arith, reach_line due is_line)) (omega (arith, pass-at)) ∙ P.clear q a
+    pass_clear : goal ≡ true → Zero t from (place_of due)
+    pass_clear y q a k = as_before y q (omega (arith, reach_line due is_line)) (omega (arith, pass_at)) ∙ P.clear q a
 
     module _ (z : Zero t from (place_of due)) where
-      same-before : (q : ℕ) → q < place_of due → get_or c q 0 ≡ get_or t q 0
-      same-before q k = go (dec_lt q from)
+      same_before : (q : ℕ) → q < place_of due → get_or c q 0 ≡ get_or t q 0
+      same_before q k = go (dec_lt q from)
         where
           go : Dec (q < from) → get_or c q 0 ≡ get_or t q 0
           go (yes d) = P.same q d
           go (no d) = P.clear q (omega arith) ∙ sym (z q (omega arith) k)
 
       agree : Agree c t (place_of due)
-      agree q j k b = same_line c t q j (same-before q k)
+      agree q j k b = same_line c t q j (same_before q k)
 
       -- the fields by the ranks of c, and by those of t
       abbrev fsc : List ℕ
@@ -214,106 +214,106 @@ module _ (size : ℕ) (g t : List ℕ) (goal : Bool) (fits : size ≤ length t) 
       abbrev fs : List ℕ
       fs = stored_fields g t t due
 
-      judged-c : (gs : List ℕ) → judge g c due gs ≡ judge g t due gs
-      judged-c gs = judge_agree g c t due gs P.before agree
+      judged_c : (gs : List ℕ) → judge g c due gs ≡ judge g t due gs
+      judged_c gs = judge_agree g c t due gs P.before agree
 
       turned : filled_by size t (go_on (judge g c due fsc) (check_lines left g t (stored c (place_of due) fsc) (next (stored c (place_of due) fsc) due))) ≡ goal
       turned = sym (ap (filled_by size t) (one_turn left g t c due ∙ when_line due is_line _ _)) ∙ P.verdict
 
-      refused-c : (judge g c due fsc ≡ 0 → ⊥) → false ≡ goal
-      refused-c h = sym (filled_refused size t (judge g c due fsc) _ h) ∙ turned
+      refused_c : (judge g c due fsc ≡ 0 → ⊥) → false ≡ goal
+      refused_c h = sym (filled_refused size t (judge g c due fsc) _ h) ∙ turned
 
-      pass-no : (judge g t due (stored_fields g t t due) ≡ 0 → ⊥) → false ≡ goal
-      pass-no h = go (fields_alike g c t due P.before agree)
+      pass_no : (judge g t due (stored_fields g t t due) ≡ 0 → ⊥) → false ≡ goal
+      pass_no h = go (fields_alike g c t due P.before agree)
         where
           go : Alike g c t due → false ≡ goal
-          go (inl a) = refused-c (λ y. h (sym (judged-c (stored_fields g t t due)) ∙ ap (judge g c due) (sym a) ∙ y))
-          go (inr a) = refused-c a.0
+          go (inl a) = refused_c (λ y. h (sym (judged_c (stored_fields g t t due)) ∙ ap (judge g c due) (sym a) ∙ y))
+          go (inr a) = refused_c a.0
 
-      pass-judged : goal ≡ true → judge g t due (stored_fields g t t due) ≡ 0
-      pass-judged y = go (ℕ_discrete (judge g t due (stored_fields g t t due)) 0)
+      pass_judged : goal ≡ true → judge g t due (stored_fields g t t due) ≡ 0
+      pass_judged y = go (ℕ_discrete (judge g t due (stored_fields g t t due)) 0)
         where
           go : Dec (judge g t due (stored_fields g t t due) ≡ 0) → judge g t due (stored_fields g t t due) ≡ 0
           go (yes e) = e
-          go (no n) = absurd (false≢true (pass-no n ∙ y))
+          go (no n) = absurd (false≢true (pass_no n ∙ y))
 
       -- a line that passes
       module _ (passed : judge g t due (stored_fields g t t due) ≡ 0) where
-        same-fields : fsc ≡ fs
-        same-fields = go (fields_alike g c t due P.before agree)
+        same_fields : fsc ≡ fs
+        same_fields = go (fields_alike g c t due P.before agree)
           where
             go : Alike g c t due → fsc ≡ fs
             go (inl a) = a
             go (inr a) = absurd (a.1 passed)
 
-        passed-c : judge g c due fs ≡ 0
-        passed-c = judged-c fs ∙ passed
+        passed_c : judge g c due fs ≡ 0
+        passed_c = judged_c fs ∙ passed
 
         -- the line stored
         abbrev c' : List ℕ
         c' = stored c (place_of due) fs
 
-        fits-c : place_of due < length c
-        fits-c = omega (arith, pass-at, P.long)
+        fits_c : place_of due < length c
+        fits_c = omega (arith, pass_at, P.long)
 
-        long-c : length c' ≡ size
-        long-c = length_stored c (place_of due) fs ∙ P.long
+        long_c : length c' ≡ size
+        long_c = length_stored c (place_of due) fs ∙ P.long
 
         onward : filled_by size t (check_lines left g t c' (next c' due)) ≡ goal
         onward =
-            sym (ap (λ (hs : List ℕ). filled_by size t (go_on (judge g c due hs) (check_lines left g t (stored c (place_of due) hs) (next (stored c (place_of due) hs) due)))) same-fields
-            ∙ ap (λ (m : ℕ). filled_by size t (go_on m (check_lines left g t c' (next c' due)))) passed-c)
+            sym (ap (λ (hs : List ℕ). filled_by size t (go_on (judge g c due hs) (check_lines left g t (stored c (place_of due) hs) (next (stored c (place_of due) hs) due)))) same_fields
+            ∙ ap (λ (m : ℕ). filled_by size t (go_on m (check_lines left g t c' (next c' due)))) passed_c)
             ∙ turned
 
-        room-c : (u : List ℕ) → Room size (next u due)
-        room-c u = room_next size u due P.room
+        room_c : (u : List ℕ) → Room size (next u due)
+        room_c u = room_next size u due P.room
 
         forward : (u : List ℕ) → place_of due < reach (next u due)
         forward u = next_forward size u due is_line P.room
 
-        length-fs : length fs ≡ fields_due g t t due
+        length_fs : length fs ≡ fields_due g t t due
         unfolding stored_fields
-        length-fs = length_tabulate (fields_due g t t due) (λ j. line_field t (place_of due) j)
+        length_fs = length_tabulate (fields_due g t t due) (λ j. line_field t (place_of due) j)
 
         -- c has nothing behind the fields of the line
-        pass-behind : goal ≡ true → behind t (place_of due) (fields_due g t t due) ≡ 0
+        pass_behind : goal ≡ true → behind t (place_of due) (fields_due g t t due) ≡ 0
         unfolding behind
-        pass-behind y =
+        pass_behind y =
             let f = filled_by_lem size t (check_lines left g t c' (next c' due)) (onward ∙ y) in
             let w = (check_walk left g t c' f.0 (next c' due) f.1).1 in
             ap (λ x. x / 2 ^ (7 * fields_due g t t due))
-            (sym (get_or-take size t (place_of due) 0 pass-at) ∙ ap (λ (u : List ℕ). get_or u (place_of due) 0) (sym f.3)
-            ∙ sym ((walk_onward w (subst (λ m. Room m (next c' due)) (sym long-c) (room-c c'))).same_words (place_of due) (forward c'))
-            ∙ stored_same c (place_of due) fs fits-c)
-            ∙ packed_short 9 fs (fields_due g t t due) (omega (arith, length-fs))
+            (sym (get_or-take size t (place_of due) 0 pass_at) ∙ ap (λ (u : List ℕ). get_or u (place_of due) 0) (sym f.3)
+            ∙ sym ((walk_onward w (subst (λ m. Room m (next c' due)) (sym long_c) (room_c c'))).same_words (place_of due) (forward c'))
+            ∙ stored_same c (place_of due) fs fits_c)
+            ∙ packed_short 9 fs (fields_due g t t due) (omega (arith, length_fs))
 
         module _ (tail : behind t (place_of due) (fields_due g t t due) ≡ 0) where
           own_line : packed 9 fs ≡ get_or t (place_of due) 0
           unfolding behind stored_fields line_field
           own_line =
-              packed_line (get_or t (place_of due) 0) (fields_due g t t due) fs (fields_few g t due) length-fs tail
+              packed_line (get_or t (place_of due) 0) (fields_due g t t due) fs (fields_few g t due) length_fs tail
               (λ j b. sym (get_d_tabulate (fields_due g t t due) (λ i. line_field t (place_of due) i) j 0 b))
 
-          same-c : (q : ℕ) → q < suc (place_of due) → get_or c' q 0 ≡ get_or t q 0
-          same-c q a = go (dec_lt q (place_of due))
+          same_c : (q : ℕ) → q < suc (place_of due) → get_or c' q 0 ≡ get_or t q 0
+          same_c q a = go (dec_lt q (place_of due))
             where
               go : Dec (q < place_of due) → get_or c' q 0 ≡ get_or t q 0
-              go (yes d) = stored_other c (place_of due) fs q (λ x. omega arith) ∙ same-before q d
+              go (yes d) = stored_other c (place_of due) fs q (λ x. omega arith) ∙ same_before q d
               go (no d) =
                   let same : q ≡ place_of due = omega arith in
-                  ap (λ r. get_or c' r 0) same ∙ stored_same c (place_of due) fs fits-c ∙ own_line ∙ ap (λ r. get_or t r 0) (sym same)
+                  ap (λ r. get_or c' r 0) same ∙ stored_same c (place_of due) fs fits_c ∙ own_line ∙ ap (λ r. get_or t r 0) (sym same)
 
-          next-c : next c' due ≡ next t due
-          next-c = next_agree c' t due (λ q j k b. same_line c' t q j (same-c q k))
+          next_c : next c' due ≡ next t due
+          next_c = next_agree c' t due (λ q j k b. same_line c' t q j (same_c q k))
 
-          pass-next : Passing size g t goal left (next t due) (place_of due + 1)
-          pass-next = subst (λ (d : Due). Passing size g t goal left d (place_of due + 1)) next-c (record {
+          pass_next : Passing size g t goal left (next t due) (place_of due + 1)
+          pass_next = subst (λ (d : Due). Passing size g t goal left d (place_of due + 1)) next_c (record {
             c = c';
-            inside = omega (arith, pass-at);
-            long = long-c;
-            room = room-c c';
-            before = before_next g c due fs (subst (λ m. Room m due) (sym P.long) P.room) P.before passed-c;
-            same = λ q k. same-c q (omega arith);
+            inside = omega (arith, pass_at);
+            long = long_c;
+            room = room_c c';
+            before = before_next g c due fs (subst (λ m. Room m due) (sym P.long) P.room) P.before passed_c;
+            same = λ q k. same_c q (omega arith);
             clear = λ q a. stored_other c (place_of due) fs q (λ x. omega arith) ∙ P.clear q (omega (arith, P.low, reach_line due is_line));
             low = omega (arith, forward c');
             enough = omega (arith, P.enough, P.low, reach_line due is_line);
@@ -328,11 +328,11 @@ module _ (size : ℕ) (g t : List ℕ) (goal : Bool) (fits : size ≤ length t) 
     where
       go : IsLine due ⊎ (due ≡ Nothing) → Rest size g t due from
       go (inl l) =
-          let z = pass-clear size g t goal fits left due from P l y in
-          let passed = pass-judged size g t goal fits left due from P l z y in
-          let tail = pass-behind size g t goal fits left due from P l z passed y in
-          line z (record { passed = passed; rest = tail }) (more (next t due) (place_of due + 1) (pass-next size g t goal fits left due from P l z passed tail))
-      go (inr n) = subst (λ (d : Due). Rest size g t d from) (sym n) (last (pass-last size g t goal fits left due from P n y))
+          let z = pass_clear size g t goal fits left due from P l y in
+          let passed = pass_judged size g t goal fits left due from P l z y in
+          let tail = pass_behind size g t goal fits left due from P l z passed y in
+          line z (record { passed = passed; rest = tail }) (more (next t due) (place_of due + 1) (pass_next size g t goal fits left due from P l z passed tail))
+      go (inr n) = subst (λ (d : Due). Rest size g t d from) (sym n) (last (pass_last size g t goal fits left due from P n y))
 
   stands_in : (left : ℕ) (due : Due) (from : ℕ) → Passing size g t goal left due from → goal ≡ true → Rest size g t due from
   stands_in zero due from P y = absurd (omega (arith, P.enough, P.inside))
@@ -340,10 +340,10 @@ module _ (size : ℕ) (g t : List ℕ) (goal : Bool) (fits : size ≤ length t) 
 
   in_order : (left : ℕ) (due : Due) (from : ℕ) → Rest size g t due from → Passing size g t goal left due from → goal ≡ true
   in_order zero due from r P = absurd (omega (arith, P.enough, P.inside))
-  in_order (suc left) due from (last z) P = pass-whole size g t goal fits left due from P refl z
+  in_order (suc left) due from (last z) P = pass_whole size g t goal fits left due from P refl z
   in_order (suc left) due from (line z s r) P =
       in_order left (next t due) (place_of due + 1) r
-      (pass-next size g t goal fits left due from P (judged_line g t due (stored_fields g t t due) s.passed) z s.passed s.rest)
+      (pass_next size g t goal fits left due from P (judged_line g t due (stored_fields g t t due) s.passed) z s.passed s.rest)
 
 -- the answer by what stands in t is the definition's
 verdict_is : (size : ℕ) (g t : List ℕ) (left : ℕ) (first : Due) → size ≤ length t → Room size first → Before (replicate size 0) first → size + 1 ≤ left

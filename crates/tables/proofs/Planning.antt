@@ -68,18 +68,18 @@ module _ (g : List ℕ) (r c : ℕ) where
         rw (add-one, occurs_append c (children_before g r q) (children_of (plan_kind g r q) (plan_first g r q) (plan_second g r q)), ← k, ← f, ← s)
         (omega arith)
 
-    pub introduced-next : sum ≡ occurs c (introduced_before g r q) → x ≡ occurs c (introduced_by kind first second) → sum + x ≡ occurs c (introduced_before g r (q + 1))
+    pub introduced_next : sum ≡ occurs c (introduced_before g r q) → x ≡ occurs c (introduced_by kind first second) → sum + x ≡ occurs c (introduced_before g r (q + 1))
     unfolding introduced_before
-    introduced-next e p =
+    introduced_next e p =
         rw (add-one, occurs_append c (introduced_before g r q) (introduced_by (plan_kind g r q) (plan_first g r q) (plan_second g r q)), ← k, ← s)
         (omega arith)
 
   module _ (n q sum : ℕ) (a : q ≤ n) (b : n ≤ q) where
-    pub children-done : sum ≡ occurs c (children_before g r q) → sum ≡ occurs c (children_before g r n)
-    children-done p = p ∙ ap (λ k. occurs c (children_before g r k)) (let e : q ≡ n = omega arith in e)
+    pub children_done : sum ≡ occurs c (children_before g r q) → sum ≡ occurs c (children_before g r n)
+    children_done p = p ∙ ap (λ k. occurs c (children_before g r k)) (let e : q ≡ n = omega arith in e)
 
-    pub introduced-done : sum ≡ occurs c (introduced_before g r q) → sum ≡ occurs c (introduced_before g r n)
-    introduced-done p = p ∙ ap (λ k. occurs c (introduced_before g r k)) (let e : q ≡ n = omega arith in e)
+    pub introduced_done : sum ≡ occurs c (introduced_before g r q) → sum ≡ occurs c (introduced_before g r n)
+    introduced_done p = p ∙ ap (λ k. occurs c (introduced_before g r k)) (let e : q ≡ n = omega arith in e)
 
 pub both_times : (c x y : ℕ) (xs ys : List ℕ) → x ≡ occurs c xs → y ≡ occurs c ys → x + y ≡ occurs c (xs ++ ys)
 both_times c x y xs ys p q = omega (arith, occurs_append c xs ys)

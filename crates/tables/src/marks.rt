@@ -29,7 +29,7 @@ pub(crate) fn listed(f: &[u64], from: u64, nodes: u64) -> bool
 }
 
 // Whether listed nodes are in range and distinct; then their set.
-#[derive(Drop)]
+#[derive(Clone, Copy)]
 pub(crate) struct NodeSet {
     pub(crate) ok: bool,
     pub(crate) seen: u64,

@@ -11,7 +11,7 @@ ghost use Rattle.tables.specs.Concluding.{Count};
 use crate::marks::has_all;
 
 // The children and the introduced edges of some plan lines, as sets.
-#[derive(Drop)]
+#[derive(Clone, Copy)]
 struct PlanMarks {
     children: u64,
     introduced: u64,
@@ -171,7 +171,7 @@ pub(crate) fn whole(g: &[u64], r: u64, q: u64, kind: u64, first: u64, second: u6
 
 // ---- a line judged by the sets of the lines before it: where a table is checked they are carried from line to line
 // The sets with one more plan line, and whether it is kept. Where it is not, the sets are of no use.
-#[derive(Drop)]
+#[derive(Clone, Copy)]
 pub(crate) struct LineMarks {
     pub(crate) kept: bool,
     pub(crate) children: u64,

@@ -72,17 +72,17 @@ module _ (text : List ℕ) (G : Grammar) (a : shown text ≡ accepted G) where
   filled_means = ap (λ (s : Shown Grammar). s.meaning) a
 
   module _ (graph : List ℕ) (H : Graph) (b : shown_graph (filled text) graph ≡ accepted H) where
-    reads-graph : read_graph (filled text) graph (replicate graph_words 0) ≡ record { answer = Done; table = (delivers (filled text) graph).table }
-    reads-graph = grammar_passed_first (filled text) graph (replicate graph_words 0) filled_checks ∙ accepted_whole (delivers (filled text) graph) (ap (λ (s : Shown Graph). s.answer) b)
+    reads_graph_lem : read_graph (filled text) graph (replicate graph_words 0) ≡ record { answer = Done; table = (delivers (filled text) graph).table }
+    reads_graph_lem = grammar_passed_first (filled text) graph (replicate graph_words 0) filled_checks ∙ accepted_whole (delivers (filled text) graph) (ap (λ (s : Shown Graph). s.answer) b)
 
     reading : Reading text graph G H
     reading = record {
       g = filled text;
       h = (delivers (filled text) graph).table;
       reads = filled_reads;
-      reads_graph = reads-graph;
+      reads_graph = reads_graph_lem;
       checks = filled_checks;
-      checks_graph = (graph_filled_check (filled text) (delivers (filled text) graph).table (record { text = graph; former = replicate graph_words 0; read = reads-graph })).1;
+      checks_graph = (graph_filled_check (filled text) (delivers (filled text) graph).table (record { text = graph; former = replicate graph_words 0; read = reads_graph_lem })).1;
       means = filled_means;
       means_graph = ap (λ (s : Shown Graph). s.meaning) b;
     }

@@ -27,7 +27,7 @@ use Rattle.questions.specs.Layout.{symbol_place, rule_place, symbol_count, kind_
 use Rattle.questions.specs.Abstract.{plan_from, grammar_of, graph_of}
 use Rattle.questions.specs.Checking.{check_grammar}
 use Rattle.questions.proofs.WellFormedLent.{checked_grammar_ok}
-use Rattle.questions.proofs.WellFormedAccepted.{symbols_length, rules_length, kind-is, rank_is, rule_is, edge_is}
+use Rattle.questions.proofs.WellFormedAccepted.{symbols_length, rules_length, kind_is, rank_is, rule_is, edge_is}
 use Rattle.joins.specs.Joins.{KnownNode, KnownEdge, Accepted, OpenAt}
 use Rattle.joins.proofs.Known.{rule_ok, right_edges, plan_size, plan_ok, plan_node_is, graph_size, graph_nodes_lem, graph_edges_few, graph_nodes_few, symbol_there, rule_there}
 use Rattle.joins.proofs.PlanMasks.{alone}
@@ -114,7 +114,7 @@ terminal_if true = refl
 terminal_if false = refl
 
 kind_test : (g : List ℕ) (s : ℕ) → s < symbol_count g → is_terminal (kind_of (grammar_of g) s) ≡ eqb (kind_field g s) 0
-kind_test g s h = ap is_terminal (kind-is g s h) ∙ terminal_if (eqb (kind_field g s) 0)
+kind_test g s h = ap is_terminal (kind_is g s h) ∙ terminal_if (eqb (kind_field g s) 0)
 
 module _ (g : List ℕ) (r i : ℕ) (known : KnownEdge g r i) where
   abbrev edge : Edge
@@ -173,15 +173,15 @@ module _ (g : List ℕ) (r q : ℕ) (known : KnownNode g r q) (kind : ℕ) (a : 
 -- ---- partners
 module _ (g h : List ℕ) (n : ℕ) (x : Record) where
   module _ (i : ℕ) (known : KnownEdge g x.item.of i) (label kind : ℕ) (a : label ≡ edge_label g x.item.of i) (b : kind ≡ kind_field g label) where
-    second-by : known_second (grammar_of g) (graph_of g h) n x i ≡ cond (eqb kind 0) (ltb x.second (graph_edges h)) (ltb x.second n)
+    second_by : known_second (grammar_of g) (graph_of g h) n x i ≡ cond (eqb kind 0) (ltb x.second (graph_edges h)) (ltb x.second n)
     unfolding known_second
-    second-by = ap₂ (λ (t : Bool) (m : ℕ). cond t (ltb x.second m) (ltb x.second n)) (label_kind_is g x.item.of i known label kind a b) (graph_size g h)
+    second_by = ap₂ (λ (t : Bool) (m : ℕ). cond t (ltb x.second m) (ltb x.second n)) (label_kind_is g x.item.of i known label kind a b) (graph_size g h)
 
     pub second_edge : (m : ℕ) → kind ≡ 0 → m ≡ graph_edges h → ltb x.second m ≡ known_second (grammar_of g) (graph_of g h) n x i
-    second_edge m e q = sym (second-by ∙ rw (e, ← q))
+    second_edge m e q = sym (second_by ∙ rw (e, ← q))
 
-    pub second-item : (kind ≡ 0 → ⊥) → ltb x.second n ≡ known_second (grammar_of g) (graph_of g h) n x i
-    second-item e = sym (second-by ∙ rw (ne_eqb kind 0 e))
+    pub second_item : (kind ≡ 0 → ⊥) → ltb x.second n ≡ known_second (grammar_of g) (graph_of g h) n x i
+    second_item e = sym (second_by ∙ rw (ne_eqb kind 0 e))
 
   module _ (known : KnownNode g x.item.of x.item.plan) (kind : ℕ) (a : kind ≡ plan_kind g x.item.of x.item.plan) where
     abbrev partners : PlanNode → Bool
@@ -190,18 +190,18 @@ module _ (g h : List ℕ) (n : ℕ) (x : Record) where
     abbrev own : PlanNode
     own = plan_node (plan_of (grammar_of g) x.item.of) x.item.plan
 
-    pub partners-leaf : kind ≡ 0 → eqb x.first 0 && eqb x.second 0 ≡ partners own
+    pub partners_leaf : kind ≡ 0 → eqb x.first 0 && eqb x.second 0 ≡ partners own
     unfolding known_partners
-    partners-leaf e = sym (ap partners (leaf_is g x.item.of x.item.plan known kind a e))
+    partners_leaf e = sym (ap partners (leaf_is g x.item.of x.item.plan known kind a e))
 
-    pub partners-introduce : (i : ℕ) (b : Bool) → kind ≡ 1 → i ≡ plan_second g x.item.of x.item.plan → b ≡ known_second (grammar_of g) (graph_of g h) n x i
+    pub partners_introduce : (i : ℕ) (b : Bool) → kind ≡ 1 → i ≡ plan_second g x.item.of x.item.plan → b ≡ known_second (grammar_of g) (graph_of g h) n x i
         → ltb x.first n && b ≡ partners own
     unfolding known_partners
-    partners-introduce i b e c s = ap (λ (t : Bool). ltb x.first n && t) s ∙ sym (ap partners (introduced_is g x.item.of x.item.plan known kind a i e c))
+    partners_introduce i b e c s = ap (λ (t : Bool). ltb x.first n && t) s ∙ sym (ap partners (introduced_is g x.item.of x.item.plan known kind a i e c))
 
-    pub partners-join : (kind ≡ 0 → ⊥) → (kind ≡ 1 → ⊥) → ltb x.first n && ltb x.second n ≡ partners own
+    pub partners_join : (kind ≡ 0 → ⊥) → (kind ≡ 1 → ⊥) → ltb x.first n && ltb x.second n ≡ partners own
     unfolding known_partners
-    partners-join u v = sym (ap partners (joined_is g x.item.of x.item.plan known kind a u v))
+    partners_join u v = sym (ap partners (joined_is g x.item.of x.item.plan known kind a u v))
 
 -- ---- records
 and_third : (a b c d : Bool) → a ≡ true → b ≡ true → c ≡ false → a && b && c && d ≡ false
@@ -244,28 +244,28 @@ module _ (g h : List ℕ) (s : Sizes) (sized : Sized g h s) (n : ℕ) (x : Recor
   active_no_rule l = simp (le-ltb x.item.of (length (grammar_of g).rules) (omega (arith, rules_length g, sized.rules)))
 
   module _ (rule : x.item.of < s.rules) (size : ℕ) (b : size ≡ rule_plan g x.item.of) where
-    has-rule : ltb x.item.of (length (grammar_of g).rules) ≡ true
-    has-rule = lt-ltb x.item.of (length (grammar_of g).rules) (omega (arith, rules_length g, sized.rules))
+    has_rule : ltb x.item.of (length (grammar_of g).rules) ≡ true
+    has_rule = lt-ltb x.item.of (length (grammar_of g).rules) (omega (arith, rules_length g, sized.rules))
 
     plan_is : length (plan_of (grammar_of g) x.item.of) ≡ size
     plan_is = plan_size g x.item.of sized.tables.grammar (omega (arith, sized.rules)) ∙ sym b
 
-    pub active-no-node : size ≤ x.item.plan → false ≡ active
+    pub active_no_node : size ≤ x.item.plan → false ≡ active
     unfolding known_active
-    active-no-node l = simp (has-rule, le-ltb x.item.plan (length (plan_of (grammar_of g) x.item.of)) (omega (arith, plan_is)))
+    active_no_node l = simp (has_rule, le-ltb x.item.plan (length (plan_of (grammar_of g) x.item.of)) (omega (arith, plan_is)))
 
     module _ (node : x.item.plan < size) where
-      has-node : ltb x.item.plan (length (plan_of (grammar_of g) x.item.of)) ≡ true
-      has-node = lt-ltb x.item.plan (length (plan_of (grammar_of g) x.item.of)) (omega (arith, plan_is))
+      has_node : ltb x.item.plan (length (plan_of (grammar_of g) x.item.of)) ≡ true
+      has_node = lt-ltb x.item.plan (length (plan_of (grammar_of g) x.item.of)) (omega (arith, plan_is))
 
       module _ (o : ℕ) (opened : OpenAt g x.item.of x.item.plan o) (t : Bool) (c : t ≡ in_graph s.nodes s.edges (λ k. member o k) x) where
-        pub active-outside : t ≡ false → false ≡ active
+        pub active_outside : t ≡ false → false ≡ active
         unfolding known_active
-        active-outside f = sym (and_third _ _ _ _ has-rule has-node (in_tables o (open_place (grammar_of g) x.item) opened.members t c ∙ f))
+        active_outside f = sym (and_third _ _ _ _ has_rule has_node (in_tables o (open_place (grammar_of g) x.item) opened.members t c ∙ f))
 
-        pub active-by : (p : Bool) → t ≡ true → p ≡ known_partners (grammar_of g) (graph_of g h) n x (plan_node (plan_of (grammar_of g) x.item.of) x.item.plan) → p ≡ active
+        pub active_by : (p : Bool) → t ≡ true → p ≡ known_partners (grammar_of g) (graph_of g h) n x (plan_node (plan_of (grammar_of g) x.item.of) x.item.plan) → p ≡ active
         unfolding known_active
-        active-by p f e = e ∙ sym (and_last _ _ _ _ has-rule has-node (in_tables o (open_place (grammar_of g) x.item) opened.members t c ∙ f))
+        active_by p f e = e ∙ sym (and_last _ _ _ _ has_rule has_node (in_tables o (open_place (grammar_of g) x.item) opened.members t c ∙ f))
 
   abbrev passive : Bool
   passive = known_passive (grammar_of g) (graph_of g h) n x
@@ -275,33 +275,33 @@ module _ (g h : List ℕ) (s : Sizes) (sized : Sized g h s) (n : ℕ) (x : Recor
   passive_no_symbol l = simp (le-ltb x.item.of (length (grammar_of g).symbols) (omega (arith, symbols_length g, sized.symbols)))
 
   module _ (symbol : x.item.of < s.symbols) (kind : ℕ) (b : kind ≡ kind_field g x.item.of) where
-    has-symbol : ltb x.item.of (length (grammar_of g).symbols) ≡ true
-    has-symbol = lt-ltb x.item.of (length (grammar_of g).symbols) (omega (arith, symbols_length g, sized.symbols))
+    has_symbol : ltb x.item.of (length (grammar_of g).symbols) ≡ true
+    has_symbol = lt-ltb x.item.of (length (grammar_of g).symbols) (omega (arith, symbols_length g, sized.symbols))
 
-    kind-by : not (is_terminal (kind_of (grammar_of g) x.item.of)) ≡ not (eqb kind 0)
-    kind-by = ap not (kind_test g x.item.of (omega (arith, sized.symbols)) ∙ ap (λ w. eqb w 0) (sym b))
+    kind_by : not (is_terminal (kind_of (grammar_of g) x.item.of)) ≡ not (eqb kind 0)
+    kind_by = ap not (kind_test g x.item.of (omega (arith, sized.symbols)) ∙ ap (λ w. eqb w 0) (sym b))
 
-    pub passive-terminal : kind ≡ 0 → false ≡ passive
+    pub passive_terminal : kind ≡ 0 → false ≡ passive
     unfolding known_passive
-    passive-terminal e = simp (has-symbol, kind-by ∙ ap not (eq-eqb kind 0 e))
+    passive_terminal e = simp (has_symbol, kind_by ∙ ap not (eq-eqb kind 0 e))
 
     module _ (other : kind ≡ 0 → ⊥) (rank listed : ℕ) (r : rank ≡ rank_at g x.item.of) (l : Filled rank listed) (t : Bool) (c : t ≡ in_graph s.nodes s.edges (λ k. member listed k) x) where
-      has-kind : not (is_terminal (kind_of (grammar_of g) x.item.of)) ≡ true
-      has-kind = kind-by ∙ ap not (ne_eqb kind 0 other)
+      has_kind : not (is_terminal (kind_of (grammar_of g) x.item.of)) ≡ true
+      has_kind = kind_by ∙ ap not (ne_eqb kind 0 other)
 
-      rank-of : rank_of (grammar_of g) x.item.of ≡ rank
-      rank-of = rank_is g x.item.of (omega (arith, sized.symbols)) ∙ sym r
+      rank_of_lem : rank_of (grammar_of g) x.item.of ≡ rank
+      rank_of_lem = rank_is g x.item.of (omega (arith, sized.symbols)) ∙ sym r
 
       listed_in : in_graph (graph_of g h).nodes (length (graph_of g h).edges) (listed_place (grammar_of g) x.item) x ≡ t
-      listed_in = in_tables listed (listed_place (grammar_of g) x.item) (λ k d. l.members k d ∙ ap (ltb k) (sym rank-of)) t c
+      listed_in = in_tables listed (listed_place (grammar_of g) x.item) (λ k d. l.members k d ∙ ap (ltb k) (sym rank_of_lem)) t c
 
-      pub passive-outside : t ≡ false → false ≡ passive
+      pub passive_outside : t ≡ false → false ≡ passive
       unfolding known_passive
-      passive-outside f = simp (and_third _ _ _ (ltb x.first n) has-symbol has-kind (listed_in ∙ f))
+      passive_outside f = simp (and_third _ _ _ (ltb x.first n) has_symbol has_kind (listed_in ∙ f))
 
-      pub passive-by : t ≡ true → ltb x.first n && eqb x.item.plan 0 && eqb x.second 0 ≡ passive
+      pub passive_by : t ≡ true → ltb x.first n && eqb x.item.plan 0 && eqb x.second 0 ≡ passive
       unfolding known_passive
-      passive-by f = and_rest _ _ _ (ltb x.first n) (eqb x.item.plan 0) (eqb x.second 0) has-symbol has-kind (listed_in ∙ f)
+      passive_by f = and_rest _ _ _ (ltb x.first n) (eqb x.item.plan 0) (eqb x.second 0) has_symbol has_kind (listed_in ∙ f)
 
 module _ (g h : List ℕ) (n : ℕ) (x : Record) where
   abbrev tested : Bool
@@ -333,19 +333,19 @@ module _ (g h w : List ℕ) (n : ℕ) (e : n ≡ number_in w) where
   chart_over cap c l = sym (chart_by ∙ and_no (leb n (capacity w)) _ (lt-leb n (capacity w) (omega arith)))
 
   module _ (cap : ℕ) (c : cap ≡ capacity w) (l : n ≤ cap) where
-    chart-rest : known_chart (grammar_of g) (graph_of g h) w ≡ every n (record_test g h n w)
-    chart-rest = chart_by ∙ and_so (leb n (capacity w)) _ (le-leb n (capacity w) (omega arith))
+    chart_rest : known_chart (grammar_of g) (graph_of g h) w ≡ every n (record_test g h n w)
+    chart_rest = chart_by ∙ and_so (leb n (capacity w)) _ (le-leb n (capacity w) (omega arith))
 
-    pub chart-not : (j : ℕ) (x : Record) (b : Bool) → j < n → x ≡ record_at w j → b ≡ known_record (grammar_of g) (graph_of g h) n x → b ≡ false
+    pub chart_not : (j : ℕ) (x : Record) (b : Bool) → j < n → x ≡ record_at w j → b ≡ known_record (grammar_of g) (graph_of g h) n x → b ≡ false
         → false ≡ known_chart (grammar_of g) (graph_of g h) w
-    chart-not j x b i r t f = every_false n (record_test g h n w) j i (ap (known_record (grammar_of g) (graph_of g h) n) (sym r) ∙ sym t ∙ f) ∙ sym chart-rest
+    chart_not j x b i r t f = every_false n (record_test g h n w) j i (ap (known_record (grammar_of g) (graph_of g h) n) (sym r) ∙ sym t ∙ f) ∙ sym chart_rest
 
-    pub chart-next : (j : ℕ) (x : Record) (b : Bool) → x ≡ record_at w j → b ≡ known_record (grammar_of g) (graph_of g h) n x → b ≡ true
+    pub chart_next : (j : ℕ) (x : Record) (b : Bool) → x ≡ record_at w j → b ≡ known_record (grammar_of g) (graph_of g h) n x → b ≡ true
         → Passed (record_test g h n w) j → Passed (record_test g h n w) (j + 1)
-    chart-next j x b r t f p = passed_next (record_test g h n w) j (ap (known_record (grammar_of g) (graph_of g h) n) (sym r) ∙ sym t ∙ f) p
+    chart_next j x b r t f p = passed_next (record_test g h n w) j (ap (known_record (grammar_of g) (graph_of g h) n) (sym r) ∙ sym t ∙ f) p
 
-    pub chart-all : (j : ℕ) → n ≤ j → Passed (record_test g h n w) j → true ≡ known_chart (grammar_of g) (graph_of g h) w
-    chart-all j i p = passed_all n j (record_test g h n w) i p ∙ sym chart-rest
+    pub chart_all : (j : ℕ) → n ≤ j → Passed (record_test g h n w) j → true ≡ known_chart (grammar_of g) (graph_of g h) w
+    chart_all j i p = passed_all n j (record_test g h n w) i p ∙ sym chart_rest
 
 -- one record more, handled or not
 module _ (w : List ℕ) (j d : ℕ) (x : Record) (e : x ≡ record_at w j) where

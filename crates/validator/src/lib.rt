@@ -1,5 +1,8 @@
 // Question 8 for a lent chart: how many items it holds, and whether each of its records is the image of an item that
 // names what exists.
+
+#![tactic(auto)]
+
 ghost use Rattle.std.specs.Prelude.{◌≡◌, true, false, ◌≤◌};
 ghost use Rattle.masks.specs.Masks.{member, full};
 ghost use Rattle.hrg.specs.Grammars.{plan_of, plan_node};
@@ -17,7 +20,7 @@ use rules::plans::PLAN_TABLE_WORDS;
 
 // What is asked of accepted tables once for all items: how many rules, symbols, graph nodes and graph edges there
 // are, and all graph edges as a set.
-#[derive(Drop)]
+#[derive(Clone, Copy)]
 struct Sizes {
     rules: u64,
     symbols: u64,
@@ -27,7 +30,7 @@ struct Sizes {
 }
 
 // What question 8 says of a chart's items; of a known chart, how many of them are handled.
-#[derive(Drop)]
+#[derive(Clone, Copy)]
 pub struct Tested {
     pub known: bool,
     pub handled: u64,

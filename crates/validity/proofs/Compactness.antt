@@ -29,15 +29,15 @@ module _ (G : Grammar) (H : Graph) (ok : GrammarOk G) (good : GraphOk G H) (n : 
   partners_few _ z (join_partners l b) = (omega arith, omega arith)
 
   module _ (size : length x.item.nodes ≡ 8) (known : known_record G H n x ≡ true) where
-    node-byte : (i : ℕ) → i < 7 → get_or x.item.nodes i 0 < 256
-    node-byte i l = go (known_into G H ok n x size known i)
+    node_byte : (i : ℕ) → i < 7 → get_or x.item.nodes i 0 < 256
+    node_byte i l = go (known_into G H ok n x size known i)
       where
         go : (at x.item.nodes i ≡ unplaced) ⊎ (at x.item.nodes i < H.nodes) → get_or x.item.nodes i 0 < 256
         go (inl e) = omega (arith, get_d_any x.item.nodes i 0 unplaced (omega arith))
         go (inr d) = omega (arith, get_d_any x.item.nodes i 0 unplaced (omega arith), good.side.node_count.upper)
 
-    pub known-compact : Compact x
-    known-compact = go (known_image G H n x known) (known_existing G H n x known)
+    pub known_compact : Compact x
+    known_compact = go (known_image G H n x known) (known_existing G H n x known)
       where
         go : ImageOfItem G x → ExistingRecord G H n x → Compact x
         go (active_image k a u) (an_active e r p s q) =
@@ -47,7 +47,7 @@ module _ (G : Grammar) (H : Graph) (ok : GrammarOk G) (good : GraphOk G H) (n : 
                 kind = omega arith;
                 of = omega (arith, ok.rule_count_is.upper);
                 plan = omega (arith, (ok.rule x.item.of r).plan.size.upper);
-                places = record { size = size; bytes = node-byte };
+                places = record { size = size; bytes = node_byte };
               };
               first = two.0;
               second = two.1;
@@ -57,7 +57,7 @@ module _ (G : Grammar) (H : Graph) (ok : GrammarOk G) (good : GraphOk G H) (n : 
             kind = omega arith;
             of = omega (arith, ok.symbol_count_is.upper);
             plan = omega arith;
-            places = record { size = size; bytes = node-byte };
+            places = record { size = size; bytes = node_byte };
           };
           first = omega arith;
           second = omega arith;

@@ -19,7 +19,7 @@ use Rattle.questions.proofs.WellFormedLent.{checked_grammar_ok}
 use Rattle.questions.proofs.WellFormedAccepted.{rules_length}
 use Rattle.joins.specs.Joins.{Accepted, BareFrom, Into}
 use Rattle.joins.proofs.Known.{right_nodes, graph_nodes_lem}
-use Rattle.joins.proofs.EdgeMaps.{is_padded, at_past, same_bare as bare-equal}
+use Rattle.joins.proofs.EdgeMaps.{is_padded, at_past, same_bare as bare_equal}
 use Rattle.agenda.specs.Records.{chart_item, item_of, same_chart_item}
 use Rattle.agenda.specs.Steps.{with_count}
 use Rattle.agenda.specs.declared.ChartItem.{ChartItem}
@@ -83,17 +83,17 @@ module _ (G : Grammar) (H : Graph) (ok : GrammarOk G) (n : ℕ) (x : Record) (si
   pub image_formed : x.item ≡ chart_item (item_of G x.item) x.item.count
   image_formed = go (known_as G H n x known)
     where
-      with-nodes : ℕ → ℕ → List ℕ → ChartItem
-      with-nodes k p ns = record { kind = k; of = x.item.of; plan = p; edges = x.item.edges; count = x.item.count; nodes = ns }
+      with_nodes : ℕ → ℕ → List ℕ → ChartItem
+      with_nodes k p ns = record { kind = k; of = x.item.of; plan = p; edges = x.item.edges; count = x.item.count; nodes = ns }
 
       go : KnownAs G H x → x.item ≡ chart_item (item_of G x.item) x.item.count
       go (as_active k r p a s) =
           let ns = places_formed (right_of G x.item.of).nodes x.item.nodes (open_place G x.item) size (open_few r p) a in
-          rw (item_active G x.item k) (ap (λ i. with-nodes i x.item.plan x.item.nodes) k ∙ ap (with-nodes 0 x.item.plan) ns)
+          rw (item_active G x.item k) (ap (λ i. with_nodes i x.item.plan x.item.nodes) k ∙ ap (with_nodes 0 x.item.plan) ns)
       go (as_passive k r p a s) =
           let ns = places_formed (rank_of G x.item.of) x.item.nodes (listed_place G x.item) size (λ i. ltb-true i (rank_of G x.item.of)) a in
           rw (item_passive G x.item (λ z. omega arith))
-          (ap (λ i. with-nodes i x.item.plan x.item.nodes) k ∙ ap (λ i. with-nodes 1 i x.item.nodes) p ∙ ap (with-nodes 1 0) ns)
+          (ap (λ i. with_nodes i x.item.plan x.item.nodes) k ∙ ap (λ i. with_nodes 1 i x.item.nodes) p ∙ ap (with_nodes 1 0) ns)
 
   -- .. and so without its count
   pub known_formed : Formed G x
@@ -143,11 +143,11 @@ module _ (G : Grammar) (H : Graph) (ok : GrammarOk G) (n : ℕ) (x : Record) (si
     few = good.side.node_count.upper
 
     -- every place that is used has a number below 64
-    pub open-placed : x.item.kind ≡ 0 → (i : ℕ) → open_place G x.item i ≡ true → at x.item.nodes i < unplaced
-    open-placed e i o = omega (arith, known_open e i o, few)
+    pub open_placed : x.item.kind ≡ 0 → (i : ℕ) → open_place G x.item i ≡ true → at x.item.nodes i < unplaced
+    open_placed e i o = omega (arith, known_open e i o, few)
 
-    pub listed-placed : x.item.kind ≡ 1 → (i : ℕ) → i < rank_of G x.item.of → at x.item.nodes i < unplaced
-    listed-placed e i l = omega (arith, known_listed e i l, few)
+    pub listed_placed : x.item.kind ≡ 1 → (i : ℕ) → i < rank_of G x.item.of → at x.item.nodes i < unplaced
+    listed_placed e i l = omega (arith, known_listed e i l, few)
 
 -- ---- one to one
 -- two known records are found the same exactly where they stand for the same item
@@ -169,7 +169,7 @@ module _ (g h : List ℕ) (accepted : Accepted g h) (n : ℕ) (x : Record) (size
     where
       go : KnownAs (grammar_of g) (graph_of g h) x → BareFrom (rule_nodes g x.item.of) x.item.nodes
       go (as_active k r p a s) =
-          bare-equal (rule_nodes g x.item.of) (right_of (grammar_of g) x.item.of).nodes x.item.nodes x.item.nodes
+          bare_equal (rule_nodes g x.item.of) (right_of (grammar_of g) x.item.of).nodes x.item.nodes x.item.nodes
           (sym (right_nodes g x.item.of accepted.grammar (omega (arith, rules_length g)))) refl
           (known_bare (grammar_of g) (graph_of g h) (checked_grammar_ok g accepted.grammar) n x size known e)
       go (as_passive k r p a s) = absurd (omega arith)

@@ -53,17 +53,17 @@ module _ (G : Grammar) (H : Graph) where
     size_is : length (records_at w (item_count w)) ≡ number_in w
     size_is = length_records w (item_count w) ∙ count_is w f
 
-    pub known-records : known_chart G H w ≡ true → AllKnown (chart_of w).records
+    pub known_records : known_chart G H w ≡ true → AllKnown (chart_of w).records
     unfolding chart_of
-    known-records e k l =
+    known_records e k l =
         let b : k < item_count w = omega (arith, length_records w (item_count w)) in
         ap (λ n. known_record G H n (record_in (records_at w (item_count w)) k)) size_is
         ∙ ap (known_record G H (number_in w)) (record_in_lem w (item_count w) k b)
         ∙ existing_known G H (number_in w) (record_at w k) ((known_chart_is w e).image k (omega (arith, count_is w f))) ((known_chart_is w e).each k (omega (arith, count_is w f)))
 
-    pub records-known : AllKnown (chart_of w).records → known_chart G H w ≡ true
+    pub records_known : AllKnown (chart_of w).records → known_chart G H w ≡ true
     unfolding chart_of
-    records-known all =
+    records_known all =
         T_test (known_chart G H w)
         ((chart_decides G H w).complete
         (record {
@@ -82,4 +82,4 @@ module _ (G : Grammar) (H : Graph) where
   -- a chart of known records passes where it is written
   pub written_known : (w : List ℕ) (c : Chart) → Holds w c → AllKnown c.records → known_chart G H (written w c) ≡ true
   written_known w c o all =
-      records-known (written w c) (fits_written w c o) (subst (λ (d : Chart). AllKnown d.records) (sym (chart_of_written w c o)) all)
+      records_known (written w c) (fits_written w c o) (subst (λ (d : Chart). AllKnown d.records) (sym (chart_of_written w c o)) all)

@@ -21,7 +21,7 @@ use Rattle.hrg.specs.WellFormed.{RuleOk, GrammarOk, GraphOk}
 use Rattle.hrg.proofs.Sums.{hit_self, hit_ne, occurs_at, at_tabulate, length_tabulate}
 use Rattle.hrg.proofs.Degrees.{by_test}
 use Rattle.hrg.proofs.Plans.{introduce_known}
-use Rattle.hrg.proofs.Sides.{at-restrict, length-restrict, either_set, either_none}
+use Rattle.hrg.proofs.Sides.{at_restrict, length_restrict, either_set, either_none}
 use Rattle.joins.proofs.EdgeMaps.{at_padded, at_past}
 use Rattle.joins.proofs.MapLaws.{at_joined}
 use Rattle.joins.proofs.PlanMasks.{member_none}
@@ -99,11 +99,11 @@ module _ (n : ℕ) (few : n ≤ unplaced) {G : Grammar} (R : Rule) (ok : RuleOk 
       node : (x : ℕ) → is_open_at R p x ≡ true → at (restrict R p whole) x < n
       node x o =
           let i = open_inside R ok p x l o in
-          subst (λ v. v < n) (sym (at-restrict R ok p l whole x i ∙ ap (λ (t : Bool). keep_if t (at whole x)) o ∙ at_joined R.production.right.nodes f g x i)) (image x (some x i o))
+          subst (λ v. v < n) (sym (at_restrict R ok p l whole x i ∙ ap (λ (t : Bool). keep_if t (at whole x)) o ∙ at_joined R.production.right.nodes f g x i)) (image x (some x i o))
 
       none : (x : ℕ) → is_open_at R p x ≡ false → Dec (x < R.production.right.nodes) → at (restrict R p whole) x ≡ unplaced
-      none x o (yes i) = at-restrict R ok p l whole x i ∙ ap (λ (t : Bool). keep_if t (at whole x)) o
-      none x o (no i) = at_past (restrict R p whole) x (omega (arith, length-restrict R ok p l whole))
+      none x o (yes i) = at_restrict R ok p l whole x i ∙ ap (λ (t : Bool). keep_if t (at whole x)) o
+      none x o (no i) = at_past (restrict R p whole) x (omega (arith, length_restrict R ok p l whole))
 
 -- the first k of eight places
 take_of : (n k : ℕ) (ns : List ℕ) (used : ℕ → Bool) → k ≤ 8 → ((i : ℕ) → used i ≡ true → i < k) → NoneElse used ns → ((i : ℕ) → i < 8 → used i ≡ true → at ns i < n)

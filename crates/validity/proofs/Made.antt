@@ -13,15 +13,15 @@ use Rattle.agenda.specs.Records.{record_of, item_of}
 use Rattle.agenda.specs.Consequences.{at_root, with_terminal, pair, consequences, leaf_records}
 use Rattle.agenda.specs.declared.Record.{Record}
 use Rattle.agenda.proofs.Records.{item_eight}
-use Rattle.agenda.proofs.Consequences.{in_root, in_terminal, in_pair, in-consequence, in_leaf_record}
+use Rattle.agenda.proofs.Consequences.{in_root, in_terminal, in_pair, in_consequence, in_leaf_record}
 use Rattle.records.specs.Words.{Compact}
 use Rattle.records.proofs.Grown.{Whole}
 use Rattle.validity.specs.Checking.{known_record}
 use Rattle.validity.proofs.ExistingTest.{existing_known}
 use Rattle.validity.proofs.KnownItems.{KnownItem, unary_item}
 use Rattle.validity.proofs.KnownCharts.{AllKnown}
-use Rattle.validity.proofs.Own.{Known, passive_existing, terminal_existing, binary_existing, leaf_existing, consequence-known}
-use Rattle.validity.proofs.Compactness.{known-compact}
+use Rattle.validity.proofs.Own.{Known, passive_existing, terminal_existing, binary_existing, leaf_existing, consequence_known}
+use Rattle.validity.proofs.Compactness.{known_compact}
 
 -- a record that is known among m items, and read again from its words
 pub record Sound (G : Grammar) (H : Graph) (m : ℕ) (x : Record) : Type 0 where
@@ -36,7 +36,7 @@ module _ (G : Grammar) (H : Graph) (ok : GrammarOk G) (good : GraphOk G H) (m : 
   of_item : (i : Item) (c a b : ℕ) (x : Record) → x ≡ record_of i c a b → Known G H m (record_of i c a b) → Sound G H m x
   of_item i c a b x e k =
       let known : known_record G H m (record_of i c a b) ≡ true = existing_known G H m (record_of i c a b) k.0 k.1 in
-      subst (Sound G H m) (sym e) (record { known = known; compact = known-compact G H ok good m few (record_of i c a b) (item_eight i c) known })
+      subst (Sound G H m) (sym e) (record { known = known; compact = known_compact G H ok good m few (record_of i c a b) (item_eight i c) known })
 
   pub root_sound : (a : Item) (n j : ℕ) → KnownItem G H a → j < m → AllSound G H m (at_root G a n j)
   root_sound a n j known l x i =
@@ -59,10 +59,10 @@ module _ (G : Grammar) (H : Graph) (ok : GrammarOk G) (good : GraphOk G H) (m : 
   -- all that known records make of the one at place j
   pub consequences_sound : (rs : List Record) → AllKnown G H rs → length rs ≡ m → (j : ℕ) → j < length rs → AllSound G H m (consequences G H rs j)
   consequences_sound rs all e j l x i =
-      let t = in-consequence G H rs j x i in
-      let known : known_record G H m x ≡ true = consequence-known G H ok good rs all j l m x (omega arith) i in
+      let t = in_consequence G H rs j x i in
+      let known : known_record G H m x ≡ true = consequence_known G H ok good rs all j l m x (omega arith) i in
       let eight : length x.item.nodes ≡ 8 = ap (λ (y : Record). length y.item.nodes) t.is ∙ item_eight t.item t.count in
-      record { known = known; compact = known-compact G H ok good m few x eight known }
+      record { known = known; compact = known_compact G H ok good m few x eight known }
 
 -- what is sound can be added to a chart's words
 pub sound_whole : {G : Grammar} {H : Graph} {m : ℕ} {xs : List Record} → AllSound G H m xs → Whole xs

@@ -18,7 +18,7 @@ use Rattle.agenda.specs.Steps.{Chart, added_all, least_waiting, handled_now, han
 use Rattle.agenda.specs.declared.Record.{Record}
 use Rattle.agenda.specs.declared.Found.{Found}
 use Rattle.agenda.specs.declared.Found.TheVariants.{At, Nowhere}
-use Rattle.agenda.proofs.Consequences.{TerminalRule, terminal_with, Consequence, from_root, from_edge, from_first, from_second, terminal_unary, in-consequence, in_leaf_record}
+use Rattle.agenda.proofs.Consequences.{TerminalRule, terminal_with, Consequence, from_root, from_edge, from_first, from_second, terminal_unary, in_consequence, in_leaf_record}
 use Rattle.agenda.proofs.Adding.{cond_by, AddsAll, Ends, held, full, all_ends, marked_all}
 use Rattle.agenda.proofs.Growth.{SetAt, changed, other, set_at, Fresh, From, all_grew, all_from}
 use Rattle.agenda.proofs.Choice.{Chosen, waits, nothing, chosen}
@@ -115,24 +115,24 @@ module _ (G : Grammar) (H : Graph) (ok : GrammarOk G) (good : GraphOk G H) where
 
   -- what known records make is known
   module _ (rs : List Record) (all : AllKnown G H rs) (j : ℕ) (l : j < length rs) where
-    item-at : (k : ℕ) → k < length rs → KnownItem G H (item_of G (record_in rs k).item)
-    item-at k h =
+    item_at : (k : ℕ) → k < length rs → KnownItem G H (item_of G (record_in rs k).item)
+    item_at k h =
         record_item G H ok good (length rs) (record_in rs k) (known_image G H (length rs) (record_in rs k) (all k h)) (known_existing G H (length rs) (record_in rs k) (all k h))
 
-    made-existing : {i : Item} {c a b : ℕ} (m : ℕ) → length rs ≤ m → Consequence G H rs j i c a b → Known G H m (record_of i c a b)
-    made-existing m h (from_root {s = s} {m = e} {L = L} u) = passive_existing G H m s e L _ j (unary_item G H ok good u (item-at j l)) (omega arith)
-    made-existing m h (from_edge b t) = terminal_existing m _ j t (item-at j l) (omega arith)
-    made-existing m h (from_first {k = k} b d t) = binary_existing m _ j k t (item-at j l) (item-at k b) (omega arith) (omega arith)
-    made-existing m h (from_second {k = k} b d t) = binary_existing m _ k j t (item-at k b) (item-at j l) (omega arith) (omega arith)
+    made_existing : {i : Item} {c a b : ℕ} (m : ℕ) → length rs ≤ m → Consequence G H rs j i c a b → Known G H m (record_of i c a b)
+    made_existing m h (from_root {s = s} {m = e} {L = L} u) = passive_existing G H m s e L _ j (unary_item G H ok good u (item_at j l)) (omega arith)
+    made_existing m h (from_edge b t) = terminal_existing m _ j t (item_at j l) (omega arith)
+    made_existing m h (from_first {k = k} b d t) = binary_existing m _ j k t (item_at j l) (item_at k b) (omega arith) (omega arith)
+    made_existing m h (from_second {k = k} b d t) = binary_existing m _ k j t (item_at k b) (item_at j l) (omega arith) (omega arith)
 
-    pub consequence-known : (m : ℕ) (x : Record) → length rs ≤ m → In x (consequences G H rs j) → known_record G H m x ≡ true
-    consequence-known m x h i =
-        let t = in-consequence G H rs j x i in
-        let k = made-existing m h t.by in
+    pub consequence_known : (m : ℕ) (x : Record) → length rs ≤ m → In x (consequences G H rs j) → known_record G H m x ≡ true
+    consequence_known m x h i =
+        let t = in_consequence G H rs j x i in
+        let k = made_existing m h t.by in
         ap (known_record G H m) t.is ∙ existing_known G H m (record_of t.item t.count t.first t.second) k.0 k.1
 
-    consequence-fresh : (x : Record) → In x (consequences G H rs j) → Fresh x
-    consequence-fresh x i = let t = in-consequence G H rs j x i in ap (λ (y : Record). y.handled) t.is
+    consequence_fresh : (x : Record) → In x (consequences G H rs j) → Fresh x
+    consequence_fresh x i = let t = in_consequence G H rs j x i in ap (λ (y : Record). y.handled) t.is
 
   -- ---- records added
   module _ (cap : ℕ) where
@@ -150,9 +150,9 @@ module _ (G : Grammar) (H : Graph) (ok : GrammarOk G) (good : GraphOk G H) where
         go (inl o) = ap (known_record G H (length ts)) o.1 ∙ known_more (record_in rs k) longer (all k o.0)
         go (inr i) = h (length ts) (record_in ts k) longer i
 
-    pub added-known : (xs : List Record) (c : Chart) → ((x : Record) → In x xs → Fresh x)
+    pub added_known : (xs : List Record) (c : Chart) → ((x : Record) → In x xs → Fresh x)
         → ((m : ℕ) (x : Record) → length c.records ≤ m → In x xs → known_record G H m x ≡ true) → AllKnown G H c.records → AllKnown G H (added_all cap xs c).records
-    added-known xs c f h all = go (eqb c.mark 0) refl
+    added_known xs c f h all = go (eqb c.mark 0) refl
       where
         ended : {d : Chart} → Ends cap xs c.records d → AllKnown G H d.records
         ended (held m a) = all_known a f h all
@@ -163,9 +163,9 @@ module _ (G : Grammar) (H : Graph) (ok : GrammarOk G) (good : GraphOk G H) where
         go false e = subst (λ (d : Chart). AllKnown G H d.records) (sym (marked_all cap xs c (eqb-false c.mark 0 e))) all
 
     -- ---- a start, a step, and runs
-    step-known : (c : Chart) → AllKnown G H c.records → AllKnown G H (step_chart G H cap c).records
+    step_known : (c : Chart) → AllKnown G H c.records → AllKnown G H (step_chart G H cap c).records
     unfolding step_chart handled_at
-    step-known c all = go (least_waiting c.records (length c.records)) (chosen c.records (length c.records))
+    step_known c all = go (least_waiting c.records (length c.records)) (chosen c.records (length c.records))
       where
         go : (f : Found) → Chosen c.records (length c.records) f → AllKnown G H (step_with G H cap c f).records
         go Nowhere (nothing h) = all
@@ -173,33 +173,33 @@ module _ (G : Grammar) (H : Graph) (ok : GrammarOk G) (good : GraphOk G H) where
             let rs = handled_in c.records j in
             let now = handled_known G H c.records j l all in
             let b : j < length rs = omega (arith, length-set c.records j (handled_now (record_in c.records j))) in
-            added-known (consequences G H rs j) (record { mark = c.mark; records = rs }) (consequence-fresh rs now j b) (consequence-known rs now j b) now
+            added_known (consequences G H rs j) (record { mark = c.mark; records = rs }) (consequence_fresh rs now j b) (consequence_known rs now j b) now
 
-    pub run-known : (k : ℕ) (c : Chart) → AllKnown G H c.records → AllKnown G H (run_chart G H cap k c).records
+    pub run_known : (k : ℕ) (c : Chart) → AllKnown G H c.records → AllKnown G H (run_chart G H cap k c).records
     unfolding run_chart
-    run-known zero c all = all
-    run-known (suc k) c all =
-        let before = run-known k c all in
+    run_known zero c all = all
+    run_known (suc k) c all =
+        let before = run_known k c all in
         let d = run_chart G H cap k c in
-        cond_by (λ (e : Chart). AllKnown G H e.records) (eqb d.mark 0) {x = step_chart G H cap d} {y = d} (λ e. step-known d before) (λ e. before)
+        cond_by (λ (e : Chart). AllKnown G H e.records) (eqb d.mark 0) {x = step_chart G H cap d} {y = d} (λ e. step_known d before) (λ e. before)
 
-    runs-known : (ks : List ℕ) (c : Chart) → AllKnown G H c.records → AllKnown G H (runs_chart G H cap ks c).records
+    runs_known : (ks : List ℕ) (c : Chart) → AllKnown G H c.records → AllKnown G H (runs_chart G H cap ks c).records
     unfolding runs_chart
-    runs-known [] c all = all
-    runs-known (k ∷ ks) c all = runs-known ks (run_chart G H cap k c) (run-known k c all)
+    runs_known [] c all = all
+    runs_known (k ∷ ks) c all = runs_known ks (run_chart G H cap k c) (run_known k c all)
 
     pub start_known : AllKnown G H (start_chart G cap).records
     unfolding start_chart
     start_known =
-        added-known (leaf_records G) (record { mark = 0; records = [] }) fresh (λ m x h i. leaf_known m x i) (λ k l. absurd (omega arith))
+        added_known (leaf_records G) (record { mark = 0; records = [] }) fresh (λ m x h i. leaf_known m x i) (λ k l. absurd (omega arith))
       where
         fresh : (x : Record) → In x (leaf_records G) → Fresh x
         fresh x m = let (i, l, e) = in_leaf_record G H x m in ap (λ (y : Record). y.handled) e
 
     -- after a start and any list of runs, also where the chart was found too small
-    pub own-known : (ks : List ℕ) → AllKnown G H (runs_chart G H cap ks (start_chart G cap)).records
-    own-known ks = runs-known ks (start_chart G cap) start_known
+    pub own_known : (ks : List ℕ) → AllKnown G H (runs_chart G H cap ks (start_chart G cap)).records
+    own_known ks = runs_known ks (start_chart G cap) start_known
 
   -- and so where it is written
   pub own_chart : (w ks : List ℕ) → Holds w (runs_chart G H (capacity w) ks (start_chart G (capacity w))) → known_chart G H (written w (runs_chart G H (capacity w) ks (start_chart G (capacity w)))) ≡ true
-  own_chart w ks o = written_known G H w (runs_chart G H (capacity w) ks (start_chart G (capacity w))) o (own-known (capacity w) ks)
+  own_chart w ks o = written_known G H w (runs_chart G H (capacity w) ks (start_chart G (capacity w))) o (own_known (capacity w) ks)

@@ -41,15 +41,15 @@ left_or_none rs = go (least_waiting rs (length rs)) (chosen rs (length rs))
 module _ (g h w out : List ℕ) where
   module _ (n : ℕ) (e : (write_of g h w out).answer ≡ Written n) where
     -- no refusal is a written answer
-    not-refused : (a : Answer) → write_of g h w out ≡ refused a out → number_of a ≡ 0
-    not-refused a q = sym (ap (λ (x : Wrote). number_of x.answer) q) ∙ ap number_of e
+    not_refused : (a : Answer) → write_of g h w out ≡ refused a out → number_of a ≡ 0
+    not_refused a q = sym (ap (λ (x : Wrote). number_of x.answer) q) ∙ ap number_of e
 
     abbrev Chosen-tree : Type 0
     Chosen-tree = (t : Tree) × FewestTree (grammar_of g) (graph_of g h) t × (take n (write_of g h w out).out ≡ derivation_text t)
 
     -- a tree that is written is the one in the output
-    in-output : (t : Tree) → WritesTree t out (write_of g h w out) → take n (write_of g h w out).out ≡ derivation_text t
-    in-output t wr = go (dec_le (length (derivation_text t)) (length out))
+    in_output : (t : Tree) → WritesTree t out (write_of g h w out) → take n (write_of g h w out).out ≡ derivation_text t
+    in_output t wr = go (dec_le (length (derivation_text t)) (length out))
       where
         go : Dec (length (derivation_text t) ≤ length out) → take n (write_of g h w out).out ≡ derivation_text t
         go (yes l) =
@@ -57,24 +57,24 @@ module _ (g h w out : List ℕ) where
             let z : Written (length (derivation_text t)) ≡ Written n = sym (ap (λ (x : Wrote). x.answer) q) ∙ e in
             let same : length (derivation_text t) ≡ n = (cc) in
             ap (λ (x : Wrote). take n x.out) q ∙ take_at (derivation_text t) (drop (length (derivation_text t)) out) n same
-        go (no k) = let z : ◌≡◌ {A = ℕ} 12 0 = not-refused NoRoom (wr.short (omega arith)) in absurd (omega (arith, z))
+        go (no k) = let z : ◌≡◌ {A = ℕ} 12 0 = not_refused NoRoom (wr.short (omega arith)) in absurd (omega (arith, z))
 
-    by-demand : {cap k : ℕ} → CallsRight g h cap k w → Chosen-tree
-    by-demand {cap} {k} d = marked (dec_le (chart_of w).mark 0)
+    by_demand : {cap k : ℕ} → CallsRight g h cap k w → Chosen-tree
+    by_demand {cap} {k} d = marked (dec_le (chart_of w).mark 0)
       where
         done : (chart_of w).mark ≡ 0 → AllHandled (chart_of w).records → Chosen-tree
         done m all =
             let u = written_derivation g h w out n e in
             let c = d.writes m all u.derivation u.generates in
-            (c.0, c.1, in-output c.0 (c.2 out))
+            (c.0, c.1, in_output c.0 (c.2 out))
 
         left : (chart_of w).mark ≡ 0 → SomeLeft (chart_of w).records ⊎ AllHandled (chart_of w).records → Chosen-tree
-        left m (inl s) = let z : ◌≡◌ {A = ℕ} 10 0 = not-refused (Unfinished _) (d.ten m s out) in absurd (omega (arith, z))
+        left m (inl s) = let z : ◌≡◌ {A = ℕ} 10 0 = not_refused (Unfinished _) (d.ten m s out) in absurd (omega (arith, z))
         left m (inr all) = done m all
 
         marked : Dec ((chart_of w).mark ≤ 0) → Chosen-tree
         marked (yes m) = left (omega (arith, m)) (left_or_none (chart_of w).records)
-        marked (no m) = let z : ◌≡◌ {A = ℕ} 9 0 = not-refused TooSmall (d.nine (λ q. m (omega (arith, q))) out) in absurd (omega (arith, z))
+        marked (no m) = let z : ◌≡◌ {A = ℕ} 9 0 = not_refused TooSmall (d.nine (λ q. m (omega (arith, q))) out) in absurd (omega (arith, z))
 
   pub write_choices : WriteChoices g h w out (write_of g h w out).answer (write_of g h w out).out
   write_choices =
@@ -82,7 +82,7 @@ module _ (g h w out : List ℕ) where
         derivation = written_derivation g h w out;
         behind = λ n e. let t = written_tree g h w out n e in (t.inside, t.behind);
         fewest = λ former cs f q n e.
-            by-demand n e (subst (λ (v : List ℕ). CallsRight g h (capacity former) (steps_given cs) v) (sym q) (demand_3 g h former f cs));
+            by_demand n e (subst (λ (v : List ℕ). CallsRight g h (capacity former) (steps_given cs) v) (sym q) (demand_3 g h former f cs));
       }
 
 -- ---- the same of a row of records
@@ -131,8 +131,8 @@ module _ (g h w : List ℕ) (former : List Application) where
       )
 
   module _ (n : ℕ) (e : (fill_of g h w former).answer ≡ Written n) where
-    not-unfilled : (a : Answer) → fill_of g h w former ≡ unfilled a former → number_of a ≡ 0
-    not-unfilled a q = sym (ap (λ (x : Filled). number_of x.answer) q) ∙ ap number_of e
+    not_unfilled : (a : Answer) → fill_of g h w former ≡ unfilled a former → number_of a ≡ 0
+    not_unfilled a q = sym (ap (λ (x : Filled). number_of x.answer) q) ∙ ap number_of e
 
     abbrev Chosen-row : Type 0
     Chosen-row = (t : Tree) × FewestTree (grammar_of g) (graph_of g h) t × (take n (fill_of g h w former).rows ≡ records_of t)
@@ -147,10 +147,10 @@ module _ (g h w : List ℕ) (former : List Application) where
             let z : Written (size t) ≡ Written n = sym (ap (λ (x : Filled). x.answer) (fl.held l)) ∙ e in
             let same : size t ≡ n = (cc) in
             ap (λ (x : Filled). take n x.rows) (fl.held l) ∙ take_at (records_of t) (drop (size t) former) n (records_size 0 t ∙ same)
-        go (no k) = let z : ◌≡◌ {A = ℕ} 12 0 = not-unfilled NoRoom (fl.short (omega arith)) in absurd (omega (arith, z))
+        go (no k) = let z : ◌≡◌ {A = ℕ} 12 0 = not_unfilled NoRoom (fl.short (omega arith)) in absurd (omega (arith, z))
 
-    row-by-demand : {cap k : ℕ} → CallsRight g h cap k w → Chosen-row
-    row-by-demand {cap} {k} d = marked (dec_le (chart_of w).mark 0)
+    row_by_demand : {cap k : ℕ} → CallsRight g h cap k w → Chosen-row
+    row_by_demand {cap} {k} d = marked (dec_le (chart_of w).mark 0)
       where
         done : (chart_of w).mark ≡ 0 → AllHandled (chart_of w).records → Chosen-row
         done m all =
@@ -159,12 +159,12 @@ module _ (g h w : List ℕ) (former : List Application) where
             (c.0, c.1, in_row c.0 (c.3 former))
 
         left : (chart_of w).mark ≡ 0 → SomeLeft (chart_of w).records ⊎ AllHandled (chart_of w).records → Chosen-row
-        left m (inl s) = let z : ◌≡◌ {A = ℕ} 10 0 = not-unfilled (Unfinished _) (d.ten_row m s former) in absurd (omega (arith, z))
+        left m (inl s) = let z : ◌≡◌ {A = ℕ} 10 0 = not_unfilled (Unfinished _) (d.ten_row m s former) in absurd (omega (arith, z))
         left m (inr all) = done m all
 
         marked : Dec ((chart_of w).mark ≤ 0) → Chosen-row
         marked (yes m) = left (omega (arith, m)) (left_or_none (chart_of w).records)
-        marked (no m) = let z : ◌≡◌ {A = ℕ} 9 0 = not-unfilled TooSmall (d.nine_row (λ q. m (omega (arith, q))) former) in absurd (omega (arith, z))
+        marked (no m) = let z : ◌≡◌ {A = ℕ} 9 0 = not_unfilled TooSmall (d.nine_row (λ q. m (omega (arith, q))) former) in absurd (omega (arith, z))
 
   pub fill_choices : FillChoices g h w former (fill_of g h w former).answer (fill_of g h w former).rows
   fill_choices =
@@ -172,5 +172,5 @@ module _ (g h w : List ℕ) (former : List Application) where
         derivation = λ n e. (row n (fill_of g h w former) fill_way e).0;
         behind = λ n e. let x = row n (fill_of g h w former) fill_way e in (x.1, x.2);
         fewest = λ beginning cs f q n e.
-            row-by-demand n e (subst (λ (v : List ℕ). CallsRight g h (capacity beginning) (steps_given cs) v) (sym q) (demand_3 g h beginning f cs));
+            row_by_demand n e (subst (λ (v : List ℕ). CallsRight g h (capacity beginning) (steps_given cs) v) (sym q) (demand_3 g h beginning f cs));
       }

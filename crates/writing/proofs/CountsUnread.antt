@@ -154,13 +154,13 @@ module _ (w v : List ℕ) (s : SameButCounts w v) where
         (every_same n (λ j. known_record G H n (record_at w j)) (λ j. known_record G H n (record_at v j))
         (λ j l. sym (count_free G H n (record_at w j) 0 (record_at w j).handled) ∙ ap (known_record G H n) (s.records j) ∙ count_free G H n (record_at v j) 0 (record_at v j).handled)))
 
-    same-standing : standing_of g h w ≡ standing_of g h v
+    same_standing : standing_of g h w ≡ standing_of g h v
     unfolding standing_of fit_chart
-    same-standing = rw (fit_same g h w v same_capacity, same_known, same_answer) refl
+    same_standing = rw (fit_same g h w v same_capacity, same_known, same_answer) refl
 
-    same-goal : goal_in (grammar_of g) (graph_of g h) (chart_of w).records ≡ goal_in (grammar_of g) (graph_of g h) (chart_of v).records
+    same_goal : goal_in (grammar_of g) (graph_of g h) (chart_of w).records ≡ goal_in (grammar_of g) (graph_of g h) (chart_of v).records
     unfolding goal_in chart_of item_of
-    same-goal =
+    same_goal =
         let n = item_count v in
         let G = grammar_of g in
         let i = goal G (graph_of g h) in
@@ -174,13 +174,13 @@ module _ (w v : List ℕ) (s : SameButCounts w v) where
         ∙ sym (tree_bare (λ k. record_at v k) (grammar_of g) (graph_of g h) 4096 j)
 
     -- 'a finished chart with altered counts and intact partners still gives its derivation'
-    pub counts-unread : (out : List ℕ) → write_of g h w out ≡ write_of g h v out
+    pub counts_unread : (out : List ℕ) → write_of g h w out ≡ write_of g h v out
     unfolding write_of
-    counts-unread out =
+    counts_unread out =
         let G = grammar_of g in
         let H = graph_of g h in
-        ap₂ (λ (o : Outcome) (x : Wrote). write_by o out x) same-standing
-        (go (goal_in G H (chart_of w).records) ∙ ap (write_goal G H (λ j. record_at v j) out) same-goal)
+        ap₂ (λ (o : Outcome) (x : Wrote). write_by o out x) same_standing
+        (go (goal_in G H (chart_of w).records) ∙ ap (write_goal G H (λ j. record_at v j) out) same_goal)
       where
         go : (f : Found) → write_goal (grammar_of g) (graph_of g h) (λ j. record_at w j) out f ≡ write_goal (grammar_of g) (graph_of g h) (λ j. record_at v j) out f
         go Nowhere = refl

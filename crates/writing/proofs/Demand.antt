@@ -20,7 +20,7 @@ use Rattle.agenda.specs.declared.Record.{Record}
 use Rattle.agenda.specs.declared.Found.{Found}
 use Rattle.agenda.specs.declared.Found.TheVariants.{At, Nowhere}
 use Rattle.agenda.proofs.Choice.{Chosen, waits, nothing, chosen}
-use Rattle.agenda.proofs.RunFacts.{runs-correct, marked-small, done-size}
+use Rattle.agenda.proofs.RunFacts.{runs_correct, marked_small, done_size}
 use Rattle.questions.specs.Abstract.{grammar_of, graph_of}
 use Rattle.records.specs.Words.{capacity, item_count, record_at, records_at, chart_of}
 use Rattle.records.proofs.WordLaws.{length_records, record_in_lem}
@@ -29,7 +29,7 @@ use Rattle.charting.specs.declared.Outcome.{Outcome}
 use Rattle.charting.specs.declared.Outcome.TheVariants.{TooSmall as TooSmall-chart, Unfinished as Unfinished-chart, Done}
 use Rattle.charting.proofs.Answers.{answer_marked, answer_waiting}
 use Rattle.charting.proofs.Calls.{fit_grammar, fit_graph, fit_most}
-use Rattle.charting.proofs.Demand.{runs-known, runs-chart}
+use Rattle.charting.proofs.Demand.{runs_known, runs_chart_lem}
 use Rattle.preorder.specs.Rows.{size}
 use Rattle.derivation.specs.Derivations.{derivation_text}
 use Rattle.writing.specs.Writing.{number_of, Wrote, refused, goal_in, write_goal, write_of}
@@ -40,7 +40,7 @@ use Rattle.writing.specs.declared.Answer.{Answer}
 use Rattle.writing.specs.declared.Answer.TheVariants.{TooSmall, Unfinished, Underivable, NoRoom, Written}
 use Rattle.writing.proofs.Writings.{write_by_is}
 use Rattle.writing.proofs.Filling.{records_held, records_short, records_size, chosen_by_is, fill_refuses, chosen_records}
-use Rattle.writing.proofs.OwnCharts.{Writes, no-tree, a_tree, goal_writes}
+use Rattle.writing.proofs.OwnCharts.{Writes, no_tree, a_tree, goal_writes}
 
 -- ---- a list of calls is its runs
 unfoldable pub runs_in : List Call → List ℕ
@@ -107,56 +107,56 @@ module _ (g h w : List ℕ) (e : fit g h w ≡ true) (ks : List ℕ) where
   most = fit_most g h w e
 
   is : chart_of (runs_of g h (start_of g h w).words ks) ≡ runs_chart (grammar_of g) (graph_of g h) (capacity w) ks (start_chart (grammar_of g) (capacity w))
-  is = runs-chart g h w e ks
+  is = runs_chart_lem g h w e ks
 
   stands : standing_of g h (runs_of g h (start_of g h w).words ks) ≡ answer_of (chart_of (runs_of g h (start_of g h w).words ks))
   unfolding standing_of
-  stands = rw (runs-known g h w e ks)
+  stands = rw (runs_known g h w e ks)
 
   look_same : (j : ℕ) → j < length c.records → record_at v j ≡ record_in c.records j
   unfolding chart_of
   look_same j l = sym (record_in_lem v (item_count v) j (omega (arith, l, length_records v (item_count v))))
 
   module _ (fits : c.mark ≡ 0) (all : AllHandled c.records) where
-    stands-done : standing_of g h v ≡ Done (handled_count c.records)
-    stands-done = stands ∙ answer_waiting c fits ∙ ap (when_waiting (handled_count c.records)) (nothing_left c.records all)
+    stands_done : standing_of g h v ≡ Done (handled_count c.records)
+    stands_done = stands ∙ answer_waiting c fits ∙ ap (when_waiting (handled_count c.records)) (nothing_left c.records all)
 
     -- the search for the goal decides
     searches : (out : List ℕ) → write_of g h v out ≡ write_goal G H (λ j. record_at v j) out (goal_in G H c.records)
-    searches out = write_by_is g h v out (Done (handled_count c.records)) stands-done
+    searches out = write_by_is g h v out (Done (handled_count c.records)) stands_done
 
     outcome : Writes G H ok good (capacity w) most ks c is fits (nothing_left c.records all) (λ j. record_at v j) look_same (goal_in G H c.records)
     outcome = goal_writes G H ok good (capacity w) most ks c is fits (nothing_left c.records all) (λ j. record_at v j) look_same
 
     -- a tree that is written is no refusal
-    not-refused : (t : Tree) (out : List ℕ) (x : Wrote) → WritesTree t out x → x ≡ refused Underivable out → ⊥
-    not-refused t out x wr q = go (dec_le (length (derivation_text t)) (length out))
+    not_refused : (t : Tree) (out : List ℕ) (x : Wrote) → WritesTree t out x → x ≡ refused Underivable out → ⊥
+    not_refused t out x wr q = go (dec_le (length (derivation_text t)) (length out))
       where
         go : Dec (length (derivation_text t) ≤ length out) → ⊥
         go (yes l) = let z : ◌≡◌ {A = ℕ} 0 11 = ap (λ (y : Wrote). number_of y.answer) (sym (wr.held l) ∙ q) in omega (arith, z)
         go (no n) = let z : ◌≡◌ {A = ℕ} 12 11 = ap (λ (y : Wrote). number_of y.answer) (sym (wr.short (omega arith)) ∙ q) in omega (arith, z)
 
-    pub write-underivable : (out : List ℕ) → (write_of g h v out ≡ refused Underivable out) ↔ ((t : Tree) → Generates G H t → ⊥)
-    write-underivable out = (λ q. left outcome q, λ none. right outcome none)
+    pub write_underivable : (out : List ℕ) → (write_of g h v out ≡ refused Underivable out) ↔ ((t : Tree) → Generates G H t → ⊥)
+    write_underivable out = (λ q. left outcome q, λ none. right outcome none)
       where
         left : Writes G H ok good (capacity w) most ks c is fits (nothing_left c.records all) (λ j. record_at v j) look_same (goal_in G H c.records) → write_of g h v out ≡ refused Underivable out
             → (t : Tree) → Generates G H t → ⊥
-        left (no-tree none f) q = none
-        left (a_tree t few wr l ch) q = absurd (not-refused t out _ (wr out) (sym (searches out) ∙ q))
+        left (no_tree none f) q = none
+        left (a_tree t few wr l ch) q = absurd (not_refused t out _ (wr out) (sym (searches out) ∙ q))
 
         right : Writes G H ok good (capacity w) most ks c is fits (nothing_left c.records all) (λ j. record_at v j) look_same (goal_in G H c.records) → ((t : Tree) → Generates G H t → ⊥)
             → write_of g h v out ≡ refused Underivable out
-        right (no-tree none f) n = searches out ∙ ap (write_goal G H (λ j. record_at v j) out) f
+        right (no_tree none f) n = searches out ∙ ap (write_goal G H (λ j. record_at v j) out) f
         right (a_tree t few wr l ch) n = absurd (n t few.generates)
 
     -- the same of a row
     chosen_is : chosen_of g h v ≡ chosen_goal G H (λ j. record_at v j) (goal_in G H c.records)
-    chosen_is = chosen_by_is g h v (Done (handled_count c.records)) stands-done
+    chosen_is = chosen_by_is g h v (Done (handled_count c.records)) stands_done
 
-    tree-fills : (t : Tree) → Generates G H t → size t ≤ 4096 → chosen_goal G H (λ j. record_at v j) (goal_in G H c.records) ≡ chooses (derivation_text t)
+    tree_fills : (t : Tree) → Generates G H t → size t ≤ 4096 → chosen_goal G H (λ j. record_at v j) (goal_in G H c.records) ≡ chooses (derivation_text t)
         → (former : List Application) → FillsTree t former (fill_of g h v former)
     unfolding records_of
-    tree-fills t gen l ch former =
+    tree_fills t gen l ch former =
         let q = chosen_records g h v t gen l (chosen_is ∙ ch) former in
         let n = records_size 0 t in
         record {
@@ -164,8 +164,8 @@ module _ (g h w : List ℕ) (e : fit g h w ≡ true) (ks : List ℕ) where
           short = λ k. q ∙ records_short (records_of t) former (omega (arith, n, k));
         }
 
-    row-not-refused : (t : Tree) (former : List Application) (x : Filled) → FillsTree t former x → x ≡ unfilled Underivable former → ⊥
-    row-not-refused t former x fl q = go (dec_le (size t) (length former))
+    row_not_refused : (t : Tree) (former : List Application) (x : Filled) → FillsTree t former x → x ≡ unfilled Underivable former → ⊥
+    row_not_refused t former x fl q = go (dec_le (size t) (length former))
       where
         go : Dec (size t ≤ length former) → ⊥
         go (yes l) = let z : ◌≡◌ {A = ℕ} 0 11 = ap (λ (y : Filled). number_of y.answer) (sym (fl.held l) ∙ q) in omega (arith, z)
@@ -174,25 +174,25 @@ module _ (g h w : List ℕ) (e : fit g h w ≡ true) (ks : List ℕ) where
     abbrev Outcomes : Type 0
     Outcomes = Writes G H ok good (capacity w) most ks c is fits (nothing_left c.records all) (λ j. record_at v j) look_same (goal_in G H c.records)
 
-    pub fill-underivable : (former : List Application) → (fill_of g h v former ≡ unfilled Underivable former) ↔ ((t : Tree) → Generates G H t → ⊥)
-    fill-underivable former = (λ q. left outcome q, λ none. right outcome none)
+    pub fill_underivable : (former : List Application) → (fill_of g h v former ≡ unfilled Underivable former) ↔ ((t : Tree) → Generates G H t → ⊥)
+    fill_underivable former = (λ q. left outcome q, λ none. right outcome none)
       where
         left : Outcomes → fill_of g h v former ≡ unfilled Underivable former → (t : Tree) → Generates G H t → ⊥
-        left (no-tree none f) q = none
-        left (a_tree t few wr l ch) q = absurd (row-not-refused t former _ (tree-fills t few.generates l ch former) q)
+        left (no_tree none f) q = none
+        left (a_tree t few wr l ch) q = absurd (row_not_refused t former _ (tree_fills t few.generates l ch former) q)
 
         right : Outcomes → ((t : Tree) → Generates G H t → ⊥) → fill_of g h v former ≡ unfilled Underivable former
-        right (no-tree none f) n = fill_refuses g h v former Underivable (chosen_is ∙ ap (chosen_goal G H (λ j. record_at v j)) f)
+        right (no_tree none f) n = fill_refuses g h v former Underivable (chosen_is ∙ ap (chosen_goal G H (λ j. record_at v j)) f)
         right (a_tree t few wr l ch) n = absurd (n t few.generates)
 
     -- one tree, as text and as records
-    pub write-fewest : (u : Tree) → Generates G H u
+    pub write_fewest : (u : Tree) → Generates G H u
         → (t : Tree) × FewestTree G H t × ((out : List ℕ) → WritesTree t out (write_of g h v out)) × ((former : List Application) → FillsTree t former (fill_of g h v former))
-    write-fewest u gen = go outcome
+    write_fewest u gen = go outcome
       where
         go : Outcomes → (t : Tree) × FewestTree G H t × ((out : List ℕ) → WritesTree t out (write_of g h v out)) × ((former : List Application) → FillsTree t former (fill_of g h v former))
-        go (no-tree none f) = absurd (none u gen)
-        go (a_tree t few wr l ch) = (t, few, λ out. subst (λ (x : Wrote). WritesTree t out x) (sym (searches out)) (wr out), tree-fills t few.generates l ch)
+        go (no_tree none f) = absurd (none u gen)
+        go (a_tree t few wr l ch) = (t, few, λ out. subst (λ (x : Wrote). WritesTree t out x) (sym (searches out)) (wr out), tree_fills t few.generates l ch)
 
   stands_small : c.mark ≢ 0 → standing_of g h v ≡ TooSmall-chart
   stands_small m = stands ∙ answer_marked c m
@@ -206,13 +206,13 @@ module _ (g h w : List ℕ) (e : fit g h w ≡ true) (ks : List ℕ) where
       record {
         size = length z.0;
         sized = record { items = z.0; closed = z.1; number = refl };
-        small = λ m. marked-small G H ok good (capacity w) most ks c is m z.0 z.1;
-        right = runs-correct G H ok good (capacity w) most ks c is;
-        steps = λ m. (runs-correct G H ok good (capacity w) most ks c is m).steps z.0 z.1;
-        done = λ m all. done-size G H ok good (capacity w) most ks c is m (nothing_left c.records all) z.0 z.1;
-        underivable = write-underivable;
-        underivable_row = fill-underivable;
-        writes = write-fewest;
+        small = λ m. marked_small G H ok good (capacity w) most ks c is m z.0 z.1;
+        right = runs_correct G H ok good (capacity w) most ks c is;
+        steps = λ m. (runs_correct G H ok good (capacity w) most ks c is m).steps z.0 z.1;
+        done = λ m all. done_size G H ok good (capacity w) most ks c is m (nothing_left c.records all) z.0 z.1;
+        underivable = write_underivable;
+        underivable_row = fill_underivable;
+        writes = write_fewest;
         nine = λ m out. write_by_is g h v out TooSmall-chart (stands_small m);
         nine_row = λ m former. fill_refuses g h v former TooSmall (chosen_by_is g h v TooSmall-chart (stands_small m));
         ten = λ m s out. write_by_is g h v out (Unfinished-chart (handled_count c.records)) (stands_waiting m s);

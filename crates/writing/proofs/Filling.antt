@@ -2,7 +2,7 @@
 use mathlib.Core.Path.{◌≡◌, refl, sym, ap, ◌∙◌, subst}
 use mathlib.Core.Logic.{◌≢◌}
 use mathlib.Core.Bool.{Bool, true, false, cond}
-use mathlib.Core.List.{List, [], ◌∷◌, ◌++◌, map, map_append}
+use mathlib.Core.List.{List, [], ◌∷◌, ◌++◌, map, map-append}
 use Prim.Native.Nat.{ℕ, suc, ◌+◌, ◌-◌, ◌≤◌, ◌<◌}
 use native.Mathlib.Omega.{arith}
 use lib.ListN.{length, take, drop, get_or, replicate, length-append}
@@ -117,25 +117,25 @@ module _ (G : Grammar) (H : Graph) (ok : GrammarOk G) (hok : GraphOk G H) where
   mutual
     unfolding tree_records tree_rows rows_for
 
-    tree-rows : (s : ℕ) (L : List ℕ) (n : ℕ) (t : Tree) → Fits G H s L t → rows_for n (tree_records n t) ≡ tree_rows n t
-    tree-rows s L n (apply r place ps) f = cong2 (row_same s n r L place ps f.0 f.1) (part-rows place ps (right_of G r).edges (n + 1) f.1)
+    tree_rows_lem : (s : ℕ) (L : List ℕ) (n : ℕ) (t : Tree) → Fits G H s L t → rows_for n (tree_records n t) ≡ tree_rows n t
+    tree_rows_lem s L n (apply r place ps) f = cong2 (row_same s n r L place ps f.0 f.1) (part_rows_lem place ps (right_of G r).edges (n + 1) f.1)
       where
         cong2 : {x y : List ℕ} {xs ys : List (List ℕ)} → x ≡ y → xs ≡ ys → x ∷ xs ≡ y ∷ ys
         cong2 p q = rw (p, q)
 
-    part-rows : (place : List ℕ) (ps : Parts) (rs : List Edge) (n : ℕ) → FitsParts G H place ps rs → rows_for n (part_records n ps) ≡ part_rows n ps
-    part-rows place end rs n f = refl
-    part-rows place (edge g ps) [] n f = absurd f
-    part-rows place (edge g ps) (r ∷ rs) n f = part-rows place ps rs n f.1
-    part-rows place (tree t ps) [] n f = absurd f
-    part-rows place (tree t ps) (r ∷ rs) n f =
+    part_rows_lem : (place : List ℕ) (ps : Parts) (rs : List Edge) (n : ℕ) → FitsParts G H place ps rs → rows_for n (part_records n ps) ≡ part_rows n ps
+    part_rows_lem place end rs n f = refl
+    part_rows_lem place (edge g ps) [] n f = absurd f
+    part_rows_lem place (edge g ps) (r ∷ rs) n f = part_rows_lem place ps rs n f.1
+    part_rows_lem place (tree t ps) [] n f = absurd f
+    part_rows_lem place (tree t ps) (r ∷ rs) n f =
         rows_append n (tree_records n t) (part_records (n + size t) ps)
-        ∙ rw (records_size n t, tree-rows r.label (images place r.attachment) n t f.0, part-rows place ps rs (n + size t) f.1)
+        ∙ rw (records_size n t, tree_rows_lem r.label (images place r.attachment) n t f.0, part_rows_lem place ps rs (n + size t) f.1)
 
   -- The records of a tree, turned into text, are its text.
   pub records_text_is : (t : Tree) → Generates G H t → records_text (records_of t) ≡ derivation_text t
   unfolding records_text records_of rows_of derivation_text
-  records_text_is t g = ap rows_text (tree-rows G.start H.externals 0 t g.fits)
+  records_text_is t g = ap rows_text (tree_rows_lem G.start H.externals 0 t g.fits)
 
   -- ---- and back: the rows of a tree's text are its records
   row_record : (s n r : ℕ) (L place : List ℕ) (ps : Parts) → FitsRule G H s L r place → application_in G (n ∷ r ∷ (place ++ part_numbers (n + 1) ps)) ≡ application_of r place (part_numbers (n + 1) ps)
@@ -145,21 +145,21 @@ module _ (G : Grammar) (H : Graph) (ok : GrammarOk G) (hok : GraphOk G H) where
   mutual
     unfolding tree_records tree_rows
 
-    tree-records : (s : ℕ) (L : List ℕ) (n : ℕ) (t : Tree) → Fits G H s L t → map (application_in G) (tree_rows n t) ≡ tree_records n t
-    tree-records s L n (apply r place ps) f = rw (row_record s n r L place ps f.0, part-records place ps (right_of G r).edges (n + 1) f.1)
+    tree_records_lem : (s : ℕ) (L : List ℕ) (n : ℕ) (t : Tree) → Fits G H s L t → map (application_in G) (tree_rows n t) ≡ tree_records n t
+    tree_records_lem s L n (apply r place ps) f = rw (row_record s n r L place ps f.0, part_records_lem place ps (right_of G r).edges (n + 1) f.1)
 
-    part-records : (place : List ℕ) (ps : Parts) (rs : List Edge) (n : ℕ) → FitsParts G H place ps rs → map (application_in G) (part_rows n ps) ≡ part_records n ps
-    part-records place end rs n f = refl
-    part-records place (edge g ps) [] n f = absurd f
-    part-records place (edge g ps) (r ∷ rs) n f = part-records place ps rs n f.1
-    part-records place (tree t ps) [] n f = absurd f
-    part-records place (tree t ps) (r ∷ rs) n f =
-        map_append (application_in G) (tree_rows n t) (part_rows (n + size t) ps)
-        ∙ rw (tree-records r.label (images place r.attachment) n t f.0, part-records place ps rs (n + size t) f.1)
+    part_records_lem : (place : List ℕ) (ps : Parts) (rs : List Edge) (n : ℕ) → FitsParts G H place ps rs → map (application_in G) (part_rows n ps) ≡ part_records n ps
+    part_records_lem place end rs n f = refl
+    part_records_lem place (edge g ps) [] n f = absurd f
+    part_records_lem place (edge g ps) (r ∷ rs) n f = part_records_lem place ps rs n f.1
+    part_records_lem place (tree t ps) [] n f = absurd f
+    part_records_lem place (tree t ps) (r ∷ rs) n f =
+        map-append (application_in G) (tree_rows n t) (part_rows (n + size t) ps)
+        ∙ rw (tree_records_lem r.label (images place r.attachment) n t f.0, part_records_lem place ps rs (n + size t) f.1)
 
   pub text_records : (t : Tree) → Generates G H t → size t ≤ 4096 → records_in G (derivation_text t) ≡ records_of t
   unfolding records_in records_of rows_of
-  text_records t g l = ap (records_by G) (derivation_rows G H ok hok t g l) ∙ tree-records G.start H.externals 0 t g.fits
+  text_records t g l = ap (records_by G) (derivation_rows G H ok hok t g l) ∙ tree_records_lem G.start H.externals 0 t g.fits
 
 -- ---- what is chosen, whatever the chart
 module _ (g h w : List ℕ) where

@@ -28,7 +28,7 @@ use Rattle.agenda.specs.declared.Found.TheVariants.{At, Nowhere}
 use Rattle.agenda.proofs.Records.{to_test}
 use Rattle.agenda.proofs.Growth.{count_le}
 use Rattle.agenda.proofs.Adding.{apart, cond_by}
-use Rattle.agenda.proofs.RunFacts.{runs-correct, all-handled, done-handled, records_held, count_most}
+use Rattle.agenda.proofs.RunFacts.{runs_correct, all_handled, done_handled, records_held, count_most}
 use Rattle.charting.proofs.Calls.{and_both}
 use Rattle.preorder.specs.Rows.{size}
 use Rattle.derivation.specs.Derivations.{derivation_text, replay_text}
@@ -81,62 +81,62 @@ module _ (G : Grammar) (H : Graph) (ok : GrammarOk G) (hok : GraphOk G H) (cap :
     reached = goal_reached G H ok hok u generates
 
     present : Handled G c.records (goal G H)
-    present = done-handled G H ok hok cap most ks c is fits done (goal G H) (applications G u) reached
+    present = done_handled G H ok hok cap most ks c is fits done (goal G H) (applications G u) reached
 
-    not-missing : ((k : ℕ) → k < length c.records → item_of G (record_in c.records k).item ≡ goal G H → ⊥) → ⊥
-    not-missing none = none present.at present.known present.item
+    not_missing : ((k : ℕ) → k < length c.records → item_of G (record_in c.records k).item ≡ goal G H → ⊥) → ⊥
+    not_missing none = none present.at present.known present.item
 
   -- the tree of the goal's record
   module _ (j : ℕ) (l : j < length c.records) (item : item_of G (record_in c.records j).item ≡ goal G H) where
-    found-tree : (t : Tree) × Generates G H t × (applications G t ≡ (record_in c.records j).item.count) × (size t ≡ (record_in c.records j).item.count) × ((k : ℕ) → size t ≤ k → tree_at look G H k j ≡ spelt t)
-    found-tree = chart_goal_tree G H ok hok cap most ks c is fits look same j l item
+    found_tree : (t : Tree) × Generates G H t × (applications G t ≡ (record_in c.records j).item.count) × (size t ≡ (record_in c.records j).item.count) × ((k : ℕ) → size t ≤ k → tree_at look G H k j ≡ spelt t)
+    found_tree = chart_goal_tree G H ok hok cap most ks c is fits look same j l item
 
-    small : size found-tree.0 ≤ 4096
+    small : size found_tree.0 ≤ 4096
     small =
         omega (
           arith,
-          found-tree.3,
-          count_most G H ok hok cap most ks c is fits j l (all-handled G H ok hok cap most ks c is done j l),
+          found_tree.3,
+          count_most G H ok hok cap most ks c is fits j l (all_handled G H ok hok cap most ks c is done j l),
           count_le c.records,
           records_held G H ok hok cap most ks c is,
           most,
         )
 
-    fewest : FewestTree G H found-tree.0
+    fewest : FewestTree G H found_tree.0
     fewest =
         record {
-          generates = found-tree.1;
+          generates = found_tree.1;
           least = λ u g.
-              let f = (runs-correct G H ok hok cap most ks c is fits).fewest j l (all-handled G H ok hok cap most ks c is done j l) in
+              let f = (runs_correct G H ok hok cap most ks c is fits).fewest j l (all_handled G H ok hok cap most ks c is done j l) in
               let least : (record_in c.records j).item.count ≤ applications G u = (subst (λ (i : Item). Fewest G H i (record_in c.records j).item.count) item f).least (applications G u) (generates_truth G H ok hok u g) in
-              omega (arith, found-tree.2, least);
+              omega (arith, found_tree.2, least);
         }
 
-    derives-found : derives G H found-tree.0 ≡ true
+    derives_found : derives G H found_tree.0 ≡ true
     unfolding derives
-    derives-found =
-        let text : replay_text G H (derivation_text found-tree.0) ≡ true = test_true _ (derivation_passes G H ok hok found-tree.0 found-tree.1 small) in
-        and_both (leb (size found-tree.0) 4096) (replay_text G H (derivation_text found-tree.0)) (le-leb _ _ small) text
+    derives_found =
+        let text : replay_text G H (derivation_text found_tree.0) ≡ true = test_true _ (derivation_passes G H ok hok found_tree.0 found_tree.1 small) in
+        and_both (leb (size found_tree.0) 4096) (replay_text G H (derivation_text found_tree.0)) (le-leb _ _ small) text
 
-    writes_found : (out : List ℕ) → write_spelt G H out (tree_at look G H 4096 j) ≡ write_text (derivation_text found-tree.0) out
+    writes_found : (out : List ℕ) → write_spelt G H out (tree_at look G H 4096 j) ≡ write_text (derivation_text found_tree.0) out
     writes_found out =
-        ap (write_spelt G H out) (found-tree.4 4096 small) ∙ ap (λ (b : Bool). cond b (write_text (derivation_text found-tree.0) out) (refused Unfit out)) derives-found
+        ap (write_spelt G H out) (found_tree.4 4096 small) ∙ ap (λ (b : Bool). cond b (write_text (derivation_text found_tree.0) out) (refused Unfit out)) derives_found
 
-    chosen-found : chosen_spelt G H (tree_at look G H 4096 j) ≡ chooses (derivation_text found-tree.0)
-    chosen-found =
-        ap (chosen_spelt G H) (found-tree.4 4096 small) ∙ ap (λ (b : Bool). cond b (chooses (derivation_text found-tree.0)) (refuses Unfit)) derives-found
+    chosen_found : chosen_spelt G H (tree_at look G H 4096 j) ≡ chooses (derivation_text found_tree.0)
+    chosen_found =
+        ap (chosen_spelt G H) (found_tree.4 4096 small) ∙ ap (λ (b : Bool). cond b (chooses (derivation_text found_tree.0)) (refuses Unfit)) derives_found
 
-    found-writes : (out : List ℕ) → WritesTree found-tree.0 out (write_spelt G H out (tree_at look G H 4096 j))
-    found-writes out =
+    found_writes : (out : List ℕ) → WritesTree found_tree.0 out (write_spelt G H out (tree_at look G H 4096 j))
+    found_writes out =
         record {
-          held = λ k. writes_found out ∙ text_held (derivation_text found-tree.0) out k;
-          short = λ k. writes_found out ∙ text_short (derivation_text found-tree.0) out k;
+          held = λ k. writes_found out ∙ text_held (derivation_text found_tree.0) out k;
+          short = λ k. writes_found out ∙ text_short (derivation_text found_tree.0) out k;
         }
 
   -- ---- the goal is looked for
   -- What a writing does with what the search found: no tree, or one with the fewest applications.
   pub data Writes (f : Found) : Type 0 where
-    no-tree : ((t : Tree) → Generates G H t → ⊥) → f ≡ Nowhere → Writes f
+    no_tree : ((t : Tree) → Generates G H t → ⊥) → f ≡ Nowhere → Writes f
     a_tree : (t : Tree) → FewestTree G H t → ((out : List ℕ) → WritesTree t out (write_goal G H look out f)) → size t ≤ 4096 → chosen_goal G H look f ≡ chooses (derivation_text t) → Writes f
 
   pub goal_writes : Writes (goal_in G H c.records)
@@ -144,5 +144,5 @@ module _ (G : Grammar) (H : Graph) (ok : GrammarOk G) (hok : GraphOk G H) (cap :
   goal_writes = go (last_of G (goal G H) c.records (length c.records)) (searched_of G (goal G H) c.records (length c.records))
     where
       go : (f : Found) → SearchOf G (goal G H) c.records (length c.records) f → Writes f
-      go Nowhere (missing_of none) = no-tree (λ u g. not-missing u g none) refl
-      go (At j) (found_of l item) = a_tree (found-tree j l item).0 (fewest j l item) (found-writes j l item) (small j l item) (chosen-found j l item)
+      go Nowhere (missing_of none) = no_tree (λ u g. not_missing u g none) refl
+      go (At j) (found_of l item) = a_tree (found_tree j l item).0 (fewest j l item) (found_writes j l item) (small j l item) (chosen_found j l item)

@@ -37,10 +37,10 @@ holding text out = record { answer = Written (length text); out = text ++ drop (
 -- ---- question 12
 pub text_held : (text out : List ℕ) → length text ≤ length out → write_text text out ≡ holding text out
 unfolding write_text
-text_held text out l = rw (le-leb l)
+text_held text out l = rw (le_leb l)
   where
-    le-leb : length text ≤ length out → leb (length text) (length out) ≡ true
-    le-leb l = go (leb (length text) (length out)) refl
+    le_leb : length text ≤ length out → leb (length text) (length out) ≡ true
+    le_leb l = go (leb (length text) (length out)) refl
       where
         go : (b : Bool) → leb (length text) (length out) ≡ b → b ≡ true
         go true e = refl
@@ -48,10 +48,10 @@ text_held text out l = rw (le-leb l)
 
 pub text_short : (text out : List ℕ) → length out < length text → write_text text out ≡ refused NoRoom out
 unfolding write_text
-text_short text out l = rw (lt-leb l)
+text_short text out l = rw (lt_leb l)
   where
-    lt-leb : length out < length text → leb (length text) (length out) ≡ false
-    lt-leb l = go (leb (length text) (length out)) refl
+    lt_leb : length out < length text → leb (length text) (length out) ≡ false
+    lt_leb l = go (leb (length text) (length out)) refl
       where
         go : (b : Bool) → leb (length text) (length out) ≡ b → b ≡ false
         go false e = refl

@@ -1,9 +1,11 @@
 // What the writer answers and writes, and demand 3 over any list of calls: definitions and theorems.
 
+#![tactic(auto)]
+
 // What the writer answers: the tables or the chart are refused, or the chart leads to no derivation (8); the chart
 // does not hold the closure (9); items wait after the steps done since start (10); the goal is not among the items
 // (11); the output does not hold the derivation (12); or so many bytes are written.
-#[derive(Drop)]
+#[derive(Clone, Copy)]
 pub enum Answer {
     Unfit,
     TooSmall,
@@ -17,7 +19,7 @@ pub enum Answer {
 // the graph node of each rule node, and for each rule edge the graph edge, or the number of the application that
 // replaces it. Unused places are 0.
 #[repr(C)]
-#[derive(Drop)]
+#[derive(Clone, Copy)]
 pub struct Application {
     pub rule: u64,
     pub node_count: u64,

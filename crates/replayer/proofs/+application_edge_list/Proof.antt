@@ -13,8 +13,8 @@ use Rattle.questions.specs.Abstract.{grammar_of}
 use Rattle.joins.proofs.Known.{graph_ok}
 use Rattle.replayer.specs.Following.{progress_in, left_at, left_from}
 use Rattle.replayer.proofs.MaskTests.{edge_known, ruled, four_length}
-use Rattle.replayer.proofs.RowParts.{of_edge, of_row, edges_small, listed-take}
-use Rattle.replayer.proofs.Following.{fields_few, row_few, applied_past, applied-refused, taken-sized, row_opened, edge_used, applied_passing, opened_rows, opened-falls, applied-opened, followed_end, followed-refused, used_rows, used-falls, followed-edge, under-falls, followed-unnumbered, followed-under-failed, after-falls, followed-under}
+use Rattle.replayer.proofs.RowParts.{of_edge, of_row, edges_small, listed_take}
+use Rattle.replayer.proofs.Following.{fields_few, row_few, applied_past, applied_refused, taken_sized, row_opened, edge_used, applied_passing, opened_rows, opened_falls, applied_opened, followed_end, followed_refused, used_rows, used_falls, followed_edge, under_falls, followed_unnumbered, followed_under_failed, after_falls, followed_under}
 use Rattle.replayer.proofs.application.Reads as application
 use Rattle.replayer.proofs.application.Kinds as application-kinds
 use Rattle.replayer.proofs.+application_edge_list.Lts-application as application-lts
@@ -174,9 +174,9 @@ application-edge-list-requires t c κs =
     let taken = at-taken2.taken2.given.1 in
     let opened = row_opened start.args.st.now pre.3 at-open-row.open_row.new.1.1.1.0 _ _ _
     at-open-row.open_row.ensures in
-    let sized = taken-sized _ _ _ _ _ p pre.1 inside _ line _ fields _ answer _ taken in
+    let sized = taken_sized _ _ _ _ _ p pre.1 inside _ line _ fields _ answer _ taken in
     let few = edges_small _ _ pre.0.grammar (ruled _ _ _ sized) in (
-      omega (arith, given.0, opened-falls _ _ _ _ _ p pre.1 inside _ line _ fields _ answer _ taken _ opened few),
+      omega (arith, given.0, opened_falls _ _ _ _ _ p pre.1 inside _ line _ fields _ answer _ taken _ opened few),
       (pre.0, sized, opened_rows _ p pre.1 inside _ _ opened, at-open-row.open_row.auto.1.1.1.0 ∙ pre.3),
     )
 
@@ -189,7 +189,7 @@ application-returns-2 t c =
     let at-if1 = at-next-line.before in
     let start = at-if1.before.before.before.before.before.before in
     let pre = start.requires.1 in
-    applied-refused _ _ _ _ _ (progress_in true start.args.st.now) pre.1 at-if1.if1.false _
+    applied_refused _ _ _ _ _ (progress_in true start.args.st.now) pre.1 at-if1.if1.false _
     at-next-line.next-line.ensures.contents _ at-read-row.read-row.ensures.1 _
     after-taken.taken.ensures _ c.enum_told.given.1 refl
 
@@ -220,9 +220,9 @@ application-returns-3 t c =
     let taken = at-taken2.taken2.given.1 in
     let opened = row_opened start.args.st.now pre.3 at-open-row.open_row.new.1.1.1.0 _ _ _
     at-open-row.open_row.ensures in
-    let sized = taken-sized _ _ _ _ _ p pre.1 inside _ line _ fields _ answer _ taken in
+    let sized = taken_sized _ _ _ _ _ p pre.1 inside _ line _ fields _ answer _ taken in
     let few = edges_small _ _ pre.0.grammar (ruled _ _ _ sized) in
-    applied-opened _ _ _ _ _ p pre.1 inside _ line _ fields _ answer _ taken _ opened few _
+    applied_opened _ _ _ _ _ p pre.1 inside _ line _ fields _ answer _ taken _ opened few _
     after-edge-list.edge-list.ensures
 
 edge-list-part-at-requires : (t : ℕ)
@@ -250,7 +250,7 @@ edge-list-returns t c =
     let at_part = c.before.before.before.before in
     let at-part-at = at_part.before.before in
     let start = at-part-at.before.before.before.before.before.before in
-    followed-refused _ _ _ _ start.requires.1.1 _ _ _ (sym at-part-at.part_at.ensures ∙ at_part.part.given.1) _
+    followed_refused _ _ _ _ start.requires.1.1 _ _ _ (sym at-part-at.part_at.ensures ∙ at_part.part.given.1) _
     c.before.edge-passes.ensures _ (not-true _ c.if1.true) refl
 
 edge-list-use-edge-requires : (t : ℕ)
@@ -290,7 +290,7 @@ edge-list-edge-list-requires t c κs =
       omega (
         arith,
         given.0,
-        used-falls _ _ start.args.text.now _ pre.1 _ (progress_in true st) _ part _
+        used_falls _ _ start.args.text.now _ pre.1 _ (progress_in true st) _ part _
             at-edge-passes.edge-passes.ensures (not-false _ at-if1.if1.false) _ used,
       ),
       (pre.0, pre.1, used_rows _ (progress_in true st) _ pre.2 _ used, at-use-edge.use-edge.auto.0 ∙ pre.3),
@@ -308,7 +308,7 @@ edge-list-returns-2 t c =
     let at-part-at = at-part2.before.before in
     let start = at-part-at.before.before.before.before.before.before in
     let part = sym at-part-at.part_at.ensures ∙ at-part2.part2.given.1 in
-    followed-unnumbered _ _ _ _ start.requires.1.1 _ _ _ _ part _ c.if2.true refl
+    followed_unnumbered _ _ _ _ start.requires.1.1 _ _ _ _ part _ c.if2.true refl
 
 edge-list-list-nodes-requires : (t : ℕ)
     → edge-list-lts.Need-list-nodes-requires (edge-list-calls t) (edge-list-at t) edge-list.Post
@@ -332,7 +332,7 @@ edge-list-application-requires t c κs =
       omega (
         arith,
         given.0,
-        under-falls _ _ start.args.text.now _ pre.1 _
+        under_falls _ _ start.args.text.now _ pre.1 _
             (progress_in true start.args.st.now) _ _ part,
       ),
       (pre.0, pre.2, four_length _ _ after-list-nodes.list-nodes.ensures, pre.3),
@@ -352,9 +352,9 @@ edge-list-returns-3 t c =
     let pre = start.requires.1 in
     let part = sym at-part-at.part_at.ensures ∙ at-part2.part2.given.1 in
     let own = of_row _ _ _ _ _ part in
-    let nodes = listed-take _ _ pre.0.grammar (ruled _ _ _ pre.1) _ own.known _ _ own.symbol
+    let nodes = listed_take _ _ pre.0.grammar (ruled _ _ _ pre.1) _ own.known _ _ own.symbol
     at-list-nodes.list-nodes.ensures in
-    followed-under-failed _ _ _ _ pre.1 _ _ _ _ part at-if2.if2.false _ nodes _
+    followed_under_failed _ _ _ _ pre.1 _ _ _ _ part at-if2.if2.false _ nodes _
     at-application.application.ensures (not-true _ c.if3.true) _ refl
 
 edge-list-add-edge-list-2 : (t : ℕ)
@@ -380,12 +380,12 @@ edge-list-edge-list-requires-2 t c κs =
     let pre = given.1 in
     let part = sym at-part-at.part_at.ensures ∙ at-part2.part2.given.1 in
     let own = of_row _ _ _ _ _ part in
-    let nodes = listed-take _ _ pre.0.grammar (ruled _ _ _ pre.1) _ own.known _ _ own.symbol
+    let nodes = listed_take _ _ pre.0.grammar (ruled _ _ _ pre.1) _ own.known _ _ own.symbol
     at-list-nodes.list-nodes.ensures in
     let passed = not-false _ c.before.if3.false in
     let under = applied_passing _ _ _ _ _ _ _ at-application.application.new.1.1.1.1.1.0 passed
     at-application.application.ensures in (
-      omega (arith, given.0, after-falls _ _ _ _ pre.1 _ _ _ _ part at-if2.if2.false _ nodes _ under refl),
+      omega (arith, given.0, after_falls _ _ _ _ pre.1 _ _ _ _ part at-if2.if2.false _ nodes _ under refl),
       (
         pre.0,
         pre.1,
@@ -420,7 +420,7 @@ edge-list-returns-5 t c =
     let st = start.args.st.now in
     let part = sym at-part-at.part_at.ensures ∙ at_part.part.given.1 in
     let used = edge_used st pre.3 at-use-edge.use-edge.new.0 _ at-use-edge.use-edge.ensures in
-    followed-edge _ _ _ _ pre.1 _ (progress_in true st) _ part _ at-edge-passes.edge-passes.ensures
+    followed_edge _ _ _ _ pre.1 _ (progress_in true st) _ part _ at-edge-passes.edge-passes.ensures
     (not-false _ at-if1.if1.false) _ used _ after-edge-list.edge-list.ensures
 
 edge-list-same-length-3 : (t : ℕ) → edge-list-lts.Need-same-length-3 (edge-list-calls t) (edge-list-at t) edge-list.Post
@@ -441,12 +441,12 @@ edge-list-returns-6 t c =
     let pre = start.requires.1 in
     let part = sym at-part-at.part_at.ensures ∙ at-part2.part2.given.1 in
     let own = of_row _ _ _ _ _ part in
-    let nodes = listed-take _ _ pre.0.grammar (ruled _ _ _ pre.1) _ own.known _ _ own.symbol
+    let nodes = listed_take _ _ pre.0.grammar (ruled _ _ _ pre.1) _ own.known _ _ own.symbol
     at-list-nodes.list-nodes.ensures in
     let passed = not-false _ at-if3.if3.false in
     let under = applied_passing _ _ _ _ _ _ _ at-application.application.new.1.1.1.1.1.0 passed
     at-application.application.ensures in
-    followed-under _ _ _ _ pre.1 _ _ _ _ part at-if2.if2.false _ nodes _ under refl _
+    followed_under _ _ _ _ pre.1 _ _ _ _ part at-if2.if2.false _ nodes _ under refl _
     c.before.before.edge-list2.ensures
 
 pub +application-edge-list-spec : {M : Type 1} → statement M

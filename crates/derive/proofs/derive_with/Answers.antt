@@ -1,0 +1,13 @@
+-- What is printed is a part of the output.
+use borrow.Author.Rules.{rules}
+use Rattle.driver.proofs.PrintLaws.{prints_front}
+use Rattle.derive.proofs.derive_with.Goals as goal
+
+slice-aggregate-read-file : tie.Need-slice-aggregate-read-file
+slice-aggregate-read-file c = search rules
+
+pub slice_bounds-out-end : goal.slice_bounds-out-end
+slice_bounds-out-end c = (prints_front _ _ _ _ c.derive-count.ensures).0
+
+pub slice_bounds-print-end : goal.slice_bounds-print-end
+slice_bounds-print-end c = (prints_front _ _ _ _ c.derive-count.ensures).1

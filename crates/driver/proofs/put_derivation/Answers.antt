@@ -1,0 +1,9 @@
+-- The text, then the line behind it.
+use borrow.Author.Rules.{rules}
+use Rattle.driver.proofs.PrintLaws.{prints_steps}
+use Rattle.driver.proofs.put_derivation.Goals as goal
+
+pub returns : goal.returns
+returns c = prints_steps c.args.text.now
+    _ _ _ _ _ c.requires (search rules) c.copy.ensures
+    c.write_number.ensures.0 c.write_number.ensures.1

@@ -1,0 +1,11 @@
+use Rattle.hrg.specs.Grammars.{right_of}
+use Rattle.questions.specs.Abstract.{grammar_of}
+use Rattle.extractor.proofs.ListLaws.{PushedFrom}
+use Rattle.extractor.proofs.listing.push_parts.Given as goal
+
+abbrev pub invariant-loop-i : goal.invariant-loop-i
+invariant-loop-i l = PushedFrom (grammar_of l.grammar) l.bs
+    (right_of (grammar_of l.grammar) l.r).edges l.initial.list l.list l.i l.t l.initial.i
+
+abbrev pub decreases-loop-i : goal.decreases-loop-i
+decreases-loop-i l = l.i

@@ -1,0 +1,23 @@
+-- An unknown rule has no node, a known one has those of its table line.
+use native.Mathlib.Omega.{arith}
+use Rattle.joins.proofs.Known.{grammar_long, rule_there}
+use Rattle.extractor.proofs.RuleLookup.{nodes_none, nodes_some}
+use Rattle.extractor.proofs.lookup.node_count.Goals as goal
+
+pub rule_count_in-requires : goal.rule_count_in-requires
+rule_count_in-requires c = omega (arith, grammar_long _ c.requires)
+
+pub returns-then-rule_count_in-r : goal.returns-then-rule_count_in-r
+returns-then-rule_count_in-r c = nodes_none _ _ _ c.rule_count_in.ensures c.if-rule_count_in-r.true
+
+pub rule_nodes_in-requires : goal.rule_nodes_in-requires
+rule_nodes_in-requires c =
+    let count = c.rule_count_in.ensures in
+    let known = c.if-rule_count_in-r.false in
+    rule_there _ _ c.requires (omega (arith, count, known))
+
+pub returns : goal.returns
+returns c =
+    let count = c.rule_count_in.ensures in
+    let known = c.if-rule_count_in-r.false in
+    nodes_some _ _ _ count _ c.requires known c.rule_nodes_in.ensures

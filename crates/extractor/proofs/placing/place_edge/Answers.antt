@@ -1,0 +1,52 @@
+-- The nodes of a graph edge are the first of its four places.
+use native.Mathlib.Omega.{arith}
+use mathlib.Core.Path.{sym, ap, ◌∙◌}
+use mathlib.Core.List.{List}
+use Prim.Native.Nat.{ℕ}
+use lib.ListN.{take}
+use lib.Seq.{length-take-le}
+use Rattle.hrg.specs.Trees.{padded}
+use Rattle.hrg.specs.Items.{joined, attach}
+use Rattle.questions.specs.Layout.{rank_at, rule_nodes, edge_label}
+use Rattle.joins.specs.Joins.{edge_nodes}
+use Rattle.joins.proofs.Known.{graph_edge_there}
+use Rattle.joins.proofs.GraphLaws.{label_few}
+use Rattle.extractor.proofs.PlaceLaws.{part_edge}
+use Rattle.extractor.proofs.placing.place_edge.Goals as goal
+
+pub graph_label_in-requires : goal.graph_label_in-requires
+graph_label_in-requires c =
+    let pre = c.requires in
+    graph_edge_there _ _ _ pre.0 pre.2
+
+pub rank_of-rank-requires : goal.rank_of-rank-requires
+rank_of-rank-requires c =
+    let pre = c.requires in
+    (pre.0.grammar, label_few _ _ pre.0 _ pre.2 _ c.graph_label_in.ensures)
+
+pub nodes_of-nodes-requires : goal.nodes_of-nodes-requires
+nodes_of-nodes-requires c =
+    let pre = c.requires in
+    graph_edge_there _ _ _ pre.0 pre.2
+
+pub slice_bounds-place_nodes-end : goal.slice_bounds-place_nodes-end
+slice_bounds-place_nodes-end c =
+    let few = c.rank_of-rank.ensures.1 in
+    sym (length-take-le _ c.nodes_of-nodes.result (omega (arith, few, c.nodes_of-nodes.type-inv)))
+
+pub returns : goal.returns
+returns c =
+    let args = c.args in
+    let known = c.requires.2 in
+    let g = args.grammar.now in
+    let n = rule_nodes g args.r in
+    let nodes = edge_nodes g args.r args.i in
+    let rank = rank_at g (edge_label g args.r args.i) in
+    let label = c.graph_label_in.ensures in
+    let ranked = c.rank_of-rank.ensures.0 ∙ ap (rank_at g) label in
+    let four = c.nodes_of-nodes.ensures in
+    let f = args.f.now in
+    c.place_nodes.ensures
+    ∙ ap
+    (λ (l : List ℕ). padded (joined n f (attach n nodes (take rank l))))
+    (part_edge g args.graph.now _ _ _ known ranked four)

@@ -1,0 +1,16 @@
+-- A nonterminal edge stands on the nodes of its record, a terminal one on those of its graph edge, on none past the
+-- end.
+use Rattle.extractor.proofs.PlaceLaws.{placed_record, placed_edge, placed_past}
+use Rattle.extractor.proofs.placing.place_part.Goals as goal
+
+pub returns-then-is_nonterminal : goal.returns-then-is_nonterminal
+returns-then-is_nonterminal c = placed_record _ _ _ _ _ _ c.requires.1 _ c.is_nonterminal.ensures
+    _ _ c.if-is_nonterminal.true c.place_record.ensures
+
+pub returns-then-graph_edges-b : goal.returns-then-graph_edges-b
+returns-then-graph_edges-b c = placed_past _ _ _ _ _ _ c.requires.1 _ c.is_nonterminal.ensures _ _ c.requires.2
+    c.requires.3 c.if-is_nonterminal.false c.graph_edges.ensures c.if-graph_edges-b.true
+
+pub returns : goal.returns
+returns c = placed_edge _ _ _ _ _ _ c.requires.1 _ c.is_nonterminal.ensures
+    _ _ c.if-is_nonterminal.false c.place_edge.ensures

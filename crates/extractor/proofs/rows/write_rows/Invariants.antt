@@ -1,0 +1,14 @@
+use Prim.Native.Nat.{◌-◌}
+use mathlib.Core.Path.{◌≡◌}
+use lib.ListN.{length, take}
+use Rattle.questions.specs.Abstract.{grammar_of, graph_of}
+use Rattle.extractor.proofs.TextLaws.{Written}
+use Rattle.extractor.proofs.rows.write_rows.Given as goal
+
+abbrev pub invariant-loop-k : goal.invariant-loop-k
+invariant-loop-k l = Written l.chart
+    (grammar_of l.grammar) (graph_of l.grammar l.graph) (take l.n l.list) l.sizes l.initial.at l.fields l.k l.initial.k × (length l.at ≡ 18) ×
+    (length l.fields ≡ length l.initial.sizes)
+
+abbrev pub decreases-loop-k : goal.decreases-loop-k
+decreases-loop-k l = l.k

@@ -1,0 +1,19 @@
+use Prim.Native.Nat.{ℕ, ◌-◌, ◌≤◌}
+use mathlib.Core.Path.{◌≡◌}
+use lib.ListN.{length}
+use Prim.Native.Nat.{ℕ, ◌-◌, ◌≤◌}
+use mathlib.Core.Path.{◌≡◌}
+use mathlib.Core.List.{List}
+use lib.ListN.{length}
+use Rattle.agenda.specs.declared.Record.{Record}
+use Rattle.records.specs.Words.{records_at}
+use Rattle.index.specs.Index.{index_words, Indexed, Covered}
+use Rattle.index.proofs.cover_all.Given as goal
+
+abbrev pub invariant-loop-j : goal.invariant-loop-j
+invariant-loop-j l = (l.j ≤ l.index) × (length l.initial.j ≡ index_words) × Covered l.g l.h l.initial.j
+    (records_at l.chart l.j) × ((keys ls : List ℕ) (rs : List Record) → Indexed keys l.initial.index ls rs → Indexed keys l.initial.j ls
+    rs)
+
+abbrev pub decreases-loop-j : goal.decreases-loop-j
+decreases-loop-j l = l.index - l.j

@@ -1,0 +1,31 @@
+-- First the words of edges, then those of groups, and the one of external nodes.
+use native.Mathlib.Omega.{arith}
+use mathlib.Core.Path.{sym, subst}
+use mathlib.Core.List.{List}
+use Prim.Native.Nat.{ℕ}
+use Rattle.joins.specs.Graphs.{Indexed}
+use Rattle.joins.proofs.Known.{graph_edges_few}
+use Rattle.joins.proofs.GraphLaws.{indexed_none, table_is}
+use Rattle.joins.proofs.graphs.fill.Goals as goal
+
+pub mark_edges-requires : goal.mark_edges-requires
+mark_edges-requires c = (
+  c.requires.0,
+  subst (λ (t : List ℕ). Indexed c.args.g.now
+      c.args.h.now t 0) (sym c.requires.1)
+      (indexed_none c.args.g.now
+      c.args.h.now),
+)
+
+pub edge_sets-sets-requires : goal.edge_sets-sets-requires
+edge_sets-sets-requires c = graph_edges_few _ _ c.requires.0
+
+pub put_groups-requires : goal.put_groups-requires
+put_groups-requires c = (graph_edges_few _ _ c.requires.0, c.mark_edges.ensures.size)
+
+pub bounds-t-256 : goal.bounds-t-256
+bounds-t-256 c = omega (arith, c.put_groups.ensures.size)
+
+pub returns : goal.returns
+returns c = table_is _ _ _ _ _ _ c.requires.0 c.mark_edges.ensures c.edge_sets-sets.ensures
+    c.put_groups.ensures c.graph_externals-externals.ensures

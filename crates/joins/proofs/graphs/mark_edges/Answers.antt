@@ -1,0 +1,22 @@
+-- The edges passed are in their words.
+use native.Mathlib.Omega.{arith}
+use Prim.Native.Nat.{◌-◌}
+use Rattle.joins.proofs.GraphLaws.{indexed_all}
+use Rattle.joins.proofs.graphs.mark_edges.Goals as goal
+
+pub loop-e-init : goal.loop-e-init
+loop-e-init c = (omega arith, c.requires.1)
+
+pub mark_edge-requires : goal.mark_edge-requires
+mark_edge-requires c = (
+  c.requires.0,
+  omega (arith, c.graph_edges-n.ensures, c.loop-e-test.true),
+  c.loop-e.invariant.1,
+)
+
+pub loop-e-preserved : goal.loop-e-preserved
+loop-e-preserved c = (omega arith, c.mark_edge.ensures)
+
+pub returns : goal.returns
+returns c = indexed_all _ _ _ _ _ c.graph_edges-n.ensures c.loop-e.invariant.0
+    c.loop-e-test.false c.loop-e.invariant.1

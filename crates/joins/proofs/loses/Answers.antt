@@ -1,0 +1,27 @@
+-- No place passed has an open node.
+use mathlib.Core.Path.{refl, sym, ◌∙◌}
+use mathlib.Core.Logic.{⊎_elim}
+use native.Mathlib.Omega.{arith}
+use Rattle.joins.proofs.Dropping.{passed_none, passed_next, passed_bare, passed_lost, passed_all}
+use Rattle.joins.proofs.loses.Goals as goal
+
+pub loop-rest-init : goal.loop-rest-init
+loop-rest-init c = passed_none _ _ _
+
+pub returns-then-lost : goal.returns-then-lost
+returns-then-lost c = passed_lost _ _ _ _ c.ranges.w.fits
+    c.loop-rest.invariant c.loop-rest-test.true _ refl
+    _ c.lost.ensures c.if-lost.true
+
+pub loop-rest-smaller : goal.loop-rest-smaller
+loop-rest-smaller c = let t = c.loop-rest-test.true in omega arith
+
+pub loop-rest-preserved : goal.loop-rest-preserved
+loop-rest-preserved c =
+    let small = c.ranges.w.fits in
+    let before = c.loop-rest.invariant in
+    ⊎_elim (λ p. passed_next _ _ _ _ small before _ refl (sym p.1.ensures ∙ p.2.left))
+    (λ p. passed_bare _ _ _ _ small before _ refl p.left) c.if-v-lt64.branch
+
+pub returns : goal.returns
+returns c = passed_all _ _ _ _ c.ranges.w.fits c.loop-rest.invariant c.loop-rest-test.false

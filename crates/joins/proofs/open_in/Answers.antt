@@ -1,0 +1,7 @@
+-- The nodes of both sides, and the external nodes that the table has.
+use Rattle.joins.proofs.GraphLaws.{open_touched}
+use Rattle.joins.proofs.open_in.Goals as goal
+
+pub returns : goal.returns
+returns c = open_touched _ _ _ _ _ _ c.touched-s.ensures
+    c.requires.1.externals c.boundary.ensures

@@ -1,0 +1,72 @@
+-- The places so far; those of rules that are not there stay as they are.
+use native.Mathlib.Omega.{arith}
+use Prim.Native.Nat.{◌+◌, ◌*◌, ◌-◌, ◌<◌}
+use mathlib.Core.Path.{ap, sym, subst}
+use mathlib.Core.Logic.{⊎_elim}
+use Rattle.rules.proofs.WantLaws.{rules_few}
+use Rattle.pivots.proofs.TableLaws.{Filled, filled_none, filled_idle, filled_more, filled_all}
+use Rattle.pivots.proofs.fill.Goals as goal
+
+pub overflow_mul-n : goal.overflow_mul-n
+overflow_mul-n c = omega (arith, rules_few _ c.requires.0, c.rule_count-n.ensures)
+
+pub loop-i-init : goal.loop-i-init
+loop-i-init c = (
+  omega arith,
+  subst (λ t. Filled c.args.g.now t 0)
+      (sym c.requires.2) (filled_none _),
+)
+
+pub want_of-want-requires : goal.want_of-want-requires
+want_of-want-requires c = (
+  c.requires.0,
+  c.requires.1,
+)
+
+pub pivot-w-requires : goal.pivot-w-requires
+pivot-w-requires c = (c.requires.0, c.requires.1)
+
+pub enter-requires : goal.enter-requires
+enter-requires c = (
+  c.loop-i.invariant.1.size,
+  omega (
+    arith,
+    rules_few _ c.requires.0,
+    c.rule_count-n.ensures,
+    c.loop-i-test.true,
+  ),
+  c.pivot-w.ensures.small,
+)
+
+pub overflow_add-i : goal.overflow_add-i
+overflow_add-i c = omega (arith, rules_few _ c.requires.0, c.rule_count-n.ensures, c.loop-i-test.true)
+
+pub loop-i-smaller : goal.loop-i-smaller
+loop-i-smaller c = omega (arith, c.loop-i-test.true)
+
+pub loop-i-preserved : goal.loop-i-preserved
+loop-i-preserved c = (
+  omega (arith, c.loop-i-test.true),
+  let low : c.loop-i.i < 1024 = omega (
+    arith,
+    rules_few _ c.requires.0,
+    c.rule_count-n.ensures,
+    c.loop-i-test.true,
+  ) in
+      ⊎_elim
+      (λ w. subst (λ t. Filled c.args.g.now t (c.loop-i.i + 1)) (sym w.6)
+      (filled_more _ _ _ _ c.loop-i.invariant.1 low (omega arith) _ c.want_of-want.ensures
+      _ w.1.ensures _ w.3.ensures))
+      (λ w. subst (λ t. Filled c.args.g.now t (c.loop-i.i + 1)) (sym w.1)
+      (filled_idle _ _ _ _ c.loop-i.invariant.1 low (omega arith) _ c.want_of-want.ensures
+      w.0.left))
+      c.if-want-ne80.branch,
+)
+
+pub fill_places-requires : goal.fill_places-requires
+fill_places-requires c = c.loop-i.invariant.1.size
+
+pub returns : goal.returns
+returns c = filled_all _ c.requires.0 _ (16 * c.rule_count-n.result)
+    _ (ap (λ k. 16 * k) c.rule_count-n.ensures) c.loop-i-test.false
+    c.loop-i.invariant.1 _ c.fill_places.ensures

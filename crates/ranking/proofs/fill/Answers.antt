@@ -1,0 +1,59 @@
+use native.Mathlib.Omega.{arith}
+use Prim.Native.Nat.{ℕ, ◌+◌, ◌-◌}
+use mathlib.Core.Path.{sym, ◌∙◌}
+use mathlib.Core.Path.{subst}
+use mathlib.Core.List.{List}
+use mathlib.Core.Logic.{⊎_elim}
+use borrow.Author.Tests.{not-true, not-false}
+use Rattle.records.specs.Words.{records_at}
+use Rattle.records.proofs.WordLaws.{item_inside}
+use Rattle.ranking.specs.Ranking.{Ranked}
+use Rattle.ranking.proofs.Orders.{next_waits, next_handled, ranked_first, ranked_all, fresh_order}
+use Rattle.ranking.proofs.SetLaws.{ranked_still}
+use Rattle.ranking.proofs.fill.Goals as goal
+
+pub loop-j-init : goal.loop-j-init
+loop-j-init c = (omega arith, ranked_first _ _ c.requires.0)
+
+pub is_handled-requires : goal.is_handled-requires
+is_handled-requires c = item_inside c.args.chart.now
+    c.loop-j.j (omega (arith, c.loop-j-test.true, c.item_count-n.ensures))
+
+pub count_at-requires : goal.count_at-requires
+count_at-requires c = item_inside c.args.chart.now c.loop-j.j
+    (omega (arith, c.loop-j-test.true, c.item_count-n.ensures))
+
+pub insert-requires : goal.insert-requires
+insert-requires c = (
+  c.loop-j.invariant.1.size,
+  omega (
+    arith,
+    c.loop-j-test.true,
+    c.requires.1,
+    c.item_count-n.ensures,
+  ),
+)
+
+pub loop-j-preserved : goal.loop-j-preserved
+loop-j-preserved c =
+    let w = c.args.chart.now in
+    let l = c.loop-j in
+    let now = records_at w l.j in
+    let next = records_at w (l.j + 1) in
+    ⊎_elim (λ p. (
+      omega arith,
+      subst (λ (r : List ℕ). Ranked r next) (sym p.6)
+          (p.3.ensures now next l.invariant.1 (fresh_order w l.j)
+          (next_waits w l.j _ (sym c.is_handled.ensures ∙ not-true _ p.0.taken) p.2.ensures)),
+    ))
+    (λ p. (
+      omega arith,
+      subst (λ (r : List ℕ). Ranked r next) (sym p.1)
+          (ranked_still l.ranks l.j now next l.invariant.1 (fresh_order w l.j)
+          (next_handled w l.j (sym c.is_handled.ensures ∙ not-false _ p.0.left))),
+    )) c.if-not-is_handled.branch
+
+pub returns : goal.returns
+returns c = ranked_all c.args.chart.now c.loop-j.ranks
+    c.item_count-n.result c.loop-j.j c.item_count-n.ensures
+    c.loop-j.invariant.0 c.loop-j-test.false c.loop-j.invariant.1

@@ -1,0 +1,24 @@
+-- Every line but none is missing at the end of a text.
+use mathlib.Core.Path.{◌≡◌, refl}
+use mathlib.Core.List.{[], ◌∷◌}
+use types.Run.{OneOf, miss}
+use denote.Enum.Declared.{tag_of}
+use Rattle.questions.specs.contracts.Due.{the_type}
+use Rattle.questions.specs.declared.Due.{Due}
+use Rattle.questions.specs.declared.Due.TheVariants.{Grammar, Symbol, Rule, RuleEdge, PlanLine, Graph, GraphEdge, Nothing}
+use Rattle.readers.specs.Readers.{missing}
+use Rattle.readers.proofs.missing_line.Goals as goal
+
+-- what the other arms leave
+some-line : (due : Due) → OneOf (0 ∷ 1 ∷ 2 ∷ 3 ∷ 4 ∷ 5 ∷ 6 ∷ []) (tag_of the_type due) → 2 ≡ missing due
+some-line Nothing h = absurd (miss (0 ∷ 1 ∷ 2 ∷ 3 ∷ 4 ∷ 5 ∷ 6 ∷ []) 7 tt h)
+some-line Grammar h = refl
+some-line (Symbol s) h = refl
+some-line (Rule r) h = refl
+some-line (RuleEdge r i) h = refl
+some-line (PlanLine r q) h = refl
+some-line Graph h = refl
+some-line (GraphEdge e) h = refl
+
+pub returns-in_default : goal.returns-in_default
+returns-in_default c = some-line c.args.due c.in_default.keys2

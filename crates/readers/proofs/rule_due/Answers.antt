@@ -1,0 +1,14 @@
+-- Whether a line of this kind is due, by what is.
+use mathlib.Core.Path.{sym, ap}
+use lib.Dec.{eqb}
+use Rattle.format.specs.Shape.{kind_letter}
+use Rattle.questions.specs.Layout.{letter_due}
+use Rattle.readers.proofs.Letters.{not_rule}
+use Rattle.readers.proofs.rule_due.Goals as goal
+
+pub returns-in-Rule : goal.returns-in-Rule
+unfolding kind_letter letter_due
+returns-in-Rule c = sym (ap (λ d. eqb 82 (kind_letter (letter_due d))) c.in-Rule.is)
+
+pub returns-in_default : goal.returns-in_default
+returns-in_default c = not_rule c.args.due c.in_default.keys2

@@ -1,0 +1,14 @@
+-- Whether a line of this kind is due, by what is.
+use mathlib.Core.Path.{sym, ap}
+use lib.Dec.{eqb}
+use Rattle.format.specs.Shape.{kind_letter}
+use Rattle.questions.specs.Layout.{letter_due}
+use Rattle.readers.proofs.Letters.{not_symbol}
+use Rattle.readers.proofs.symbol_due.Goals as goal
+
+pub returns-in-Symbol : goal.returns-in-Symbol
+unfolding kind_letter letter_due
+returns-in-Symbol c = sym (ap (λ d. eqb 83 (kind_letter (letter_due d))) c.in-Symbol.is)
+
+pub returns-in_default : goal.returns-in_default
+returns-in_default c = not_symbol c.args.due c.in_default.keys2

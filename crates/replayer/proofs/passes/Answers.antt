@@ -1,0 +1,32 @@
+-- A text without rows, a replay that fails, and one that is whole or not.
+use native.Mathlib.Omega.{arith}
+use mathlib.Core.Path.{refl, sym, ◌∙◌}
+use borrow.Author.Tests.{not-true, not-false}
+use Rattle.joins.proofs.Known.{graph_nodes_few, graph_edges_few}
+use Rattle.replayer.proofs.Verdicts.{none_refused, failed_answer, whole_answer}
+use Rattle.replayer.proofs.passes.Goals as goal
+
+pub returns-then-n-eq0 : goal.returns-then-n-eq0
+returns-then-n-eq0 c = sym (none_refused _ _ _ (sym c.row_count-n.ensures ∙ c.if-n-eq0.true))
+
+pub from_start-requires : goal.from_start-requires
+from_start-requires c = (c.requires, omega (arith, c.row_count-n.ensures), refl)
+
+pub returns-then-not-from_start : goal.returns-then-not-from_start
+returns-then-not-from_start c = sym (failed_answer _ _ _ _ c.row_count-n.ensures c.if-n-eq0.false _
+    c.from_start.new.st c.from_start.ensures
+    (not-true _ c.if-not-from_start.true))
+
+pub is_whole-requires : goal.is_whole-requires
+is_whole-requires c =
+    let args = c.args in
+    let accepted = c.requires in (
+      graph_nodes_few args.grammar.now args.graph.now accepted,
+      graph_edges_few args.grammar.now args.graph.now accepted,
+      c.from_start.auto.st,
+    )
+
+pub returns : goal.returns
+returns c = sym (whole_answer _ _ _ _ c.row_count-n.ensures c.if-n-eq0.false _
+    c.from_start.new.st c.from_start.ensures
+    (not-false _ c.if-not-from_start.false) _ c.is_whole.ensures)

@@ -1,0 +1,43 @@
+-- A passive item and one that wants no symbol have none; the others those of the label outside their set, place by
+-- place.
+use Prim.Native.Nat.{◌<◌, ◌^◌}
+use borrow.Author.Tests.{lt-ltb}
+use borrow.Author.Rules.{rules}
+use Rattle.rules.proofs.Inside.{node_inside}
+use Rattle.rules.proofs.CandidateLaws.{candidates_passive, candidates_none, candidates_nowhere, introduces, candidates_first}
+use Rattle.rules.proofs.candidates.Goals as goal
+
+pub returns-then-x-ne0 : goal.returns-then-x-ne0
+returns-then-x-ne0 c = candidates_passive _ _ c.requires.0.accepted _ c.if-x-ne0.true
+
+pub returns-then-want-ge64 : goal.returns-then-want-ge64
+returns-then-want-ge64 c =
+    let pre = c.requires in
+    candidates_none _ _ pre.0.accepted _ c.if-x-ne0.false _ pre.1 c.if-want-ge64.true
+
+pub returns-then-q-ge16 : goal.returns-then-q-ge16
+returns-then-q-ge16 c =
+    let pre = c.requires in
+    let is_active = c.if-x-ne0.false in
+    let near = c.if-want-ge64.false in
+    candidates_nowhere _ _ pre.0.accepted _ is_active _ pre.1 near _ c.parent_in-q.ensures
+    c.if-q-ge16.true
+
+pub plan_second_in-i-requires : goal.plan_second_in-i-requires
+plan_second_in-i-requires c = node_inside (c.parent_in-q.ensures.above.known
+    (lt-ltb _ _ c.if-q-ge16.false))
+
+pub fitting-requires : goal.fitting-requires
+fitting-requires c =
+    let x = c.args.x in
+    let small : x.edges < 2 ^ 64 = search rules in
+    let pre = c.requires in
+    let is_active = c.if-x-ne0.false in
+    let near = c.if-want-ge64.false in
+    let up = c.parent_in-q.ensures in
+    let found = c.if-q-ge16.false in (
+      introduces _ _ pre.0.accepted _ is_active _ pre.1 near _ up found
+          _ c.plan_second_in-i.ensures,
+      pre.0.graphed,
+      candidates_first _ _ pre.0.accepted _ is_active _ pre.1 near small _ pre.0.graphed,
+    )

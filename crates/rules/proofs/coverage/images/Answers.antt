@@ -1,0 +1,32 @@
+-- The set has the nodes of the chosen places passed.
+use native.Mathlib.Omega.{arith}
+use mathlib.Core.Logic.{⊎_elim}
+use mathlib.Core.Path.{subst}
+use Prim.Native.Nat.{◌-◌, ◌<◌}
+use lib.ListN.{length}
+use Rattle.places.specs.Words.{places_of}
+use Rattle.places.specs.Laws.{length_places}
+use Rattle.places.proofs.Reading.{places_packed}
+use Rattle.rules.proofs.CoverageLaws.{Imaged, imaged_none, imaged_more, imaged_skip, imaged_with}
+use Rattle.rules.proofs.coverage.images.Goals as goal
+
+pub loop-i-init : goal.loop-i-init
+loop-i-init c = (omega arith, imaged_none (places_of c.word_of-map.result) _ _)
+
+pub loop-i-preserved : goal.loop-i-preserved
+loop-i-preserved c =
+    let l = places_of c.word_of-map.result in
+    let before = c.loop-i.invariant.1 in
+    let inside : c.loop-i.i < length
+    l = omega (arith, length_places c.word_of-map.result) in (
+      omega arith,
+      ⊎_elim (λ w. imaged_with l _ _ _ _ _ _ _ inside c.has.ensures w.0.taken w.1.ensures.0
+          w.2.ensures w.3 before)
+          (λ w. imaged_skip l _ _ _ _ w.1 before) c.if-has.branch,
+    )
+
+pub returns : goal.returns
+returns c = subst (λ l. Imaged l c.args.chosen c.args.n
+    c.loop-i.set) (places_packed c.word_of-map.ensures)
+    (imaged_more (places_of c.word_of-map.result) _ _ _ _ c.loop-i.invariant.0
+    c.loop-i.invariant.1)

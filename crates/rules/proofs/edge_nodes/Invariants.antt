@@ -1,0 +1,13 @@
+use Prim.Native.Nat.{◌-◌, ◌≤◌}
+use mathlib.Core.Path.{◌≡◌}
+use Rattle.places.specs.Words.{places_of}
+use Rattle.questions.specs.Layout.{rank_at, graph_label, graph_node}
+use Rattle.joins.proofs.MapLaws.{Placed}
+use Rattle.rules.proofs.edge_nodes.Given as goal
+
+abbrev pub invariant-loop-k : goal.invariant-loop-k
+invariant-loop-k l =
+    (l.initial.k.rank ≡ rank_at l.initial.k.g (graph_label l.initial.k.h l.initial.k.e)) × (l.k ≤ rank_at l.initial.k.g (graph_label l.initial.k.h l.initial.k.e)) × Placed (λ k. graph_node l.initial.k.h l.initial.k.e k) l.k (places_of l.initial.k)
+
+abbrev pub decreases-loop-k : goal.decreases-loop-k
+decreases-loop-k l = l.initial.k.rank - l.k

@@ -1,0 +1,100 @@
+-- The children of the plan nodes passed are told; the masks are those of what lies below them.
+use native.Mathlib.Omega.{arith}
+use mathlib.Core.Path.{refl}
+use Prim.Native.Nat.{◌-◌}
+use Rattle.joins.proofs.Known.{plan_few}
+use Rattle.joins.proofs.PlanMasks.{masks_none, masks_more, set_size}
+use Rattle.rules.proofs.PlanLaws.{open_small, told_next, told_rule}
+use Rattle.rules.proofs.plans.fill_rule.Goals as goal
+
+pub loop-q-init : goal.loop-q-init
+loop-q-init c = (omega arith, masks_none _ _ _, refl, c.requires.2)
+
+pub node_below-m-requires : goal.node_below-m-requires
+node_below-m-requires c = (
+  record {
+    grammar = c.requires.0;
+    rule = c.requires.1;
+    node = omega (arith, c.rule_plan-n.ensures, c.loop-q-test.true);
+  },
+  c.loop-q.invariant.1,
+)
+
+pub offset_bounds-ms-q : goal.offset_bounds-ms-q
+offset_bounds-ms-q c = omega (
+  arith,
+  c.rule_plan-n.ensures,
+  c.loop-q-test.true,
+  plan_few _ _ c.requires.0 c.requires.1,
+)
+
+pub bounds-ms-q : goal.bounds-ms-q
+bounds-ms-q c = omega (
+  arith,
+  c.rule_plan-n.ensures,
+  c.loop-q-test.true,
+  plan_few _ _ c.requires.0 c.requires.1,
+)
+
+pub open_at-o-requires : goal.open_at-o-requires
+open_at-o-requires c = (
+  record {
+    grammar = c.requires.0;
+    rule = c.requires.1;
+    node = omega (arith, c.rule_plan-n.ensures, c.loop-q-test.true);
+  },
+  c.node_below-m.ensures,
+)
+
+pub put_children-requires : goal.put_children-requires
+put_children-requires c = (
+  record {
+    grammar = c.requires.0;
+    rule = c.requires.1;
+    node = omega (arith, c.rule_plan-n.ensures, c.loop-q-test.true);
+  },
+  c.loop-q.invariant.3.size,
+  open_small _ _ _ _ (record {
+    grammar = c.requires.0;
+    rule = c.requires.1;
+    node = omega (
+      arith,
+      c.rule_plan-n.ensures,
+      c.loop-q-test.true,
+    );
+  }) c.open_at-o.ensures c.open_at-o.type-inv,
+)
+
+pub overflow_add-q : goal.overflow_add-q
+overflow_add-q c = omega (
+  arith,
+  c.rule_plan-n.ensures,
+  c.loop-q-test.true,
+  plan_few _ _ c.requires.0 c.requires.1,
+)
+
+pub loop-q-preserved : goal.loop-q-preserved
+loop-q-preserved c = (
+  omega arith,
+  masks_more _ _ _ _ _ (omega (
+    arith,
+    c.loop-q.invariant.2,
+    c.rule_plan-n.ensures,
+    c.loop-q-test.true,
+    plan_few _ _ c.requires.0 c.requires.1,
+  )) c.loop-q.invariant.1
+      c.node_below-m.ensures,
+  set_size c.loop-q.ms c.loop-q.q
+      c.node_below-m.result _ c.loop-q.invariant.2,
+  told_next _ _ _ _ _ _ (record {
+    grammar = c.requires.0;
+    rule = c.requires.1;
+    node = omega (arith, c.rule_plan-n.ensures, c.loop-q-test.true);
+  })
+      c.open_at-o.ensures c.loop-q.invariant.3 c.put_children.ensures,
+)
+
+pub returns : goal.returns
+returns c = told_rule _ c.requires.0
+    _ _ _ _ c.requires.1 c.rule_plan-n.ensures
+    c.loop-q.invariant.0 c.loop-q-test.false c.loop-q.invariant.3

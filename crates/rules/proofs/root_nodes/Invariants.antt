@@ -1,0 +1,17 @@
+use Prim.Native.Nat.{◌-◌, ◌≤◌}
+use mathlib.Core.Path.{◌≡◌}
+use lib.ListN.{take}
+use Rattle.hrg.specs.Trees.{at}
+use Rattle.places.specs.Words.{places_of}
+use Rattle.questions.specs.Layout.{rank_at, rule_symbol, rule_nodes, rule_external}
+use Rattle.joins.proofs.MapLaws.{Placed}
+use Rattle.rules.proofs.root_nodes.Given as goal
+
+abbrev pub invariant-loop-k : goal.invariant-loop-k
+invariant-loop-k l =
+    (l.initial.k.rank ≡ rank_at l.initial.k.g (rule_symbol l.initial.k.g l.initial.k.r))
+    × (l.k ≤ rank_at l.initial.k.g (rule_symbol l.initial.k.g l.initial.k.r))
+    × Placed (λ k. at (take (rule_nodes l.initial.k.g l.initial.k.r) (places_of l.initial.k.map)) (rule_external l.initial.k.g l.initial.k.r k)) l.k (places_of l.initial.k)
+
+abbrev pub decreases-loop-k : goal.decreases-loop-k
+decreases-loop-k l = l.initial.k.rank - l.k

@@ -1,0 +1,46 @@
+-- What the tables give and the index are made, then the steps are done.
+use mathlib.Core.Path.{refl, sym}
+use Rattle.lists.proofs.ListLaws.{unlisted_zeros}
+use Rattle.index.proofs.IndexLaws.{empty_zeros}
+use Rattle.steps.proofs.ReadyLaws.{built_ready, count_small}
+use Rattle.steps.proofs.advance.Goals as goal
+
+pub fill-requires : goal.fill-requires
+fill-requires c = (
+  c.requires.accepted.grammar,
+  c.requires.planned,
+  refl,
+)
+
+pub fill-requires-2 : goal.fill-requires-2
+fill-requires-2 c = (c.requires.accepted, refl)
+
+pub build-requires : goal.build-requires
+build-requires c =
+    let p = c.requires in (
+      empty_zeros,
+      unlisted_zeros,
+      count_small _ p.small,
+      record { accepted = p.accepted; planned = p.planned; graphed = c.fill-2.ensures },
+    )
+
+pub slice_bounds-advance_by-end : goal.slice_bounds-advance_by-end
+slice_bounds-advance_by-end c = sym c.build.auto.lists
+
+pub slice_bounds-advance_by-end-2 : goal.slice_bounds-advance_by-end-2
+slice_bounds-advance_by-end-2 c = sym c.build.auto.index
+
+pub advance_by-requires : goal.advance_by-requires
+advance_by-requires c =
+    let p = c.requires in (
+      record {
+        accepted = p.accepted;
+        planned = p.planned;
+        keyed = c.fill.ensures;
+        graphed = c.fill-2.ensures;
+      },
+      built_ready _ _ _ _ _ _ _ p c.build.ensures.0 c.build.ensures.1,
+    )
+
+pub returns : goal.returns
+returns c = c.advance_by.ensures

@@ -1,0 +1,15 @@
+use Prim.Native.Nat.{◌-◌, ◌≤◌}
+use mathlib.Core.Path.{◌≡◌}
+use lib.ListN.{length}
+use Rattle.questions.specs.Abstract.{grammar_of, graph_of}
+use Rattle.steps.specs.Ready.{Ready}
+use Rattle.steps.proofs.RunLaws.{Ran}
+use Rattle.steps.proofs.advance_by.Given as goal
+
+abbrev pub invariant-loop-i : goal.invariant-loop-i
+invariant-loop-i l = (l.i ≤ l.lists) ×
+    (length l.index ≡ length l.initial.chart) × Ran (grammar_of l.g) (graph_of l.g l.h) l.initial.chart l.i l.index × (length l.initial.i ≡ length l.initial.lists) ×
+    Ready l.g l.h l.keys l.index l.initial.i l.steps × (length l.steps ≡ length l.chart)
+
+abbrev pub decreases-loop-i : goal.decreases-loop-i
+decreases-loop-i l = l.lists - l.i

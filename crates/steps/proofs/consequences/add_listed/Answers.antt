@@ -1,0 +1,97 @@
+-- The loop along one list (proofs/SingleLaws).
+use native.Mathlib.Omega.{arith}
+use mathlib.Core.Path.{refl, ap, ◌∙◌}
+use lib.ListN.{length}
+use mathlib.Core.Logic.{⊎_elim}
+use borrow.Author.Tests.{not-true, not-false}
+use Rattle.records.proofs.WordLaws.{item_inside}
+use Rattle.steps.proofs.ListedLaws.{quiet_by, loud_handled}
+use Rattle.steps.proofs.SingleLaws.{quiet, loud, single_key, single_few, single_start, single_joining, single_end, single_low, single_some, single_known, single_size, single_next, single_less}
+use Rattle.steps.proofs.consequences.add_listed.Goals as goal
+
+pub edges_at-edges-requires : goal.edges_at-edges-requires
+edges_at-edges-requires c = item_inside _ _ c.requires.0.handled.there
+
+pub overflow_mul-end : goal.overflow_mul-end
+overflow_mul-end c = omega (arith, single_few c.requires)
+
+pub first-c-requires : goal.first-c-requires
+first-c-requires c = (c.requires.0.ready.indexed.listed.size, single_key c.requires)
+
+pub loop-c-init : goal.loop-c-init
+loop-c-init c = (refl, refl, refl, single_start c.requires _ c.first-c.ensures)
+
+pub overflow_sub-k : goal.overflow_sub-k
+overflow_sub-k c = single_some c.requires c.loop-c.invariant.3 c.loop-c-test.true
+
+pub quiet-requires : goal.quiet-requires
+quiet-requires c =
+    let p = c.requires in
+    let l = c.loop-c in
+    let t = c.loop-c-test.true in (
+      single_known p l.invariant.3 t,
+      omega (
+        arith,
+        single_few p,
+        single_low p l.invariant.3 t,
+        single_some p l.invariant.3 t,
+      ),
+    )
+
+pub add_met-past-requires : goal.add_met-past-requires
+add_met-past-requires c =
+    let p = c.requires in
+    let A = c.loop-c.invariant.3 in (
+      single_joining p A,
+      record {
+        there = single_known p A c.loop-c-test.true;
+        done = loud_handled _ _ _ _ c.quiet.ensures (not-true _ c.if-not-quiet.true);
+      },
+    )
+
+pub after-c-requires : goal.after-c-requires
+after-c-requires c =
+    let p = c.requires in
+    let A = c.loop-c.invariant.3 in
+    let t = c.loop-c-test.true in
+    let own = c.edges_at-edges.ensures in
+    let q = c.quiet.ensures in (
+      single_size p A t (⊎_elim (λ w. loud _ _ _ _ w.11 w.13 w.12 w.14 w.4.ensures.0
+          w.4.ensures.1 w.4.ensures.2) (λ w. quiet (quiet_by _ _ _ _ _ own q (not-false _ w.0.left))
+          w.1 w.3 w.2 w.4) c.if-not-quiet.branch),
+      omega (arith, single_few p, single_low p A t),
+    )
+
+pub loop-c-smaller : goal.loop-c-smaller
+loop-c-smaller c =
+    let p = c.requires in
+    let A = c.loop-c.invariant.3 in
+    let t = c.loop-c-test.true in
+    let own = c.edges_at-edges.ensures in
+    let q = c.quiet.ensures in
+    single_less p A t _ c.after-c.ensures (⊎_elim (λ w. loud _ _ _ _ w.11 w.13 w.12 w.14
+    w.4.ensures.0 w.4.ensures.1 w.4.ensures.2)
+    (λ w. quiet (quiet_by _ _ _ _ _ own q (not-false _ w.0.left)) w.1 w.3 w.2 w.4)
+    c.if-not-quiet.branch)
+
+pub loop-c-preserved : goal.loop-c-preserved
+loop-c-preserved c =
+    let p = c.requires in
+    let l = c.loop-c in
+    let t = c.loop-c-test.true in
+    let own = c.edges_at-edges.ensures in
+    let q = c.quiet.ensures in
+    let came = c.if-not-quiet.branch in (
+      ⊎_elim (λ w. ap length w.11 ∙ w.4.kept.1.1.1.1.1.0 ∙ l.invariant.0) (λ w. ap length w.1 ∙ l.invariant.0)
+          came,
+      ⊎_elim (λ w. ap length w.12 ∙ w.4.kept.1.1.1.1.1.1.0 ∙ l.invariant.1)
+          (λ w. ap length w.2 ∙ l.invariant.1) came,
+      ⊎_elim (λ w. ap length w.13 ∙ w.4.kept.1.1.1.1.1.1.1.0 ∙ l.invariant.2)
+          (λ w. ap length w.3 ∙ l.invariant.2) came,
+      single_next p l.invariant.3 t _ c.after-c.ensures (⊎_elim
+          (λ w. loud _ _ _ _ w.11 w.13 w.12 w.14 w.4.ensures.0 w.4.ensures.1 w.4.ensures.2)
+          (λ w. quiet (quiet_by _ _ _ _ _ own q (not-false _ w.0.left)) w.1 w.3 w.2 w.4) came),
+    )
+
+pub returns : goal.returns
+returns c = (single_end c.requires c.loop-c.invariant.3 c.loop-c-test.false, c.loop-c.invariant.3.ready)

@@ -1,0 +1,64 @@
+-- What is made with the graph edges so far.
+use native.Mathlib.Omega.{arith}
+use Prim.Native.Nat.{◌-◌}
+use mathlib.Core.Path.{refl, ◌∙◌}
+use Rattle.records.proofs.WordLaws.{item_inside}
+use Rattle.steps.proofs.ReadyLaws.{run_tables}
+use Rattle.steps.proofs.CandidateSteps.{edges_skipped, edge_start, edge_handled, edge_candidates, edge_next, edge_end}
+use Rattle.steps.proofs.consequences.add_terminals.Goals as goal
+
+pub item_at-x-requires : goal.item_at-x-requires
+item_at-x-requires c = item_inside _ _ c.requires.2.there
+
+pub want_of-want-requires : goal.want_of-want-requires
+want_of-want-requires c = (c.requires.0.accepted.grammar, c.requires.0.planned)
+
+pub candidates-m-requires : goal.candidates-m-requires
+candidates-m-requires c = (run_tables c.requires.0, c.want_of-want.ensures)
+
+pub returns-then-m-eq0 : goal.returns-then-m-eq0
+returns-then-m-eq0 c = edges_skipped c.requires c.item_at-x.ensures c.candidates-m.ensures c.if-m-eq0.true
+
+pub loop-e-init : goal.loop-e-init
+loop-e-init c = (omega arith, refl, refl, refl, edge_start c.requires)
+
+pub add_candidate-requires : goal.add_candidate-requires
+add_candidate-requires c =
+    let E = c.loop-e.invariant.4 in
+    let p = c.requires in (
+      p.0,
+      E.ready,
+      edge_handled p E,
+      edge_candidates p E c.item_at-x.ensures
+          c.candidates-m.ensures,
+      omega (
+        arith,
+        c.loop-e-test.true,
+        c.graph_edges-n.ensures,
+      ),
+    )
+
+pub overflow_add-e : goal.overflow_add-e
+overflow_add-e c = omega (arith, c.loop-e-test.true)
+
+pub loop-e-smaller : goal.loop-e-smaller
+loop-e-smaller c = omega (arith, c.loop-e-test.true)
+
+pub loop-e-preserved : goal.loop-e-preserved
+loop-e-preserved c =
+    let l = c.loop-e in
+    let a = c.add_candidate in (
+      omega (arith, c.loop-e-test.true),
+      a.auto.1.1.1.1.1.0 ∙ l.invariant.1,
+      a.auto.1.1.1.1.1.1.0 ∙ l.invariant.2,
+      a.auto.1.1.1.1.1.1.1.0 ∙ l.invariant.3,
+      edge_next c.requires l.invariant.4 (omega (
+        arith,
+        c.loop-e-test.true,
+        c.graph_edges-n.ensures,
+      )) a.ensures,
+    )
+
+pub returns : goal.returns
+returns c = edge_end c.requires c.loop-e.invariant.4 c.graph_edges-n.ensures
+    c.loop-e.invariant.0 c.loop-e-test.false

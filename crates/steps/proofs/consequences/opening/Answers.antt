@@ -1,0 +1,23 @@
+-- Cursors at the first entries of their keys, and on over quiet records.
+use mathlib.Core.Path.{subst}
+use mathlib.Core.List.{List}
+use Prim.Native.Nat.{ℕ}
+use Rattle.index.specs.Quiet.{quiet_in}
+use Rattle.steps.specs.Ways.{Rests}
+use Rattle.steps.proofs.consequences.opening.Goals as goal
+
+pub starts-ds-requires : goal.starts-ds-requires
+starts-ds-requires c = (c.requires.0, c.requires.3)
+
+pub resting-requires : goal.resting-requires
+resting-requires c = (
+  c.requires.0,
+  c.requires.1,
+  c.requires.2,
+)
+
+pub returns : goal.returns
+returns c =
+    let s = c.args in
+    subst (λ (bs : List ℕ). Rests (quiet_in s.chart.now s.edges) s.lists.now s.n bs
+    c.resting.result.k c.resting.result.cs) c.starts-ds.ensures c.resting.ensures

@@ -1,0 +1,59 @@
+-- What is left to add gives all the leaf items of the rule.
+use native.Mathlib.Omega.{arith}
+use mathlib.Core.Path.{refl, ◌∙◌}
+use Rattle.questions.specs.Abstract.{grammar_of}
+use Rattle.questions.proofs.WellFormedLent.{checked_grammar_ok}
+use Rattle.questions.proofs.WellFormedAccepted.{rules_length}
+use Rattle.joins.proofs.Known.{plan_size}
+use Rattle.steps.specs.Leaves.{leaf_record}
+use Rattle.steps.proofs.LeafLoops.{left_all_is, left_next, left_none, leaf_whole, rule_plan_lem, leaves_rule}
+use Rattle.steps.proofs.leaves.add_rule.Goals as goal
+
+pub loop-p-init : goal.loop-p-init
+loop-p-init c =
+    let s = c.args in
+    let pre = c.requires in (
+      omega (arith, c.rule_plan-p.ensures),
+      refl,
+      left_all_is s.chart.now
+          _ (λ q. leaf_record (grammar_of s.g.now) s.r q) pre.2
+          _ (rule_plan_lem s.g.now s.r _ pre.0 pre.1 c.rule_plan-p.ensures),
+    )
+
+pub overflow_sub-p : goal.overflow_sub-p
+overflow_sub-p c = c.loop-p-test.true
+
+pub add_leaf-requires : goal.add_leaf-requires
+add_leaf-requires c =
+    let i = c.loop-p.invariant in (
+      record {
+        grammar = c.requires.0;
+        rule = c.requires.1;
+        node = omega (arith, i.0, c.loop-p-test.true);
+      },
+      i.2.fits,
+    )
+
+pub loop-p-smaller : goal.loop-p-smaller
+loop-p-smaller c = omega (arith, c.loop-p-test.true)
+
+pub loop-p-preserved : goal.loop-p-preserved
+loop-p-preserved c =
+    let s = c.args in
+    let i = c.loop-p.invariant in (
+      omega (arith, i.0),
+      c.add_leaf.auto.chart ∙ i.1,
+      left_next s.chart.now _ (λ q. leaf_record (grammar_of s.g.now) s.r q) c.loop-p.chart
+          _ c.loop-p.p _ (omega (arith, c.loop-p-test.true))
+          (λ q l. leaf_whole (grammar_of s.g.now) (checked_grammar_ok s.g.now c.requires.0) s.r
+          (omega (arith, c.requires.1, rules_length s.g.now)) q
+          (omega (arith, i.0, plan_size s.g.now s.r c.requires.0 c.requires.1))) i.2
+          c.add_leaf.ensures,
+    )
+
+pub returns : goal.returns
+returns c =
+    let s = c.args in
+    leaves_rule (grammar_of s.g.now) s.r s.chart.now
+    _ (left_none s.chart.now _ (λ q. leaf_record (grammar_of s.g.now) s.r q) _ c.loop-p.p
+    (omega (arith, c.loop-p-test.false)) c.loop-p.invariant.2)

@@ -1,0 +1,40 @@
+-- A law for each way.
+use mathlib.Core.Path.{refl}
+use Rattle.steps.proofs.ReadyLaws.{taken_ready}
+use Rattle.steps.proofs.RunLaws.{next_marked, next_taken}
+use Rattle.steps.proofs.take.Goals as goal
+
+pub returns-then-mark_of-ne0 : goal.returns-then-mark_of-ne0
+returns-then-mark_of-ne0 c = (
+  next_marked c.args.chart.now _ c.mark_of.ensures
+      c.if-mark_of-ne0.true,
+  refl,
+  λ g h keys ls R. R,
+)
+
+pub take-requires : goal.take-requires
+take-requires c = c.requires
+
+pub returns-in-Nowhere : goal.returns-in-Nowhere
+returns-in-Nowhere c =
+    let s = c.args in
+    let t = c.take in
+    let e = c.in-Nowhere.is in (
+      next_taken s.chart.now _ c.mark_of.ensures t.result _ c.if-mark_of-ne0.false e
+          t.ensures.0,
+      refl,
+      λ g h keys ls R. taken_ready g h keys s.chart.now s.index.now ls R
+          t.new.1.0 t.ensures.2 _ t.result _ e t.ensures.0 refl (t.ensures.1 keys ls),
+    )
+
+pub returns-in-At : goal.returns-in-At
+returns-in-At c =
+    let s = c.args in
+    let t = c.take in
+    let e = c.in-At.is in (
+      next_taken s.chart.now _ c.mark_of.ensures t.result _ c.if-mark_of-ne0.false e
+          t.ensures.0,
+      c.mark_handled.ensures,
+      λ g h keys ls R. taken_ready g h keys s.chart.now s.index.now ls R t.new.1.0 t.ensures.2
+          _ t.result _ e t.ensures.0 c.mark_handled.ensures (t.ensures.1 keys ls),
+    )

@@ -1,0 +1,42 @@
+-- Line after line with the set of their nodes, which answers question 6 for the last, and the words behind it
+-- (proofs/EdgeLines).
+use native.Mathlib.Omega.{arith}
+use Prim.Native.Nat.{◌-◌}
+use Rattle.questions.specs.Layout.{graph_words}
+use Rattle.tables.proofs.Leading.{concludes_no, concludes_on, concludes_last}
+use Rattle.tables.proofs.EdgeLines.{graph_lines_lem, passed_none, passed_more, passed_no, passed_uncovered, passed_all}
+use Rattle.tables.proofs.checking.check_graph_edges.Goals as goal
+
+pub loop-e-init : goal.loop-e-init
+loop-e-init c = (
+  omega arith,
+  passed_none graph_words
+      _ _ _ _ _ _ _ _ (graph_lines_lem _ _ _ c.requires.1),
+)
+
+pub returns-then-not-edge : goal.returns-then-not-edge
+returns-then-not-edge c = concludes_no graph_words _ _ _ _ (passed_no graph_words _ _ _ _ _ _ _ _ (graph_lines_lem _ _ _ c.requires.1)
+    _ _ c.loop-e.invariant.1 c.loop-e-test.true
+    _ _ c.graph_edge_stands-edge.ensures c.if-not-edge.true)
+
+pub loop-e-preserved : goal.loop-e-preserved
+loop-e-preserved c = (
+  omega arith,
+  passed_more graph_words _ _ _ _ _ _ _ _ (graph_lines_lem _ _ _ c.requires.1)
+      _ _ c.loop-e.invariant.1 _ _ c.graph_edge_stands-edge.ensures c.if-not-edge.false,
+)
+
+pub returns-then-not-has_all : goal.returns-then-not-has_all
+returns-then-not-has_all c =
+    let pre = c.requires in
+    concludes_no graph_words _ _ _ _ (passed_uncovered graph_words _ _ _ _ _ _ _ _ (graph_lines_lem _ _ _ pre.1)
+    _ _ c.loop-e.invariant.1 pre.1.some (omega arith) _ c.graph_nodes_in-nodes.ensures
+    _ c.Has-All.ensures c.if-not-has_all.true)
+
+pub returns : goal.returns
+returns c =
+    let pre = c.requires in
+    concludes_on graph_words _ _ _ _ _ _ (passed_all graph_words _ _ _ _ _ _ _ _ (graph_lines_lem _ _ _ pre.1)
+    _ _ c.loop-e.invariant.1 pre.1.some (omega arith) _ c.graph_nodes_in-nodes.ensures
+    _ c.Has-All.ensures c.if-not-has_all.false _ (omega arith))
+    _ (concludes_last graph_words _ _ _ _ c.zeros.ensures)

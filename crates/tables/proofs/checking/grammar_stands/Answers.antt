@@ -1,0 +1,19 @@
+-- The line's fields judged, and what is behind them (proofs/LineFields).
+use mathlib.Core.Path.{refl}
+use mathlib.Core.List.{[]}
+use Rattle.questions.specs.declared.Due.TheVariants.{Grammar}
+use Rattle.questions.specs.Layout.{place_of}
+use Rattle.questions.specs.Questions.{judge}
+use Rattle.questions.specs.Checking.{fields_due}
+use Rattle.tables.proofs.LineFields.{stands_no, stands_rest}
+use Rattle.tables.proofs.checking.grammar_stands.Goals as goal
+
+pub returns-then-judge_grammar-ne0 : goal.returns-then-judge_grammar-ne0
+unfolding judge place_of fields_due
+returns-then-judge_grammar-ne0 c = stands_no [] _ Grammar _ _ refl refl _ c.fields_into.ensures
+    _ c.judge_grammar.ensures c.if-judge_grammar-ne0.true
+
+pub returns : goal.returns
+unfolding judge place_of fields_due
+returns c = stands_rest [] _ Grammar _ _ refl refl _ c.fields_into.ensures
+    _ c.judge_grammar.ensures c.if-judge_grammar-ne0.false _ c.ends.ensures

@@ -1,0 +1,17 @@
+-- By the kind: one child, two, or none.
+use native.Mathlib.Omega.{arith}
+use Rattle.tables.proofs.Planning.{children_one, children_two, children_none}
+use Rattle.tables.proofs.plans.child_in.Goals as goal
+
+pub returns-in-1 : goal.returns-in-1
+returns-in-1 c = (children_one _ _ _ _ _ c.in-1.is c.same.ensures.0, omega arith)
+
+pub returns-in-2 : goal.returns-in-2
+returns-in-2 c = (
+  children_two _ _ _ _ _ _ c.in-2.is c.same-in-2.ensures.0
+      c.same-in-2-2.ensures.0,
+  omega arith,
+)
+
+pub returns-in_default : goal.returns-in_default
+returns-in_default c = (children_none _ _ _ _ c.in_default.rest.0.1 c.in_default.rest.1, omega arith)

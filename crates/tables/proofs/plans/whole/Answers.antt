@@ -1,0 +1,20 @@
+-- Each set has all that it must have.
+use native.Mathlib.Omega.{arith}
+use mathlib.Core.Path.{refl}
+use Rattle.tables.proofs.Planning.{all_marked, eight_edges, whole_ok}
+use Rattle.layout.proofs.at_most.Reads as at-most-reads
+use Rattle.layout.proofs.rule_edges.Reads as rule-edges-reads
+use Rattle.tables.proofs.marks.has_all.Reads as has-all-reads
+use Rattle.tables.proofs.plans.mark_children.Reads as mark-children-reads
+use Rattle.tables.proofs.plans.mark_introduced.Reads as mark-introduced-reads
+use Rattle.tables.proofs.plans.marks_before.Reads as marks-before-reads
+use Rattle.tables.proofs.plans.whole.Goals as goal
+
+pub returns : goal.returns
+returns c =
+    let edges = eight_edges _ _ _ c.at_most-edges.ensures c.rule_edges.ensures in
+    whole_ok _ _ _ _ _ _ _ _ (all_marked _ _ _ _ _ _ _ refl (omega (arith, c.requires.lines))
+    c.marks_before-before.ensures.below c.mark_children.ensures
+    c.Has-All.ensures) (all_marked _ _ _ _ _ _ _ edges.0 edges.1
+    c.marks_before-before.ensures.edges c.mark_introduced.ensures
+    c.has_all-introduced.ensures)

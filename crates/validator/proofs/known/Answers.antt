@@ -1,0 +1,72 @@
+-- Every record passed is known, and the handled ones among them are counted.
+use native.Mathlib.Omega.{arith}
+use Prim.Native.Nat.{◌-◌}
+use mathlib.Core.Path.{refl, sym, ◌∙◌}
+use mathlib.Core.Bool.{false≢true}
+use mathlib.Core.Logic.{⊎_elim}
+use borrow.Author.Tests.{not-true, not-false}
+use Rattle.records.proofs.WordLaws.{handled_start}
+use Rattle.validator.proofs.WordTests.{passed_none, chart_over, chart_not, chart_next, chart_all, count_all, count_more, count_same, below_capacity}
+use Rattle.validator.proofs.known.Goals as goal
+
+pub returns-then-capacity_of-n : goal.returns-then-capacity_of-n
+returns-then-capacity_of-n c =
+    let number = c.number_of-n.ensures in (
+      chart_over _ _ _ _ number _ c.capacity_of.ensures c.if-capacity_of-n.true,
+      λ e. absurd (false≢true e),
+      λ e. refl,
+    )
+
+pub loop-j-init : goal.loop-j-init
+loop-j-init c = (omega arith, omega arith, passed_none _, handled_start c.args.chart.now)
+
+pub load-x-requires : goal.load-x-requires
+load-x-requires c = below_capacity _ _ _ _ c.capacity_of.ensures c.if-capacity_of-n.false c.loop-j-test.true
+
+pub known_record-requires : goal.known_record-requires
+known_record-requires c = (c.sizes_of-s.ensures, c.requires.1)
+
+pub returns-then-not-known_record : goal.returns-then-not-known_record
+returns-then-not-known_record c =
+    let number = c.number_of-n.ensures in (
+      chart_not _ _ _ _ number _ c.capacity_of.ensures c.if-capacity_of-n.false _ _ _ c.loop-j-test.true
+          c.load-x.ensures
+          c.known_record.ensures (not-true _ c.if-not-known_record.true),
+      λ e. absurd (false≢true e),
+      λ e. refl,
+    )
+
+pub loop-j-preserved : goal.loop-j-preserved
+loop-j-preserved c =
+    let w = c.args.chart.now in
+    let l = c.loop-j in
+    let passed
+    = chart_next _ _ _ _ c.number_of-n.ensures _ c.capacity_of.ensures c.if-capacity_of-n.false
+    _ _ _ c.load-x.ensures
+    c.known_record.ensures (not-false _ c.if-not-known_record.false) l.invariant.2 in
+    ⊎_elim
+    (λ p. (
+      omega arith,
+      omega arith,
+      passed,
+      p.1 ∙ count_more w l.j l.handled _ c.load-x.ensures
+          p.0.taken l.invariant.3,
+    ))
+    (λ p. (
+      omega arith,
+      omega arith,
+      passed,
+      p.1 ∙ count_same w l.j l.handled _ c.load-x.ensures
+          p.0.left l.invariant.3,
+    ))
+    c.if-x-ne0.branch
+
+pub returns : goal.returns
+returns c =
+    let l = c.loop-j.invariant in
+    let cap = c.capacity_of.ensures in
+    let number = c.number_of-n.ensures in (
+      chart_all _ _ _ _ number _ cap c.if-capacity_of-n.false _ c.loop-j-test.false l.2,
+      λ e. count_all _ _ _ _ number cap c.if-capacity_of-n.false l.0 c.loop-j-test.false _ l.3,
+      λ e. absurd (false≢true (sym e)),
+    )

@@ -1,0 +1,13 @@
+use Prim.Native.Nat.{◌-◌, ◌≤◌}
+use mathlib.Core.Path.{◌≡◌}
+use Rattle.agenda.specs.Steps.{handled_count}
+use Rattle.records.specs.Words.{records_at}
+use Rattle.validator.proofs.WordTests.{Passed, record_test}
+use Rattle.validator.proofs.known.Given as goal
+
+abbrev pub invariant-loop-j : goal.invariant-loop-j
+invariant-loop-j l =
+    (l.j ≤ l.n) × (l.initial.j ≤ l.j) × Passed (record_test l.g l.h l.n l.chart) l.j × (l.initial.j ≡ handled_count (records_at l.chart l.j))
+
+abbrev pub decreases-loop-j : goal.decreases-loop-j
+decreases-loop-j l = l.n - l.j

@@ -1,0 +1,15 @@
+-- A law for each answer.
+use borrow.Author.Tests.{not-true, not-false}
+use Rattle.writer.proofs.Deliveries.{deliver_refused, deliver_short, deliver_written}
+use Rattle.writer.proofs.deliver.Goals as goal
+
+pub returns-then-not-passes : goal.returns-then-not-passes
+returns-then-not-passes c = deliver_refused _ _ _ _ _ c.passes.ensures (not-true _ c.if-not-passes.true)
+
+pub returns-then-out-text : goal.returns-then-out-text
+returns-then-out-text c = deliver_short _ _ _ _ _ c.passes.ensures (not-false _ c.if-not-passes.false)
+    c.if-out-text.true
+
+pub returns : goal.returns
+returns c = deliver_written _ _ _ _ _ c.passes.ensures _ (not-false _ c.if-not-passes.false)
+    c.if-out-text.false c.copy.ensures

@@ -1,0 +1,42 @@
+-- The places passed have the external nodes, the others none.
+use native.Mathlib.Omega.{arith}
+use Prim.Native.Nat.{◌-◌, ◌<◌}
+use mathlib.Core.Path.{ap, ◌∙◌}
+use Rattle.questions.specs.Layout.{rank_at, start_symbol, graph_external}
+use Rattle.joins.proofs.MapLaws.{placed_bare, placed_put}
+use Rattle.writer.proofs.Goals.{external_few, externals_all}
+use Rattle.writer.proofs.external_nodes.Goals as goal
+
+pub loop-k-init : goal.loop-k-init
+loop-k-init c = (
+  c.rank_at-rank.ensures.0 ∙ ap (rank_at c.args.grammar.now)
+      c.start_symbol.ensures,
+  omega arith,
+  placed_bare _,
+)
+
+pub with_node-l-requires : goal.with_node-l-requires
+with_node-l-requires c =
+    let g = c.args.grammar.now in
+    let inside : c.loop-k.k < rank_at g (start_symbol g) = omega (
+      arith,
+      c.loop-k.invariant.0,
+      c.loop-k-test.true,
+    ) in (
+      omega (arith, c.rank_at-rank.ensures.1, c.loop-k-test.true),
+      omega (arith, external_few _ _ _ _ c.requires inside c.graph_external.ensures),
+    )
+
+pub loop-k-preserved : goal.loop-k-preserved
+loop-k-preserved c =
+    let inv = c.loop-k.invariant in (
+      inv.0,
+      omega (arith, inv.0, c.loop-k-test.true),
+      placed_put _ _ _ _ _ (omega (arith, c.rank_at-rank.ensures.1, c.loop-k-test.true))
+          c.graph_external.ensures c.with_node-l.ensures inv.2,
+    )
+
+pub returns : goal.returns
+returns c =
+    let inv = c.loop-k.invariant in
+    c.nodes_of.ensures ∙ externals_all _ _ _ _ inv.1 (omega (arith, inv.0, c.loop-k-test.false)) inv.2

@@ -1,0 +1,22 @@
+-- What a list of 1,024 holds is listed; more is listed again in a long one.
+use native.Mathlib.Omega.{arith}
+use Prim.Native.Nat.{ℕ}
+use lib.ListN.{length-replicate}
+use Rattle.writer.proofs.Deliveries.{listed_in}
+use Rattle.extractor.proofs.ListLaws.{listed_more}
+use Rattle.writer.proofs.write_many.Goals as goal
+
+pub write_middle-requires : goal.write_middle-requires
+write_middle-requires c = (
+  c.requires,
+  listed_more _ _ 1024 4096 _ _ _ (omega arith) c.if-n-eq0.false
+      (listed_in _ _ _ 1024 _ _ _ (length-replicate {A = ℕ} 1032 0)
+      c.list_applications-n.ensures),
+  omega (
+    arith,
+    c.list_applications-n.ensures.few,
+    c.list_applications-n.auto.list,
+    length-replicate {A = ℕ} 1032 0,
+  ),
+  omega (arith, c.list_applications-n.ensures.few, length-replicate {A = ℕ} 1032 0),
+)
