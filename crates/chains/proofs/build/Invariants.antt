@@ -4,7 +4,7 @@ use Rattle.chains.specs.Chains.{Chained}
 use Rattle.chains.proofs.build.Given as goal
 
 abbrev pub invariant-loop-j : goal.invariant-loop-j
-invariant-loop-j l = (l.j ≤ l.links) × Chained l.initial.j (records_at l.chart l.j)
+invariant-loop-j l = (l.j ≤ l.n) × Chained l.links (records_at l.chart l.j)
 
 abbrev pub decreases-loop-j : goal.decreases-loop-j
-decreases-loop-j l = l.links - l.j
+decreases-loop-j l = l.n - l.j

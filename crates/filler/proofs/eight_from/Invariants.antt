@@ -6,7 +6,7 @@ use Rattle.filler.proofs.Eights.{numbers_of}
 use Rattle.filler.proofs.eight_from.Given as goal
 
 abbrev pub invariant-loop-i : goal.invariant-loop-i
-invariant-loop-i l = (l.i ≤ 8) × (l.initial.i ≡ eight (take l.i (numbers_of l.line l.from l.count)))
+invariant-loop-i l = (l.i ≤ 8) × (l.row ≡ eight (take l.i (numbers_of l.line l.from l.count)))
 
 abbrev pub decreases-loop-i : goal.decreases-loop-i
 decreases-loop-i l = 8 - l.i

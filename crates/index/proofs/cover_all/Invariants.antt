@@ -11,9 +11,9 @@ use Rattle.index.specs.Index.{index_words, Indexed, Covered}
 use Rattle.index.proofs.cover_all.Given as goal
 
 abbrev pub invariant-loop-j : goal.invariant-loop-j
-invariant-loop-j l = (l.j ≤ l.index) × (length l.initial.j ≡ index_words) × Covered l.g l.h l.initial.j
-    (records_at l.chart l.j) × ((keys ls : List ℕ) (rs : List Record) → Indexed keys l.initial.index ls rs → Indexed keys l.initial.j ls
+invariant-loop-j l = (l.j ≤ l.n) × (length l.index ≡ index_words) × Covered l.g l.h l.index
+    (records_at l.chart l.j) × ((keys ls : List ℕ) (rs : List Record) → Indexed keys l.initial.index ls rs → Indexed keys l.index ls
     rs)
 
 abbrev pub decreases-loop-j : goal.decreases-loop-j
-decreases-loop-j l = l.index - l.j
+decreases-loop-j l = l.n - l.j

@@ -5,7 +5,7 @@ use Rattle.index.specs.Index.{keys_for}
 use Rattle.index.proofs.list_all.Given as goal
 
 abbrev pub invariant-loop-j : goal.invariant-loop-j
-invariant-loop-j l = (l.j ≤ l.lists) × Listed l.initial.j (keys_for l.keys (records_at l.chart l.j))
+invariant-loop-j l = (l.j ≤ l.n) × Listed l.lists (keys_for l.keys (records_at l.chart l.j))
 
 abbrev pub decreases-loop-j : goal.decreases-loop-j
-decreases-loop-j l = l.lists - l.j
+decreases-loop-j l = l.n - l.j

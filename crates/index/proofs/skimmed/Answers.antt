@@ -18,5 +18,5 @@ pub skim-requires-5 : goal.skim-requires-5
 skim-requires-5 c = c.requires
 
 pub returns : goal.returns
-returns c = skims_five _ _ _ c.args.t5 _ _ _ _ _ c.skim.ensures c.skim-2.ensures
+returns c = skims_five _ _ _ c.args.cs _ _ _ _ _ c.skim.ensures c.skim-2.ensures
     c.skim-3.ensures c.skim-4.ensures c.skim-5.ensures

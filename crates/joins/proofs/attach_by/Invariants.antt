@@ -9,10 +9,10 @@ use Rattle.joins.proofs.attach_by.Given as goal
 
 abbrev pub invariant-loop-k : goal.invariant-loop-k
 invariant-loop-k l =
-    ((l.initial.rest ≤ rank_at l.g (edge_label l.g l.r l.i)) × MapFrom (edge_nodes l.g l.r l.i) (take (rank_at l.g (edge_label l.g l.r l.i)) (places_of l.nodes))
-    l.initial.rest (places_of l.k))
-    × (l.initial.rest < 8)
-    × (l.rest ≡ octal (λ k. edge_node l.g l.r l.i k) l.initial.rest)
+    ((l.k ≤ rank_at l.g (edge_label l.g l.r l.i)) × MapFrom (edge_nodes l.g l.r l.i) (take (rank_at l.g (edge_label l.g l.r l.i)) (places_of l.nodes))
+    l.k (places_of l.t))
+    × (l.k < 8)
+    × (l.rest ≡ octal (λ k. edge_node l.g l.r l.i k) l.k)
 
 abbrev pub decreases-loop-k : goal.decreases-loop-k
-decreases-loop-k l = l.initial.rest
+decreases-loop-k l = l.k

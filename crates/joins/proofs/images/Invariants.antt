@@ -6,7 +6,7 @@ use Rattle.joins.specs.Joins.{NodesIn}
 use Rattle.joins.proofs.images.Given as goal
 
 abbrev pub invariant-loop-k : goal.invariant-loop-k
-invariant-loop-k l = (l.k ≤ 8) × NodesIn l.initial.k (tabulate l.k (λ i. get_or (places_of l.w) i 0))
+invariant-loop-k l = (l.k ≤ 8) × NodesIn l.mask (tabulate l.k (λ i. get_or (places_of l.w) i 0))
 
 abbrev pub decreases-loop-k : goal.decreases-loop-k
 decreases-loop-k l = 8 - l.k

@@ -27,7 +27,7 @@ offset_bounds-ms-first-in_default c = omega (
   below_few _ _ _ c.requires.0,
   join_both _ _ _ c.requires.0
       _ _ _ c.plan_kind-kind.ensures c.plan_first-first.ensures
-      c.plan_second-second.ensures c.in_default.rest.0.1 c.in_default.rest.1,
+      c.plan_second-second.ensures c.in_default.in_default-own.rest.0.1 c.in_default.in_default-own.rest.1,
 )
 
 pub bounds-ms-first-in_default : goal.bounds-ms-first-in_default
@@ -36,7 +36,7 @@ bounds-ms-first-in_default c = omega (
   below_few _ _ _ c.requires.0,
   join_both _ _ _ c.requires.0
       _ _ _ c.plan_kind-kind.ensures c.plan_first-first.ensures
-      c.plan_second-second.ensures c.in_default.rest.0.1 c.in_default.rest.1,
+      c.plan_second-second.ensures c.in_default.in_default-own.rest.0.1 c.in_default.in_default-own.rest.1,
 )
 
 pub offset_bounds-ms-second : goal.offset_bounds-ms-second
@@ -45,7 +45,7 @@ offset_bounds-ms-second c = omega (
   below_few _ _ _ c.requires.0,
   join_both _ _ _ c.requires.0
       _ _ _ c.plan_kind-kind.ensures c.plan_first-first.ensures
-      c.plan_second-second.ensures c.in_default.rest.0.1 c.in_default.rest.1,
+      c.plan_second-second.ensures c.in_default.in_default-own.rest.0.1 c.in_default.in_default-own.rest.1,
 )
 
 pub bounds-ms-second : goal.bounds-ms-second
@@ -54,7 +54,7 @@ bounds-ms-second c = omega (
   below_few _ _ _ c.requires.0,
   join_both _ _ _ c.requires.0
       _ _ _ c.plan_kind-kind.ensures c.plan_first-first.ensures
-      c.plan_second-second.ensures c.in_default.rest.0.1 c.in_default.rest.1,
+      c.plan_second-second.ensures c.in_default.in_default-own.rest.0.1 c.in_default.in_default-own.rest.1,
 )
 
 pub returns-in-0 : goal.returns-in-0
@@ -69,4 +69,4 @@ returns-in-1 c = introduce_mask _ _ _ c.requires.0 _ _ _ c.plan_kind-kind.ensure
 pub returns-in_default : goal.returns-in_default
 returns-in_default c = join_mask _ _ _ c.requires.0 _ _ _ c.plan_kind-kind.ensures
     c.plan_first-first.ensures c.plan_second-second.ensures _ c.requires.1
-    _ c.in_default.rest.0.1 c.in_default.rest.1 c.union.ensures
+    _ c.in_default.in_default-own.rest.0.1 c.in_default.in_default-own.rest.1 c.union.ensures

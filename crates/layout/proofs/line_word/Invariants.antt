@@ -5,7 +5,7 @@ use Rattle.questions.specs.Layout.{packed}
 use Rattle.layout.proofs.line_word.Given as goal
 
 abbrev pub invariant-loop-k : goal.invariant-loop-k
-invariant-loop-k l = (l.k ≤ 9) × (l.initial.k ≡ packed (9 - l.k) (drop l.k l.f))
+invariant-loop-k l = (l.k ≤ 9) × (l.w ≡ packed (9 - l.k) (drop l.k l.f))
 
 abbrev pub decreases-loop-k : goal.decreases-loop-k
 decreases-loop-k l = l.k

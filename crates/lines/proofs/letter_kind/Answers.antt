@@ -40,12 +40,12 @@ pub returns-in_default : goal.returns-in_default
 unfolding letter_kind
 returns-in_default c = simp (
   ← c.letter_byte-b.ensures,
-  ne_eqb _ _ c.in_default.rest.0.0.0.0.0.0.0.1,
-  ne_eqb _ _ c.in_default.rest.0.0.0.0.0.0.1,
-  ne_eqb _ _ c.in_default.rest.0.0.0.0.0.1,
-  ne_eqb _ _ c.in_default.rest.0.0.0.0.1,
-  ne_eqb _ _ c.in_default.rest.0.0.0.1,
-  ne_eqb _ _ c.in_default.rest.0.0.1,
-  ne_eqb _ _ c.in_default.rest.0.1,
-  ne_eqb _ _ c.in_default.rest.1,
+  ne_eqb _ _ c.in_default.in_default-own.rest.0.0.0.0.0.0.0.1,
+  ne_eqb _ _ c.in_default.in_default-own.rest.0.0.0.0.0.0.1,
+  ne_eqb _ _ c.in_default.in_default-own.rest.0.0.0.0.0.1,
+  ne_eqb _ _ c.in_default.in_default-own.rest.0.0.0.0.1,
+  ne_eqb _ _ c.in_default.in_default-own.rest.0.0.0.1,
+  ne_eqb _ _ c.in_default.in_default-own.rest.0.0.1,
+  ne_eqb _ _ c.in_default.in_default-own.rest.0.1,
+  ne_eqb _ _ c.in_default.in_default-own.rest.1,
 )

@@ -51,5 +51,5 @@ returns-else-second-p c = below_neither _ _ _ _ c.requires.0 _ _ _ c.plan_kind-k
 
 pub returns-in_default : goal.returns-in_default
 returns-in_default c = below_unknown _ _ _ _ c.requires.0 _ _ _ c.plan_kind-kind.ensures
-    c.plan_first-first.ensures c.plan_second-second.ensures c.in_default.rest.0.0.1
-    c.in_default.rest.0.1 c.in_default.rest.1
+    c.plan_first-first.ensures c.plan_second-second.ensures c.in_default.in_default-own.rest.0.0.1
+    c.in_default.in_default-own.rest.0.1 c.in_default.in_default-own.rest.1

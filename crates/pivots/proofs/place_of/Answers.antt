@@ -25,5 +25,5 @@ unfolding place_of
 returns-in-16 c = ap place_of (sym c.in-16.is)
 
 pub returns-in_default : goal.returns-in_default
-returns-in_default c = place_past _ c.in_default.rest.0.0.0.0.1 c.in_default.rest.0.0.0.1 c.in_default.rest.0.0.1
-    c.in_default.rest.0.1 c.in_default.rest.1
+returns-in_default c = place_past _ c.in_default.in_default-own.rest.0.0.0.0.1 c.in_default.in_default-own.rest.0.0.0.1 c.in_default.in_default-own.rest.0.0.1
+    c.in_default.in_default-own.rest.0.1 c.in_default.in_default-own.rest.1

@@ -12,7 +12,7 @@ returns c =
       value = omega arith;
       places = record {
         size = g.1.0.1;
-        bytes = λ i. (elem_Fits w8 w8 c.args.t1 g.0 i
+        bytes = λ i. (elem_Fits w8 w8 c.args.a g.0 i
             g.1.1 tt).fits;
       };
     }

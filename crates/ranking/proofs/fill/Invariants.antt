@@ -4,7 +4,7 @@ use Rattle.ranking.specs.Ranking.{Ranked}
 use Rattle.ranking.proofs.fill.Given as goal
 
 abbrev pub invariant-loop-j : goal.invariant-loop-j
-invariant-loop-j l = (l.j ≤ l.ranks) × Ranked l.initial.j (records_at l.chart l.j)
+invariant-loop-j l = (l.j ≤ l.n) × Ranked l.ranks (records_at l.chart l.j)
 
 abbrev pub decreases-loop-j : goal.decreases-loop-j
-decreases-loop-j l = l.ranks - l.j
+decreases-loop-j l = l.n - l.j

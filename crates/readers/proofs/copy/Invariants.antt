@@ -5,7 +5,7 @@ use mathlib.Core.List.{◌++◌}
 use Rattle.readers.proofs.copy.Given as goal
 
 abbrev pub invariant-loop-i : goal.invariant-loop-i
-invariant-loop-i l = (l.i ≤ length l.from) × (length l.initial.i ≡ length l.initial.to) × (l.initial.i ≡ take l.i l.from ++ drop l.i l.initial.to)
+invariant-loop-i l = (l.i ≤ length l.from) × (length l.to ≡ length l.initial.to) × (l.to ≡ take l.i l.from ++ drop l.i l.initial.to)
 
 abbrev pub decreases-loop-i : goal.decreases-loop-i
 decreases-loop-i l = length l.from - l.i

@@ -4,7 +4,7 @@ use Rattle.readers.proofs.Turns.{Reading}
 use Rattle.readers.proofs.read_lines.Given as goal
 
 abbrev pub invariant-loop-at : goal.invariant-loop-at
-invariant-loop-at l = Reading l.g l.initial.t l.text l.t l.due l.initial.at l.at
+invariant-loop-at l = Reading l.g l.initial.t l.initial.due l.text l.t l.due l.at
 
 abbrev pub decreases-loop-at : goal.decreases-loop-at
-decreases-loop-at l = length l.t - l.at
+decreases-loop-at l = length l.text - l.at

@@ -5,7 +5,7 @@ use Rattle.records.specs.Words.{records_at}
 use Rattle.records.proofs.handled_steps.Given as goal
 
 abbrev pub invariant-loop-i : goal.invariant-loop-i
-invariant-loop-i l = (l.i ≤ l.n) × (l.initial.i ≤ l.i) × (l.initial.i ≡ handled_count (records_at l.chart l.i))
+invariant-loop-i l = (l.i ≤ l.n) × (l.done ≤ l.i) × (l.done ≡ handled_count (records_at l.chart l.i))
 
 abbrev pub decreases-loop-i : goal.decreases-loop-i
 decreases-loop-i l = l.n - l.i

@@ -46,4 +46,4 @@ returns-in-0 c = part_edge _ _ c.requires.0 c.requires.1 _ _ c.rule_edges.ensure
 pub returns-in_default : goal.returns-in_default
 returns-in_default c = part_row _ _ c.requires.0 c.requires.1 _ _ c.rule_edges.ensures c.if-rule_edges-i.false
     _ c.rule_nodes.ensures _ c.edge_label-s.ensures
-    _ c.kind_of.ensures c.in_default.rest.1
+    _ c.kind_of.ensures c.in_default.in_default-own.rest.1

@@ -7,7 +7,7 @@ use Rattle.rules.proofs.edge_nodes.Given as goal
 
 abbrev pub invariant-loop-k : goal.invariant-loop-k
 invariant-loop-k l =
-    (l.initial.k.rank ≡ rank_at l.initial.k.g (graph_label l.initial.k.h l.initial.k.e)) × (l.k ≤ rank_at l.initial.k.g (graph_label l.initial.k.h l.initial.k.e)) × Placed (λ k. graph_node l.initial.k.h l.initial.k.e k) l.k (places_of l.initial.k)
+    (l.rank ≡ rank_at l.g (graph_label l.h l.e)) × (l.k ≤ rank_at l.g (graph_label l.h l.e)) × Placed (λ k. graph_node l.h l.e k) l.k (places_of l.l)
 
 abbrev pub decreases-loop-k : goal.decreases-loop-k
-decreases-loop-k l = l.initial.k.rank - l.k
+decreases-loop-k l = l.rank - l.k

@@ -8,7 +8,7 @@ use Rattle.rules.proofs.fitting.Given as goal
 
 abbrev pub invariant-loop-k : goal.invariant-loop-k
 invariant-loop-k l =
-    (l.k ≤ l.rank) × (l.initial.k ≡ fitted l.graph (λ k. get_or (places_of l.map) (edge_node l.g l.of l.i k) 0) l.k l.m)
+    (l.k ≤ l.rank) × (l.rest ≡ fitted l.graph (λ k. get_or (places_of l.map) (edge_node l.g l.of l.i k) 0) l.k l.m)
 
 abbrev pub decreases-loop-k : goal.decreases-loop-k
 decreases-loop-k l = l.rank - l.k

@@ -9,9 +9,9 @@ use Rattle.rules.proofs.root_nodes.Given as goal
 
 abbrev pub invariant-loop-k : goal.invariant-loop-k
 invariant-loop-k l =
-    (l.initial.k.rank ≡ rank_at l.initial.k.g (rule_symbol l.initial.k.g l.initial.k.r))
-    × (l.k ≤ rank_at l.initial.k.g (rule_symbol l.initial.k.g l.initial.k.r))
-    × Placed (λ k. at (take (rule_nodes l.initial.k.g l.initial.k.r) (places_of l.initial.k.map)) (rule_external l.initial.k.g l.initial.k.r k)) l.k (places_of l.initial.k)
+    (l.rank ≡ rank_at l.g (rule_symbol l.g l.r))
+    × (l.k ≤ rank_at l.g (rule_symbol l.g l.r))
+    × Placed (λ k. at (take (rule_nodes l.g l.r) (places_of l.map)) (rule_external l.g l.r k)) l.k (places_of l.l)
 
 abbrev pub decreases-loop-k : goal.decreases-loop-k
-decreases-loop-k l = l.initial.k.rank - l.k
+decreases-loop-k l = l.rank - l.k

@@ -7,7 +7,7 @@ use Rattle.validator.proofs.known.Given as goal
 
 abbrev pub invariant-loop-j : goal.invariant-loop-j
 invariant-loop-j l =
-    (l.j ≤ l.n) × (l.initial.j ≤ l.j) × Passed (record_test l.g l.h l.n l.chart) l.j × (l.initial.j ≡ handled_count (records_at l.chart l.j))
+    (l.j ≤ l.n) × (l.handled ≤ l.j) × Passed (record_test l.g l.h l.n l.chart) l.j × (l.handled ≡ handled_count (records_at l.chart l.j))
 
 abbrev pub decreases-loop-j : goal.decreases-loop-j
 decreases-loop-j l = l.n - l.j

@@ -28,4 +28,4 @@ returns-in-1 c = partners_introduce _ _ _ _ c.requires.1
 
 pub returns-in_default : goal.returns-in_default
 returns-in_default c = partners_join _ _ _ _ c.requires.1
-    _ c.plan_kind_in-kind.ensures c.in_default.rest.0.1 c.in_default.rest.1
+    _ c.plan_kind_in-kind.ensures c.in_default.in_default-own.rest.0.1 c.in_default.in_default-own.rest.1

@@ -9,4 +9,4 @@ pub returns-in-1 : goal.returns-in-1
 returns-in-1 c = record_passive _ _ _ _ _ c.in-1.is c.known_passive.ensures
 
 pub returns-in_default : goal.returns-in_default
-returns-in_default c = record_other _ _ _ _ c.in_default.rest.0.1 c.in_default.rest.1
+returns-in_default c = record_other _ _ _ _ c.in_default.in_default-own.rest.0.1 c.in_default.in_default-own.rest.1

@@ -20,4 +20,4 @@ returns-in-0 c =
 pub returns-in_default : goal.returns-in_default
 returns-in_default c = second_item _ _ _ _ _ c.requires.1 _ _ c.edge_label_in-label.ensures
     c.symbol_kind_in-kind.ensures
-    c.in_default.rest.1
+    c.in_default.in_default-own.rest.1

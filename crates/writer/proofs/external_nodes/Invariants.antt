@@ -7,8 +7,8 @@ use Rattle.writer.proofs.external_nodes.Given as goal
 
 abbrev pub invariant-loop-k : goal.invariant-loop-k
 invariant-loop-k l =
-    (l.initial.k.rank ≡ rank_at l.initial.k.grammar (start_symbol l.initial.k.grammar)) × (l.k ≤ rank_at l.initial.k.grammar (start_symbol l.initial.k.grammar)) × Placed
-    (λ k. graph_external l.initial.k.graph k) l.k (places_of l.initial.k)
+    (l.rank ≡ rank_at l.grammar (start_symbol l.grammar)) × (l.k ≤ rank_at l.grammar (start_symbol l.grammar)) × Placed
+    (λ k. graph_external l.graph k) l.k (places_of l.l)
 
 abbrev pub decreases-loop-k : goal.decreases-loop-k
-decreases-loop-k l = l.initial.k.rank - l.k
+decreases-loop-k l = l.rank - l.k

@@ -9,6 +9,6 @@ use Rattle.extractor.proofs.placing.wide.Goals as goal
 pub returns : goal.returns
 unfolding tabulate
 returns c =
-    let a = c.args.t1 in
+    let a = c.args.a in
     let eight : length a ≡ 8 = search rules in
     ap (λ n. tabulate n (λ i. get_or a i 0)) (sym eight) ∙ tabulated a 0

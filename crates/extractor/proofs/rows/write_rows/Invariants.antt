@@ -7,8 +7,8 @@ use Rattle.extractor.proofs.rows.write_rows.Given as goal
 
 abbrev pub invariant-loop-k : goal.invariant-loop-k
 invariant-loop-k l = Written l.chart
-    (grammar_of l.grammar) (graph_of l.grammar l.graph) (take l.n l.list) l.sizes l.initial.at l.fields l.k l.initial.k × (length l.at ≡ 18) ×
-    (length l.fields ≡ length l.initial.sizes)
+    (grammar_of l.grammar) (graph_of l.grammar l.graph) (take l.n l.list) l.initial.text l.text l.sizes l.k l.at × (length l.fields ≡ 18) ×
+    (length l.sizes ≡ length l.initial.sizes)
 
 abbrev pub decreases-loop-k : goal.decreases-loop-k
 decreases-loop-k l = l.k

@@ -7,7 +7,7 @@ use Rattle.replayer.specs.Fitting.{with_all}
 use Rattle.replayer.proofs.fitting.external_mask.Given as goal
 
 abbrev pub invariant-loop-k : goal.invariant-loop-k
-invariant-loop-k l = l.initial.k ≡ with_all 0 (take l.k (right_of (grammar_of l.grammar) l.r).externals)
+invariant-loop-k l = l.mask ≡ with_all 0 (take l.k (right_of (grammar_of l.grammar) l.r).externals)
 
 abbrev pub decreases-loop-k : goal.decreases-loop-k
 decreases-loop-k l = l.rank - l.k

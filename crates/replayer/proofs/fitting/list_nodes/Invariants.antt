@@ -6,8 +6,8 @@ use Rattle.replayer.proofs.NodeTests.{Placed}
 use Rattle.replayer.proofs.fitting.list_nodes.Given as goal
 
 abbrev pub invariant-loop-k : goal.invariant-loop-k
-invariant-loop-k l = (l.k ≤ l.r) × Placed
-    (λ k. node_in l.row (edge_node l.grammar (rule_in l.row) l.i k)) l.k l.initial.k
+invariant-loop-k l = (l.k ≤ l.rank) × Placed
+    (λ k. node_in l.row (edge_node l.grammar (rule_in l.row) l.i k)) l.k l.nodes
 
 abbrev pub decreases-loop-k : goal.decreases-loop-k
-decreases-loop-k l = l.r - l.k
+decreases-loop-k l = l.rank - l.k

@@ -33,14 +33,14 @@ returns-then-has c = taken_not _ _ (new_used _ _ _ c.requires.0 c.requires.1 _ c
 
 pub loop-x-preserved : goal.loop-x-preserved
 loop-x-preserved c = (
-  added_lt _ _ _ c.with_nodes.ensures c.loop-x.invariant.0,
+  added_lt _ _ _ c.with-nodes.ensures c.loop-x.invariant.0,
   new_next _ _ _ c.requires.0 c.requires.1 _ c.rule_nodes-n.ensures
       _ c.external_mask-outer.ensures _ _ c.loop-x-test.true
       c.inner_node-v.ensures _ _ _ _ c.has.ensures c.if-has.false
-      c.with_nodes.ensures c.loop-x.invariant.1,
+      c.with-nodes.ensures c.loop-x.invariant.1,
   with_next _ _ _ c.requires.0 c.requires.1
       _ c.rule_nodes-n.ensures _ c.external_mask-outer.ensures
-      _ _ c.loop-x-test.true c.inner_node-v.ensures _ _ _ c.with_nodes.ensures
+      _ _ c.loop-x-test.true c.inner_node-v.ensures _ _ _ c.with-nodes.ensures
       c.loop-x.invariant.2,
 )
 

@@ -8,10 +8,10 @@ use Rattle.replayer.proofs.InnerNodes.{inner_from}
 use Rattle.replayer.proofs.fitting.with_inner.Given as goal
 
 abbrev pub invariant-loop-x : goal.invariant-loop-x
-invariant-loop-x l = (l.initial.x < 2 ^ 64) ×
-    (new_in l.initial.x (inner_from (right_of (grammar_of l.grammar) (rule_in l.row)) l.row l.x) ≡ new_in l.used
+invariant-loop-x l = (l.nodes < 2 ^ 64) ×
+    (new_in l.nodes (inner_from (right_of (grammar_of l.grammar) (rule_in l.row)) l.row l.x) ≡ new_in l.used
     (new_nodes (right_of (grammar_of l.grammar) (rule_in l.row)) l.row)) ×
-    (with_all l.initial.x (inner_from (right_of (grammar_of l.grammar) (rule_in l.row)) l.row l.x) ≡ with_all l.used
+    (with_all l.nodes (inner_from (right_of (grammar_of l.grammar) (rule_in l.row)) l.row l.x) ≡ with_all l.used
     (new_nodes (right_of (grammar_of l.grammar) (rule_in l.row)) l.row))
 
 abbrev pub decreases-loop-x : goal.decreases-loop-x

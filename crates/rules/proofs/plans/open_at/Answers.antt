@@ -16,5 +16,5 @@ pub returns-in_default : goal.returns-in_default
 returns-in_default c =
     let known = c.requires.0 in
     let kind = c.plan_kind_in.ensures in
-    open_above _ _ _ known _ _ kind c.plan_first_in.ensures c.in_default.rest.1
+    open_above _ _ _ known _ _ kind c.plan_first_in.ensures c.in_default.in_default-own.rest.1
     _ c.parent_in.ensures

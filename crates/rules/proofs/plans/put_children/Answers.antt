@@ -31,7 +31,7 @@ pub put-requires-in_default : goal.put-requires-in_default
 put-requires-in_default c =
     let pre = c.requires in
     let known = pre.0 in
-    let joins = c.in_default.rest in
+    let joins = c.in_default.in_default-own.rest in
     let few = first_few _ _ _ known _ _ c.plan_kind_in.ensures
     c.plan_first_in-first.ensures joins.0.1 in (
       pre.1,
@@ -49,14 +49,14 @@ pub overflow_mul-first : goal.overflow_mul-first
 overflow_mul-first c =
     let kind = c.plan_kind_in.ensures in
     let first = c.plan_first_in-first.ensures in
-    let joins = c.in_default.rest in
+    let joins = c.in_default.in_default-own.rest in
     omega (arith, first_few _ _ _ c.requires.0 _ _ kind first joins.0.1)
 
 pub overflow_add-first : goal.overflow_add-first
 overflow_add-first c =
     let kind = c.plan_kind_in.ensures in
     let first = c.plan_first_in-first.ensures in
-    let joins = c.in_default.rest in
+    let joins = c.in_default.in_default-own.rest in
     omega (arith, first_few _ _ _ c.requires.0 _ _ kind first joins.0.1)
 
 pub put-requires-in_default-2 : goal.put-requires-in_default-2
@@ -65,7 +65,7 @@ put-requires-in_default-2 c =
     let known = pre.0 in
     let kind = c.plan_kind_in.ensures in
     let first = c.plan_first_in-first.ensures in
-    let joins = c.in_default.rest in
+    let joins = c.in_default.in_default-own.rest in
     let few = first_few _ _ _ known _ _ kind first joins.0.1 in
     let lower = join_both _ _ _ known _ _ _ kind first c.plan_second_in-second.ensures joins.0.1
     joins.1 in
@@ -99,7 +99,7 @@ returns-in_default c =
     let kind = c.plan_kind_in.ensures in
     let first = c.plan_first_in-first.ensures in
     let second = c.plan_second_in-second.ensures in
-    let joins = c.in_default.rest in
+    let joins = c.in_default.in_default-own.rest in
     let word = c.second_word-in_default.ensures in
     let one = c.put-in_default.ensures in
     let two = c.put-in_default-2.ensures in

@@ -20,7 +20,7 @@ overflow_mul-result-in_default c =
     omega (
       arith,
       (child_asked _ _ _ pre.0 _ _ c.plan_kind_in.ensures
-          c.plan_second_in-second.ensures pre.1 c.in_default.rest.1).1,
+          c.plan_second_in-second.ensures pre.1 c.in_default.in_default-own.rest.1).1,
     )
 
 pub overflow_add-result-in_default : goal.overflow_add-result-in_default
@@ -29,7 +29,7 @@ overflow_add-result-in_default c =
     omega (
       arith,
       (child_asked _ _ _ pre.0 _ _ c.plan_kind_in.ensures
-          c.plan_second_in-second.ensures pre.1 c.in_default.rest.1).1,
+          c.plan_second_in-second.ensures pre.1 c.in_default.in_default-own.rest.1).1,
     )
 
 pub returns-in-1 : goal.returns-in-1
@@ -46,4 +46,4 @@ pub returns-in_default : goal.returns-in_default
 returns-in_default c =
     let pre = c.requires in
     child_asked _ _ _ pre.0 _ _ c.plan_kind_in.ensures c.plan_second_in-second.ensures
-    pre.1 c.in_default.rest.1
+    pre.1 c.in_default.in_default-own.rest.1

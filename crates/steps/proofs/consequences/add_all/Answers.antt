@@ -21,7 +21,7 @@ met : (c : tie.Joined1)
     c.if1.lists c.if1.lead
 met c =
     let p = c.before.before.before.before.before.before.before.before.before.before.before.requires in
-    let own = c.before.before.item_at.ensures in
+    let own = c.before.before.item-at.ensures in
     ⊎_elim (λ w. alone_same w.15 w.17 w.16 w.18
     (alone_child p own w.0.taken w.3.ensures w.4.left w.8.ensures))
     (λ w. alone_same w.1 w.3 w.2 w.4 (alone_passive p own w.0.left)) c.if1.branch

@@ -6,9 +6,9 @@ use Rattle.steps.proofs.consequences.add_listed.Given as goal
 
 abbrev pub invariant-loop-c : goal.invariant-loop-c
 invariant-loop-c l =
-    (length l.end ≡ length l.initial.chart) × (length l.initial.c ≡ length l.chart) × (length l.c ≡ length l.initial.lists) × Along l.g l.h l.keys
-    l.initial.chart l.initial.index l.index l.end l.c l.initial.c l.initial.past l.past
+    (length l.chart ≡ length l.initial.chart) × (length l.lists ≡ length l.initial.lists) × (length l.index ≡ length l.initial.index) × Along l.g l.h l.keys
+    l.initial.chart l.j l.n l.chart l.index l.lists l.c l.past
 
 abbrev pub decreases-loop-c : goal.decreases-loop-c
 decreases-loop-c l = left_all
-    (alone l.initial.past)
+    (alone l.c)

@@ -10,7 +10,7 @@ pub item_at-requires : goal.item_at-requires
 item_at-requires c = item_inside _ _ c.requires.2.there
 
 pub returns-then-not-made : goal.returns-then-not-made
-returns-then-not-made c = root_missed c.requires.0 c.requires.1 _ c.item_at.ensures c.root_made.ensures
+returns-then-not-made c = root_missed c.requires.0 c.requires.1 _ c.item_at.ensures c.root-made.ensures
     (not-true _ c.if-not-made.true)
 
 pub add-requires : goal.add-requires
@@ -20,5 +20,5 @@ add-requires c =
     (ready.indexed, ready.fits, ready.small, hash, small, place_few ready c.requires.2.there, omega arith)
 
 pub returns : goal.returns
-returns c = root_added c.requires.0 c.requires.1 _ c.item_at.ensures c.root_made.ensures
+returns c = root_added c.requires.0 c.requires.1 _ c.item_at.ensures c.root-made.ensures
     (not-false _ c.if-not-made.false) c.requires.2.there c.add.ensures

@@ -6,8 +6,8 @@ use Rattle.steps.proofs.consequences.add_terminals.Given as goal
 
 abbrev pub invariant-loop-e : goal.invariant-loop-e
 invariant-loop-e l =
-    (l.e ≤ l.j) × (length l.m ≡ length l.initial.chart) × (length l.n ≡ length l.chart) × (length l.initial.e ≡ length l.initial.lists) ×
-    Edging l.g l.h l.keys l.initial.chart l.lists l.m l.initial.e l.n l.e
+    (l.e ≤ l.n) × (length l.chart ≡ length l.initial.chart) × (length l.lists ≡ length l.initial.lists) × (length l.index ≡ length l.initial.index) ×
+    Edging l.g l.h l.keys l.initial.chart l.j l.chart l.index l.lists l.e
 
 abbrev pub decreases-loop-e : goal.decreases-loop-e
-decreases-loop-e l = l.j - l.e
+decreases-loop-e l = l.n - l.e

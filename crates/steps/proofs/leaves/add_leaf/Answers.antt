@@ -13,7 +13,7 @@ returns-in-0 c = leaf_added _ _ _ _ c.requires.0 c.plan_kind.ensures _ _ _ _ c.r
 
 pub returns-in_default : goal.returns-in_default
 returns-in_default c = leaf_skipped _ _ _ _ c.requires.0 c.plan_kind.ensures
-    _ c.requires.1 c.in_default.rest.1
+    _ c.requires.1 c.in_default.in_default-own.rest.1
 
 pub leaf-requires : goal.leaf-requires
 leaf-requires c =

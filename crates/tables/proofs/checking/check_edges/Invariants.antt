@@ -6,7 +6,7 @@ use Rattle.tables.proofs.EdgeLines.{Passed}
 use Rattle.tables.proofs.checking.check_edges.Given as goal
 
 abbrev pub invariant-loop-i : goal.invariant-loop-i
-invariant-loop-i l = (l.i ≤ l.n) × Passed [] l.t (RuleEdge l.r) (nodes_on_edges l.t l.r) l.i l.initial.i
+invariant-loop-i l = (l.i ≤ l.n) × Passed [] l.t (RuleEdge l.r) (nodes_on_edges l.t l.r) l.i l.mask
 
 abbrev pub decreases-loop-i : goal.decreases-loop-i
 decreases-loop-i l = l.n - l.i

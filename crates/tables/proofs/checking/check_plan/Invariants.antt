@@ -4,7 +4,7 @@ use Rattle.tables.proofs.Carrying.{Passed}
 use Rattle.tables.proofs.checking.check_plan.Given as goal
 
 abbrev pub invariant-loop-q : goal.invariant-loop-q
-invariant-loop-q l = (l.q ≤ l.n) × Marked l.t l.r l.q l.introduced l.initial.q ×
+invariant-loop-q l = (l.q ≤ l.n) × Marked l.t l.r l.q l.children l.introduced ×
     Passed l.t l.r l.n l.q
 
 abbrev pub decreases-loop-q : goal.decreases-loop-q

@@ -28,4 +28,4 @@ returns-in-2 c = plan_known _ _ _ _ _ _ _ c.field-kind.ensures c.field-first.ens
 pub returns-in_default : goal.returns-in_default
 returns-in_default c = plan_other _ _ _ _ _ _ _ c.field-kind.ensures
     c.field-first.ensures c.field-second.ensures c.if-n-lt3.false
-    (omega (arith, c.in_default.rest.0.0.1, c.in_default.rest.0.1, c.in_default.rest.1))
+    (omega (arith, c.in_default.in_default-own.rest.0.0.1, c.in_default.in_default-own.rest.0.1, c.in_default.in_default-own.rest.1))

@@ -5,7 +5,7 @@ use Rattle.tables.specs.Marks.{marks}
 use Rattle.tables.proofs.marks.mark_fields.Given as goal
 
 abbrev pub invariant-loop-k : goal.invariant-loop-k
-invariant-loop-k l = marks l.initial.k (drop l.k l.f) ≡ marks l.m (drop l.from l.f)
+invariant-loop-k l = marks l.mask (drop l.k l.f) ≡ marks l.m (drop l.from l.f)
 
 abbrev pub decreases-loop-k : goal.decreases-loop-k
 decreases-loop-k l = l.n - l.k

@@ -7,7 +7,7 @@ use Rattle.tables.specs.Marks.{marks}
 use Rattle.tables.proofs.marks.mark_line.Given as goal
 
 abbrev pub invariant-loop-k : goal.invariant-loop-k
-invariant-loop-k l = marks l.initial.k (drop l.k (tabulate l.n (λ j. line_field l.t l.p (1 + j)))) ≡ marks l.m
+invariant-loop-k l = marks l.mask (drop l.k (tabulate l.n (λ j. line_field l.t l.p (1 + j)))) ≡ marks l.m
     (tabulate l.n (λ j. line_field l.t l.p (1 + j)))
 
 abbrev pub decreases-loop-k : goal.decreases-loop-k

@@ -14,4 +14,4 @@ returns-in-2 c = (
 )
 
 pub returns-in_default : goal.returns-in_default
-returns-in_default c = (children_none _ _ _ _ c.in_default.rest.0.1 c.in_default.rest.1, omega arith)
+returns-in_default c = (children_none _ _ _ _ c.in_default.in_default-own.rest.0.1 c.in_default.in_default-own.rest.1, omega arith)

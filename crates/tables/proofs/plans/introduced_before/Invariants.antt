@@ -5,7 +5,7 @@ use Rattle.questions.specs.Questions.{introduced_before}
 use Rattle.tables.proofs.plans.introduced_before.Given as goal
 
 abbrev pub invariant-loop-q : goal.invariant-loop-q
-invariant-loop-q l = (l.q ≤ l.n) × (l.initial.q ≤ 1 * l.q) × (l.initial.q ≡ occurs l.i (introduced_before l.g l.r l.q))
+invariant-loop-q l = (l.q ≤ l.n) × (l.sum ≤ 1 * l.q) × (l.sum ≡ occurs l.i (introduced_before l.g l.r l.q))
 
 abbrev pub decreases-loop-q : goal.decreases-loop-q
 decreases-loop-q l = l.n - l.q

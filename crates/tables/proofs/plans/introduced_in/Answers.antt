@@ -7,4 +7,4 @@ pub returns-in-1 : goal.returns-in-1
 returns-in-1 c = (introduced_one _ _ _ _ _ c.in-1.is c.same.ensures.0, omega arith)
 
 pub returns-in_default : goal.returns-in_default
-returns-in_default c = (introduced_none _ _ _ _ c.in_default.rest.1, omega arith)
+returns-in_default c = (introduced_none _ _ _ _ c.in_default.in_default-own.rest.1, omega arith)

@@ -10,4 +10,4 @@ pub returns-in-2 : goal.returns-in-2
 returns-in-2 c = marks_two _ _ _ _ _ _ c.in-2.is c.with-in-2.ensures c.with-in-2-2.ensures
 
 pub returns-in_default : goal.returns-in_default
-returns-in_default c = marks_none _ _ _ _ c.in_default.rest.0.1 c.in_default.rest.1
+returns-in_default c = marks_none _ _ _ _ c.in_default.in_default-own.rest.0.1 c.in_default.in_default-own.rest.1

@@ -7,4 +7,4 @@ pub returns-in-1 : goal.returns-in-1
 returns-in-1 c = marks_edge _ _ _ _ _ c.in-1.is c.with.ensures
 
 pub returns-in_default : goal.returns-in_default
-returns-in_default c = marks_no_edge _ _ _ _ c.in_default.rest.1
+returns-in_default c = marks_no_edge _ _ _ _ c.in_default.in_default-own.rest.1
