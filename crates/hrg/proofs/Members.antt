@@ -92,13 +92,13 @@ module _ {A : Type 0} where
 
 -- Where no image comes twice, the image tells the member.
 module _ {A B : Type 0} (f : A → B) where
-  pub map_one : {xs : List A} {a b : A} → Distinct (map f xs) → In a xs → In b xs → f a ≡ f b → a ≡ b
+  pub map_one : {a b : A} {xs : List A} → Distinct (map f xs) → In a xs → In b xs → f a ≡ f b → a ≡ b
   map_one d (here p) (here q) e = p ∙ sym q
   map_one d (here p) (there m) e = absurd (distinct_head d (in_cast (ap f (sym p) ∙ e) (in_map f m)))
   map_one d (there l) (here q) e = absurd (distinct_head d (in_cast (ap f (sym q) ∙ sym e) (in_map f l)))
   map_one d (there l) (there m) e = map_one (distinct_tail d) l m e
 
-  pub map_apart : {xs ys : List A} {a b : A} → Distinct (map f (xs ++ ys)) → In a xs → In b ys → f a ≡ f b → ⊥
+  pub map_apart : {a b : A} {xs ys : List A} → Distinct (map f (xs ++ ys)) → In a xs → In b ys → f a ≡ f b → ⊥
   map_apart d (here {xs = xs} p) m e = distinct_head d (in_cast (ap f (sym p) ∙ e) (in_map f (in_right xs m)))
   map_apart d (there l) m e = map_apart (distinct_tail d) l m e
 

@@ -119,7 +119,7 @@ in_map_find f [] i = absurd (elim i [ ])
 in_map_find f (a ∷ l) (here p) = (a, here refl, p)
 in_map_find f (a ∷ l) (there i) = let t = in_map_find f l i in (t.0, there t.1, t.2)
 
-pub in_edge : {es : List Edge} {e : Edge} → In e es → (i : ℕ) × (i < length es) × (e ≡ edge_at es i)
+pub in_edge : {e : Edge} {es : List Edge} → In e es → (i : ℕ) × (i < length es) × (e ≡ edge_at es i)
 in_edge (here p) = (0, omega arith, p)
 in_edge (there m) = let t = in_edge m in (suc t.0, omega (arith, t.1), t.2)
 

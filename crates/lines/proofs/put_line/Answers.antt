@@ -21,9 +21,9 @@ write_line-requires c = (
 pub returns-then-has_room : goal.returns-then-has_room
 returns-then-has_room c =
     let a = c.args in
-    let ns = take a.count a.t4 in
-    let size : length ns ≡ a.count = length-take-le a.count a.t4
-    (omega (arith, c.well-formed.1.1.1.0.1.0.1)) in
+    let ns = take a.count a.fields in
+    let size : length ns ≡ a.count = length-take-le a.count a.fields
+    (omega (arith, c.well_formed.1.1.1.0.1.0.1)) in
     put_made _ _ _ _ _ _
     (line_room _ _ _ _ _ c.if-count-gt18.false (sym c.is_writable.ensures ∙
     c.if-is_writable.true) ∙ sym c.has_room.ensures ∙ c.if-has_room.true)

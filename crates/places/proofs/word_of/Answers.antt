@@ -7,7 +7,7 @@ use Rattle.places.proofs.word_of.Goals as goal
 pub returns : goal.returns
 unfolding word_of word_by
 returns c =
-    let g = c.well-formed.0 in
+    let g = c.well_formed.0 in
     record {
       value = omega arith;
       places = record {
