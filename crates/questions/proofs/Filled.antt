@@ -139,7 +139,7 @@ walk_check {g} {u} (suc k) t (line {c} {due} {fs} h w) m fuel same =
     when_line due l (accepted c) _
     ∙ ap (λ (x : List ℕ). go_on (judge g c due x) (check_lines k g t (stored c p x) (next (stored c p x) due))) fields
     ∙ ap₂ go_on h
-    (walk_check k t w m' (omega (arith, left_falls (length c) c' due l m)) (λ q j a. same q j (rw size at a)))
+    (walk_check {c = c'} k t w m' (omega (arith, left_falls (length c) c' due l m)) (λ q j a. same q j (rw size at a)))
 
 -- ---- the theorems
 

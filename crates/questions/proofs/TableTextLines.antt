@@ -170,6 +170,7 @@ module _ (fields : Due → List ℕ) (has : Due → Type 0) (after : Due → Due
   pub chain_holds : ((d : Due) → has d → Small (fields d)) → {d : Due} {ds : List Due} → Chain has after d ds → (c : List ℕ) → length c ≡ size → (x : Due) → In x ds
       → (j : ℕ) → j < 9 → line_field (filled fields c ds) (place_of x) j ≡ field (fields x) j
   unfolding filled
+  chain_holds small end c e x m j l = elim m [ ]
   chain_holds small (link {d} {ds} h rest) c e x here j l =
       let p = place_of d in
       let fits : p < length c = rw e (room_place size d (room d h)) in
