@@ -344,7 +344,7 @@ module _ (G : Grammar) (H : Graph) (ok : GrammarOk G) {cap : ℕ} (most : cap �
   runs_fate_from {n} [] c f = let e : n ≡ n + 0 = omega arith in subst (λ (i : ℕ). Fate G H cap i c) e f
   runs_fate_from {n} (k ∷ ks) c f =
       let e : n + k + sum_of ks ≡ n + (k + sum_of ks) = omega arith in
-      subst (λ (i : ℕ). Fate G H cap i (runs_chart G H cap ks (run_chart G H cap k c))) e (runs_fate_from ks (run_chart G H cap k c) (run_fate k c f))
+      subst (λ (i : ℕ). Fate G H cap i (runs_chart G H cap ks (run_chart G H cap k c))) e (runs_fate_from {n = n + k} ks (run_chart G H cap k c) (run_fate k c f))
 
   pub runs_fate : (ks : List ℕ) → Fate G H cap (sum_of ks) (runs_chart G H cap ks (start_chart G cap))
   runs_fate ks =

@@ -7,19 +7,19 @@ pub returns-then-not-is_fit : goal.returns-then-not-is_fit
 returns-then-not-is_fit c =
     let s = c.args in
     run_refuses s.grammar.now s.graph.now s.chart.now s.steps _ c.is_fit.ensures
-    (not-true _ c.if-not-is_fit.true)
+    c.if-not-is_fit.true
 
 pub fill-requires : goal.fill-requires
 fill-requires c = (
   (fit_accepted c.args.grammar.now c.args.graph.now c.args.chart.now
-      _ c.is_fit.ensures (not-false _ c.if-not-is_fit.false)).grammar,
+      _ c.is_fit.ensures c.if-not-is_fit.false.grammar,
   refl,
 )
 
 pub known-requires : goal.known-requires
 known-requires c = (
   fit_accepted c.args.grammar.now c.args.graph.now c.args.chart.now
-      _ c.is_fit.ensures (not-false _ c.if-not-is_fit.false),
+      _ c.is_fit.ensures c.if-not-is_fit.false,
   c.fill.ensures,
 )
 
@@ -27,13 +27,13 @@ pub returns-then-not-known : goal.returns-then-not-known
 returns-then-not-known c =
     let s = c.args in
     run_unknown s.grammar.now s.graph.now s.chart.now s.steps _ c.is_fit.ensures
-    (not-false _ c.if-not-is_fit.false) _ c.known.ensures.0 (not-true _ c.if-not-known.true)
+    c.if-not-is_fit.false _ c.known.ensures.0 (not-true _ c.if-not-known.true)
 
 pub advance-all-requires : goal.advance-all-requires
 advance-all-requires c =
     let s = c.args in
     fit_runnable s.grammar.now s.graph.now s.chart.now _ c.is_fit.ensures
-    (not-false _ c.if-not-is_fit.false) _ c.known.ensures.0 (not-false _ c.if-not-known.false)
+    c.if-not-is_fit.false _ c.known.ensures.0 (not-false _ c.if-not-known.false)
     _ c.fill.ensures
 
 pub outcome_after-requires : goal.outcome_after-requires
@@ -43,5 +43,5 @@ pub returns : goal.returns
 returns c =
     let s = c.args in
     run_ran s.grammar.now s.graph.now s.chart.now s.steps _ c.is_fit.ensures
-    (not-false _ c.if-not-is_fit.false) _ c.known.ensures.0
+    c.if-not-is_fit.false _ c.known.ensures.0
     _ _ (not-false _ c.if-not-known.false) c.advance-all.ensures.0 c.outcome_after.ensures

@@ -7,25 +7,25 @@ pub returns-then-not-is_fit : goal.returns-then-not-is_fit
 returns-then-not-is_fit c = standing_refuses c.args.grammar.now
     c.args.graph.now
     c.args.chart.now _ c.is_fit.ensures
-    (not-true _ c.if-not-is_fit.true)
+    c.if-not-is_fit.true
 
 pub fill-requires : goal.fill-requires
 fill-requires c = (
   (fit_accepted c.args.grammar.now c.args.graph.now c.args.chart.now
-      _ c.is_fit.ensures (not-false _ c.if-not-is_fit.false)).grammar,
+      _ c.is_fit.ensures c.if-not-is_fit.false.grammar,
   refl,
 )
 
 pub known-tested-requires : goal.known-tested-requires
 known-tested-requires c = (
   fit_accepted c.args.grammar.now c.args.graph.now c.args.chart.now
-      _ c.is_fit.ensures (not-false _ c.if-not-is_fit.false),
+      _ c.is_fit.ensures c.if-not-is_fit.false,
   c.fill.ensures,
 )
 
 pub returns-then-not-tested : goal.returns-then-not-tested
 returns-then-not-tested c = standing_unknown c.args.grammar.now c.args.graph.now c.args.chart.now
-    _ c.is_fit.ensures (not-false _ c.if-not-is_fit.false) _ c.known-tested.ensures.0
+    _ c.is_fit.ensures c.if-not-is_fit.false _ c.known-tested.ensures.0
     (not-true _ c.if-not-tested.true)
 
 pub outcome_of-requires : goal.outcome_of-requires
@@ -33,5 +33,5 @@ outcome_of-requires c = c.known-tested.ensures.1 (not-false _ c.if-not-tested.fa
 
 pub returns : goal.returns
 returns c = standing_is c.args.grammar.now c.args.graph.now c.args.chart.now
-    _ c.is_fit.ensures (not-false _ c.if-not-is_fit.false) _ c.known-tested.ensures.0
+    _ c.is_fit.ensures c.if-not-is_fit.false _ c.known-tested.ensures.0
     _ (not-false _ c.if-not-tested.false) c.outcome_of.ensures

@@ -8,27 +8,27 @@ pub returns-then-not-is_fit : goal.returns-then-not-is_fit
 returns-then-not-is_fit c =
     let s = c.args in
     start_refuses s.grammar.now s.graph.now s.chart.now _ c.is_fit.ensures
-    (not-true _ c.if-not-is_fit.true)
+    c.if-not-is_fit.true
 
 pub restart-requires : goal.restart-requires
 restart-requires c =
     let s = c.args in (
       (fit_accepted s.grammar.now s.graph.now s.chart.now _ c.is_fit.ensures
-          (not-false _ c.if-not-is_fit.false)).grammar,
+          c.if-not-is_fit.false.grammar,
       fit_header s.grammar.now s.graph.now s.chart.now
-          _ c.is_fit.ensures (not-false _ c.if-not-is_fit.false),
+          _ c.is_fit.ensures c.if-not-is_fit.false,
     )
 
 pub returns-then-mark_of-ne0 : goal.returns-then-mark_of-ne0
 returns-then-mark_of-ne0 c =
     let s = c.args in
     start_small s.grammar.now s.graph.now s.chart.now _ c.is_fit.ensures
-    (not-false _ c.if-not-is_fit.false) _ c.restart.ensures _ c.mark_of.ensures
+    c.if-not-is_fit.false _ c.restart.ensures _ c.mark_of.ensures
     c.if-mark_of-ne0.true
 
 pub returns : goal.returns
 returns c =
     let s = c.args in
     start_done s.grammar.now s.graph.now s.chart.now _ c.is_fit.ensures
-    (not-false _ c.if-not-is_fit.false) _ c.restart.ensures _ c.mark_of.ensures
+    c.if-not-is_fit.false _ c.restart.ensures _ c.mark_of.ensures
     c.if-mark_of-ne0.false

@@ -10,7 +10,7 @@ edges_at-requires c = item_inside c.args.chart.now c.args.k c.requires.0
 pub returns-then-not-disjoint : goal.returns-then-not-disjoint
 returns-then-not-disjoint c = quiet_edges c.args.chart.now
     c.args.edges c.args.k
-    _ _ c.edges_at.ensures c.disjoint.ensures.value (not-true _ c.if-not-disjoint.true)
+    _ _ c.edges_at.ensures c.disjoint.ensures.value c.if-not-disjoint.true
 
 pub is_handled-requires : goal.is_handled-requires
 is_handled-requires c = item_inside c.args.chart.now
@@ -19,9 +19,9 @@ is_handled-requires c = item_inside c.args.chart.now
 pub returns-then-not-is_handled : goal.returns-then-not-is_handled
 returns-then-not-is_handled c = quiet_waits c.args.chart.now c.args.edges c.args.k
     _ _ c.edges_at.ensures c.disjoint.ensures.value
-    (not-false _ c.if-not-disjoint.false) (sym c.is_handled.ensures ∙ not-true _ c.if-not-is_handled.true)
+    c.if-not-disjoint.false (sym c.is_handled.ensures ∙ c.if-not-is_handled.true)
 
 pub returns : goal.returns
 returns c = quiet_not c.args.chart.now c.args.edges c.args.k _ _ c.edges_at.ensures
-    c.disjoint.ensures.value (not-false _ c.if-not-disjoint.false)
-    (sym c.is_handled.ensures ∙ not-false _ c.if-not-is_handled.false)
+    c.disjoint.ensures.value c.if-not-disjoint.false
+    (sym c.is_handled.ensures ∙ c.if-not-is_handled.false)

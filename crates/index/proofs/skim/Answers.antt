@@ -50,7 +50,7 @@ returns-then-d-c c =
     let l = c.loop-c in
     skim_on (quiet_in s.chart.now s.edges) s.ws.now s.n s.from l.c _ _ l.invariant.2 l.invariant.0
     (omega (arith, l.invariant.1, c.loop-c-test.true)) c.quiet.ensures
-    (not-false _ c.if-not-quiet.false) c.after-d.ensures
+    c.if-not-quiet.false c.after-d.ensures
 
 pub loop-c-smaller : goal.loop-c-smaller
 loop-c-smaller c = omega (
@@ -70,7 +70,7 @@ loop-c-preserved c =
       l.invariant.1,
       skim_on (quiet_in s.chart.now s.edges) s.ws.now s.n s.from l.c _ _ l.invariant.2 l.invariant.0
           (omega (arith, l.invariant.1, c.loop-c-test.true)) c.quiet.ensures
-          (not-false _ c.if-not-quiet.false) c.after-d.ensures,
+          c.if-not-quiet.false c.after-d.ensures,
     )
 
 pub returns : goal.returns

@@ -6,7 +6,7 @@ use Rattle.joins.proofs.combine.Goals as goal
 
 pub returns-then-not-disjoint : goal.returns-then-not-disjoint
 returns-then-not-disjoint c = combine_apart c.requires c.disjoint.ensures.value
-    (not-true _ c.if-not-disjoint.true)
+    c.if-not-disjoint.true
 
 pub merge-merged-requires : goal.merge-merged-requires
 merge-merged-requires c = (
@@ -33,5 +33,5 @@ covered-ok-requires c =
 pub returns : goal.returns
 returns c = combine_covered c.requires c.merge-merged.ensures (not-false _ c.if-not-merged.false)
     c.union-m.ensures.value (omega arith) c.loses.ensures c.if-loses.false
-    c.disjoint.ensures.value (not-false _ c.if-not-disjoint.false) c.covered-ok.ensures
+    c.disjoint.ensures.value c.if-not-disjoint.false c.covered-ok.ensures
     c.nodes_of.ensures

@@ -7,33 +7,33 @@ use Rattle.readers.proofs.Turns.{judged_open, judged_shape, judged_letter, judge
 use Rattle.readers.proofs.read_line.Goals as goal
 
 pub returns-then-not-ended : goal.returns-then-not-ended
-returns-then-not-ended c = (judged_open _ _ _ _ _ (not-true _ c.if-not-ended.true), λ z. absurd (omega arith))
+returns-then-not-ended c = (judged_open _ _ _ _ _ c.if-not-ended.true, λ z. absurd (omega arith))
 
 pub returns-then-not-shape : goal.returns-then-not-shape
 returns-then-not-shape c = (
-  judged_shape _ _ _ _ _ (not-false _ c.if-not-ended.false) _ c.shape.ensures
-      (not-true _ c.if-not-shape.true),
+  judged_shape _ _ _ _ _ c.if-not-ended.false _ c.shape.ensures
+      c.if-not-shape.true,
   λ z. absurd (omega arith),
 )
 
 pub letter_due-requires : goal.letter_due-requires
-letter_due-requires c = letter_some _ (sym c.shape.ensures ∙ not-false _ c.if-not-shape.false)
+letter_due-requires c = letter_some _ (sym c.shape.ensures ∙ c.if-not-shape.false)
 
 pub returns-then-not-letter_due : goal.returns-then-not-letter_due
 returns-then-not-letter_due c = (
-  judged_letter _ _ _ _ _ (not-false _ c.if-not-ended.false)
-      _ c.shape.ensures (not-false _ c.if-not-shape.false)
-      _ c.letter_due.ensures (not-true _ c.if-not-letter_due.true),
+  judged_letter _ _ _ _ _ c.if-not-ended.false
+      _ c.shape.ensures c.if-not-shape.false
+      _ c.letter_due.ensures c.if-not-letter_due.true,
   λ z. absurd (omega arith),
 )
 
 pub store_line-requires : goal.store_line-requires
-store_line-requires c = (c.requires, sym c.shape.ensures ∙ not-false _ c.if-not-shape.false)
+store_line-requires c = (c.requires, sym c.shape.ensures ∙ c.if-not-shape.false)
 
 pub returns : goal.returns
 returns c = (
-  judged_rest _ _ _ _ _ (not-false _ c.if-not-ended.false) _ c.shape.ensures
-      (not-false _ c.if-not-shape.false) _ c.letter_due.ensures
-      (not-false _ c.if-not-letter_due.false) _ c.Store-Line.ensures.0,
+  judged_rest _ _ _ _ _ c.if-not-ended.false _ c.shape.ensures
+      c.if-not-shape.false _ c.letter_due.ensures
+      c.if-not-letter_due.false _ c.Store-Line.ensures.0,
   c.Store-Line.ensures.1,
 )

@@ -17,7 +17,7 @@ least_from-requires c =
       c.requires,
       h,
       least_one s.chart.now s.n l.i h l.invariant.1
-          (sym c.is_handled.ensures ∙ not-true _ c.if-not-is_handled.true),
+          (sym c.is_handled.ensures ∙ c.if-not-is_handled.true),
     )
 
 pub returns-then-not-is_handled : goal.returns-then-not-is_handled
@@ -28,7 +28,7 @@ loop-i-preserved c =
     let s = c.args in let l = c.loop-i in (
       omega arith,
       least_none s.chart.now s.n l.i c.loop-i-test.true l.invariant.1
-          (sym c.is_handled.ensures ∙ not-false _ c.if-not-is_handled.false),
+          (sym c.is_handled.ensures ∙ c.if-not-is_handled.false),
     )
 
 pub returns : goal.returns

@@ -32,10 +32,10 @@ returns-then-not-step c =
     let G = grammar_of s.g.now in
     let H = graph_of s.g.now s.h.now in (
       ran_idle G H s.chart.now c.loop-i.i c.loop-i.chart c.loop-i.invariant.2 s.steps
-          c.step.result _ c.loop-i.invariant.0 c.if-not-step.true c.step.ensures.0
+          c.step.result _ c.loop-i.invariant.0 c.if-not-step.true-raw c.step.ensures.0
           c.step.ensures.1,
       λ e. step_idle G H c.loop-i.chart _ c.loop-i.invariant.4.fits
-          c.step.result c.if-not-step.true c.step.ensures.0 c.step.ensures.1,
+          c.step.result c.if-not-step.true-raw c.step.ensures.0 c.step.ensures.1,
     )
 
 pub overflow_add-i : goal.overflow_add-i

@@ -31,7 +31,7 @@ returns-then-not-known_record c =
     let number = c.number_of-n.ensures in (
       chart_not _ _ _ _ number _ c.capacity_of.ensures c.if-capacity_of-n.false _ _ _ c.loop-j-test.true
           c.load-x.ensures
-          c.known_record.ensures (not-true _ c.if-not-known_record.true),
+          c.known_record.ensures c.if-not-known_record.true,
       λ e. absurd (false≢true e),
       λ e. refl,
     )
@@ -43,7 +43,7 @@ loop-j-preserved c =
     let passed
     = chart_next _ _ _ _ c.number_of-n.ensures _ c.capacity_of.ensures c.if-capacity_of-n.false
     _ _ _ c.load-x.ensures
-    c.known_record.ensures (not-false _ c.if-not-known_record.false) l.invariant.2 in
+    c.known_record.ensures c.if-not-known_record.false l.invariant.2 in
     ⊎_elim
     (λ p. (
       omega arith,

@@ -27,7 +27,7 @@ returns-then-not-in_graph c =
     let sized = c.requires.0 in
     active_outside _ _ _ sized _ _ c.if-s-of.false _ c.rule_plan_in.ensures c.if-rule_plan_in-plan.false
     _ c.open_at-open.ensures _
-    c.in_graph.ensures (not-true _ c.if-not-in_graph.true)
+    c.in_graph.ensures c.if-not-in_graph.true
 
 pub known_partners-requires : goal.known_partners-requires
 known_partners-requires c =
@@ -39,4 +39,4 @@ returns c =
     let sized = c.requires.0 in
     active_by _ _ _ sized _ _ c.if-s-of.false _ c.rule_plan_in.ensures c.if-rule_plan_in-plan.false
     _ c.open_at-open.ensures _
-    c.in_graph.ensures _ (not-false _ c.if-not-in_graph.false) c.known_partners.ensures
+    c.in_graph.ensures _ c.if-not-in_graph.false c.known_partners.ensures

@@ -24,11 +24,11 @@ pub returns-then-not-in_graph : goal.returns-then-not-in_graph
 returns-then-not-in_graph c =
     let sized = c.requires in
     passive_outside _ _ _ sized _ _ c.if-s-of.false _ c.symbol_kind_in.ensures c.if-symbol_kind_in-eq0.false _ _
-    c.symbol_rank_in.ensures.0 c.full-listed.ensures _ c.in_graph.ensures (not-true _ c.if-not-in_graph.true)
+    c.symbol_rank_in.ensures.0 c.full-listed.ensures _ c.in_graph.ensures c.if-not-in_graph.true
 
 pub returns : goal.returns
 returns c =
     let sized = c.requires in
     passive_by _ _ _ sized _ _ c.if-s-of.false _ c.symbol_kind_in.ensures c.if-symbol_kind_in-eq0.false _ _
     c.symbol_rank_in.ensures.0 c.full-listed.ensures _ c.in_graph.ensures
-    (not-false _ c.if-not-in_graph.false)
+    c.if-not-in_graph.false

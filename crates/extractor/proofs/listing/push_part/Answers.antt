@@ -6,10 +6,10 @@ use Rattle.extractor.proofs.listing.push_part.Goals as goal
 pub returns-then-not-is_nonterminal : goal.returns-then-not-is_nonterminal
 returns-then-not-is_nonterminal c = part_skipped c.args.grammar.now
     _ c.args.r c.args.i
-    c.args.b _ _ c.is_nonterminal.ensures (not-true _ c.if-not-is_nonterminal.true)
+    c.args.b _ _ c.is_nonterminal.ensures c.if-not-is_nonterminal.true
 
 pub returns : goal.returns
 returns c = part_pushed c.args.grammar.now
     _ c.args.r c.args.i
-    c.args.b _ _ c.is_nonterminal.ensures (not-false _ c.if-not-is_nonterminal.false)
+    c.args.b _ _ c.is_nonterminal.ensures c.if-not-is_nonterminal.false
     c.requires.1 c.requires.2

@@ -34,10 +34,10 @@ pub returns-then-not-nodes_fit : goal.returns-then-not-nodes_fit
 returns-then-not-nodes_fit c = edge_nodes_no _ _ _ c.requires.0 c.requires.1 _ c.requires.2 _ c.args.used
     _ c.graph_edges.ensures c.if-graph_edges-g.false _ c.edge_label-label.ensures
     _ c.graph_label.ensures c.if-graph_label-label.false _ c.nodes_fit.ensures
-    (not-true _ c.if-not-nodes_fit.true)
+    c.if-not-nodes_fit.true
 
 pub returns : goal.returns
 returns c = edge_new _ _ _ c.requires.0 c.requires.1 _ c.requires.2 _ c.args.used
     _ c.graph_edges.ensures c.if-graph_edges-g.false _ c.edge_label-label.ensures
     _ c.graph_label.ensures c.if-graph_label-label.false _ c.nodes_fit.ensures
-    (not-false _ c.if-not-nodes_fit.false) _ c.has.ensures
+    c.if-not-nodes_fit.false _ c.has.ensures

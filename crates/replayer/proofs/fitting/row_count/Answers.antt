@@ -15,14 +15,14 @@ is_row-requires c = (c.loop-k.invariant.within, c.next_line-line.ensures.content
 
 pub returns-then-not-is_row : goal.returns-then-not-is_row
 returns-then-not-is_row c = count_refused _ _ _ _ c.loop-k.invariant c.loop-k-test.true _ c.is_row.ensures
-    (not-true _ c.if-not-is_row.true)
+    c.if-not-is_row.true
 
 pub behind-at-requires : goal.behind-at-requires
 behind-at-requires c = (c.loop-k.invariant.within, c.next_line-line.ensures.contents)
 
 pub loop-k-preserved : goal.loop-k-preserved
 loop-k-preserved c = count_next _ _ _ _ c.loop-k.invariant c.loop-k-test.true _ c.is_row.ensures
-    (not-false _ c.if-not-is_row.false) _ c.behind-at.ensures
+    c.if-not-is_row.false _ c.behind-at.ensures
 
 pub returns-then-at-text : goal.returns-then-at-text
 returns-then-at-text c = count_behind _ _ _ _ c.loop-k.invariant c.loop-k-test.false c.if-at-text.true

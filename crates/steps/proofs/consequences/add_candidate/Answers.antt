@@ -11,7 +11,7 @@ use Rattle.steps.proofs.consequences.add_candidate.Goals as goal
 pub returns-then-not-has : goal.returns-then-not-has
 returns-then-not-has c = (
   candidate_none _ _ _ _ c.requires.3 _ c.requires.1.fits _ _ c.requires.4
-      _ c.has.ensures.value (not-true _ c.if-not-has.true),
+      _ c.has.ensures.value c.if-not-has.true,
   c.requires.1,
 )
 

@@ -45,7 +45,7 @@ add_met-past-requires c =
       single_joining p A,
       record {
         there = single_known p A c.loop-c-test.true;
-        done = loud_handled _ _ _ _ c.quiet.ensures (not-true _ c.if-not-quiet.true);
+        done = loud_handled _ _ _ _ c.quiet.ensures c.if-not-quiet.true;
       },
     )
 

@@ -7,8 +7,8 @@ returns-then-not-found c = attached_no _ _ _ _ _ _ c.distinct-found.ensures c.if
 
 pub returns-then-not-ends : goal.returns-then-not-ends
 returns-then-not-ends c = behind_no _ _ _ _ _ _ c.distinct-found.ensures
-    _ c.ends.ensures c.if-not-ends.true _
+    _ c.ends.ensures c.if-not-ends.true-raw _
 
 pub returns : goal.returns
 returns c = attached_yes _ _ _ _ _ _ c.distinct-found.ensures
-    _ c.ends.ensures c.if-not-found.false c.if-not-ends.false
+    _ c.ends.ensures c.if-not-found.false c.if-not-ends.false-raw

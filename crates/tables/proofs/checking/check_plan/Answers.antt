@@ -30,7 +30,7 @@ returns-then-not-line c = passed_no _ _ _ _ c.loop-q.invariant.2
 pub returns-then-not-ends : goal.returns-then-not-ends
 returns-then-not-ends c = passed_no _ _ _ _ c.loop-q.invariant.2 c.loop-q-test.true
     (line_not_zero _ _ _ _ c.with_line-line.ensures.so
-    _ (ends_at _ _ _ _ _ c.plan_place.ensures c.ends.ensures) c.if-not-ends.true)
+    _ (ends_at _ _ _ _ _ c.plan_place.ensures c.ends.ensures) c.if-not-ends.true-raw)
 
 pub loop-q-preserved : goal.loop-q-preserved
 loop-q-preserved c =
@@ -40,7 +40,7 @@ loop-q-preserved c =
       with-line.ensures.sets (not-false _ if1.false),
       passed_next _ _ _ _ c.loop-q.invariant.2 c.loop-q-test.true c.requires.1
           (line_stands _ _ _ _ with-line.ensures.so _ (ends_at _ _ _ _ _ c.plan_place.ensures
-          c.ends.ensures) if1.false c.if-not-ends.false),
+          c.ends.ensures) if1.false c.if-not-ends.false-raw),
     )
 
 pub returns : goal.returns

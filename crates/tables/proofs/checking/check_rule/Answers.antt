@@ -12,13 +12,13 @@ pub returns-then-not-rule_stands : goal.returns-then-not-rule_stands
 returns-then-not-rule_stands c = (
   λ y. absurd (false≢true y),
   rule_no grammar_words _ _ _ c.rule_stands.ensures
-      _ _ c.if-not-rule_stands.true,
+      _ _ c.if-not-rule_stands.true-raw,
 )
 
 pub check_edges-requires : goal.check_edges-requires
 check_edges-requires c = (
   c.requires,
-  edges_few _ _ _ (c.rule_stands.ensures.yes (not-false _ c.if-not-rule_stands.false))
+  edges_few _ _ _ (c.rule_stands.ensures.yes c.if-not-rule_stands.false
       c.rule_edges_in-edges.ensures,
 )
 
@@ -26,8 +26,8 @@ pub returns-then-not-check_edges : goal.returns-then-not-check_edges
 returns-then-not-check_edges c = (
   λ y. absurd (false≢true y),
   rule_edges_no grammar_words
-      _ _ _ c.rule_stands.ensures _ _ c.if-not-rule_stands.false
-      _ _ c.check_edges.ensures c.if-not-check_edges.true,
+      _ _ _ c.rule_stands.ensures _ _ c.if-not-rule_stands.false-raw
+      _ _ c.check_edges.ensures c.if-not-check_edges.true-raw,
 )
 
 pub edge_place-requires : goal.edge_place-requires
@@ -35,14 +35,14 @@ edge_place-requires c = omega (
   arith,
   (edges_few
       _ _ _ (c.rule_stands.ensures.yes
-      (not-false _ c.if-not-rule_stands.false)) c.rule_edges_in-edges.ensures).few,
+      c.if-not-rule_stands.false c.rule_edges_in-edges.ensures).few,
 )
 
 pub zeros-requires : goal.zeros-requires
 zeros-requires c = (
   omega (
     arith,
-    (edges_few _ _ _ (c.rule_stands.ensures.yes (not-false _ c.if-not-rule_stands.false))
+    (edges_few _ _ _ (c.rule_stands.ensures.yes c.if-not-rule_stands.false
         c.rule_edges_in-edges.ensures).few,
   ),
   omega arith,
@@ -52,9 +52,9 @@ pub returns-then-not-zeros : goal.returns-then-not-zeros
 returns-then-not-zeros c = (
   λ y. absurd (false≢true y),
   rule_gap_no grammar_words _ _ _ c.rule_stands.ensures
-      _ _ c.if-not-rule_stands.false _ _ c.check_edges.ensures c.if-not-check_edges.false
+      _ _ c.if-not-rule_stands.false-raw _ _ c.check_edges.ensures c.if-not-check_edges.false-raw
       _ (zeros_at _ _ _ _ _ _ c.edge_place.ensures c.plans_from.ensures
-      c.zeros.ensures) c.if-not-zeros.true,
+      c.zeros.ensures) c.if-not-zeros.true-raw,
 )
 
 pub check_plan-requires : goal.check_plan-requires
@@ -79,8 +79,8 @@ returns c =
         rule-plan-in.ensures,
       ),
       rule_plan_lem grammar_words _ _ _ rule-stands.ensures _ _ if1.false
-          _ _ c.check_edges.ensures c.if-not-check_edges.false
+          _ _ c.check_edges.ensures c.if-not-check_edges.false-raw
           _ (zeros_at _ _ _ _ _ _ c.edge_place.ensures c.plans_from.ensures
-          c.zeros.ensures) c.if-not-zeros.false
+          c.zeros.ensures) c.if-not-zeros.false-raw
           _ (ap (plan_place c.args.r) rule-plan-in.ensures) _ c.check_plan.ensures,
     )

@@ -21,18 +21,18 @@ loop-r-init c = (
 pub returns-then-not-zeros : goal.returns-then-not-zeros
 returns-then-not-zeros c = rules_gap_no grammar_words _ _ _ _ _ _ c.loop-r.invariant.2
     c.loop-r-test.true _ (zeros_at _ _ _ _ _ _ refl
-    c.rule_place.ensures c.zeros.ensures) c.if-not-zeros.true
+    c.rule_place.ensures c.zeros.ensures) c.if-not-zeros.true-raw
 
 pub returns-then-not-check_rule : goal.returns-then-not-check_rule
 returns-then-not-check_rule c = rules_no grammar_words _ _ _ _ _ _ c.loop-r.invariant.2 c.loop-r-test.true
     _ (zeros_at _ _ _ _ _ _ refl c.rule_place.ensures c.zeros.ensures)
-    c.if-not-zeros.false _ _ c.check_rule.ensures.1 c.if-not-check_rule.true
+    c.if-not-zeros.false-raw _ _ c.check_rule.ensures.1 c.if-not-check_rule.true-raw
 
 pub plan_place-from-requires : goal.plan_place-from-requires
 plan_place-from-requires c = omega (
   arith,
   c.check_rule.ensures.0
-      (not-false _ c.if-not-check_rule.false),
+      c.if-not-check_rule.false,
   c.rule_plan_in.ensures,
 )
 
@@ -46,7 +46,7 @@ loop-r-preserved c =
       omega (arith, check-rule.ensures.0 (not-false _ if2.false), rule-plan-in.ensures),
       rules_next grammar_words _ _ _ _ _ _ loop.invariant.2 c.loop-r-test.true
           _ (zeros_at _ _ _ _ _ _ refl c.rule_place.ensures c.zeros.ensures)
-          c.if-not-zeros.false _ _ check-rule.ensures.1 if2.false c.requires.1
+          c.if-not-zeros.false-raw _ _ check-rule.ensures.1 if2.false c.requires.1
           _ (sym (c.plan_place-from.ensures ∙ ap (plan_place loop.r) rule-plan-in.ensures)),
     )
 

@@ -14,14 +14,14 @@ loop-s-init c = (omega arith, lines_start grammar_words [] _ Symbol _ _ _ _ (ome
 pub returns-then-not-symbol_stands : goal.returns-then-not-symbol_stands
 returns-then-not-symbol_stands c = reaches_no grammar_words [] _ _ _ _ _ (lines_no grammar_words [] _ _ _ Symbol
     _ _ _ _ c.loop-s.invariant.1 c.loop-s-test.true tt
-    _ c.symbol_stands.ensures c.if-not-symbol_stands.true)
+    _ c.symbol_stands.ensures c.if-not-symbol_stands.true-raw)
 
 pub loop-s-preserved : goal.loop-s-preserved
 unfolding place_of
 loop-s-preserved c = (
   omega arith,
   lines_next grammar_words [] _ _ _ Symbol _ _ _ _ c.loop-s.invariant.1
-      c.loop-s-test.true tt _ c.symbol_stands.ensures c.if-not-symbol_stands.false refl
+      c.loop-s-test.true tt _ c.symbol_stands.ensures c.if-not-symbol_stands.false-raw refl
       (next_symbol _ _ _ c.requires.1) _ (omega arith),
 )
 

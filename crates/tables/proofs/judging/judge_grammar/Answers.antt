@@ -7,14 +7,14 @@ use Rattle.tables.proofs.judging.judge_grammar.Goals as goal
 
 pub returns-then-not-fixed : goal.returns-then-not-fixed
 returns-then-not-fixed c = three (grammar_asked _ _ _ _ c.field-symbols.ensures
-    c.field-rules.ensures c.field-start.ensures) c.if-not-fixed.true
+    c.field-rules.ensures c.field-start.ensures) c.if-not-fixed.true-raw
 
 pub returns-then-n-ne3 : goal.returns-then-n-ne3
 returns-then-n-ne3 c = four (grammar_asked _ _ _ _ c.field-symbols.ensures
-    c.field-rules.ensures c.field-start.ensures) c.if-not-fixed.false 0 refl
+    c.field-rules.ensures c.field-start.ensures) c.if-not-fixed.false-raw 0 refl
     c.if-n-ne3.true
 
 pub returns : goal.returns
 returns c = sym (past_five (grammar_asked _ _ _ _ c.field-symbols.ensures
-    c.field-rules.ensures c.field-start.ensures) c.if-not-fixed.false 0 refl
+    c.field-rules.ensures c.field-start.ensures) c.if-not-fixed.false-raw 0 refl
     c.if-n-ne3.false true refl refl)

@@ -5,19 +5,19 @@ use Rattle.tables.proofs.LineAnswers.{graph_asked, ranked}
 use Rattle.tables.proofs.judging.judge_graph.Goals as goal
 
 pub returns-then-not-fixed : goal.returns-then-not-fixed
-returns-then-not-fixed c = three (graph_asked _ _ _ _ c.field-nodes.ensures c.field-edges.ensures) c.if-not-fixed.true
+returns-then-not-fixed c = three (graph_asked _ _ _ _ c.field-nodes.ensures c.field-edges.ensures) c.if-not-fixed.true-raw
 
 pub returns-then-n-due : goal.returns-then-n-due
 returns-then-n-due c = four (graph_asked _ _ _ _ c.field-nodes.ensures
-    c.field-edges.ensures) c.if-not-fixed.false
+    c.field-edges.ensures) c.if-not-fixed.false-raw
     _ (ranked _ _ _ c.start_symbol.ensures c.rank_at-due.ensures.0) c.if-n-due.true
 
 pub returns-then-not-listed : goal.returns-then-not-listed
-returns-then-not-listed c = five (graph_asked _ _ _ _ c.field-nodes.ensures c.field-edges.ensures) c.if-not-fixed.false
+returns-then-not-listed c = five (graph_asked _ _ _ _ c.field-nodes.ensures c.field-edges.ensures) c.if-not-fixed.false-raw
     _ (ranked _ _ _ c.start_symbol.ensures c.rank_at-due.ensures.0)
-    c.if-n-due.false _ c.listed.ensures c.if-not-listed.true
+    c.if-n-due.false _ c.listed.ensures c.if-not-listed.true-raw
 
 pub returns : goal.returns
 returns c = sym (past_five (graph_asked _ _ _ _ c.field-nodes.ensures c.field-edges.ensures)
-    c.if-not-fixed.false _ (ranked _ _ _ c.start_symbol.ensures
-    c.rank_at-due.ensures.0) c.if-n-due.false _ c.listed.ensures c.if-not-listed.false)
+    c.if-not-fixed.false-raw _ (ranked _ _ _ c.start_symbol.ensures
+    c.rank_at-due.ensures.0) c.if-n-due.false _ c.listed.ensures c.if-not-listed.false-raw)

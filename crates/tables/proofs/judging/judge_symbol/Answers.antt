@@ -8,14 +8,14 @@ use Rattle.tables.proofs.judging.judge_symbol.Goals as goal
 pub returns-then-not-fixed : goal.returns-then-not-fixed
 returns-then-not-fixed c = three (symbol_asked _ _ _ _ _ _ _ c.field-number.ensures
     c.field-kind.ensures c.field-rank.ensures
-    c.start_symbol-start.ensures) c.if-not-fixed.true
+    c.start_symbol-start.ensures) c.if-not-fixed.true-raw
 
 pub returns-then-n-ne3 : goal.returns-then-n-ne3
 returns-then-n-ne3 c = four (symbol_asked _ _ _ _ _ _ _ c.field-number.ensures
     c.field-kind.ensures c.field-rank.ensures
-    c.start_symbol-start.ensures) c.if-not-fixed.false 0 refl c.if-n-ne3.true
+    c.start_symbol-start.ensures) c.if-not-fixed.false-raw 0 refl c.if-n-ne3.true
 
 pub returns : goal.returns
 returns c = sym (past_five (symbol_asked _ _ _ _ _ _ _ c.field-number.ensures
     c.field-kind.ensures c.field-rank.ensures
-    c.start_symbol-start.ensures) c.if-not-fixed.false 0 refl c.if-n-ne3.false true refl refl)
+    c.start_symbol-start.ensures) c.if-not-fixed.false-raw 0 refl c.if-n-ne3.false true refl refl)
