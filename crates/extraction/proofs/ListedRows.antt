@@ -80,6 +80,9 @@ module _ (look : ℕ → Record) (G : Grammar) (H : Graph) where
         → PartsListed bs es i ps (under es i ++ js) js n
     unfolding children_from flat
     parts_listed [] i end no_edges n js = no_parts i n js
+    parts_listed [] i (edge g ps) s n js = elim s [ ]
+    parts_listed [] i (tree t ps) s n js = elim s [ ]
+    parts_listed (e ∷ es) i end s n js = elim s [ ]
     parts_listed (e ∷ es) i (edge g ps) (an_edge q s) n js =
         rw q (edge_part e es i ps (under es (i + 1) ++ js) js n q (parts_listed es (i + 1) ps s n js))
     parts_listed (e ∷ es) i (tree t ps) (a_tree q r s) n js =

@@ -152,6 +152,9 @@ module _ (look : ℕ → Record) (G : Grammar) (H : Graph) where
         → listing look G (size_in ps + k) (children_from G bs es i ++ js) ≡ before (under es i) (listing look G k js)
     unfolding size children_from flat
     lists_parts [] i end no_edges k js = ap (λ (n : ℕ). listing look G n js) (omega arith) ∙ sym (before_none (listing look G k js))
+    lists_parts [] i (edge g ps) s k js = elim s [ ]
+    lists_parts [] i (tree t ps) s k js = elim s [ ]
+    lists_parts (e ∷ es) i end s k js = elim s [ ]
     lists_parts (e ∷ es) i (edge g ps) (an_edge q s) k js = rw q (lists_parts es (i + 1) ps s k js)
     lists_parts (e ∷ es) i (tree t ps) (a_tree q r s) k js =
         rw q
@@ -239,6 +242,9 @@ module _ (look : ℕ → Record) (G : Grammar) (H : Graph) where
         → length (flat look G (λ b. records_under look G d b) (children_from G bs es i)) ≡ size_in ps
     unfolding size children_from flat
     length_parts [] i end no_edges = refl
+    length_parts [] i (edge g ps) s = elim s [ ]
+    length_parts [] i (tree t ps) s = elim s [ ]
+    length_parts (e ∷ es) i end s = elim s [ ]
     length_parts (e ∷ es) i (edge g ps) (an_edge q s) = rw q (length_parts es (i + 1) ps s)
     length_parts (e ∷ es) i (tree t ps) (a_tree q r s) =
         let rest = flat look G (λ b. records_under look G d b) (children_from G bs es (i + 1)) in

@@ -31,4 +31,4 @@ returns-then-mark_of-ne0 c = outcome_small c.args.chart.now
 pub returns : goal.returns
 returns c = outcome_idle c.args.chart.now
     _ c.mark_of.ensures _ c.if-mark_of-ne0.false c.item_count-n.ensures
-    (c.requires c.if-not-all.false
+    (c.requires c.if-not-all.false)

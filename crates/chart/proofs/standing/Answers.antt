@@ -12,7 +12,7 @@ returns-then-not-is_fit c = standing_refuses c.args.grammar.now
 pub fill-requires : goal.fill-requires
 fill-requires c = (
   (fit_accepted c.args.grammar.now c.args.graph.now c.args.chart.now
-      _ c.is_fit.ensures c.if-not-is_fit.false.grammar,
+      _ c.is_fit.ensures c.if-not-is_fit.false).grammar,
   refl,
 )
 

@@ -14,7 +14,7 @@ pub restart-requires : goal.restart-requires
 restart-requires c =
     let s = c.args in (
       (fit_accepted s.grammar.now s.graph.now s.chart.now _ c.is_fit.ensures
-          c.if-not-is_fit.false.grammar,
+          c.if-not-is_fit.false).grammar,
       fit_header s.grammar.now s.graph.now s.chart.now
           _ c.is_fit.ensures c.if-not-is_fit.false,
     )

@@ -49,7 +49,7 @@ loop-j-preserved c =
       omega arith,
       l.invariant.1,
       covered_next s.g.now s.h.now s.chart.now l.index l.j
-          _ c.item_at.ensures (c.covers.ensures c.if-not-covers.false l.invariant.2,
+          _ c.item_at.ensures (c.covers.ensures c.if-not-covers.false) l.invariant.2,
       l.invariant.3,
     )
 

@@ -1,9 +1,9 @@
 -- No place passed has an open node.
 use mathlib.Core.Path.{refl, sym, ◌∙◌}
-use mathlib.Core.Logic.{⊎_elim}
 use native.Mathlib.Omega.{arith}
 use Rattle.joins.proofs.Dropping.{passed_none, passed_next, passed_bare, passed_lost, passed_all}
 use Rattle.joins.proofs.loses.Goals as goal
+use Rattle.joins.proofs.loses.Goals.{then-v-lt64+else-lost, else-v-lt64}
 
 pub loop-rest-init : goal.loop-rest-init
 loop-rest-init c = passed_none _ _ _
@@ -20,8 +20,11 @@ pub loop-rest-preserved : goal.loop-rest-preserved
 loop-rest-preserved c =
     let small = c.ranges.w.fits in
     let before = c.loop-rest.invariant in
-    ⊎_elim (λ p. passed_next _ _ _ _ small before _ refl (sym p.1.ensures ∙ p.2.left))
-    (λ p. passed_bare _ _ _ _ small before _ refl p.left) c.if-v-lt64.branch
+    elim c.if-v-lt64.branch [
+      then-v-lt64+else-lost w ↦
+        passed_next _ _ _ _ small before _ refl (sym w.lost.ensures ∙ w.if-lost.false)
+    | else-v-lt64 w ↦ passed_bare _ _ _ _ small before _ refl w.if-v-lt64.false
+    ]
 
 pub returns : goal.returns
 returns c = passed_all _ _ _ _ c.ranges.w.fits c.loop-rest.invariant c.loop-rest-test.false

@@ -34,6 +34,6 @@ pub returns : goal.returns
 returns c = (
   judged_rest _ _ _ _ _ c.if-not-ended.false _ c.shape.ensures
       c.if-not-shape.false _ c.letter_due.ensures
-      c.if-not-letter_due.false _ c.Store-Line.ensures.0,
-  c.Store-Line.ensures.1,
+      c.if-not-letter_due.false _ c.store_line.ensures.0,
+  c.store_line.ensures.1,
 )

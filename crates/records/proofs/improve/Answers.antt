@@ -20,5 +20,5 @@ unfolding tail_of
 returns c =
     let s = c.args in
     let waits = sym c.is_handled.ensures ∙ c.if-is_handled.false in
-    rw (c.place-at.ensures.0, c.Tail-of.ensures)
+    rw (c.place-at.ensures.0, c.tail_of.ensures)
     (improve_more s.chart.now s.j s.x waits c.requires (omega arith))

@@ -10,4 +10,4 @@ returns c =
     let at = c.place-at.ensures.0 in
     let head = head_by s.x c.head_of.ensures in
     save_some s.chart.now _ s.j s.x c.requires
-    (rw (at, head, c.word_of-map.ensures.value, c.Tail-of.ensures))
+    (rw (at, head, c.word_of-map.ensures.value, c.tail_of-tail.ensures))

@@ -15,7 +15,7 @@ from_start-requires c = (c.requires, omega (arith, c.row_count-n.ensures), refl)
 pub returns-then-not-from_start : goal.returns-then-not-from_start
 returns-then-not-from_start c = sym (failed_answer _ _ _ _ c.row_count-n.ensures c.if-n-eq0.false _
     c.from_start.new.st c.from_start.ensures
-    c.if-not-from_start.true
+    c.if-not-from_start.true)
 
 pub is_whole-requires : goal.is_whole-requires
 is_whole-requires c =

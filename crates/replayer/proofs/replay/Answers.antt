@@ -8,8 +8,7 @@ pub returns-then-not-check_grammar : goal.returns-then-not-check_grammar
 returns-then-not-check_grammar c = answer_unfit_grammar _ _ _ (sym c.check_grammar.ensures ∙ c.if-not-check_grammar.true)
 
 pub returns-then-not-check_graph : goal.returns-then-not-check_graph
-returns-then-not-check_graph c = answer_unfit_graph _ _ _ (sym c.check_grammar.ensures ∙ not-false
-    _ c.if-not-check_grammar.false-raw) (sym c.check_graph.ensures ∙ c.if-not-check_graph.true)
+returns-then-not-check_graph c = answer_unfit_graph _ _ _ (sym c.check_grammar.ensures ∙ c.if-not-check_grammar.false) (sym c.check_graph.ensures ∙ c.if-not-check_graph.true)
 
 pub passes-requires : goal.passes-requires
 passes-requires c = tables_accepted _ _ _ c.check_grammar.ensures
@@ -19,10 +18,10 @@ pub returns-then-passes : goal.returns-then-passes
 returns-then-passes c = answer_passed _ _ _ (tables_accepted
     _ _ _ c.check_grammar.ensures
     c.if-not-check_grammar.false _ c.check_graph.ensures
-    c.if-not-check_graph.false (sym c.passes.ensures ∙ c.if-passes.true)
+    c.if-not-check_graph.false) (sym c.passes.ensures ∙ c.if-passes.true)
 
 pub returns-else-passes : goal.returns-else-passes
 returns-else-passes c = answer_refused _ _ _ (tables_accepted
     _ _ _ c.check_grammar.ensures
     c.if-not-check_grammar.false _ c.check_graph.ensures
-    c.if-not-check_graph.false (sym c.passes.ensures ∙ c.if-passes.false)
+    c.if-not-check_graph.false) (sym c.passes.ensures ∙ c.if-passes.false)

@@ -30,5 +30,5 @@ pub returns : goal.returns
 returns c =
     let pre = c.requires in
     passed_reaches grammar_words [] _ _ _ _ _ _ _ (rule_lines_lem _ _ _ pre.1) _ _ c.loop-i.invariant.1
-    pre.1.some (omega arith) _ c.rule_nodes_in-nodes.ensures _ c.Has-All.ensures
+    pre.1.some (omega arith) _ c.rule_nodes_in-nodes.ensures _ c.has_all.ensures
     _ (omega arith)

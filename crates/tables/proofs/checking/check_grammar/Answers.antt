@@ -17,7 +17,7 @@ returns-then-not-grammar_stands c = grammar_is _ c.if-t-lt-GRAMMAR_WORDS.false
 pub check_symbols-requires : goal.check_symbols-requires
 check_symbols-requires c = (
   c.if-t-lt-GRAMMAR_WORDS.false,
-  symbols_few _ _ (c.grammar_stands.ensures.yes c.if-not-grammar_stands.false
+  symbols_few _ _ (c.grammar_stands.ensures.yes c.if-not-grammar_stands.false)
       c.symbol_count_in-symbols.ensures,
 )
 
@@ -32,7 +32,7 @@ symbol_place-requires c = omega (
   arith,
   (symbols_few
       _ _ (c.grammar_stands.ensures.yes
-      c.if-not-grammar_stands.false c.symbol_count_in-symbols.ensures).few,
+      c.if-not-grammar_stands.false) c.symbol_count_in-symbols.ensures).few,
 )
 
 pub check_rules-requires : goal.check_rules-requires

@@ -15,7 +15,7 @@ returns-then-not-graph_stands c = graph_is _ _ c.if-t-lt-GRAPH_WORDS.false
 pub check_graph_edges-requires : goal.check_graph_edges-requires
 check_graph_edges-requires c = (
   c.if-t-lt-GRAPH_WORDS.false,
-  graph_edges_few _ _ _ (c.graph_stands.ensures.yes c.if-not-graph_stands.false
+  graph_edges_few _ _ _ (c.graph_stands.ensures.yes c.if-not-graph_stands.false)
       c.graph_edges_in.ensures,
 )
 

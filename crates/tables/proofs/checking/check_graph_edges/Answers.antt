@@ -31,12 +31,12 @@ returns-then-not-has_all c =
     let pre = c.requires in
     concludes_no graph_words _ _ _ _ (passed_uncovered graph_words _ _ _ _ _ _ _ _ (graph_lines_lem _ _ _ pre.1)
     _ _ c.loop-e.invariant.1 pre.1.some (omega arith) _ c.graph_nodes_in-nodes.ensures
-    _ c.Has-All.ensures c.if-not-has_all.true-raw)
+    _ c.has_all.ensures c.if-not-has_all.true-raw)
 
 pub returns : goal.returns
 returns c =
     let pre = c.requires in
     concludes_on graph_words _ _ _ _ _ _ (passed_all graph_words _ _ _ _ _ _ _ _ (graph_lines_lem _ _ _ pre.1)
     _ _ c.loop-e.invariant.1 pre.1.some (omega arith) _ c.graph_nodes_in-nodes.ensures
-    _ c.Has-All.ensures c.if-not-has_all.false-raw _ (omega arith))
+    _ c.has_all.ensures c.if-not-has_all.false-raw _ (omega arith))
     _ (concludes_last graph_words _ _ _ _ c.zeros.ensures)

@@ -48,5 +48,5 @@ returns c =
     let loop = c.loop-q in let loop-test = c.loop-q-test in
     let pre = c.requires in loop.invariant.2.last loop-test.false
     _ (plan_whole_lem _ _ _ _ _ _ _ (omega (arith, pre.1.some)) pre.1.few pre.2
-    (marked_done _ _ _ _ _ _ loop.invariant.0 loop-test.false loop.invariant.1) _ _ c.Has-All.ensures
+    (marked_done _ _ _ _ _ _ loop.invariant.0 loop-test.false loop.invariant.1) _ _ c.has_all.ensures
     c.has_all-2.ensures)

@@ -18,7 +18,7 @@ returns-then-not-rule_stands c = (
 pub check_edges-requires : goal.check_edges-requires
 check_edges-requires c = (
   c.requires,
-  edges_few _ _ _ (c.rule_stands.ensures.yes c.if-not-rule_stands.false
+  edges_few _ _ _ (c.rule_stands.ensures.yes c.if-not-rule_stands.false)
       c.rule_edges_in-edges.ensures,
 )
 
@@ -35,14 +35,14 @@ edge_place-requires c = omega (
   arith,
   (edges_few
       _ _ _ (c.rule_stands.ensures.yes
-      c.if-not-rule_stands.false c.rule_edges_in-edges.ensures).few,
+      c.if-not-rule_stands.false) c.rule_edges_in-edges.ensures).few,
 )
 
 pub zeros-requires : goal.zeros-requires
 zeros-requires c = (
   omega (
     arith,
-    (edges_few _ _ _ (c.rule_stands.ensures.yes c.if-not-rule_stands.false
+    (edges_few _ _ _ (c.rule_stands.ensures.yes c.if-not-rule_stands.false)
         c.rule_edges_in-edges.ensures).few,
   ),
   omega arith,

@@ -4,4 +4,4 @@ use Rattle.tables.proofs.marks.rule_covered.Goals as goal
 
 pub returns : goal.returns
 returns c = covered_by _ _ _ _ _ _ _ c.rule_nodes.ensures c.mark_edges.ensures
-    c.mark_fields-m.ensures c.Has-All.ensures
+    c.mark_fields-m.ensures c.has_all.ensures

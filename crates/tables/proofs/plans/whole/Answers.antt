@@ -15,6 +15,6 @@ returns c =
     let edges = eight_edges _ _ _ c.at_most-edges.ensures c.rule_edges.ensures in
     whole_ok _ _ _ _ _ _ _ _ (all_marked _ _ _ _ _ _ _ refl (omega (arith, c.requires.lines))
     c.marks_before-before.ensures.below c.mark_children.ensures
-    c.Has-All.ensures) (all_marked _ _ _ _ _ _ _ edges.0 edges.1
+    c.has_all-children.ensures) (all_marked _ _ _ _ _ _ _ edges.0 edges.1
     c.marks_before-before.ensures.edges c.mark_introduced.ensures
     c.has_all-introduced.ensures)
