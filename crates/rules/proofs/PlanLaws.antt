@@ -210,9 +210,9 @@ module _ (g : List ℕ) (r q o : ℕ) (t : List ℕ) (known : KnownNode g r q) (
           let lower : first < q = child_lower g r first known.grammar known.rule q known.node (omega (arith, hit_self first)) in
           omega (arith, hit_self first, child_some pl first q, (plan_ok g r known.grammar known.rule).child_once first (omega (arith, known.node)))
 
-      second_word : q + 32 * (3 + 4 * first) ≡ join_word g r second q
+      second_word_lem : q + 32 * (3 + 4 * first) ≡ join_word g r second q
       unfolding join_word
-      second_word = rw (ne_eqb (plan_first g r q) second (λ e. apart (b ∙ e))) (omega arith)
+      second_word_lem = rw (ne_eqb (plan_first g r q) second (λ e. apart (b ∙ e))) (omega arith)
 
       pub put_join : (u v : List ℕ) → Placed t u (16 * r + first) (q + 32 * w) o → Placed u v (16 * r + second) (q + 32 * (3 + 4 * first)) o → Put g r q o t v
       put_join u v one two = record { size = two.size; told = told; kept = kept }
@@ -245,7 +245,7 @@ module _ (g : List ℕ) (r q o : ℕ) (t : List ℕ) (known : KnownNode g r q) (
                   rw s (same.0 ∙ one.word ∙ first_word, same.1 ∙ one.opened)
               go false e =
                   let s : p ≡ second = later (eqb p first) e (sym (both p) ∙ lt-ltb 0 _ c) in
-                  rw s (two.word ∙ second_word, two.opened)
+                  rw s (two.word ∙ second_word_lem, two.opened)
 
           kept : (k : ℕ) → k < 1024 → ((p : ℕ) → k ≡ 16 * r + p → ChildOf g r p q → ⊥) → (get_or v k 0 ≡ get_or t k 0) × (get_or v (1024 + k) 0 ≡ get_or t (1024 + k) 0)
           kept k l n =

@@ -2,9 +2,9 @@
 use native.Mathlib.Omega.{arith}
 use Prim.Native.Nat.{◌-◌}
 use mathlib.Core.Path.{◌∙◌}
-use mathlib.Core.Logic.{⊎_elim}
 use Rattle.filler.proofs.Eights.{numbers_of, fields_few, eight_none, place_filled, place_kept, places_done}
 use Rattle.filler.proofs.eight_from.Goals as goal
+use Rattle.filler.proofs.eight_from.Goals.{then-i-count, else-i-count}
 
 pub loop-i-init : goal.loop-i-init
 loop-i-init c = (
@@ -23,10 +23,11 @@ overflow_add-from c = omega (
 pub loop-i-preserved : goal.loop-i-preserved
 loop-i-preserved c = (
   omega arith,
-  ⊎_elim (λ w. w.2 ∙ place_filled _ _ _ c.requires
-      _ _ _ c.loop-i.invariant.1 c.loop-i-test.true w.0.taken w.1.ensures)
-      (λ w. w.1 ∙ place_kept _ _ _ c.requires _ _ c.loop-i.invariant.1
-      w.0.left) c.if-i-count.branch,
+  elim c.if-i-count.branch [
+    then-i-count w ↦ w.row-is ∙ place_filled _ _ _ c.requires
+        _ _ _ c.loop-i.invariant.1 c.loop-i-test.true w.if-i-count.true w.number.ensures
+  | else-i-count w ↦ w.row-is ∙ place_kept _ _ _ c.requires _ _ c.loop-i.invariant.1 w.if-i-count.false
+  ],
 )
 
 pub returns : goal.returns

@@ -2,10 +2,10 @@
 use native.Mathlib.Omega.{arith}
 use Prim.Native.Nat.{◌+◌, ◌*◌, ◌-◌, ◌<◌}
 use mathlib.Core.Path.{ap, sym, subst}
-use mathlib.Core.Logic.{⊎_elim}
 use Rattle.rules.proofs.WantLaws.{rules_few}
 use Rattle.pivots.proofs.TableLaws.{Filled, filled_none, filled_idle, filled_more, filled_all}
 use Rattle.pivots.proofs.fill.Goals as goal
+use Rattle.pivots.proofs.fill.Goals.{then-want-ne80, else-want-ne80}
 
 pub overflow_mul-n : goal.overflow_mul-n
 overflow_mul-n c = omega (arith, rules_few _ c.requires.0, c.rule_count-n.ensures)
@@ -53,14 +53,14 @@ loop-i-preserved c = (
     c.rule_count-n.ensures,
     c.loop-i-test.true,
   ) in
-      ⊎_elim
-      (λ w. subst (λ t. Filled c.args.g.now t (c.loop-i.i + 1)) (sym w.6)
-      (filled_more _ _ _ _ c.loop-i.invariant.1 low (omega arith) _ c.want_of-want.ensures
-      _ w.1.ensures _ w.3.ensures))
-      (λ w. subst (λ t. Filled c.args.g.now t (c.loop-i.i + 1)) (sym w.1)
-      (filled_idle _ _ _ _ c.loop-i.invariant.1 low (omega arith) _ c.want_of-want.ensures
-      w.0.left))
-      c.if-want-ne80.branch,
+      elim c.if-want-ne80.branch [
+        then-want-ne80 w ↦ subst (λ t. Filled c.args.g.now t (c.loop-i.i + 1)) (sym w.t-is)
+            (filled_more _ _ _ _ c.loop-i.invariant.1 low (omega arith) _ c.want_of-want.ensures
+            _ w.pivot-w.ensures _ w.enter.ensures)
+      | else-want-ne80 w ↦ subst (λ t. Filled c.args.g.now t (c.loop-i.i + 1)) (sym w.t-is)
+            (filled_idle _ _ _ _ c.loop-i.invariant.1 low (omega arith) _ c.want_of-want.ensures
+            w.if-want-ne80.false)
+      ],
 )
 
 pub fill_places-requires : goal.fill_places-requires

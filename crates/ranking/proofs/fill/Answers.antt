@@ -3,7 +3,6 @@ use Prim.Native.Nat.{ℕ, ◌+◌, ◌-◌}
 use mathlib.Core.Path.{sym, ◌∙◌}
 use mathlib.Core.Path.{subst}
 use mathlib.Core.List.{List}
-use mathlib.Core.Logic.{⊎_elim}
 use borrow.Author.Tests.{not-true, not-false}
 use Rattle.records.specs.Words.{records_at}
 use Rattle.records.proofs.WordLaws.{item_inside}
@@ -11,6 +10,7 @@ use Rattle.ranking.specs.Ranking.{Ranked}
 use Rattle.ranking.proofs.Orders.{next_waits, next_handled, ranked_first, ranked_all, fresh_order}
 use Rattle.ranking.proofs.SetLaws.{ranked_still}
 use Rattle.ranking.proofs.fill.Goals as goal
+use Rattle.ranking.proofs.fill.Goals.{then-not-is_handled, else-not-is_handled}
 
 pub loop-j-init : goal.loop-j-init
 loop-j-init c = (omega arith, ranked_first _ _ c.requires.0)
@@ -40,18 +40,20 @@ loop-j-preserved c =
     let l = c.loop-j in
     let now = records_at w l.j in
     let next = records_at w (l.j + 1) in
-    ⊎_elim (λ p. (
-      omega arith,
-      subst (λ (r : List ℕ). Ranked r next) (sym p.6)
-          (p.3.ensures now next l.invariant.1 (fresh_order w l.j)
-          (next_waits w l.j _ (sym c.is_handled.ensures ∙ not-true _ p.0.taken) p.2.ensures)),
-    ))
-    (λ p. (
-      omega arith,
-      subst (λ (r : List ℕ). Ranked r next) (sym p.1)
+    elim c.if-not-is_handled.branch [
+      then-not-is_handled p ↦ (
+        omega arith,
+        subst (λ (r : List ℕ). Ranked r next) (sym p.ranks-is)
+          (p.enter.ensures now next l.invariant.1 (fresh_order w l.j)
+          (next_waits w l.j _ (sym c.is_handled.ensures ∙ p.if-not-is_handled.true) p.count_at.ensures)),
+      )
+    | else-not-is_handled p ↦ (
+        omega arith,
+        subst (λ (r : List ℕ). Ranked r next) (sym p.ranks-is)
           (ranked_still l.ranks l.j now next l.invariant.1 (fresh_order w l.j)
-          (next_handled w l.j (sym c.is_handled.ensures ∙ not-false _ p.0.left))),
-    )) c.if-not-is_handled.branch
+          (next_handled w l.j (sym c.is_handled.ensures ∙ p.if-not-is_handled.false))),
+      )
+    ]
 
 pub returns : goal.returns
 returns c = ranked_all c.args.chart.now c.loop-j.ranks

@@ -3,11 +3,11 @@ use native.Mathlib.Omega.{arith}
 use Prim.Native.Nat.{◌-◌}
 use mathlib.Core.Path.{refl, sym, ◌∙◌}
 use mathlib.Core.Bool.{false≢true}
-use mathlib.Core.Logic.{⊎_elim}
 use borrow.Author.Tests.{not-true, not-false}
 use Rattle.records.proofs.WordLaws.{handled_start}
 use Rattle.validator.proofs.WordTests.{passed_none, chart_over, chart_not, chart_next, chart_all, count_all, count_more, count_same, below_capacity}
 use Rattle.validator.proofs.known.Goals as goal
+use Rattle.validator.proofs.known.Goals.{then-x-ne0, else-x-ne0}
 
 pub returns-then-capacity_of-n : goal.returns-then-capacity_of-n
 returns-then-capacity_of-n c =
@@ -44,22 +44,20 @@ loop-j-preserved c =
     = chart_next _ _ _ _ c.number_of-n.ensures _ c.capacity_of.ensures c.if-capacity_of-n.false
     _ _ _ c.load-x.ensures
     c.known_record.ensures c.if-not-known_record.false l.invariant.2 in
-    ⊎_elim
-    (λ p. (
-      omega arith,
-      omega arith,
-      passed,
-      p.1 ∙ count_more w l.j l.handled _ c.load-x.ensures
-          p.0.taken l.invariant.3,
-    ))
-    (λ p. (
-      omega arith,
-      omega arith,
-      passed,
-      p.1 ∙ count_same w l.j l.handled _ c.load-x.ensures
-          p.0.left l.invariant.3,
-    ))
-    c.if-x-ne0.branch
+    elim c.if-x-ne0.branch [
+      then-x-ne0 p ↦ (
+        omega arith,
+        omega arith,
+        passed,
+        p.handled-is ∙ count_more w l.j l.handled _ c.load-x.ensures p.if-x-ne0.true l.invariant.3,
+      )
+    | else-x-ne0 p ↦ (
+        omega arith,
+        omega arith,
+        passed,
+        p.handled-is ∙ count_same w l.j l.handled _ c.load-x.ensures p.if-x-ne0.false l.invariant.3,
+      )
+    ]
 
 pub returns : goal.returns
 returns c =

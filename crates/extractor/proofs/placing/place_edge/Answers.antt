@@ -32,7 +32,7 @@ nodes_of-nodes-requires c =
 pub slice_bounds-place_nodes-end : goal.slice_bounds-place_nodes-end
 slice_bounds-place_nodes-end c =
     let few = c.rank_of-rank.ensures.1 in
-    sym (length-take-le _ c.nodes_of-nodes.result (omega (arith, few, c.nodes_of-nodes.type-inv)))
+    sym (length-take-le _ c.nodes_of-nodes.result (omega (arith, few, c.nodes_of-nodes.type_inv)))
 
 pub returns : goal.returns
 returns c =

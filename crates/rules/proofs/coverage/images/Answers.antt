@@ -1,6 +1,5 @@
 -- The set has the nodes of the chosen places passed.
 use native.Mathlib.Omega.{arith}
-use mathlib.Core.Logic.{⊎_elim}
 use mathlib.Core.Path.{subst}
 use Prim.Native.Nat.{◌-◌, ◌<◌}
 use lib.ListN.{length}
@@ -9,6 +8,7 @@ use Rattle.places.specs.Laws.{length_places}
 use Rattle.places.proofs.Reading.{places_packed}
 use Rattle.rules.proofs.CoverageLaws.{Imaged, imaged_none, imaged_more, imaged_skip, imaged_with}
 use Rattle.rules.proofs.coverage.images.Goals as goal
+use Rattle.rules.proofs.coverage.images.Goals.{then-has, else-has}
 
 pub loop-i-init : goal.loop-i-init
 loop-i-init c = (omega arith, imaged_none (places_of c.word_of-map.result) _ _)
@@ -20,9 +20,11 @@ loop-i-preserved c =
     let inside : c.loop-i.i < length
     l = omega (arith, length_places c.word_of-map.result) in (
       omega arith,
-      ⊎_elim (λ w. imaged_with l _ _ _ _ _ _ _ inside c.has.ensures w.0.taken w.1.ensures.0
-          w.2.ensures w.3 before)
-          (λ w. imaged_skip l _ _ _ _ w.1 before) c.if-has.branch,
+      elim c.if-has.branch [
+        then-has w ↦ imaged_with l _ _ _ _ _ _ _ inside c.has.ensures w.if-has.true w.node_at.ensures.0
+          w.with.ensures w.set-is before
+      | else-has w ↦ imaged_skip l _ _ _ _ w.set-is before
+      ],
     )
 
 pub returns : goal.returns

@@ -62,7 +62,7 @@ put_children-requires c = (
       c.rule_plan-n.ensures,
       c.loop-q-test.true,
     );
-  }) c.open_at-o.ensures c.open_at-o.type-inv,
+  }) c.open_at-o.ensures c.open_at-o.type_inv,
 )
 
 pub overflow_add-q : goal.overflow_add-q

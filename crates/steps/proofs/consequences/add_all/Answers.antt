@@ -1,8 +1,8 @@
 -- A record is tried only with what can make something of it (proofs/KindLaws).
-use mathlib.Core.Logic.{⊎_elim}
 use Rattle.records.proofs.WordLaws.{item_inside}
 use Rattle.steps.proofs.KindLaws.{Alone, alone_same, alone_passive, alone_child, all_root, alone_joining, alone_room, alone_all}
 use Rattle.steps.proofs.consequences.add_all.Goals as goal
+use Rattle.steps.proofs.consequences.add_all.Goals.{Joined-x-eq0, then-x-eq0+else-w-ge16, else-x-eq0}
 
 pub item_at-x-requires : goal.item_at-x-requires
 item_at-x-requires c = item_inside _ _ c.requires.2.there
@@ -15,22 +15,23 @@ returns-then-w-ge16 c = all_root c.requires c.item_at-x.ensures c.if-x-eq0.true
     c.parent_in-w.ensures c.if-w-ge16.true c.add_root.ensures
 
 -- where the ways meet
-met : (c : tie.Joined1)
-    → let s = c.before.before.before.before.before.before.before.before.before.before.before.args in
-    Alone s.g.now s.h.now s.keys.now s.chart.now s.j c.if1.chart c.if1.index
-    c.if1.lists c.if1.lead
+met : (c : Joined-x-eq0)
+    → let s = c.args in
+    Alone s.g.now s.h.now s.keys.now s.chart.now s.j c.if-x-eq0.chart c.if-x-eq0.index
+    c.if-x-eq0.lists c.if-x-eq0.lead
 met c =
-    let p = c.before.before.before.before.before.before.before.before.before.before.before.requires in
-    let own = c.before.before.item-at.ensures in
-    ⊎_elim (λ w. alone_same w.15 w.17 w.16 w.18
-    (alone_child p own w.0.taken w.3.ensures w.4.left w.8.ensures))
-    (λ w. alone_same w.1 w.3 w.2 w.4 (alone_passive p own w.0.left)) c.if1.branch
+    let own = c.item_at-x.ensures in
+    elim c.if-x-eq0.branch [
+      then-x-eq0+else-w-ge16 w ↦ alone_same w.chart-is w.index-is w.lists-is w.lead-is
+          (alone_child c.requires own w.if-x-eq0.true w.parent_in-w.ensures w.if-w-ge16.false w.add_terminals.ensures)
+    | else-x-eq0 w ↦ alone_same w.chart-is w.index-is w.lists-is w.lead-is (alone_passive c.requires own w.if-x-eq0.false)
+    ]
 
 pub add_each-requires : goal.add_each-requires
 add_each-requires c =
-    let p = c.requires in
-    let A = met (c) in
-    (alone_joining p A, alone_room p A c.item_count-n.ensures)
+    let A = met (goal.at.add_each-requires c).Joined-x-eq0 in
+    (alone_joining c.requires A, alone_room c.requires A c.item_count-n.ensures)
 
 pub returns : goal.returns
-returns c = alone_all c.requires (met (c)) c.item_count-n.ensures c.add_each.ensures
+returns c =
+    alone_all c.requires (met (goal.at.returns c).Joined-x-eq0) c.item_count-n.ensures c.add_each.ensures

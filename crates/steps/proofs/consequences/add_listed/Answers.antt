@@ -2,12 +2,12 @@
 use native.Mathlib.Omega.{arith}
 use mathlib.Core.Path.{refl, ap, ◌∙◌}
 use lib.ListN.{length}
-use mathlib.Core.Logic.{⊎_elim}
 use borrow.Author.Tests.{not-true, not-false}
 use Rattle.records.proofs.WordLaws.{item_inside}
 use Rattle.steps.proofs.ListedLaws.{quiet_by, loud_handled}
 use Rattle.steps.proofs.SingleLaws.{quiet, loud, single_key, single_few, single_start, single_joining, single_end, single_low, single_some, single_known, single_size, single_next, single_less}
 use Rattle.steps.proofs.consequences.add_listed.Goals as goal
+use Rattle.steps.proofs.consequences.add_listed.Goals.{then-not-quiet, else-not-quiet}
 
 pub edges_at-edges-requires : goal.edges_at-edges-requires
 edges_at-edges-requires c = item_inside _ _ c.requires.0.handled.there
@@ -56,9 +56,11 @@ after-c-requires c =
     let t = c.loop-c-test.true in
     let own = c.edges_at-edges.ensures in
     let q = c.quiet.ensures in (
-      single_size p A t (⊎_elim (λ w. loud _ _ _ _ w.11 w.13 w.12 w.14 w.4.ensures.0
-          w.4.ensures.1 w.4.ensures.2) (λ w. quiet (quiet_by _ _ _ _ _ own q (not-false _ w.0.left))
-          w.1 w.3 w.2 w.4) c.if-not-quiet.branch),
+      single_size p A t (elim c.if-not-quiet.branch [
+        then-not-quiet w ↦ loud _ _ _ _ w.chart-is w.index-is w.lists-is w.past-is w.add_met-past.ensures.0
+            w.add_met-past.ensures.1 w.add_met-past.ensures.2
+      | else-not-quiet w ↦ quiet (quiet_by _ _ _ _ _ own q w.if-not-quiet.false) w.chart-is w.index-is w.lists-is w.past-is
+      ]),
       omega (arith, single_few p, single_low p A t),
     )
 
@@ -69,10 +71,11 @@ loop-c-smaller c =
     let t = c.loop-c-test.true in
     let own = c.edges_at-edges.ensures in
     let q = c.quiet.ensures in
-    single_less p A t _ c.after-c.ensures (⊎_elim (λ w. loud _ _ _ _ w.11 w.13 w.12 w.14
-    w.4.ensures.0 w.4.ensures.1 w.4.ensures.2)
-    (λ w. quiet (quiet_by _ _ _ _ _ own q (not-false _ w.0.left)) w.1 w.3 w.2 w.4)
-    c.if-not-quiet.branch)
+    single_less p A t _ c.after-c.ensures (elim c.if-not-quiet.branch [
+        then-not-quiet w ↦ loud _ _ _ _ w.chart-is w.index-is w.lists-is w.past-is w.add_met-past.ensures.0
+            w.add_met-past.ensures.1 w.add_met-past.ensures.2
+      | else-not-quiet w ↦ quiet (quiet_by _ _ _ _ _ own q w.if-not-quiet.false) w.chart-is w.index-is w.lists-is w.past-is
+      ])
 
 pub loop-c-preserved : goal.loop-c-preserved
 loop-c-preserved c =
@@ -80,17 +83,24 @@ loop-c-preserved c =
     let l = c.loop-c in
     let t = c.loop-c-test.true in
     let own = c.edges_at-edges.ensures in
-    let q = c.quiet.ensures in
-    let came = c.if-not-quiet.branch in (
-      ⊎_elim (λ w. ap length w.11 ∙ w.4.kept.1.1.1.1.1.0 ∙ l.invariant.0) (λ w. ap length w.1 ∙ l.invariant.0)
-          came,
-      ⊎_elim (λ w. ap length w.12 ∙ w.4.kept.1.1.1.1.1.1.0 ∙ l.invariant.1)
-          (λ w. ap length w.2 ∙ l.invariant.1) came,
-      ⊎_elim (λ w. ap length w.13 ∙ w.4.kept.1.1.1.1.1.1.1.0 ∙ l.invariant.2)
-          (λ w. ap length w.3 ∙ l.invariant.2) came,
-      single_next p l.invariant.3 t _ c.after-c.ensures (⊎_elim
-          (λ w. loud _ _ _ _ w.11 w.13 w.12 w.14 w.4.ensures.0 w.4.ensures.1 w.4.ensures.2)
-          (λ w. quiet (quiet_by _ _ _ _ _ own q (not-false _ w.0.left)) w.1 w.3 w.2 w.4) came),
+    let q = c.quiet.ensures in (
+      elim c.if-not-quiet.branch [
+        then-not-quiet w ↦ ap length w.chart-is ∙ w.add_met-past.auto.chart ∙ l.invariant.0
+      | else-not-quiet w ↦ ap length w.chart-is ∙ l.invariant.0
+      ],
+      elim c.if-not-quiet.branch [
+        then-not-quiet w ↦ ap length w.lists-is ∙ w.add_met-past.auto.lists ∙ l.invariant.1
+      | else-not-quiet w ↦ ap length w.lists-is ∙ l.invariant.1
+      ],
+      elim c.if-not-quiet.branch [
+        then-not-quiet w ↦ ap length w.index-is ∙ w.add_met-past.auto.index ∙ l.invariant.2
+      | else-not-quiet w ↦ ap length w.index-is ∙ l.invariant.2
+      ],
+      single_next p l.invariant.3 t _ c.after-c.ensures (elim c.if-not-quiet.branch [
+        then-not-quiet w ↦ loud _ _ _ _ w.chart-is w.index-is w.lists-is w.past-is w.add_met-past.ensures.0
+            w.add_met-past.ensures.1 w.add_met-past.ensures.2
+      | else-not-quiet w ↦ quiet (quiet_by _ _ _ _ _ own q w.if-not-quiet.false) w.chart-is w.index-is w.lists-is w.past-is
+      ]),
     )
 
 pub returns : goal.returns

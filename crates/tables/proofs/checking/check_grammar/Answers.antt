@@ -40,12 +40,12 @@ check_rules-requires c =
     let grammar_stands = c.grammar_stands in
     let if2 = c.if-not-grammar_stands in (
       c.if-t-lt-GRAMMAR_WORDS.false,
-      rules_few _ _ (grammar_stands.ensures.yes (not-false _ if2.false))
+      rules_few _ _ (grammar_stands.ensures.yes if2.false)
           c.rule_count_in.ensures,
       omega (
         arith,
         (symbols_few
-            _ _ (grammar_stands.ensures.yes (not-false _ if2.false))
+            _ _ (grammar_stands.ensures.yes if2.false)
             c.symbol_count_in-symbols.ensures).few,
       ),
     )

@@ -62,8 +62,8 @@ check_plan-requires c =
     let rule-stands = c.rule_stands in
     let if1 = c.if-not-rule_stands in (
       c.requires,
-      plan_few _ _ _ (rule-stands.ensures.yes (not-false _ if1.false)) c.rule_plan_in.ensures,
-      edges_few _ _ _ (rule-stands.ensures.yes (not-false _ if1.false))
+      plan_few _ _ _ (rule-stands.ensures.yes if1.false) c.rule_plan_in.ensures,
+      edges_few _ _ _ (rule-stands.ensures.yes if1.false)
           c.rule_edges_in-edges.ensures,
     )
 
@@ -74,11 +74,11 @@ returns c =
     let rule-plan-in = c.rule_plan_in in (
       λ y. omega (
         arith,
-        (plan_few _ _ _ (rule-stands.ensures.yes (not-false _ if1.false))
+        (plan_few _ _ _ (rule-stands.ensures.yes if1.false)
             rule-plan-in.ensures).few,
         rule-plan-in.ensures,
       ),
-      rule_plan_lem grammar_words _ _ _ rule-stands.ensures _ _ if1.false
+      rule_plan_lem grammar_words _ _ _ rule-stands.ensures _ _ if1.false-raw
           _ _ c.check_edges.ensures c.if-not-check_edges.false-raw
           _ (zeros_at _ _ _ _ _ _ c.edge_place.ensures c.plans_from.ensures
           c.zeros.ensures) c.if-not-zeros.false-raw

@@ -43,10 +43,10 @@ loop-r-preserved c =
     let rule-plan-in = c.rule_plan_in in
     let loop = c.loop-r in (
       omega arith,
-      omega (arith, check-rule.ensures.0 (not-false _ if2.false), rule-plan-in.ensures),
+      omega (arith, check-rule.ensures.0 if2.false, rule-plan-in.ensures),
       rules_next grammar_words _ _ _ _ _ _ loop.invariant.2 c.loop-r-test.true
           _ (zeros_at _ _ _ _ _ _ refl c.rule_place.ensures c.zeros.ensures)
-          c.if-not-zeros.false-raw _ _ check-rule.ensures.1 if2.false c.requires.1
+          c.if-not-zeros.false-raw _ _ check-rule.ensures.1 if2.false-raw c.requires.1
           _ (sym (c.plan_place-from.ensures ∙ ap (plan_place loop.r) rule-plan-in.ensures)),
     )
 

@@ -28,4 +28,4 @@ returns-in_default c =
     let pre = c.requires in let match = c.in_default in keeps_unknown
     _ _ _ _ _ _ _ _ pre.2 pre.0.lines c.plan_kind_in-kind.ensures
     c.plan_first_in-first.ensures c.plan_second_in-second.ensures
-    (omega (arith, match.rest.0.0.1, match.rest.0.1, match.rest.1))
+    (omega (arith, match.in_default-own.rest.0.0.1, match.in_default-own.rest.0.1, match.in_default-own.rest.1))
