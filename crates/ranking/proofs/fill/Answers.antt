@@ -44,7 +44,7 @@ loop-j-preserved c =
       then-not-is_handled p ↦ (
         omega arith,
         subst (λ (r : List ℕ). Ranked r next) (sym p.ranks-is)
-          (p.enter.ensures now next l.invariant.1 (fresh_order w l.j)
+          (p.insert.ensures now next l.invariant.1 (fresh_order w l.j)
           (next_waits w l.j _ (sym c.is_handled.ensures ∙ p.if-not-is_handled.true) p.count_at.ensures)),
       )
     | else-not-is_handled p ↦ (

@@ -22,7 +22,7 @@ loop-i-preserved c =
       omega arith,
       elim c.if-has.branch [
         then-has w ↦ imaged_with l _ _ _ _ _ _ _ inside c.has.ensures w.if-has.true w.node_at.ensures.0
-          w.with.ensures w.set-is before
+          w.with-set.ensures w.set-is before
       | else-has w ↦ imaged_skip l _ _ _ _ w.set-is before
       ],
     )

@@ -1,7 +1,16 @@
 -- By the kind of the item; where the rule, the plan node or the symbol is unknown the set is empty.
 use borrow.Author.Rules.{rules}
-use Rattle.rules.proofs.CoverageLaws.{known_by, known_few, shown_passive, shown_active}
+use Rattle.rules.proofs.CoverageLaws.{known_by, known_few, shown_none, shown_passive, shown_active}
 use Rattle.rules.proofs.coverage.shown.Goals as goal
+
+pub returns-then-of-ge64 : goal.returns-then-of-ge64
+returns-then-of-ge64 c = shown_none _ _
+
+pub returns-then-of-rule_count : goal.returns-then-of-rule_count
+returns-then-of-rule_count c = shown_none _ _
+
+pub returns-then-p-rule_plan : goal.returns-then-p-rule_plan
+returns-then-p-rule_plan c = shown_none _ _
 
 pub returns-then-x-ne0 : goal.returns-then-x-ne0
 returns-then-x-ne0 c = shown_passive _ _ _ _ _ c.if-x-ne0.true c.rank_of.ensures.0
