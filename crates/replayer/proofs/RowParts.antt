@@ -164,8 +164,8 @@ module _ (g row : List ℕ) (checked : check_grammar g ≡ true) (z : RuledRow (
         field_read : here ≡ get_or (fields_in right row) i 0
         field_read = ap (λ (m : ℕ). get_or row (2 + m + i) 0) nodes ∙ sym (field_is i inside)
 
-        part_by : (kind : Kind) → kind_from k ≡ kind → part_by kind s here ≡ part_of (grammar_of g) row i
-        part_by kind p =
+        part_by_lem : (kind : Kind) → kind_from k ≡ kind → part_by kind s here ≡ part_of (grammar_of g) row i
+        part_by_lem kind p =
             let same : kind_of (grammar_of g) (edge_at right.edges i).label ≡ kind =
             kind_read i inside ∙ ap (λ (y : ℕ). kind_from (kind_field g y)) (sym named) ∙ ap kind_from (sym word) ∙ p in
             ap₂ (part_by kind) (named ∙ sym (label_is i inside)) field_read
@@ -173,7 +173,7 @@ module _ (g row : List ℕ) (checked : check_grammar g ≡ true) (z : RuledRow (
             ∙ sym (part_in (grammar_of g) row i inside)
 
         pub part_edge : k ≡ 0 → GraphEdge here ≡ part_of (grammar_of g) row i
-        part_edge p = part_by terminal (rw p refl)
+        part_edge p = part_by_lem terminal (rw p refl)
 
         pub part_row : (k ≡ 0 → ⊥) → Application s here ≡ part_of (grammar_of g) row i
-        part_row p = part_by nonterminal (rw (ne_eqb k 0 p) refl)
+        part_row p = part_by_lem nonterminal (rw (ne_eqb k 0 p) refl)

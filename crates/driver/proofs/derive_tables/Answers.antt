@@ -14,4 +14,4 @@ returns-in-Done c = prints_run _ _ _ _ c.start.ensures.0 c.chart_number-k.ensure
 pub returns-in_default : goal.returns-in_default
 returns-in_default c = prints_unrun _ _ _ _ c.start.ensures.0 c.chart_number-k.ensures
     _ _ _ c.if-k-ne0.false _ c.start.ensures.1 _ c.run-outcome.ensures.0
-    _ c.in_default.keys2 c.chart_number.ensures c.put_refusal-in_default.ensures
+    _ c.in_default.in_default-own.keys2 c.chart_number.ensures c.put_refusal-in_default.ensures

@@ -23,4 +23,4 @@ pub returns-in_default : goal.returns-in_default
 returns-in_default c = prepared_refused c.args.grammar.now c.args.graph.now c.args.chart.now
     c.args.text.now _ c.args.room c.write-answer.result c.requires
     c.write-answer.ensures.0 c.write-answer.ensures.1
-    (not_written c.write-answer.result c.in_default.keys2)
+    (not_written c.write-answer.result c.in_default.in_default-own.keys2)

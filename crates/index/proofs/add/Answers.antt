@@ -40,7 +40,7 @@ returns-in-At c =
     let again = c.again in
     adds_again s.chart.now z _ c.find.ensures s.keys.now c.requires.1
     (subst Compact new compact) _ c.mark_of.ensures c.if-mark_of-ne0.false _ s.index.now
-    again.new.1.0 s.lists.now _ c.in-At.is
+    again.new.index s.lists.now _ c.in-At.is
     (rw new at again.ensures.0) (rw new at (again.ensures.1 s.keys.now s.lists.now c.requires.0))
     again.ensures.2
 
@@ -52,5 +52,5 @@ returns-in-Nowhere c =
     let behind = c.behind in
     adds_behind s.chart.now z _ c.find.ensures s.keys.now c.requires.1
     (subst Compact new compact) _ c.mark_of.ensures c.if-mark_of-ne0.false _ s.index.now
-    behind.new.1.1.1.0 behind.new.1.1.0 c.in-Nowhere.is
+    behind.new.index behind.new.lists c.in-Nowhere.is
     (rw new at behind.ensures.0) (rw new at behind.ensures.1) (rw new at behind.ensures.2)

@@ -41,7 +41,7 @@ returns c =
     let t = c.recount in (
       c.improve.ensures,
       λ keys ls I. again_more s.chart.now s.index.now s.j s.x p.1 z
-          m.result m.ensures keys t.new.0 ls c.if-old-count.false
+          m.result m.ensures keys t.new.index ls c.if-old-count.false
           (t.ensures.0 keys ls (chart_of s.chart.now).records s.x I (inside s.chart.now s.j p.1)
           (is_waiting s.chart.now s.j p.1 z) (has_count s.chart.now s.j p.1 m.result
           m.ensures) refl),

@@ -20,8 +20,8 @@ returns c =
     let s = c.args in
     let t = c.recount in
     let d = t.auto in (
-      λ keys ls rs x I l h o e. recounted s.index.now ls t.new.0 s.j keys rs I l x s.old s.count h o
+      λ keys ls rs x I l h o e. recounted s.index.now ls t.new.ranks s.j keys rs I l x s.old s.count h o
           e (t.ensures rs _),
-      doubt_put link_words rank_words s.index.now t.new.0
+      doubt_put link_words rank_words s.index.now t.new.ranks
           c.requires.0 (omega arith) (omega arith),
     )

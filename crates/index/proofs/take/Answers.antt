@@ -18,8 +18,8 @@ returns c =
     let t = c.take in
     let d = t.auto in (
       t.ensures.0,
-      λ keys ls I. taken_by keys c.args.index.now ls t.new.1.0
+      λ keys ls I. taken_by keys c.args.index.now ls t.new.ranks
           (chart_of c.args.chart.now).records _ t.ensures.0 t.ensures.1 I,
-      doubt_put link_words rank_words c.args.index.now t.new.1.0 c.requires.0 (omega arith)
+      doubt_put link_words rank_words c.args.index.now t.new.ranks c.requires.0 (omega arith)
           (omega arith),
     )

@@ -15,4 +15,4 @@ unfolding kind_letter letter_due
 returns-in-GraphEdge c = sym (ap (λ d. eqb 69 (kind_letter (letter_due d))) c.in-GraphEdge.is)
 
 pub returns-in_default : goal.returns-in_default
-returns-in_default c = not_edge c.args.due c.in_default.keys3
+returns-in_default c = not_edge c.args.due c.in_default.in_default-own.keys3

@@ -11,4 +11,4 @@ unfolding kind_letter letter_due
 returns-in-Graph c = sym (ap (λ d. eqb 72 (kind_letter (letter_due d))) c.in-Graph.is)
 
 pub returns-in_default : goal.returns-in_default
-returns-in_default c = not_graph c.args.due c.in_default.keys2
+returns-in_default c = not_graph c.args.due c.in_default.in_default-own.keys2

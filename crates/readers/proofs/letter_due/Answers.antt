@@ -36,4 +36,4 @@ returns-in-H c = known_letter _ _ H _ _ c.letter_kind-kind.ensures
     c.in-H.is (omega arith) c.graph_due.ensures
 
 pub returns-in_default : goal.returns-in_default
-returns-in_default c = not_due _ _ c.letter_kind-kind.ensures c.in_default.keys7 _ c.requires
+returns-in_default c = not_due _ _ c.letter_kind-kind.ensures c.in_default.in_default-own.keys7 _ c.requires

@@ -21,4 +21,4 @@ some-line Graph h = refl
 some-line (GraphEdge e) h = refl
 
 pub returns-in_default : goal.returns-in_default
-returns-in_default c = some-line c.args.due c.in_default.keys2
+returns-in_default c = some-line c.args.due c.in_default.in_default-own.keys2

@@ -20,7 +20,7 @@ pub loop-at-smaller : goal.loop-at-smaller
 loop-at-smaller c = omega (
   arith,
   turn_less _ _ _ _ c.loop-at-test.true c.counting_start-start.ensures
-      c.after_Line.ensures,
+      c.after_line-at.ensures,
 )
 
 pub loop-at-preserved : goal.loop-at-preserved
@@ -28,7 +28,7 @@ loop-at-preserved c = turn_on _ _ _ _ _ _ _ c.loop-at.invariant c.loop-at-test.t
     _ c.next_counting-line.ensures.contents _ c.counting_start-start.ensures
     _ c.is_ended.ensures _ c.read_line-k.ensures.0 c.if-k-ne0.false
     _ _ _ c.read_line-k.auto.t c.read_line-k.ensures.1
-    c.next_due-due.ensures c.after_Line.ensures
+    c.next_due-due.ensures c.after_line-at.ensures
 
 pub returns : goal.returns
 returns c = reads_done _ _ _ _ _ _ c.loop-at-test.false c.missing_line.ensures ∙

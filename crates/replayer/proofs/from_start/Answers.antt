@@ -22,14 +22,14 @@ bounds-st-3 c = omega (
   arith,
   ap length c.requires.2,
   length-set c.args.st.now 1
-      c.after_Line.result,
+      c.after_line.result,
 )
 
 pub application-requires : goal.application-requires
 application-requires c =
     let pre = c.requires in (
       pre.0,
-      start_rows _ pre.1 _ c.after_Line.ensures _ _ (start_progress _ pre.2 _ _),
+      start_rows _ pre.1 _ c.after_line.ensures _ _ (start_progress _ pre.2 _ _),
       four_tabulated _ _ c.externals-listed.ensures,
       start_length _ pre.2 _ _,
     )

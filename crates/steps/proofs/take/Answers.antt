@@ -24,7 +24,7 @@ returns-in-Nowhere c =
           t.ensures.0,
       refl,
       λ g h keys ls R. taken_ready g h keys s.chart.now s.index.now ls R
-          t.new.1.0 t.ensures.2 _ t.result _ e t.ensures.0 refl (t.ensures.1 keys ls),
+          t.new.index t.ensures.2 _ t.result _ e t.ensures.0 refl (t.ensures.1 keys ls),
     )
 
 pub returns-in-At : goal.returns-in-At
@@ -35,6 +35,6 @@ returns-in-At c =
       next_taken s.chart.now _ c.mark_of.ensures t.result _ c.if-mark_of-ne0.false e
           t.ensures.0,
       c.mark_handled.ensures,
-      λ g h keys ls R. taken_ready g h keys s.chart.now s.index.now ls R t.new.1.0 t.ensures.2
+      λ g h keys ls R. taken_ready g h keys s.chart.now s.index.now ls R t.new.index t.ensures.2
           _ t.result _ e t.ensures.0 c.mark_handled.ensures (t.ensures.1 keys ls),
     )

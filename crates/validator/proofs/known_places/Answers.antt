@@ -3,4 +3,4 @@ use Rattle.validator.proofs.WordTests.{places_by}
 use Rattle.validator.proofs.known_places.Goals as goal
 
 pub returns : goal.returns
-returns c = places_by _ _ _ _ _ c.word_of.ensures c.fits2.ensures
+returns c = places_by _ _ _ _ _ c.word_of.ensures c.fits.ensures

@@ -7,9 +7,9 @@ returns c =
     let accepted = c.requires in
     record {
       tables = accepted;
-      c = c.rule_count.ensures;
-      c = c.symbol_count.ensures;
-      c = c.graph_nodes.ensures;
-      c = c.graph_edges-edges.ensures;
+      rules = c.rule_count.ensures;
+      symbols = c.symbol_count.ensures;
+      nodes = c.graph_nodes.ensures;
+      edges = c.graph_edges-edges.ensures;
       all = all_graph_edges _ _ accepted _ _ c.graph_edges-edges.ensures c.full.ensures;
     }

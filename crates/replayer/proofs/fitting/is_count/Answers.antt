@@ -6,4 +6,4 @@ pub returns-in-D : goal.returns-in-D
 returns-in-D c = count_line_is _ _ c.letter_at-letter.ensures c.in-D.is
 
 pub returns-in_default : goal.returns-in_default
-returns-in_default c = no_count_line _ _ c.letter_at-letter.ensures c.in_default.keys2
+returns-in_default c = no_count_line _ _ c.letter_at-letter.ensures c.in_default.in_default-own.keys2

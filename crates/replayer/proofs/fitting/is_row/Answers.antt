@@ -6,4 +6,4 @@ pub returns-in-A : goal.returns-in-A
 returns-in-A c = row_line _ _ c.letter_at-letter.ensures c.in-A.is
 
 pub returns-in_default : goal.returns-in_default
-returns-in_default c = no_row_line _ _ c.letter_at-letter.ensures c.in_default.keys2
+returns-in_default c = no_row_line _ _ c.letter_at-letter.ensures c.in_default.in_default-own.keys2

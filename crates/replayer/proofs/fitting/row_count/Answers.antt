@@ -8,7 +8,7 @@ pub returns-then-n-eq0 : goal.returns-then-n-eq0
 returns-then-n-eq0 c = count_none _ _ c.said_count-n.ensures c.if-n-eq0.true
 
 pub loop-k-init : goal.loop-k-init
-loop-k-init c = count_first _ _ c.said_count-n.ensures _ c.if-n-eq0.false c.after_Line.ensures
+loop-k-init c = count_first _ _ c.said_count-n.ensures _ c.if-n-eq0.false c.after_line-at.ensures
 
 pub is_row-requires : goal.is_row-requires
 is_row-requires c = (c.loop-k.invariant.within, c.next_line-line.ensures.contents)

@@ -55,9 +55,9 @@ pub loop-at-preserved : goal.loop-at-preserved
 loop-at-preserved c =
     let a = c.add_next-past in
     let l = c.loop-at in (
-      a.auto.1.1.1.1.1.0 ∙ l.invariant.0,
-      a.auto.1.1.1.1.1.1.0 ∙ l.invariant.1,
-      a.auto.1.1.1.1.1.1.1.0 ∙ l.invariant.2,
+      a.auto.chart ∙ l.invariant.0,
+      a.auto.lists ∙ l.invariant.1,
+      a.auto.index ∙ l.invariant.2,
       turning_next c.requires c.item_at-x.ensures l.invariant.3 c.loop-at-test.true a.ensures.0
           a.ensures.1 a.ensures.2 c.onward-at.ensures,
     )

@@ -49,9 +49,9 @@ loop-e-preserved c =
     let l = c.loop-e in
     let a = c.add_candidate in (
       omega (arith, c.loop-e-test.true),
-      a.auto.1.1.1.1.1.0 ∙ l.invariant.1,
-      a.auto.1.1.1.1.1.1.0 ∙ l.invariant.2,
-      a.auto.1.1.1.1.1.1.1.0 ∙ l.invariant.3,
+      a.auto.chart ∙ l.invariant.1,
+      a.auto.lists ∙ l.invariant.2,
+      a.auto.index ∙ l.invariant.3,
       edge_next c.requires l.invariant.4 (omega (
         arith,
         c.loop-e-test.true,
