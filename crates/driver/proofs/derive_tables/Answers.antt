@@ -1,4 +1,5 @@
 -- A law for each answer.
+use borrow.Enum.Refused.{opened}
 use Rattle.driver.proofs.ProgramLaws.{prints_unstarted, prints_run, prints_unrun}
 use Rattle.driver.proofs.derive_tables.Goals as goal
 
@@ -14,4 +15,4 @@ returns-in-Done c = prints_run _ _ _ _ c.start.ensures.0 c.chart_number-k.ensure
 pub returns-in_default : goal.returns-in_default
 returns-in_default c = prints_unrun _ _ _ _ c.start.ensures.0 c.chart_number-k.ensures
     _ _ _ c.if-k-ne0.false _ c.start.ensures.1 _ c.run-outcome.ensures.0
-    _ c.in_default.in_default-own.keys2 c.chart_number.ensures c.put_refusal-in_default.ensures
+    _ (opened c.in_default.in_default-own.keys2) c.chart_number.ensures c.put_refusal-in_default.ensures

@@ -1,4 +1,5 @@
 -- A law for each answer.
+use borrow.Enum.Refused.{opened}
 use Rattle.driver.proofs.ProgramLaws.{written_fits, prints_derived, prints_unwritten}
 use Rattle.driver.proofs.write_chart.Goals as goal
 
@@ -21,5 +22,5 @@ returns-in-Written c = prints_derived _ _ _ _ _ c.write-answer.ensures.0 _ _ _ _
 
 pub returns-in_default : goal.returns-in_default
 returns-in_default c = prints_unwritten _ _ _ _ _ c.write-answer.ensures.0
-    _ _ _ _ c.in_default.in_default-own.keys2 c.writing_number.ensures
+    _ _ _ _ (opened c.in_default.in_default-own.keys2) c.writing_number.ensures
     c.put_refusal.ensures

@@ -1,5 +1,6 @@
 -- A law for each way: a refusal, a row that is too short, and one that holds the records.
 use mathlib.Core.Path.{ap}
+use borrow.Enum.Refused.{opened}
 use Rattle.writing.specs.Writing.{number_of}
 use Rattle.filler.proofs.Answers.{not_written}
 use Rattle.filler.proofs.Preparing.{prepared_refused, prepared_short, prepared_held}
@@ -23,4 +24,4 @@ pub returns-in_default : goal.returns-in_default
 returns-in_default c = prepared_refused c.args.grammar.now c.args.graph.now c.args.chart.now
     c.args.text.now _ c.args.room c.write-answer.result c.requires
     c.write-answer.ensures.0 c.write-answer.ensures.1
-    (not_written c.write-answer.result c.in_default.in_default-own.keys2)
+    (not_written c.write-answer.result (opened c.in_default.in_default-own.keys2))

@@ -3,6 +3,7 @@ use mathlib.Core.Path.{◌≡◌, refl}
 use mathlib.Core.List.{[], ◌∷◌}
 use types.Run.{OneOf, miss}
 use denote.Enum.Declared.{tag_of}
+use borrow.Enum.Refused.{opened}
 use Rattle.questions.specs.contracts.Due.{the_type}
 use Rattle.questions.specs.declared.Due.{Due}
 use Rattle.questions.specs.declared.Due.TheVariants.{Grammar, Symbol, Rule, RuleEdge, PlanLine, Graph, GraphEdge, Nothing}
@@ -21,4 +22,4 @@ some-line Graph h = refl
 some-line (GraphEdge e) h = refl
 
 pub returns-in_default : goal.returns-in_default
-returns-in_default c = some-line c.args.due c.in_default.in_default-own.keys2
+returns-in_default c = some-line c.args.due (opened c.in_default.in_default-own.keys2)
