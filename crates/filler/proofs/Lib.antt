@@ -5,4 +5,3 @@ pub mod TextLines
 pub mod ChosenRows
 pub mod RowLaws
 pub mod Preparing
-pub mod LocalArray

@@ -31,7 +31,7 @@ eight_from-requires-2 c =
 pub returns : goal.returns
 returns c =
     let least : c.if-nodes-rest.placed ≡ min c.rule_nodes-nodes.result c.rest_of-rest.result =
-        elim c.if-nodes-rest.branch [ then-nodes-rest w ↦ omega arith | else-nodes-rest w ↦ omega arith ] in
+    elim c.if-nodes-rest.branch [ then-nodes-rest w ↦ omega arith | else-nodes-rest w ↦ omega arith ] in
     record_read c.args.grammar.now c.args.line.now c.number-rule.result
     c.rest_of-rest.result c.rule_nodes-nodes.result c.if-nodes-rest.placed
     _ _ c.number-rule.ensures c.rest_of-rest.ensures c.rule_nodes-nodes.ensures

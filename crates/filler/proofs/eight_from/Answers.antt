@@ -24,9 +24,9 @@ pub loop-i-preserved : goal.loop-i-preserved
 loop-i-preserved c = (
   omega arith,
   elim c.if-i-count.branch [
-    then-i-count w ↦ w.row-is ∙ place_filled _ _ _ c.requires
+    | then-i-count w ↦ w.row-is ∙ place_filled _ _ _ c.requires
         _ _ _ c.loop-i.invariant.1 c.loop-i-test.true w.if-i-count.true w.number.ensures
-  | else-i-count w ↦ w.row-is ∙ place_kept _ _ _ c.requires _ _ c.loop-i.invariant.1 w.if-i-count.false
+    | else-i-count w ↦ w.row-is ∙ place_kept _ _ _ c.requires _ _ c.loop-i.invariant.1 w.if-i-count.false
   ],
 )
 
