@@ -132,6 +132,31 @@ def rename(table):
     print(f"respell: {len(table)} names, {changed} files")
 
 
+def respell_aliases():
+    """A name that a file gives to what it takes, as in `a as b`: snake case, or camel case for what begins so."""
+    uses = re.compile(r"^(?:pub |ghost )*use [^\s{;]+\.\{([^}]*)\}", re.M)
+    for path in files():
+        if not path.endswith((".antt", ".rt")):
+            continue
+        with open(path, encoding="utf-8", newline="") as f:
+            text = out = f.read()
+        for m in uses.finditer(text):
+            for item in m[1].split(","):
+                old = item.strip().split(" as ")[-1].strip()
+                if " as " not in item or not re.search(r"-|[a-z][A-Z]", old) or "◌" in old:
+                    continue
+                if old[0].isupper():
+                    new = re.sub(r"-(\w)", lambda p: p[1].upper(), old)
+                else:
+                    new = snake(old)
+                word = rf"(?<![\w'-]){re.escape(old)}(?![\w'-])"
+                if new != old and not re.search(rf"(?<![\w'-]){re.escape(new)}(?![\w'-])", out):
+                    out = re.sub(word, new, out)
+        if out != text:
+            with open(path, "w", encoding="utf-8", newline="") as f:
+                f.write(out)
+
+
 def main(argv):
     found = declared()
     if argv == ["apart"]:
@@ -151,6 +176,7 @@ def main(argv):
             table[name] = new + "_lem" if new in others else new
             others.add(table[name])
         rename(table)
+        respell_aliases()
         return 0
     print(__doc__)
     return 2

@@ -4,7 +4,7 @@ use mathlib.Core.Path.{◌≡◌, refl, sym, subst}
 use mathlib.Core.Logic.{◌⊎◌, inl, inr}
 use mathlib.Core.Bool.{Bool, true, false, ◌||◌, cond}
 use mathlib.Core.List.Memᴰ.{head as here}
-use mathlib.Core.List.Memᴰ.{not-nil as in-nil}
+use mathlib.Core.List.Memᴰ.{not-nil as in_nil}
 use mathlib.Core.List.Memᴰ.{tail as there}
 use mathlib.Core.List.{List, [], ◌∷◌, ◌++◌, Memᴰ as In}
 use Prim.Native.Nat.{ℕ, zero, suc, ◌≤◌, ◌<◌}
@@ -125,7 +125,7 @@ all_ends cap (x ∷ xs) c e = go (added cap x c) (added_adds cap x c e) (λ d m.
     go d (adds {rs = rs} a) rest = one_more a (rest (record { mark = c.mark; records = rs }) e)
     go d (marks n l) rest =
         rw (marked_all cap xs (record { mark = 1; records = c.records }) (λ z. omega arith))
-        (full (λ z. omega arith) [] x (λ y m. absurd (in-nil m)) (here refl) done n l)
+        (full (λ z. omega arith) [] x (λ y m. absurd (in_nil m)) (here refl) done n l)
 
 pub all_append : (cap : ℕ) (xs ys : List Record) (c : Chart) → added_all cap (xs ++ ys) c ≡ added_all cap ys (added_all cap xs c)
 unfolding added_all

@@ -2,13 +2,13 @@
 use mathlib.Core.Path.{◌≡◌, refl, sym, subst}
 use mathlib.Core.Logic.{◌⊎◌, inl, inr}
 use mathlib.Core.Bool.{Bool, true, false, ◌&&◌}
-use mathlib.Core.List.Memᴰ.{append_cases as in-append}
+use mathlib.Core.List.Memᴰ.{append_cases as in_append}
 use mathlib.Core.List.Memᴰ.{append_left as in_left}
 use mathlib.Core.List.Memᴰ.{append_right as in_right}
 use mathlib.Core.List.Memᴰ.{eq_of_singleton as of_one}
 use mathlib.Core.List.Memᴰ.{head as here}
 use mathlib.Core.List.Memᴰ.{map as in_map}
-use mathlib.Core.List.Memᴰ.{not-nil as in-nil}
+use mathlib.Core.List.Memᴰ.{not-nil as in_nil}
 use mathlib.Core.List.Memᴰ.{of_map}
 use mathlib.Core.List.{List, ◌++◌, Memᴰ as In}
 use Prim.Native.Nat.{ℕ, zero, suc, ◌<◌}
@@ -67,8 +67,8 @@ module _ {A : Type 0} {i : A} where
 
   of_gather : (n : ℕ) (f : ℕ → List A) → In i (gather n f) → (k : ℕ) × (k < n) × In i (f k)
   unfolding gather
-  of_gather zero f m = absurd (in-nil m)
-  of_gather (suc n) f m = go (in-append (gather n f) m) (of_gather n f)
+  of_gather zero f m = absurd (in_nil m)
+  of_gather (suc n) f m = go (in_append (gather n f) m) (of_gather n f)
     where
       go : In i (gather n f) ⊎ In i (f n) → (In i (gather n f) → (k : ℕ) × (k < n) × In i (f k)) → (k : ℕ) × (k < suc n) × In i (f k)
       go (inl m) below = let t = below m in (t.0, omega (arith, t.1), t.2)
@@ -96,7 +96,7 @@ module _ (G : Grammar) (H : Graph) where
   of_terminal : {a : Item} (r p m : ℕ) (f : List ℕ) (g q : ℕ) (node : PlanNode) → g < length H.edges → q < length (plan_of G r) → plan_node (plan_of G r) q ≡ node
       → In a (terminal_at G H r p m f g q node) → TerminalRule G H g (active r p m f) a
   unfolding terminal_at with_edge
-  of_terminal r p m f g q leaf b l e k = absurd (in-nil k)
+  of_terminal r p m f g q leaf b l e k = absurd (in_nil k)
   of_terminal r p m f g q (introduce c i) b l e k =
       let a = of_guard (eqb c p && is_terminal (kind_of G (edge_of G r i).label)) k in
       let t = of_and (eqb c p) _ a.0 in
@@ -104,7 +104,7 @@ module _ (G : Grammar) (H : Graph) where
       of_combine H (rule_of G r) r q m (single g) f (map_for G H r i g) (TerminalRule G H g (active r p m f))
       (λ m' h j. subst (λ (z : ℕ). TerminalRule G H g (active r z m f) (active r q m' h)) (eqb→eq c p t.0) (terminal_with r q c i m m' f h l e (record { kind = terminal_test _ t.1; known = b; label = eqb→eq _ _ d.0; attachment = refl }) j))
       d.1
-  of_terminal r p m f g q (join a b) u l e k = absurd (in-nil k)
+  of_terminal r p m f g q (join a b) u l e k = absurd (in_nil k)
 
   pub in_terminal : {x : Record} (n j g : ℕ) (a : Item) → g < length H.edges → In x (with_terminal G H a n j g) → (i : Item) × TerminalRule G H g a i × (x ≡ record_of i n j g)
   unfolding with_terminal
@@ -112,7 +112,7 @@ module _ (G : Grammar) (H : Graph) where
       let t = of_map (λ (i : Item). record_of i n j g) (each_to (length (plan_of G r)) (λ q. terminal_at G H r p m f g q (plan_node (plan_of G r) q))) k in
       let u = of_to (length (plan_of G r)) (λ q. terminal_at G H r p m f g q (plan_node (plan_of G r) q)) t.1 in
       (t.0, of_terminal r p m f g u.0 (plan_node (plan_of G r) u.0) b u.1 refl u.2, sym t.2)
-  in_terminal n j g (passive s m L) b k = absurd (in-nil k)
+  in_terminal n j g (passive s m L) b k = absurd (in_nil k)
 
   -- ---- the root rule
   root_in : {a : Item} {k s m : ℕ} {L : List ℕ} (n j : ℕ) → UnaryRule G H a k (passive s m L) → In (record_of (passive s m L) (plus n k) j 0) (at_root G a n j)
@@ -126,7 +126,7 @@ module _ (G : Grammar) (H : Graph) where
       let t = of_map (λ (c : Conclusion Item). record_of c.item (plus n c.constant) j 0) (root_at (rule_of G r) p m f) k in
       let u = of_guard (eqb (suc p) (length (plan_of G r))) t.1 in
       (cost (rule_of G r), lhs_of G r, m, images f (right_of G r).externals, root_rule r p m f (eqb→eq _ _ u.0), rw (of_one u.1) at (sym t.2))
-  in_root n j (passive s m L) k = absurd (in-nil k)
+  in_root n j (passive s m L) k = absurd (in_nil k)
 
   -- ---- the rules of two premises
   pub in_pair : {z : Record} (x y : Record) (j k : ℕ) → In z (pair G H x j y k)
@@ -162,7 +162,7 @@ module _ (G : Grammar) (H : Graph) where
 
     pub in_consequence : (x : Record) → In x (consequences G H rs j) → MadeBy G H rs j x
     unfolding consequences with_partner
-    in_consequence x m = go (in-append (roots ++ with_edges) m)
+    in_consequence x m = go (in_append (roots ++ with_edges) m)
       where
         rest : List Record
         rest = gather (length rs) (λ k. with_partner G H rs j k)
@@ -193,14 +193,14 @@ module _ (G : Grammar) (H : Graph) where
         by_partner m =
             let t = of_gather (length rs) (λ k. with_partner G H rs j k) m in
             let u = of_guard (is_handled (record_in rs t.0)) t.2 in
-            by_pair t.0 t.1 (of_test _ u.0) (in-append (pair G H (record_in rs j) j (record_in rs t.0) t.0) u.1)
+            by_pair t.0 t.1 (of_test _ u.0) (in_append (pair G H (record_in rs j) j (record_in rs t.0) t.0) u.1)
 
         next : In x roots ⊎ In x with_edges → MadeBy G H rs j x
         next (inl m) = by_root_is m
         next (inr m) = by_edge m
 
         go : In x (roots ++ with_edges) ⊎ In x rest → MadeBy G H rs j x
-        go (inl m) = next (in-append roots m)
+        go (inl m) = next (in_append roots m)
         go (inr m) = by_partner m
 
   pub leaf_record_in : {i : Item} → LeafRule G i → In (record_of i 0 0 0) (leaf_records G)

@@ -3,7 +3,7 @@ use mathlib.Core.Path.{◌≡◌, refl, sym, ap, ◌∙◌, subst}
 use mathlib.Core.Logic.{◌⊎◌, inl, inr}
 use mathlib.Core.Bool.{Bool, true, false}
 use mathlib.Core.List.Memᴰ.{head as here}
-use mathlib.Core.List.Memᴰ.{not-nil as in-nil}
+use mathlib.Core.List.Memᴰ.{not-nil as in_nil}
 use mathlib.Core.List.Memᴰ.{tail as there}
 use mathlib.Core.List.{List, [], ◌∷◌, ◌++◌, Memᴰ as In}
 use Prim.Native.Nat.{ℕ, zero, suc, ◌+◌, ◌≤◌, ◌<◌}
@@ -238,7 +238,7 @@ adds_found {x = x} {rs = rs} (new w l) =
     record { at = length rs; known = omega (arith, snoc_length rs x); same = sym (ap bare p); less = inr (omega (arith, ap (λ (z : Record). z.item.count) p)) }
 
 pub all_found : {cap : ℕ} {xs rs ts : List Record} → AddsAll cap xs rs ts → (x : Record) → In x xs → FoundIn ts x
-all_found done x m = absurd (in-nil m)
+all_found done x m = absurd (in_nil m)
 all_found (next {ss = ss} a s) x (here e) = found_grew (all_grew s) (subst (λ (z : Record). FoundIn ss z) (sym e) (adds_found a))
 all_found (next a s) x (there m) = all_found s x m
 

@@ -2,11 +2,11 @@
 use mathlib.Core.Path.{◌≡◌, refl, sym, ap, ◌∙◌, subst, subst₂}
 use mathlib.Core.Logic.{◌⊎◌, inl, inr, ◌≢◌}
 use mathlib.Core.Bool.{Bool, true, false}
-use mathlib.Core.List.Memᴰ.{append_cases as in-append}
+use mathlib.Core.List.Memᴰ.{append_cases as in_append}
 use mathlib.Core.List.Memᴰ.{append_left as in_left}
 use mathlib.Core.List.Memᴰ.{append_right as in_right}
 use mathlib.Core.List.Memᴰ.{cast as in_cast}
-use mathlib.Core.List.Memᴰ.{not-nil as in-nil}
+use mathlib.Core.List.Memᴰ.{not-nil as in_nil}
 use mathlib.Core.List.{List, [], ◌++◌, Memᴰ as In}
 use Prim.Native.Nat.{ℕ, ◌+◌, ◌≤◌, ◌<◌}
 use native.Mathlib.Decide.{dec_le}
@@ -94,7 +94,7 @@ module _ (G : Grammar) (H : Graph) (ok : GrammarOk G) (hok : GraphOk G H) where
     of_handled h = let o = r.shows.handled.entry h.at h.known h.handled in (o.0, o.1, sym o.2.item ∙ h.item)
 
     to_present : {i : Item} → In i (items_of (hs ++ r.state.waiting)) → Present G rs i
-    to_present {i} m = go (in-append hs o.1)
+    to_present {i} m = go (in_append hs o.1)
       where
         o : (e : Entry Item) × In e (hs ++ r.state.waiting) × (e.item ≡ i)
         o = of_items (hs ++ r.state.waiting) m
@@ -149,7 +149,7 @@ module _ (G : Grammar) (H : Graph) (ok : GrammarOk G) (hok : GraphOk G H) where
         go : Dec (closure_size G H ok hok ≤ n) → n < closure_size G H ok hok
         go (yes h) =
             let o = r.shows.waiting.entry j l w in
-            absurd (in-nil (subst (λ (ws : List (Entry Item)). In o.0 ws) (run_finishes G H ok hok r.starts r.run h) o.1))
+            absurd (in_nil (subst (λ (ws : List (Entry Item)). In o.0 ws) (run_finishes G H ok hok r.starts r.run h) o.1))
         go (no g) = omega arith
 
     -- once as many steps are given as there are places, none waits

@@ -3,9 +3,9 @@
 use mathlib.Core.Path.{◌≡◌, refl, sym, ap, ◌∙◌, subst}
 use mathlib.Core.Logic.{◌⊎◌, inl, inr, ◌≢◌}
 use mathlib.Core.Bool.{Bool, true, false, cond}
-use mathlib.Core.List.Memᴰ.{append_cases as in-append}
+use mathlib.Core.List.Memᴰ.{append_cases as in_append}
 use mathlib.Core.List.Memᴰ.{head as here}
-use mathlib.Core.List.Memᴰ.{not-nil as in-nil}
+use mathlib.Core.List.Memᴰ.{not-nil as in_nil}
 use mathlib.Core.List.{List, [], ◌∷◌, ◌++◌, Memᴰ as In}
 use Prim.Native.Nat.{ℕ, zero, suc, ◌+◌, ◌≤◌, ◌<◌}
 use native.Mathlib.Omega.{arith}
@@ -129,7 +129,7 @@ module _ (G : Grammar) (H : Graph) (cap : ℕ) where
 
       go : (b : Bool) → eqb c.mark 0 ≡ b → Moved c (handled_at G H cap j c)
       go true e = ended (handled_ends G H cap j c (eqb-true _ _ e))
-      go false e = moved j [] (λ y m. absurd (in-nil m)) l w (subst (λ (ts : List Record). AddsAll cap [] rs ts) (sym (handled_marked G H cap j c (eqb-false _ _ e))) done)
+      go false e = moved j [] (λ y m. absurd (in_nil m)) l w (subst (λ (ts : List Record). AddsAll cap [] rs ts) (sym (handled_marked G H cap j c (eqb-false _ _ e))) done)
 
   step_moved : (c : Chart) → Moved c (step_chart G H cap c)
   unfolding step_chart
@@ -255,7 +255,7 @@ module _ (G : Grammar) (H : Graph) (ok : GrammarOk G) {cap : ℕ} (most : cap �
   module _ {n : ℕ} {rs : List Record} (r : Reached G H cap n rs) where
     -- counts are at most the handled items and one more
     small : (e : Entry Item) → In e (r.state.handled ++ r.state.waiting) → e.count ≤ 4097
-    small e m = go (in-append r.state.handled m)
+    small e m = go (in_append r.state.handled m)
       where
         b : Bounded r.state
         b = bounded G H ok r.starts r.run

@@ -5,10 +5,10 @@ use mathlib.Core.Logic.{◌⊎◌, inl, inr}
 use mathlib.Core.Bool.{Bool, true, false}
 use mathlib.Core.List.Memᴰ.{append_left as in_left}
 use mathlib.Core.List.Memᴰ.{append_right as in_right}
-use mathlib.Core.List.Memᴰ.{cases_cons as in-cons}
+use mathlib.Core.List.Memᴰ.{cases_cons as in_cons}
 use mathlib.Core.List.Memᴰ.{cast as in_cast}
 use mathlib.Core.List.Memᴰ.{head as here}
-use mathlib.Core.List.Memᴰ.{not-nil as in-nil}
+use mathlib.Core.List.Memᴰ.{not-nil as in_nil}
 use mathlib.Core.List.Memᴰ.{of_map}
 use mathlib.Core.List.Memᴰ.{tail as there}
 use mathlib.Core.List.{List, [], ◌∷◌, ◌++◌, map, map-append, Memᴰ as In}
@@ -61,7 +61,7 @@ module _ (t : ℕ → Bool) (P : ℕ → Entry Item → Type 0) where
           entry : (k : ℕ) → Dec (k < n) → k < suc n → t k ≡ false → (e : Entry Item) × In e r.entries × P k e
           entry k (yes l) m h = r.entry k l h
           entry k (no g) m h = let e : k ≡ n = omega arith in absurd (apart (subst (λ (i : ℕ). t i ≡ true) (sym e) q) h)
-      go false q = record { entries = w.0 ∷ r.entries; entry = λ k l h. entry k (dec_lt k n) l h; place = λ e m. place e (in-cons m); distinct = more new r.distinct }
+      go false q = record { entries = w.0 ∷ r.entries; entry = λ k l h. entry k (dec_lt k n) l h; place = λ e m. place e (in_cons m); distinct = more new r.distinct }
         where
           w : (e : Entry Item) × P n e
           w = f q
@@ -81,7 +81,7 @@ module _ (t : ℕ → Bool) (P : ℕ → Entry Item → Type 0) where
               omega (arith, p.1, a p.0 n o.0 w.0 (omega (arith, p.1)) (omega arith) p.3 w.1 o.2)
 
   row : (n : ℕ) → ((k : ℕ) → k < n → t k ≡ false → (e : Entry Item) × P k e) → Apart n → Row n t P
-  row zero f a = record { entries = []; entry = λ k l h. absurd (omega arith); place = λ e m. absurd (in-nil m); distinct = none }
+  row zero f a = record { entries = []; entry = λ k l h. absurd (omega arith); place = λ e m. absurd (in_nil m); distinct = none }
   row (suc n) f a = more_row n (f n (omega arith)) a (row n (λ k l. f k (omega arith)) (λ j k d e l m. a j k d e (omega arith) (omega arith)))
 
 -- ---- places of records
@@ -224,7 +224,7 @@ module _ (G : Grammar) (H : Graph) where
         all_distinct = more differs (items_distinct (λ (y : Record). item_of G y.item) rs (one_place rs b.formed b.differ))
 
         inside : (i : Item) → In i (item_of G x.item ∷ map (λ (y : Record). item_of G y.item) rs) → In i is
-        inside i m = go (in-cons m)
+        inside i m = go (in_cons m)
           where
             go : (i ≡ item_of G x.item) ⊎ In i (map (λ (y : Record). item_of G y.item) rs) → In i is
             go (inl e) = in_cast e (c.present (item_of G x.item) n r)
@@ -240,7 +240,7 @@ module _ (G : Grammar) (H : Graph) where
       record {
         formed = λ k l. absurd (omega arith);
         differ = λ j k l. absurd (omega arith);
-        handled = record { entry = λ k l. absurd (omega arith); place = λ e m. absurd (in-nil m) };
+        handled = record { entry = λ k l. absurd (omega arith); place = λ e m. absurd (in_nil m) };
         waiting = λ k l. absurd (omega arith);
       }
 
@@ -265,10 +265,10 @@ module _ (G : Grammar) (H : Graph) where
         less (inr l) = inr (omega (arith, item_count_lem i 0))
 
         go : In i [] ⊎ Has leaves_wait.ws i 0 → Has leaves_wait.ws i 0
-        go (inl m) = absurd (in-nil m)
+        go (inl m) = absurd (in_nil m)
         go (inr h) = h
-    start_present (unary_made m u) = absurd (in-nil m)
-    start_present (binary_made m n r) = absurd (in-nil m)
+    start_present (unary_made m u) = absurd (in_nil m)
+    start_present (binary_made m n r) = absurd (in_nil m)
 
     start_starts : Start (closure G H) start_state
     unfolding start_state
@@ -292,12 +292,12 @@ module _ (G : Grammar) (H : Graph) where
       → New x ts → (is : List Item) → Closure (closure G H) is → length ts < length is
   start_full ok x sub m a n is c =
       let o = leaf_making G H ok x m in
-      too_many (grown_base no_records (λ y k. leaf_making G H ok y (sub y k)) a) (λ e k. absurd (in-nil k)) (λ e p. first e p) x o.formed o.entry.count
-      (subst (λ (i : Item). Reachable (closure G H) i o.entry.count) (sym o.shows.item) (made_reached (λ e k. absurd (in-nil k)) o.made)) n is c
+      too_many (grown_base no_records (λ y k. leaf_making G H ok y (sub y k)) a) (λ e k. absurd (in_nil k)) (λ e p. first e p) x o.formed o.entry.count
+      (subst (λ (i : Item). Reachable (closure G H) i o.entry.count) (sym o.shows.item) (made_reached (λ e k. absurd (in_nil k)) o.made)) n is c
     where
       first : (e : Entry Item) → Made (closure G H) [] e ⊎ Made (closure G H) [] e → Reachable (closure G H) e.item e.count
-      first e (inl m) = made_reached (λ a k. absurd (in-nil k)) m
-      first e (inr m) = made_reached (λ a k. absurd (in-nil k)) m
+      first e (inl m) = made_reached (λ a k. absurd (in_nil k)) m
+      first e (inr m) = made_reached (λ a k. absurd (in_nil k)) m
 
   -- ---- a step
   module _ (ok : GrammarOk G) {rs : List Record} {s : State Item} (shows : Shows G H rs s) (v : Invariant (closure G H) s)
@@ -371,7 +371,7 @@ module _ (G : Grammar) (H : Graph) where
         record {
           formed = λ k m. now_formed k (in_old k m) (at_place k);
           differ = λ i k m n q. shows.differ i k (in_old i m) (in_old k n) (sym (now_bare i (at_place i)) ∙ q ∙ now_bare k (at_place k));
-          handled = record { entry = λ k m h. now_handled k (in_old k m) (at_place k) h; place = λ e m. now_place e (in-cons m) };
+          handled = record { entry = λ k m h. now_handled k (in_old k m) (at_place k) h; place = λ e m. now_place e (in_cons m) };
           waiting = λ k m h. now_waiting k (in_old k m) (at_place k) h;
         }
 
@@ -380,10 +380,10 @@ module _ (G : Grammar) (H : Graph) where
     was_present e (inr m) = in_left s.waiting m
 
     now_reached : (e : Entry Item) → In e hs → Reachable (closure G H) e.item e.count
-    now_reached e m = v.reached e (was_present e (in-cons m))
+    now_reached e m = v.reached e (was_present e (in_cons m))
 
     now_small : (k : ℕ) → k < length now_handled_lem → is_handled (record_in now_handled_lem k) ≡ true → (record_in now_handled_lem k).item.count ≤ 4097
-    now_small k m h = let o = now_base.handled.entry k m h in omega (arith, o.2.count, small o.0 (was_present o.0 (in-cons o.1)))
+    now_small k m h = let o = now_base.handled.entry k m h in omega (arith, o.2.count, small o.0 (was_present o.0 (in_cons o.1)))
 
     makes : (x : Record) → In x (consequences G H now_handled_lem j) → Making G H now_handled_lem hs x
     makes = making G H ok now_base.handled now_reached now_small j (in_now j l) (ap is_handled now_at)
@@ -426,7 +426,7 @@ module _ (G : Grammar) (H : Graph) where
               inr (has_entry base after e.item e.count k (omega (arith, g.longer)) same (g.mark k i ∙ ap is_handled p ∙ o.2) (omega (arith, g.count k i, ap (λ (x : Record). x.item.count) p, o.3.count)))
 
       adds : (e : Entry Item) → Made (closure G H) hs e → In e.item (items_of hs) ⊎ Has after.ws e.item e.count
-      adds e m = go (made_at G H ok now_base.handled now_reached now_small j (in_now j l) (ap is_handled now_at) the.0 s.handled (subst (λ (x : Record). EntryOf G H now_handled_lem x the.0) (sym now_at) now_entry) (λ d n. in-cons n) m)
+      adds e m = go (made_at G H ok now_base.handled now_reached now_small j (in_now j l) (ap is_handled now_at) the.0 s.handled (subst (λ (x : Record). EntryOf G H now_handled_lem x the.0) (sym now_at) now_entry) (λ d n. in_cons n) m)
         where
           kept : (d : Entry Item) → d.item ≡ e.item → d.count ≤ e.count → (d.item ≡ the.0.item) ⊎ Has after.ws d.item d.count → In e.item (items_of hs) ⊎ Has after.ws e.item e.count
           kept d q c (inl i) = inl (here (sym q ∙ i))

@@ -9,15 +9,15 @@ use Rattle.records.specs.Words.{words_for}
 use Rattle.questions.specs.Reading.{Outcome as Reading}
 use Rattle.questions.specs.declared.Answer.{Answer as ReadingAnswer}
 use Rattle.readers.specs.Readers.{Gives}
-use Rattle.charting.specs.Calls.{number_of as chartNumber, start_of, run_of}
+use Rattle.charting.specs.Calls.{number_of as chart_number, start_of, run_of}
 use Rattle.charting.specs.Facts.{StartChoices, RunChoices}
 use Rattle.charting.specs.declared.Outcome.{Outcome}
-use Rattle.writing.specs.Writing.{number_of as writingNumber, write_of}
+use Rattle.writing.specs.Writing.{number_of as writing_number, write_of}
 use Rattle.writing.specs.Filling.{fill_of}
 use Rattle.writing.specs.Demand.{WriteChoices, FillChoices}
 use Rattle.writing.specs.declared.Answer.{Answer}
 use Rattle.writing.specs.declared.Application.{Application}
-use Rattle.replayer.specs.Verdicts.{number_of as verdictNumber, replay_of, Exact}
+use Rattle.replayer.specs.Verdicts.{number_of as verdict_number, replay_of, Exact}
 use Rattle.replayer.specs.declared.Verdict.{Verdict}
 use Rattle.programs.specs.Files.{FileGives, numbered, reading_number}
 use Rattle.capi.specs.Crossing.{steps_told, bytes_told, Started, Ran, Written, FilledRow, Replayed}
@@ -37,38 +37,38 @@ words_some items l h = rw (le-leb 1 items l, le-leb items 4096 h)
 pub read_crosses : (o : Reading) (a : ReadingAnswer) (table : List ℕ) (k : ℕ) → Gives o a table → k ≡ reading_number a → FileGives (numbered o) k table
 read_crosses o a table k gives e = record { answers = e ∙ ap reading_number gives.answers; leaves = gives.leaves }
 
-pub start_crosses : (g h w now : List ℕ) (o : Outcome) (k : ℕ) → o ≡ (start_of g h w).answer → now ≡ (start_of g h w).words → StartChoices g h w o → k ≡ chartNumber o → Started g h w k now
-start_crosses g h w now o k e p choices q = record { answers = q ∙ ap chartNumber e; leaves = p; choices = subst (StartChoices g h w) e choices }
+pub start_crosses : (g h w now : List ℕ) (o : Outcome) (k : ℕ) → o ≡ (start_of g h w).answer → now ≡ (start_of g h w).words → StartChoices g h w o → k ≡ chart_number o → Started g h w k now
+start_crosses g h w now o k e p choices q = record { answers = q ∙ ap chart_number e; leaves = p; choices = subst (StartChoices g h w) e choices }
 
 pub run_crosses : (g h w now : List ℕ) (steps former told : ℕ) (o : Outcome) (k : ℕ) → o ≡ (run_of g h w steps).answer → now ≡ (run_of g h w steps).words → RunChoices g h w steps o now
-    → k ≡ chartNumber o → told ≡ steps_told o former → Ran g h w steps former k now told
+    → k ≡ chart_number o → told ≡ steps_told o former → Ran g h w steps former k now told
 run_crosses g h w now steps former told o k e p choices q t =
     record {
-      answers = q ∙ ap chartNumber e;
+      answers = q ∙ ap chart_number e;
       leaves = p;
       tells = t ∙ ap (λ x. steps_told x former) e;
       choices = subst (λ x. RunChoices g h w steps x now) e choices;
     }
 
 pub write_crosses : (g h w out now : List ℕ) (former told : ℕ) (a : Answer) (k : ℕ) → a ≡ (write_of g h w out).answer → now ≡ (write_of g h w out).out → WriteChoices g h w out a now
-    → k ≡ writingNumber a → told ≡ bytes_told a former → Written g h w out former k now told
+    → k ≡ writing_number a → told ≡ bytes_told a former → Written g h w out former k now told
 write_crosses g h w out now former told a k e p choices q t =
     record {
-      answers = q ∙ ap writingNumber e;
+      answers = q ∙ ap writing_number e;
       leaves = p;
       tells = t ∙ ap (λ x. bytes_told x former) e;
       choices = subst (λ x. WriteChoices g h w out x now) e choices;
     }
 
 pub fill_crosses : (g h w : List ℕ) (rows now : List Application) (former told : ℕ) (a : Answer) (k : ℕ) → a ≡ (fill_of g h w rows).answer → now ≡ (fill_of g h w rows).rows → FillChoices g h w rows a now
-    → k ≡ writingNumber a → told ≡ bytes_told a former → FilledRow g h w rows former k now told
+    → k ≡ writing_number a → told ≡ bytes_told a former → FilledRow g h w rows former k now told
 fill_crosses g h w rows now former told a k e p choices q t =
     record {
-      answers = q ∙ ap writingNumber e;
+      answers = q ∙ ap writing_number e;
       leaves = p;
       tells = t ∙ ap (λ x. bytes_told x former) e;
       choices = subst (λ x. FillChoices g h w rows x now) e choices;
     }
 
-pub replay_crosses : (g h text : List ℕ) (v : Verdict) (k : ℕ) → v ≡ replay_of g h text → Exact g h text v → k ≡ verdictNumber v → Replayed g h text k
-replay_crosses g h text v k e exact q = record { answers = q ∙ ap verdictNumber e; exact = subst (Exact g h text) e exact }
+pub replay_crosses : (g h text : List ℕ) (v : Verdict) (k : ℕ) → v ≡ replay_of g h text → Exact g h text v → k ≡ verdict_number v → Replayed g h text k
+replay_crosses g h text v k e exact q = record { answers = q ∙ ap verdict_number e; exact = subst (Exact g h text) e exact }

@@ -11,7 +11,7 @@ ghost use Rattle.questions.specs.Reading.{read_grammar};
 ghost use Rattle.questions.specs.Checking.{read_graph};
 ghost use Rattle.charting.specs.Calls.{number_of as chartNumber, start_of, run_of};
 ghost use Rattle.charting.specs.Facts.{StartChoices, RunChoices};
-ghost use Rattle.writing.specs.Writing.{number_of as writingNumber, write_of};
+ghost use Rattle.writing.specs.Writing.{number_of as writing_number, write_of};
 ghost use Rattle.writing.specs.Demand.{WriteChoices};
 ghost use Rattle.replayer.specs.Verdicts.{number_of as verdictNumber, replay_of, Exact};
 ghost use Rattle.programs.specs.Files.{FileGives, numbered};
@@ -129,7 +129,7 @@ pub extern "C" fn bobbinmarl_item(chart: &[u64], place: u64, fields: &mut [u64])
 // The number of an answer; the bytes or records written, or the steps done where items wait, go into the lent word,
 // which else stays.
 fn tell_bytes(a: Answer, told: &mut u64) -> u64
-    ensures { (result ≡ writingNumber a) × (told.new ≡ bytes_told a told.old) }
+    ensures { (result ≡ writing_number a) × (told.new ≡ bytes_told a told.old) }
 {
     match a {
         Answer::Unfit => 8,

@@ -24,7 +24,7 @@ use Rattle.agenda.proofs.Adding.{cond_by}
 use Rattle.records.specs.Words.{capacity, item_count, record_at, records_at, chart_of}
 use Rattle.records.proofs.WordLaws.{length_records, record_in_lem, item_inside}
 use Rattle.masks.specs.Masks.{bit, member, disjoint, ◌∪◌, single}
-use Rattle.masks.specs.Laws.{member_false, member_union, member_single, false_member, bit_single_self, disjoint_sum, disjoint_holds}
+use Rattle.masks.proofs.Laws.{member_false, member_union, member_single, false_member, bit_single_self, disjoint_sum, disjoint_holds}
 use Rattle.chains.specs.Chains.{mixed, hash_of, bucket_of, bit_of, last_in, bits_in, link_of, Chained, linked, Cleared}
 
 -- ---- hashes

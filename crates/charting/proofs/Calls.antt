@@ -12,7 +12,7 @@ use Rattle.agenda.specs.Records.{is_handled}
 use Rattle.agenda.specs.Consequences.{record_in}
 use Rattle.agenda.specs.Steps.{Chart, run_chart, runs_chart, start_chart}
 use Rattle.agenda.proofs.Spelling.{Stays}
-use Rattle.agenda.proofs.Runs.{run_none, marked_run, run_split as chart-split, handled_kept}
+use Rattle.agenda.proofs.Runs.{run_none, marked_run, run_split as chart_split, handled_kept}
 use Rattle.questions.specs.Checking.{check_grammar, check_graph}
 use Rattle.questions.specs.Abstract.{grammar_of, graph_of}
 use Rattle.questions.proofs.WellFormedLent.{checked_grammar_ok, checked_graph_ok}
@@ -207,9 +207,9 @@ module _ (g h w : List ℕ) (j k : ℕ) where
         let c = after_run g h w (j + k) in
         let same : after_run g h v k ≡ c =
         ap (λ n. run_chart (grammar_of g) (graph_of g h) n k (chart_of v)) p ∙ ap (run_chart (grammar_of g) (graph_of g h) (capacity w) k) q
-        ∙ sym (chart-split (grammar_of g) (graph_of g h) (capacity w) j k (chart_of w)) in
+        ∙ sym (chart_split (grammar_of g) (graph_of g h) (capacity w) j k (chart_of w)) in
         let longer : length d.records ≤ length c.records =
-        subst (λ (b : Chart). length d.records ≤ length b.records) (sym (chart-split (grammar_of g) (graph_of g h) (capacity w) j k (chart_of w)))
+        subst (λ (b : Chart). length d.records ≤ length b.records) (sym (chart_split (grammar_of g) (graph_of g h) (capacity w) j k (chart_of w)))
         (run_grown (grammar_of g) (graph_of g h) (fit_grammar g h w f') (fit_graph g h w f') w (fit_most g h w f') d (grown g h w e j).holds
         (run_known (grammar_of g) (graph_of g h) (fit_grammar g h w f') (fit_graph g h w f') (capacity w) j (chart_of w) (known_records (grammar_of g) (graph_of g h) w (fitting g h w e) (chart_known g h w e))) k).longer in
         run_is g h v k f ∙ ap (λ (b : Chart). called (answer_of b) v b) same

@@ -11,16 +11,16 @@ use borrow.Author.Tests.{eq-eqb, ne_eqb}
 use denote.Enum.Declared.{tag_of}
 use types.Run.{OneOf, miss}
 use Rattle.questions.specs.Layout.{grammar_words, graph_words}
-use Rattle.charting.specs.Calls.{number_of as chartNumber, start_of, run_of}
+use Rattle.charting.specs.Calls.{number_of as chart_number, start_of, run_of}
 use Rattle.charting.specs.declared.Outcome.{Outcome}
-use Rattle.charting.specs.contracts.Outcome.{the_type as outcome-type}
-use Rattle.charting.specs.declared.Outcome.TheVariants.{Unfit as Unfit-chart, TooSmall as TooSmall-chart, Unfinished as Unfinished-chart, Done}
-use Rattle.writing.specs.Writing.{number_of as writingNumber, write_of}
+use Rattle.charting.specs.contracts.Outcome.{the_type as outcome_type}
+use Rattle.charting.specs.declared.Outcome.TheVariants.{Unfit as UnfitChart, TooSmall as TooSmallChart, Unfinished as UnfinishedChart, Done}
+use Rattle.writing.specs.Writing.{number_of as writing_number, write_of}
 use Rattle.writing.specs.Demand.{WriteChoices}
 use Rattle.writing.specs.declared.Answer.{Answer}
-use Rattle.writing.specs.contracts.Answer.{the_type as answer-type}
+use Rattle.writing.specs.contracts.Answer.{the_type as answer_type}
 use Rattle.writing.specs.declared.Answer.TheVariants.{Unfit, TooSmall, Unfinished, Underivable, NoRoom, Written}
-use Rattle.replayer.specs.Verdicts.{number_of as verdictNumber, replay_of}
+use Rattle.replayer.specs.Verdicts.{number_of as verdict_number, replay_of}
 use Rattle.replayer.specs.declared.Verdict.{Verdict}
 use Rattle.programs.specs.Files.{file_bytes, files_of, FilesGive}
 use Rattle.programs.specs.Programs.{Derived, refused, derived, derived_text, refusal_line, steps_line, items, chart_words, output_bytes, when_written, write_chart, when_ran, derive_tables, derive_files, replay_tables, replay_files, Prints}
@@ -33,7 +33,7 @@ prints_as : (d e : Derived) (former now : List ℕ) (r : ℕ) → d ≡ e → Pr
 prints_as d e former now r q p = rw q p
 
 -- ---- the writing
-not_written : (a : Answer) (out : List ℕ) (steps : ℕ) → OneOf (0 ∷ 1 ∷ 2 ∷ 3 ∷ 4 ∷ []) (tag_of answer-type a) → when_written a out steps ≡ refused (writingNumber a)
+not_written : (a : Answer) (out : List ℕ) (steps : ℕ) → OneOf (0 ∷ 1 ∷ 2 ∷ 3 ∷ 4 ∷ []) (tag_of answer_type a) → when_written a out steps ≡ refused (writing_number a)
 not_written Unfit out steps h = refl
 not_written TooSmall out steps h = refl
 not_written (Unfinished k) out steps h = refl
@@ -56,7 +56,7 @@ module _ (g h w : List ℕ) (steps : ℕ) (a : Answer) (e : a ≡ (write_of g h 
       prints_as _ (derived (take n out) steps) former now r
       (ap (λ x. when_written x (write_of g h w (cleared output_bytes)).out steps) (sym e ∙ q) ∙ ap (λ x. derived (take n x) steps) (sym o)) p
 
-  pub prints_unwritten : (k : ℕ) → OneOf (0 ∷ 1 ∷ 2 ∷ 3 ∷ 4 ∷ []) (tag_of answer-type a) → k ≡ writingNumber a
+  pub prints_unwritten : (k : ℕ) → OneOf (0 ∷ 1 ∷ 2 ∷ 3 ∷ 4 ∷ []) (tag_of answer_type a) → k ≡ writing_number a
       → Prints (refusal_line k) former now r → Prints (derived_text (write_chart g h w steps)) former now r
   unfolding write_chart
   prints_unwritten k h' q p =
@@ -64,16 +64,16 @@ module _ (g h w : List ℕ) (steps : ℕ) (a : Answer) (e : a ≡ (write_of g h 
       (ap (λ x. when_written x (write_of g h w (cleared output_bytes)).out steps) (sym e) ∙ not_written a _ steps h' ∙ ap refused (sym q)) p
 
 -- ---- the chart
-not_done : (o : Outcome) (next : ℕ → Derived) → OneOf (0 ∷ 1 ∷ 2 ∷ []) (tag_of outcome-type o) → when_ran o next ≡ refused (chartNumber o)
-not_done Unfit-chart next h = refl
-not_done TooSmall-chart next h = refl
-not_done (Unfinished-chart k) next h = refl
+not_done : (o : Outcome) (next : ℕ → Derived) → OneOf (0 ∷ 1 ∷ 2 ∷ []) (tag_of outcome_type o) → when_ran o next ≡ refused (chart_number o)
+not_done UnfitChart next h = refl
+not_done TooSmallChart next h = refl
+not_done (UnfinishedChart k) next h = refl
 not_done (Done k) next h = absurd (miss (0 ∷ 1 ∷ 2 ∷ []) 3 tt h)
 
 -- a start that answered o with the number k and left v
-module _ (g h : List ℕ) (o : Outcome) (k : ℕ) (e : o ≡ (start_of g h (cleared chart_words)).answer) (z : k ≡ chartNumber o) (former now : List ℕ) (r : ℕ) where
-  number : k ≡ chartNumber (start_of g h (cleared chart_words)).answer
-  number = z ∙ ap chartNumber e
+module _ (g h : List ℕ) (o : Outcome) (k : ℕ) (e : o ≡ (start_of g h (cleared chart_words)).answer) (z : k ≡ chart_number o) (former now : List ℕ) (r : ℕ) where
+  number : k ≡ chart_number (start_of g h (cleared chart_words)).answer
+  number = z ∙ ap chart_number e
 
   pub prints_unstarted : (k ≡ 0 → ⊥) → Prints (refusal_line k) former now r → Prints (derived_text (derive_tables g h)) former now r
   unfolding derive_tables
@@ -84,7 +84,7 @@ module _ (g h : List ℕ) (o : Outcome) (k : ℕ) (e : o ≡ (start_of g h (clea
     unfolding derive_tables
     ran = rw (← number, eq-eqb k 0 started, ← left, ← f)
 
-    pub prints_unrun : (j : ℕ) → OneOf (0 ∷ 1 ∷ 2 ∷ []) (tag_of outcome-type a) → j ≡ chartNumber a → Prints (refusal_line j) former now r
+    pub prints_unrun : (j : ℕ) → OneOf (0 ∷ 1 ∷ 2 ∷ []) (tag_of outcome_type a) → j ≡ chart_number a → Prints (refusal_line j) former now r
         → Prints (derived_text (derive_tables g h)) former now r
     prints_unrun j h' q p = prints_as _ (refused j) former now r (ran ∙ not_done a _ h' ∙ ap refused (sym q)) p
 
@@ -116,5 +116,5 @@ module _ (grammar graph g h : List ℕ) (k : ℕ) (files : FilesGive (files_of g
 pub replays_over : (g h text : List ℕ) → file_bytes < length text → 1 ≡ replay_tables g h text
 replays_over g h text l = sym (derivation_oversize g h text l)
 
-pub replays_text : (g h text : List ℕ) (v : Verdict) (k : ℕ) → length text ≤ file_bytes → v ≡ replay_of g h text → k ≡ verdictNumber v → k ≡ replay_tables g h text
-replays_text g h text v k l e q = q ∙ ap verdictNumber e ∙ sym (derivation_within g h text l)
+pub replays_text : (g h text : List ℕ) (v : Verdict) (k : ℕ) → length text ≤ file_bytes → v ≡ replay_of g h text → k ≡ verdict_number v → k ≡ replay_tables g h text
+replays_text g h text v k l e q = q ∙ ap verdict_number e ∙ sym (derivation_within g h text l)

@@ -23,13 +23,13 @@ pushed_none list top = record { same = refl; place = omega arith; front = refl; 
 
 pushed_one : (list : List ℕ) (top t b : ℕ) → t + 1 ≡ top → top ≤ length list → Pushed (b ∷ []) list top (set list t b) t
 pushed_one list top t b e h =
-    let top-is : top ≡ suc t = omega arith in
+    let top_is : top ≡ suc t = omega arith in
     record {
       same = length-set list t b;
       place = omega arith;
       front = take-set-le t list t b (omega arith);
       back = drop-cons (set list t b) t 0 (omega (arith, length-set list t b))
-          ∙ ap₂ (λ (x : ℕ) (xs : List ℕ). x ∷ xs) (get_or-set_same list t b 0 (omega arith)) (drop-set-lt (suc t) list t b (omega arith) ∙ rw top-is);
+          ∙ ap₂ (λ (x : ℕ) (xs : List ℕ). x ∷ xs) (get_or-set_same list t b 0 (omega arith)) (drop-set-lt (suc t) list t b (omega arith) ∙ rw top_is);
     }
 
 -- more in front of them

@@ -7,7 +7,7 @@ use lib.ListN.{length, get_or, set, take, drop, length-set}
 use lib.Seq.{take-append-add, take-append-le, sets, sets-eq, length-sets, length-take-le, drop_at}
 use borrow.Rule.Slice.PartMut.{post_of, put_mid, same_len_mid, mid_len}
 use Rattle.format.specs.Writing.{line_text}
-use Rattle.format.specs.WritingLaws.{line_text_length}
+use Rattle.format.proofs.WritingLaws.{line_text_length}
 use Rattle.hrg.specs.Grammars.{Graph, Grammar, right_of}
 use Rattle.hrg.specs.Trees.{padded}
 use Rattle.joins.proofs.EdgeMaps.{length_padded, take_padded}

@@ -9,7 +9,7 @@ use lib.Seq.{drop-cons, drop-length, get_or-set_same, get_or-set_other, length-t
 use lib.Dec.{eqb}
 use borrow.Author.Tests.{eqb-true, eqb-false, eq-eqb, ne_eqb}
 use Rattle.format.specs.Writing.{line_text}
-use Rattle.format.specs.WritingLaws.{line_text_length}
+use Rattle.format.proofs.WritingLaws.{line_text_length}
 use Rattle.scripts.specs.Scripts.{row_lines, rows_text}
 use Rattle.hrg.specs.Grammars.{Graph, Grammar}
 use Rattle.agenda.specs.declared.Record.{Record}

@@ -7,7 +7,7 @@ use denote.Enum.Declared.{tag_of}
 use types.Run.{OneOf, miss}
 use Rattle.writing.specs.Writing.{number_of}
 use Rattle.writing.specs.declared.Answer.{Answer}
-use Rattle.writing.specs.contracts.Answer.{the_type as answer-type}
+use Rattle.writing.specs.contracts.Answer.{the_type as answer_type}
 use Rattle.writing.specs.declared.Answer.TheVariants.{Unfit, TooSmall, Unfinished, Underivable, NoRoom, Written}
 use Rattle.filler.specs.Rows.{count_in}
 
@@ -21,7 +21,7 @@ refused_none NoRoom k = refl
 refused_none (Written n) k = absurd (k refl)
 
 -- every variant but the last is a refusal
-pub not_written : (a : Answer) → OneOf (0 ∷ 1 ∷ 2 ∷ 3 ∷ 4 ∷ []) (tag_of answer-type a) → number_of a ≢ 0
+pub not_written : (a : Answer) → OneOf (0 ∷ 1 ∷ 2 ∷ 3 ∷ 4 ∷ []) (tag_of answer_type a) → number_of a ≢ 0
 not_written Unfit h z = omega (arith, z)
 not_written TooSmall h z = omega (arith, z)
 not_written (Unfinished k) h z = omega (arith, z)

@@ -9,7 +9,7 @@ use lib.ListN.{length, take, drop, get_or, set, replicate, length-append, length
 use lib.Seq.{take_all, take-suc, take_at, take-append-le, set_at, append_snoc, length-take-le, get_or-take, get_or-drop, drop-drop}
 use Rattle.format.specs.Lines.{line_of}
 use Rattle.format.specs.Fields.{field_count, number_of, fields_of}
-use Rattle.format.specs.FieldLaws.{fields_length, fields_in_lem, fields_at}
+use Rattle.format.proofs.FieldLaws.{fields_length, fields_in_lem, fields_at}
 use Rattle.questions.specs.Layout.{rule_nodes}
 use Rattle.writing.specs.Filling.{eight, application_of}
 use Rattle.writing.specs.declared.Application.{Application}

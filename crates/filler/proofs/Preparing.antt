@@ -8,7 +8,7 @@ use lib.ListN.{length, length-map, take, drop}
 use lib.Seq.{take-append_seam}
 use borrow.Author.Tests.{le-leb, lt-leb}
 use Rattle.format.specs.Lines.{line_of}
-use Rattle.format.specs.Fields.{number_of as fieldNumber}
+use Rattle.format.specs.Fields.{number_of as field_number}
 use Rattle.questions.specs.Abstract.{grammar_of}
 use Rattle.scripts.specs.Scripts.{rows_text}
 use Rattle.writing.specs.Writing.{number_of, Wrote, write_of}
@@ -52,7 +52,7 @@ module _ (g h w out now : List ℕ) (room : ℕ) (a : Answer) (long : 303110 ≤
       go (chooses t) e = absurd (chosen_not t e)
 
   -- ---- a text
-  module _ (wrote : number_of a ≡ 0) (line : List ℕ) (first : line ≡ line_of (drop 0 now)) (count : ℕ) (said : count ≡ fieldNumber line 0) where
+  module _ (wrote : number_of a ≡ 0) (line : List ℕ) (first : line ≡ line_of (drop 0 now)) (count : ℕ) (said : count ≡ field_number line 0) where
     refuses_not : (b : Answer) → chosen_of g h w ≡ refuses b → ⊥
     refuses_not b e = refusal_number g h w b e (sym (ap number_of (refused_answer b e)) ∙ wrote)
 
@@ -67,7 +67,7 @@ module _ (g h w out now : List ℕ) (room : ℕ) (a : Answer) (long : 303110 ≤
         let c = chosen_rows g h w t e in
         let rs = c.listed in
         let front : now ≡ rows_text rs ++ drop (length t) out = now_holds t e ∙ ap (λ (l : List ℕ). l ++ drop (length t) out) c.text in
-        said ∙ ap (λ (l : List ℕ). fieldNumber l 0) first ∙ count_said rs now (drop (length t) out) front c.writable.few
+        said ∙ ap (λ (l : List ℕ). field_number l 0) first ∙ count_said rs now (drop (length t) out) front c.writable.few
         ∙ sym (ap length c.records ∙ length-map rs (application_read g))
 
     by_count : (b : Answer) → ((t : List ℕ) → count ≡ length (records_in (grammar_of g) t) → b ≡ answer_by (grammar_of g) (chooses t) room) → count_in b ≤ room → Prepared g h w room b now

@@ -7,11 +7,11 @@ use native.Mathlib.Omega.{arith}
 use lib.ListN.{length, drop, get_or, length-append, length-drop}
 use lib.Seq.{drop_at, drop-cons}
 use Rattle.format.specs.Lines.{Line, lines_of, text_of, line_of, is_ended, after_line}
-use Rattle.format.specs.LineLaws.{lines_at, text_of_lines}
+use Rattle.format.proofs.LineLaws.{lines_at, text_of_lines}
 use Rattle.format.specs.Fields.{number_of, fields_of}
 use Rattle.format.specs.Writing.{line_body, line_text}
-use Rattle.format.specs.WritingLaws.{line_text_length}
-use Rattle.format.specs.RoundTrip.{written_line, written_fields, written_number}
+use Rattle.format.proofs.WritingLaws.{line_text_length}
+use Rattle.format.proofs.RoundTrip.{written_line, written_fields, written_number}
 use Rattle.scripts.specs.Scripts.{row_lines, rows_text, row_bytes, WritableLines, none, more, WritableRows}
 use Rattle.scripts.proofs.RowTexts.{text_length, writable_at}
 use Rattle.filler.specs.Rows.{offset_of}

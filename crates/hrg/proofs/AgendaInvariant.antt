@@ -1,13 +1,13 @@
 -- What holds of the agenda at the start and after every step; so each handled entry has the least count of its item.
 use mathlib.Core.Path.{◌≡◌, sym, ap, subst, subst₂}
 use mathlib.Core.Logic.{◌⊎◌, inl, inr, ◌↔◌}
-use mathlib.Core.List.Memᴰ.{append_cases as in-append}
+use mathlib.Core.List.Memᴰ.{append_cases as in_append}
 use mathlib.Core.List.Memᴰ.{append_left as in_left}
 use mathlib.Core.List.Memᴰ.{append_right as in_right}
-use mathlib.Core.List.Memᴰ.{cases_cons as in-cons}
+use mathlib.Core.List.Memᴰ.{cases_cons as in_cons}
 use mathlib.Core.List.Memᴰ.{cast as in_cast}
 use mathlib.Core.List.Memᴰ.{map as in_map}
-use mathlib.Core.List.Memᴰ.{not-nil as in-nil}
+use mathlib.Core.List.Memᴰ.{not-nil as in_nil}
 use mathlib.Core.List.Memᴰ.{of_map}
 use mathlib.Core.List.Memᴰ.{tail as there}
 use mathlib.Core.List.{List, [], ◌++◌, Memᴰ as In}
@@ -45,7 +45,7 @@ module _ {Item : Type 0} where
   has_more f l h = record { entry = h.entry; inside = f h.entry h.inside; item = h.item; count = omega (arith, h.count) }
 
   pub has_append : (es : List (Entry Item)) {fs : List (Entry Item)} {i : Item} {n : ℕ} → Has (es ++ fs) i n → Has es i n ⊎ Has fs i n
-  has_append es {fs} {i} {n} h = go (in-append es h.inside)
+  has_append es {fs} {i} {n} h = go (in_append es h.inside)
     where
       go : In h.entry es ⊎ In h.entry fs → Has es i n ⊎ Has fs i n
       go (inl m) = inl (record { entry = h.entry; inside = m; item = h.item; count = h.count })
@@ -80,29 +80,29 @@ module _ {Item : Type 0} {S : System Item} where
   pub start_invariant : {s : State Item} → Start S s → Invariant S s
   start_invariant {s} z =
       record {
-        made = λ e m. made_more (λ a n. absurd (in-nil n)) (first e m);
+        made = λ e m. made_more (λ a n. absurd (in_nil n)) (first e m);
         closed = λ e m. has_more (λ a n. in_right s.handled n) (omega arith) (z.present e (made_more no_handled m));
-        order = λ h w m n. absurd (in-nil (no_handled h m));
+        order = λ h w m n. absurd (in_nil (no_handled h m));
         distinct = rw z.handled z.distinct;
-        reached = λ e m. made_reached (λ a n. absurd (in-nil n)) (first e m);
+        reached = λ e m. made_reached (λ a n. absurd (in_nil n)) (first e m);
       }
     where
       no_handled : (a : Entry Item) → In a s.handled → In a []
       no_handled a m = subst (λ (l : List (Entry Item)). In a l) z.handled m
 
       go : (e : Entry Item) → In e s.handled ⊎ In e s.waiting → Made S [] e
-      go e (inl m) = absurd (in-nil (no_handled e m))
+      go e (inl m) = absurd (in_nil (no_handled e m))
       go e (inr m) = z.origin e m
 
       first : (e : Entry Item) → In e (s.handled ++ s.waiting) → Made S [] e
-      first e m = go e (in-append s.handled m)
+      first e m = go e (in_append s.handled m)
 
   module _ {s t : State Item} (z : Step S s t) (v : Invariant S s) where
     old_handled : (e : Entry Item) → In e s.handled → In e t.handled
     old_handled e m = subst (λ (l : List (Entry Item)). In e l) (sym z.handles) (there m)
 
     handled_cases : (e : Entry Item) → In e t.handled → (e ≡ z.chosen) ⊎ In e s.handled
-    handled_cases e m = in-cons (subst (λ (l : List (Entry Item)). In e l) z.handles m)
+    handled_cases e m = in_cons (subst (λ (l : List (Entry Item)). In e l) z.handles m)
 
     -- the chosen entry has the largest count of the handled ones
     below : (h : Entry Item) → In h t.handled → h.count ≤ z.chosen.count
@@ -132,7 +132,7 @@ module _ {Item : Type 0} {S : System Item} where
         go (inr m) = waited (has_append s.handled (v.closed e m))
 
     made_step : (e : Entry Item) → In e (t.handled ++ t.waiting) → Made S t.handled e
-    made_step e m = go (in-append t.handled m)
+    made_step e m = go (in_append t.handled m)
       where
         waited : In e s.waiting ⊎ Made S t.handled e → Made S t.handled e
         waited (inl m) = made_more old_handled (v.made e (in_right s.handled m))
@@ -216,7 +216,7 @@ module _ {Item : Type 0} {S : System Item} where
       where
         go : Cut s i n → Has s.handled i n
         go (inl h) = h
-        go (inr w) = absurd (in-nil (subst (λ (l : List (Entry Item)). In w.0 l) e w.1))
+        go (inr w) = absurd (in_nil (subst (λ (l : List (Entry Item)). In w.0 l) e w.1))
 
     -- the items present are those that one rule makes of handled entries
     pub present_iff : (i : Item) → In i (items_of (s.handled ++ s.waiting)) ↔ ((e : Entry Item) × Made S s.handled e × (e.item ≡ i))

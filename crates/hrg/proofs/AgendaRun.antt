@@ -2,15 +2,15 @@
 use mathlib.Core.Path.{◌≡◌, refl, sym, ap, ◌∙◌, subst}
 use mathlib.Core.Logic.{◌⊎◌, inl, inr, ◌≢◌}
 use mathlib.Core.Bool.{Bool, true, false, not}
-use mathlib.Core.List.Memᴰ.{append_cases as in-append}
+use mathlib.Core.List.Memᴰ.{append_cases as in_append}
 use mathlib.Core.List.Memᴰ.{append_left as in_left}
 use mathlib.Core.List.Memᴰ.{append_right as in_right}
-use mathlib.Core.List.Memᴰ.{cases_cons as in-cons}
+use mathlib.Core.List.Memᴰ.{cases_cons as in_cons}
 use mathlib.Core.List.Memᴰ.{cast as in_cast}
 use mathlib.Core.List.Memᴰ.{eq_of_singleton}
 use mathlib.Core.List.Memᴰ.{head as here}
 use mathlib.Core.List.Memᴰ.{map as in_map}
-use mathlib.Core.List.Memᴰ.{not-nil as in-nil}
+use mathlib.Core.List.Memᴰ.{not-nil as in_nil}
 use mathlib.Core.List.Memᴰ.{of_map}
 use mathlib.Core.List.Memᴰ.{tail as there}
 use mathlib.Core.List.{List, [], ◌∷◌, ◌++◌, map, map-append, flat_map, Memᴰ as In}
@@ -50,7 +50,7 @@ Tells false i is = In i is → ⊥
 
 module _ {Item : Type 0} where
   added_from : {e f : Entry Item} {us vs : List (Entry Item)} → Added e us vs → In f vs → (f ≡ e) ⊎ In f us
-  added_from fresh m = in-cons m
+  added_from fresh m = in_cons m
   added_from (kept p l) m = inr m
   added_from (better p l) (here q) = inl q
   added_from (better p l) (there m) = inr (there m)
@@ -74,7 +74,7 @@ module _ {Item : Type 0} where
   added_keeps {i = i} {n = n} a h = go a h.inside h.item h.count
     where
       go : {e f : Entry Item} {us vs : List (Entry Item)} → Added e us vs → In f us → f.item ≡ i → f.count ≤ n → Has vs i n
-      go {f = f} fresh m p l = absurd (in-nil m)
+      go {f = f} fresh m p l = absurd (in_nil m)
       go {f = f} (kept q c) m p l = record { entry = f; inside = m; item = p; count = l }
       go {e} {f = f} (better q c) (here r) p l = record { entry = e; inside = here refl; item = q ∙ ap (λ (z : Entry Item). z.item) (sym r) ∙ p; count = omega (arith, ap (λ (z : Entry Item). z.count) r) }
       go {f = f} (better q c) (there m) p l = record { entry = f; inside = there m; item = p; count = l }
@@ -82,7 +82,7 @@ module _ {Item : Type 0} where
       go (past n a) (there m) p l = has_there (go a m p l)
 
   added_distinct : {e : Entry Item} {us vs : List (Entry Item)} → Added e us vs → Distinct (items_of us) → Distinct (items_of vs)
-  added_distinct fresh d = more in-nil none
+  added_distinct fresh d = more in_nil none
   added_distinct (kept p l) d = d
   added_distinct (better p l) d = more (λ m. distinct_head d (in_cast (sym p) m)) (distinct_tail d)
   added_distinct {e} (past {u = u} {us = us} {vs = vs} n a) d = more (λ m. go (of_items vs m)) (added_distinct a (distinct_tail d))
@@ -118,7 +118,7 @@ module _ {Item : Type 0} where
     all_keeps (added p a r) h = all_keeps r (added_keeps a h)
 
     all_new : {f : Entry Item} {us es vs : List (Entry Item)} → AddedAll hs us es vs → In f es → In f.item (items_of hs) ⊎ Has vs f.item f.count
-    all_new done m = absurd (in-nil m)
+    all_new done m = absurd (in_nil m)
     all_new (skipped p a) (here q) = inl (in_cast (ap (λ (z : Entry Item). z.item) q) p)
     all_new (skipped p a) (there m) = all_new a m
     all_new {vs = vs} (added p a r) (here q) = inr (subst (λ (z : Entry Item). Has vs z.item z.count) (sym q) (all_keeps r (added_new a)))
@@ -146,12 +146,12 @@ module _ {Item : Type 0} where
     where
       go : (b : Bool) (p : Pick Item) → (T b → e.count ≤ p.chosen.count) → (T (not b) → p.chosen.count < e.count) → Picked (f ∷ fs) p
           → Picked (e ∷ f ∷ fs) (elim b [ true ↦ record { chosen = e; rest = f ∷ fs } | false ↦ record { chosen = p.chosen; rest = e ∷ p.rest } ])
-      go true p l g k = record { removed = first refl; least = λ d m. low d (in-cons m) }
+      go true p l g k = record { removed = first refl; least = λ d m. low d (in_cons m) }
         where
           low : (d : Entry Item) → (d ≡ e) ⊎ In d (f ∷ fs) → e.count ≤ d.count
           low d (inl q) = omega (arith, ap (λ (z : Entry Item). z.count) q)
           low d (inr m) = omega (arith, l tt, k.least d m)
-      go false p l g k = record { removed = later k.removed; least = λ d m. low d (in-cons m) }
+      go false p l g k = record { removed = later k.removed; least = λ d m. low d (in_cons m) }
         where
           low : (d : Entry Item) → (d ≡ e) ⊎ In d (f ∷ fs) → p.chosen.count ≤ d.count
           low d (inl q) = omega (arith, g tt, ap (λ (z : Entry Item). z.count) q)
@@ -163,7 +163,7 @@ module _ {Item : Type 0} {S : System Item} {R : Rules Item} (C : Computes S R) w
 
   present_tells : (i : Item) (es : List (Entry Item)) → Tells (present R i es) i (items_of es)
   unfolding present
-  present_tells i [] = in-nil
+  present_tells i [] = in_nil
   present_tells i (e ∷ es) = go (R.same i e.item) (C.same_equal i e.item) same_no (present R i es) (present_tells i es)
     where
       other : (i ≡ e.item → ⊥) → (In i (items_of es) → ⊥) → (i ≡ e.item) ⊎ In i (items_of es) → ⊥
@@ -173,7 +173,7 @@ module _ {Item : Type 0} {S : System Item} {R : Rules Item} (C : Computes S R) w
       go : (b : Bool) → (T b → i ≡ e.item) → (T (not b) → i ≡ e.item → ⊥) → (c : Bool) → Tells c i (items_of es) → Tells (elim b [ true ↦ true | false ↦ c ]) i (items_of (e ∷ es))
       go true p n c k = here (p tt)
       go false p n true k = there k
-      go false p n false k = λ m. other (n tt) k (in-cons m)
+      go false p n false k = λ m. other (n tt) k (in_cons m)
 
   add_does : (e : Entry Item) (us : List (Entry Item)) → Added e us (add R e us)
   unfolding add
@@ -219,7 +219,7 @@ module _ {Item : Type 0} {S : System Item} {R : Rules Item} (C : Computes S R) w
 
   consequences_of : {hs : List (Entry Item)} {x e : Entry Item} → In x hs → In e (consequences R hs x) → Made S hs e
   unfolding consequences
-  consequences_of {hs} {x} {e} l m = go (in-append (unary_entries R x) m)
+  consequences_of {hs} {x} {e} l m = go (in_append (unary_entries R x) m)
     where
       pair : (h : Entry Item) → In h hs → In e (binary_entries R x h) ⊎ In e (binary_entries R h x) → Made S hs e
       pair h k (inl m) = binary_of_is l k m
@@ -227,7 +227,7 @@ module _ {Item : Type 0} {S : System Item} {R : Rules Item} (C : Computes S R) w
 
       go : In e (unary_entries R x) ⊎ In e (flat_map (λ h. binary_entries R x h ++ binary_entries R h x) hs) → Made S hs e
       go (inl m) = unary_of_is l m
-      go (inr m) = let o = of_flat (λ h. binary_entries R x h ++ binary_entries R h x) hs m in pair o.0 o.1 (in-append (binary_entries R x o.0) o.2)
+      go (inr m) = let o = of_flat (λ h. binary_entries R x h ++ binary_entries R h x) hs m in pair o.0 o.1 (in_append (binary_entries R x o.0) o.2)
 
   first_in : (x : Entry Item) {hs : List (Entry Item)} {h e : Entry Item} → In h hs → In e (binary_entries R x h) → In e (consequences R hs x)
   unfolding consequences
@@ -241,7 +241,7 @@ module _ {Item : Type 0} {S : System Item} {R : Rules Item} (C : Computes S R) w
   consequences_in : {hs : List (Entry Item)} {x e : Entry Item} → Made S (x ∷ hs) e → In e (consequences R (x ∷ hs) x) ⊎ Made S hs e
   unfolding consequences
   consequences_in (axiom_made z) = inr (axiom_made z)
-  consequences_in {hs} {x} (unary_made {a = a} {k = k} {i = i} m u) = go (in-cons m)
+  consequences_in {hs} {x} (unary_made {a = a} {k = k} {i = i} m u) = go (in_cons m)
     where
       e : Entry Item
       e = record { item = i; count = a.count + k; how = from i a.how }
@@ -249,7 +249,7 @@ module _ {Item : Type 0} {S : System Item} {R : Rules Item} (C : Computes S R) w
       go : (a ≡ x) ⊎ In a hs → In e (consequences R (x ∷ hs) x) ⊎ Made S hs e
       go (inl q) = inl (in_left _ (subst (λ (z : Entry Item). In e (unary_entries R z)) q (unary_in a u)))
       go (inr l) = inr (unary_made l u)
-  consequences_in {hs} {x} (binary_made {a = a} {b = b} {i = i} l m r) = go (in-cons l) (in-cons m)
+  consequences_in {hs} {x} (binary_made {a = a} {b = b} {i = i} l m r) = go (in_cons l) (in_cons m)
     where
       e : Entry Item
       e = record { item = i; count = a.count + b.count; how = from₂ i a.how b.how }
@@ -271,17 +271,17 @@ module _ {Item : Type 0} {S : System Item} {R : Rules Item} (C : Computes S R) w
       does = all_does [] [] axioms
 
       origin : (e : Entry Item) → In e [] ⊎ In e axioms → Made S [] e
-      origin e (inl m) = absurd (in-nil m)
+      origin e (inl m) = absurd (in_nil m)
       origin e (inr m) = let o = of_map (λ (i : Item). record { item = i; count = 0; how = given i }) R.axioms m in subst (λ (z : Entry Item). Made S [] z) o.2 (axiom_made (C.axiom_sound o.0 o.1))
 
       waits : {i : Item} {n : ℕ} → In i [] ⊎ Has (add_all R [] [] axioms) i n → Has (add_all R [] [] axioms) i n
-      waits (inl m) = absurd (in-nil m)
+      waits (inl m) = absurd (in_nil m)
       waits (inr h) = h
 
       present : (e : Entry Item) → Made S [] e → Has (add_all R [] [] axioms) e.item e.count
       present e (axiom_made {i = i} z) = waits (all_new does (in_map (λ (i : Item). record { item = i; count = 0; how = given i }) (C.axiom_found i z)))
-      present e (unary_made m u) = absurd (in-nil m)
-      present e (binary_made l m r) = absurd (in-nil m)
+      present e (unary_made m u) = absurd (in_nil m)
+      present e (binary_made l m r) = absurd (in_nil m)
 
   picked_step : (hs ws : List (Entry Item)) (p : Pick Item) → Picked ws p → Invariant S (record { handled = hs; waiting = ws }) → Step S (record { handled = hs; waiting = ws }) (handle R hs p)
   unfolding handle
@@ -346,7 +346,7 @@ module _ {Item : Type 0} {S : System Item} {R : Rules Item} (C : Computes S R) w
       rest_apart u m (inr n) = not_handled u (removed_rest k.removed m) n
 
       apart : (i : Item) → In i (items_of xs) → In i (items_of vs) → ⊥
-      apart i l m = let o = of_items vs m in all_apart does (λ u n j. rest_apart u n (in-cons j)) o.0 o.1 (in_cast o.2 l)
+      apart i l m = let o = of_items vs m in all_apart does (λ u n j. rest_apart u n (in_cons j)) o.0 o.1 (in_cast o.2 l)
 
   pub step_runs : {s : State Item} → Invariant S s → s.waiting ≢ [] → Step S s (step_state R s)
   unfolding step_state
@@ -365,7 +365,7 @@ module _ {Item : Type 0} {S : System Item} {R : Rules Item} (C : Computes S R) w
           → Run S (suc k) s (elim ws [ [] ↦ s | w ∷ ws ↦ run_state k R (step_state R s) ])
       go [] e f = idle e
       go (w ∷ ws) e f =
-          let z = step_runs v (λ q. in-nil (subst (λ (l : List (Entry Item)). In w l) (sym e ∙ q) (here refl))) in
+          let z = step_runs v (λ q. in_nil (subst (λ (l : List (Entry Item)). In w l) (sym e ∙ q) (here refl))) in
           step z (f (step_invariant z v))
 
   pub run_runs : (k : ℕ) → Run S k (start_state R) (run_state k R (start_state R))

@@ -2,13 +2,13 @@
 use mathlib.Core.Path.{◌≡◌, refl, sym, subst, subst₂}
 use mathlib.Core.Logic.{◌⊎◌, inl, inr}
 use mathlib.Core.Bool.{Bool, true, false, not, ◌&&◌, ◌||◌}
-use mathlib.Core.List.Memᴰ.{append_cases as in-append}
+use mathlib.Core.List.Memᴰ.{append_cases as in_append}
 use mathlib.Core.List.Memᴰ.{append_left as in_left}
 use mathlib.Core.List.Memᴰ.{append_right as in_right}
 use mathlib.Core.List.Memᴰ.{eq_of_singleton as of_one}
 use mathlib.Core.List.Memᴰ.{head as here}
 use mathlib.Core.List.Memᴰ.{map as in_map}
-use mathlib.Core.List.Memᴰ.{not-nil as in-nil}
+use mathlib.Core.List.Memᴰ.{not-nil as in_nil}
 use mathlib.Core.List.Memᴰ.{of_map}
 use mathlib.Core.List.{List, [], ◌∷◌, ◌++◌, map, Memᴰ as In}
 use Prim.Native.Nat.{ℕ, zero, suc, ◌≤◌, ◌<◌}
@@ -19,7 +19,7 @@ use lib.ListN.{length}
 use lib.Dec.{T, eqb, leb, ltb, eqb→eq, eqb_refl, leb→le, le→leb, ltb→lt, lt→ltb, nleb→lt}
 use borrow.Author.Tests.{eq-eqb}
 use Rattle.masks.specs.Masks.{◌∪◌, disjoint, single}
-use Rattle.masks.specs.Laws.{disjoint_holds, holds_disjoint}
+use Rattle.masks.proofs.Laws.{disjoint_holds, holds_disjoint}
 use Rattle.hrg.specs.Counts.{occurs}
 use Rattle.hrg.specs.Grammars.{Kind, terminal, nonterminal, Edge, Graph, PlanNode, leaf, introduce, join, Rule, Grammar, kind_of, rule_of, right_of, plan_of, plan_node, edge_at}
 use Rattle.hrg.specs.Trees.{unplaced, at, FitsEdge}
@@ -95,7 +95,7 @@ module _ {A : Type 0} {i : A} where
 
   pub of_guard : (b : Bool) {l : List A} → In i (guard b l) → T b × In i l
   of_guard true m = (tt, m)
-  of_guard false m = absurd (in-nil m)
+  of_guard false m = absurd (in_nil m)
 
   pub in_to : (n : ℕ) (f : ℕ → List A) (k : ℕ) → k < n → In i (f k) → In i (each_to n f)
   in_to zero f k l m = absurd (not-suc-le-zero l)
@@ -106,8 +106,8 @@ module _ {A : Type 0} {i : A} where
       go (no g) below = in_left {s = f n} (each_to n f) (rw (let e : n ≡ k = omega arith in e) m)
 
   pub of_to : (n : ℕ) (f : ℕ → List A) → In i (each_to n f) → (k : ℕ) × (k < n) × In i (f k)
-  of_to zero f m = absurd (in-nil m)
-  of_to (suc n) f m = go (in-append (f n) m) (of_to n f)
+  of_to zero f m = absurd (in_nil m)
+  of_to (suc n) f m = go (in_append (f n) m) (of_to n f)
     where
       go : In i (f n) ⊎ In i (each_to n f) → (In i (each_to n f) → (k : ℕ) × (k < n) × In i (f k)) → (k : ℕ) × (k < suc n) × In i (f k)
       go (inl m) below = (n, omega arith, m)
@@ -206,8 +206,8 @@ module _ (G : Grammar) where
   of_leaf : {i : Item} (r p : ℕ) (node : PlanNode) → r < length G.rules → p < length (plan_of G r) → plan_node (plan_of G r) p ≡ node → In i (leaf_at G r p node) → LeafRule G i
   unfolding leaf_at
   of_leaf r p leaf k l e m = rw (of_one m) (leaf_rule r p k l e)
-  of_leaf r p (introduce c i) k l e m = absurd (in-nil m)
-  of_leaf r p (join a b) k l e m = absurd (in-nil m)
+  of_leaf r p (introduce c i) k l e m = absurd (in_nil m)
+  of_leaf r p (join a b) k l e m = absurd (in_nil m)
 
   pub in_leaf : {i : Item} → In i (leaves G) → LeafRule G i
   unfolding leaves
@@ -243,7 +243,7 @@ module _ (G : Grammar) (H : Graph) (r p m : ℕ) (f : List ℕ) where
   of_terminal : {a : Item} (q : ℕ) (node : PlanNode) → q < length (plan_of G r) → plan_node (plan_of G r) q ≡ node → In a (terminal_at G H (rule_of G r) r p m f q node)
       → UnaryRule G H (active r p m f) 0 a
   unfolding terminal_at with_edge
-  of_terminal q leaf l e k = absurd (in-nil k)
+  of_terminal q leaf l e k = absurd (in_nil k)
   of_terminal q (introduce c i) l e k =
       let a = of_guard (eqb c p && is_terminal (kind_of G (edge_of G r i).label)) k in
       let t = of_and (eqb c p) _ a.0 in
@@ -252,7 +252,7 @@ module _ (G : Grammar) (H : Graph) (r p m : ℕ) (f : List ℕ) where
       of_combine H (rule_of G r) r q m (single u.0) f (map_for G r i (edge_at H.edges u.0).attachment) (UnaryRule G H (active r p m f) 0)
       (λ m' h j. subst (λ (z : ℕ). UnaryRule G H (active r z m f) 0 (active r q m' h)) (eqb→eq c p t.0) (terminal_rule r q c i u.0 m m' f h l e (record { kind = terminal_test _ t.1; known = u.1; label = eqb→eq _ _ d.0; attachment = refl }) j))
       d.1
-  of_terminal q (join a b) l e k = absurd (in-nil k)
+  of_terminal q (join a b) l e k = absurd (in_nil k)
 
 module _ (G : Grammar) (H : Graph) where
   pub unary_in : {a i : Item} {k : ℕ} → UnaryRule G H a k i → In (record { constant = k; item = i }) (unary_of G H a)
@@ -263,7 +263,7 @@ module _ (G : Grammar) (H : Graph) where
 
   pub in_unary : {c : Conclusion Item} (a : Item) → In c (unary_of G H a) → UnaryRule G H a c.constant c.item
   unfolding unary_of root_at
-  in_unary {c} (active r p m f) k = go (in-append (root_at (rule_of G r) p m f) k)
+  in_unary {c} (active r p m f) k = go (in_append (root_at (rule_of G r) p m f) k)
     where
       made : List Item
       made = each_to (length (plan_of G r)) (terminal_as G H r p m f)
@@ -276,7 +276,7 @@ module _ (G : Grammar) (H : Graph) where
           let t = of_map kept made k in
           let u = of_to (length (plan_of G r)) (terminal_as G H r p m f) t.1 in
           rw (sym t.2) (of_terminal G H r p m f u.0 (plan_node (plan_of G r) u.0) u.1 refl u.2)
-  in_unary (passive s m L) k = absurd (in-nil k)
+  in_unary (passive s m L) k = absurd (in_nil k)
 
 module _ (G : Grammar) (H : Graph) (r p m : ℕ) (f : List ℕ) where
   module _ (s m₂ : ℕ) (L : List ℕ) where
@@ -286,14 +286,14 @@ module _ (G : Grammar) (H : Graph) (r p m : ℕ) (f : List ℕ) where
     of_nonterminal : {a : Item} (q : ℕ) (node : PlanNode) → q < length (plan_of G r) → plan_node (plan_of G r) q ≡ node → In a (nonterminal_at H (rule_of G r) r p m f s m₂ L q node)
         → BinaryRule G H (active r p m f) (passive s m₂ L) a
     unfolding nonterminal_at
-    of_nonterminal q leaf l e k = absurd (in-nil k)
+    of_nonterminal q leaf l e k = absurd (in_nil k)
     of_nonterminal q (introduce c i) l e k =
         let a = of_guard (eqb c p && eqb s (edge_of G r i).label) k in
         let t = of_and (eqb c p) _ a.0 in
         of_combine H (rule_of G r) r q m m₂ f (map_for G r i L) (BinaryRule G H (active r p m f) (passive s m₂ L))
         (λ m' h j. subst₂ (λ (z y : ℕ). BinaryRule G H (active r z m f) (passive y m₂ L) (active r q m' h)) (eqb→eq c p t.0) (sym (eqb→eq s _ t.1)) (nonterminal_rule r q c i m m₂ m' f L h l e j))
         a.1
-    of_nonterminal q (join a b) l e k = absurd (in-nil k)
+    of_nonterminal q (join a b) l e k = absurd (in_nil k)
 
   module _ (p₂ m₂ : ℕ) (g : List ℕ) where
     abbrev join_as : ℕ → List Item
@@ -302,8 +302,8 @@ module _ (G : Grammar) (H : Graph) (r p m : ℕ) (f : List ℕ) where
     of_join : {a : Item} (q : ℕ) (node : PlanNode) → q < length (plan_of G r) → plan_node (plan_of G r) q ≡ node → In a (join_at H (rule_of G r) r p m f p₂ m₂ g q node)
         → BinaryRule G H (active r p m f) (active r p₂ m₂ g) a
     unfolding join_at
-    of_join q leaf l e k = absurd (in-nil k)
-    of_join q (introduce c i) l e k = absurd (in-nil k)
+    of_join q leaf l e k = absurd (in_nil k)
+    of_join q (introduce c i) l e k = absurd (in_nil k)
     of_join q (join a b) l e k =
         let u = of_guard (eqb a p && eqb b p₂) k in
         let t = of_and (eqb a p) _ u.0 in
@@ -330,4 +330,4 @@ module _ (G : Grammar) (H : Graph) where
       let t = of_guard (eqb r r') k in
       let u = of_to (length (plan_of G r)) (join_as G H r p m f p₂ m₂ g) t.1 in
       subst (λ (z : ℕ). BinaryRule G H (active r p m f) (active z p₂ m₂ g) i) (eqb→eq r r' t.0) (of_join G H r p m f p₂ m₂ g u.0 (plan_node (plan_of G r) u.0) u.1 refl u.2)
-  in_binary (passive s m L) b k = absurd (in-nil k)
+  in_binary (passive s m L) b k = absurd (in_nil k)

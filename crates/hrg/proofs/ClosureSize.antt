@@ -2,7 +2,7 @@
 use mathlib.Core.Path.{◌≡◌, refl, sym, ap, subst}
 use mathlib.Core.List.Memᴰ.{append_left as in_left}
 use mathlib.Core.List.Memᴰ.{cast as in_cast}
-use mathlib.Core.List.Memᴰ.{not-nil as in-nil}
+use mathlib.Core.List.Memᴰ.{not-nil as in_nil}
 use mathlib.Core.List.{List, [], ◌∷◌, ◌++◌, map-append, Memᴰ as In}
 use Prim.Native.Nat.{ℕ, ◌+◌, ◌≤◌, min}
 use native.Mathlib.Omega.{arith}
@@ -45,7 +45,7 @@ module _ {Item : Type 0} {S : System Item} where
   run_idle : {j : ℕ} (k : ℕ) {s t : State Item} → s.waiting ≡ [] → Run S j s t → Run S k s t
   run_idle k e stop = idle e
   run_idle k e (idle d) = idle d
-  run_idle k e (step z r) = absurd (in-nil (subst (λ (l : List (Entry Item)). In z.chosen l) e z.waits))
+  run_idle k e (step z r) = absurd (in_nil (subst (λ (l : List (Entry Item)). In z.chosen l) e z.waits))
 
   -- two runs in turn are one run
   pub run_append : {k j : ℕ} {s t u : State Item} → Run S k s t → Run S j t u → Run S (k + j) s u

@@ -7,7 +7,7 @@ use native.Mathlib.Nat.{not-suc-le-zero}
 use native.Mathlib.Omega.{arith}
 use lib.ListN.{length, get_or}
 use Rattle.masks.specs.Masks.{bit, single}
-use Rattle.masks.specs.Laws.{bit_empty, mask_ext}
+use Rattle.masks.proofs.Laws.{bit_empty, mask_ext}
 use Rattle.hrg.specs.Counts.{hit, occurs, tabulate}
 use Rattle.hrg.specs.Grammars.{Edge, Graph, PlanNode, leaf, introduce, join, Rule, Grammar, cost, rule_of, lhs_of, right_of, plan_of, plan_node, edge_at}
 use Rattle.hrg.specs.Trees.{unplaced, at, images, Tree, apply, Parts, end, edge, tree, edges_of, edges_in, internals, inner_of, inner_in, applications, applications_in, FitsRule, Fits, FitsParts}
@@ -43,15 +43,15 @@ module _ (G : Grammar) (H : Graph) where
   unfolding attach
   edge_shows P i place =
       let att = (edge_at P.edges i).attachment in
-      let at-it : (x : ℕ) → x < P.nodes → at (tabulate P.nodes (λ x. node_for x att (images place att))) x ≡ node_for x att (images place att)
+      let at_it : (x : ℕ) → x < P.nodes → at (tabulate P.nodes (λ x. node_for x att (images place att))) x ≡ node_for x att (images place att)
       = at_tabulate P.nodes (λ x. node_for x att (images place att)) in
       record {
         long = length_tabulate P.nodes (λ x. node_for x att (images place att));
-        off = λ x l z. at-it x l ∙ node_out x att (images place att) (omega (arith, tentacles_one P i x));
-        open_shown = λ x l u v. at-it x l ∙ node_image x att place (omega (arith, tentacles_one P i x));
+        off = λ x l z. at_it x l ∙ node_out x att (images place att) (omega (arith, tentacles_one P i x));
+        open_shown = λ x l u v. at_it x l ∙ node_image x att place (omega (arith, tentacles_one P i x));
         any = λ x l q. zero_or (occurs x att)
-            (λ z. absurd (omega (arith, at-it x l, node_out x att (images place att) z)))
-            (λ z. at-it x l ∙ node_image x att place z);
+            (λ z. absurd (omega (arith, at_it x l, node_out x att (images place att) z)))
+            (λ z. at_it x l ∙ node_image x att place z);
       }
 
 module _ (G : Grammar) (H : Graph) (ok : GrammarOk G) (hok : GraphOk G H) (r : ℕ) (known : r < length G.rules) where
@@ -166,17 +166,17 @@ module _ (G : Grammar) (H : Graph) (ok : GrammarOk G) (hok : GraphOk G H) (r : �
           let R = rule_of G r in
           let rok = ok.rule r known in
           let lower = join_lower _ R.plan rok.plan p a b q in
-          let in-a : a < length R.plan = omega (arith, lower.0) in
+          let in_a : a < length R.plan = omega (arith, lower.0) in
           let in_b : b < length R.plan = omega (arith, lower.1) in
           let split = below_join _ R.plan rok.plan p a b q in
           let pieces = cut_at R p h (below R.plan a) (below R.plan b) split (λ j o. below_known _ R.plan rok.plan p j (subst (λ (x : List ℕ). 0 < occurs j x) (sym split) o)) in
           let cut = pieces.cut in
           subst (λ (z : ℕ). Reachable (closure G H) (active r p m f) z) (sym cut.count ∙ h.count)
           (by_binary
-          (ih a _ _ _ lower.0 (child_truth G H ok hok R rok p l a in-a h cut) (omega (arith, cut.sizes, ap size_in (child_parts G H ok hok R rok p l a in-a h cut))))
+          (ih a _ _ _ lower.0 (child_truth G H ok hok R rok p l a in_a h cut) (omega (arith, cut.sizes, ap size_in (child_parts G H ok hok R rok p l a in_a h cut))))
           (ih b _ _ _ lower.1 (child_truth G H ok hok R rok p l b in_b h (swap_cut cut)) (omega (arith, cut.sizes, ap size_in (child_parts G H ok hok R rok p l b in_b h (swap_cut cut)))))
           (join_rule r p a b (mask_of m pieces.a) (mask_of m pieces.b) m _ _ f l q
-          (cut_joins G H ok hok R rok p l h cut _ _ (child_shows G H ok hok R rok p l a in-a h cut) (child_shows G H ok hok R rok p l b in_b h (swap_cut cut)))))
+          (cut_joins G H ok hok R rok p l h cut _ _ (child_shows G H ok hok R rok p l a in_a h cut) (child_shows G H ok hok R rok p l b in_b h (swap_cut cut)))))
 
   -- a whole application is a true item at the root of the plan
   root_item : (p s m : ℕ) (L place : List ℕ) (ps : Parts) → suc p ≡ length (plan_of G r) → Fits G H s L (apply r place ps) → ((e : ℕ) → occurs e (edges_in ps) ≡ bit m e)

@@ -4,13 +4,13 @@
 use mathlib.Core.Path.{◌≡◌, refl, sym, ap, ◌∙◌, subst}
 use mathlib.Core.Bool.{Bool, true, false, ◌&&◌}
 use mathlib.Core.Logic.{◌⊎◌, inl, inr}
-use mathlib.Core.List.Memᴰ.{append_cases as in-append}
+use mathlib.Core.List.Memᴰ.{append_cases as in_append}
 use mathlib.Core.List.Memᴰ.{append_left as in_left}
 use mathlib.Core.List.Memᴰ.{append_right as in_right}
-use mathlib.Core.List.Memᴰ.{cases_cons as in-cons}
+use mathlib.Core.List.Memᴰ.{cases_cons as in_cons}
 use mathlib.Core.List.Memᴰ.{cast as in_cast}
 use mathlib.Core.List.Memᴰ.{head as here}
-use mathlib.Core.List.Memᴰ.{not-nil as in-nil}
+use mathlib.Core.List.Memᴰ.{not-nil as in_nil}
 use mathlib.Core.List.Memᴰ.{tail as there}
 use mathlib.Core.List.{List, [], ◌∷◌, ◌++◌, append-nil, Memᴰ as In}
 use Prim.Native.Nat.{ℕ, zero, suc, ◌+◌, ◌≤◌, ◌<◌}
@@ -19,7 +19,7 @@ use native.Mathlib.Omega.{arith}
 use lib.Dec.{T}
 use lib.ListN.{length, length-append}
 use Rattle.masks.specs.Masks.{bit, single, Apart as Disjoint, Subset, within}
-use Rattle.masks.specs.Laws.{nonempty, bit_high, bit_union, disjoint_sum, bit_single_self, holds_within}
+use Rattle.masks.proofs.Laws.{nonempty, bit_high, bit_union, disjoint_sum, bit_single_self, holds_within}
 use Rattle.hrg.specs.Counts.{flag, occurs}
 use Rattle.hrg.specs.Grammars.{Graph, Rule, Grammar, cost, right_of, plan_of}
 use Rattle.hrg.specs.Deduction.{System, Reachable, by_axiom, by_unary, by_binary}
@@ -43,17 +43,17 @@ Every {Item} P s = (e : Entry Item) → In e (s.handled ++ s.waiting) → P s.ha
 
 module _ {Item : Type 0} {S : System Item} {P : List (Entry Item) → Entry Item → Type 0} (k : Kept S P) where
   pub start_every : {s : State Item} → Start S s → Every P s
-  start_every {s} z e m = go (in-append s.handled m)
+  start_every {s} z e m = go (in_append s.handled m)
     where
       no_handled : (a : Entry Item) → In a s.handled → In a []
       no_handled a m = subst (λ (l : List (Entry Item)). In a l) z.handled m
 
       go : In e s.handled ⊎ In e s.waiting → P s.handled e
-      go (inl m) = absurd (in-nil (no_handled e m))
-      go (inr m) = k.grow (λ a n. absurd (in-nil n)) (k.make (λ a n. absurd (in-nil n)) (z.origin e m) (λ n. in-nil n))
+      go (inl m) = absurd (in_nil (no_handled e m))
+      go (inr m) = k.grow (λ a n. absurd (in_nil n)) (k.make (λ a n. absurd (in_nil n)) (z.origin e m) (λ n. in_nil n))
 
   pub step_every : {s t : State Item} → Step S s t → Every P s → Every P t
-  step_every {s} {t} z v e m = go (in-append t.handled m)
+  step_every {s} {t} z v e m = go (in_append t.handled m)
     where
       old : (a : Entry Item) → In a s.handled → In a t.handled
       old a m = subst (λ (l : List (Entry Item)). In a l) (sym z.handles) (there m)
@@ -63,7 +63,7 @@ module _ {Item : Type 0} {S : System Item} {P : List (Entry Item) → Entry Item
       present a (inr m) = in_left s.waiting m
 
       handled : (a : Entry Item) → In a t.handled → P t.handled a
-      handled a m = k.grow old (v a (present a (in-cons (subst (λ (l : List (Entry Item)). In a l) z.handles m))))
+      handled a m = k.grow old (v a (present a (in_cons (subst (λ (l : List (Entry Item)). In a l) z.handles m))))
 
       new : In e t.waiting → In e.item (items_of t.handled) → ⊥
       new m n = let o = of_items t.handled n in map_apart (λ (e : Entry Item). e.item) z.distinct o.1 m o.2
@@ -166,7 +166,7 @@ module _ (G : Grammar) (H : Graph) (ok : GrammarOk G) where
 
 -- ---- the passive items of a derivation
 in_both : {A : Type 0} (P : A → Type 0) (xs : List A) {ys : List A} → ((a : A) → In a xs → P a) → ((a : A) → In a ys → P a) → (a : A) → In a (xs ++ ys) → P a
-in_both P xs {ys} f g a m = go (in-append xs m)
+in_both P xs {ys} f g a m = go (in_append xs m)
   where
     go : In a xs ⊎ In a ys → P a
     go (inl n) = f a n
@@ -174,13 +174,13 @@ in_both P xs {ys} f g a m = go (in-append xs m)
 
 if_passive_lem : (i j : Item) → In j (if_passive i) → (j ≡ i) × (is_passive j ≡ true)
 unfolding is_passive
-if_passive_lem (active r p m f) j n = absurd (in-nil n)
+if_passive_lem (active r p m f) j n = absurd (in_nil n)
 if_passive_lem (passive s m L) j (here e) = (e, ap is_passive e)
-if_passive_lem (passive s m L) j (there n) = absurd (in-nil n)
+if_passive_lem (passive s m L) j (there n) = absurd (in_nil n)
 
 if_distinct : (i : Item) → Distinct (if_passive i)
 if_distinct (active r p m f) = none
-if_distinct (passive s m L) = more (λ n. in-nil n) none
+if_distinct (passive s m L) = more (λ n. in_nil n) none
 
 passives_passive : (d : Derivation Item) (j : Item) → In j (passives_of d) → is_passive j ≡ true
 unfolding passives_of
@@ -230,7 +230,7 @@ module _ (G : Grammar) (H : Graph) (ok : GrammarOk G) where
   pub uses_made : {hs : List (Entry Item)} {e : Entry Item} → ((a : Entry Item) → In a hs → Uses (closure G H) hs a) → Made (closure G H) hs e → (In e.item (items_of hs) → ⊥)
       → Uses (closure G H) hs e
   unfolding conclusion passives_of
-  uses_made v (axiom_made {i = i} x) new = uses_below [] (by_axiom x) refl (sym (append-nil (if_passive i))) none (λ j m. absurd (in-nil m)) (λ j m. absurd (in-nil m)) new
+  uses_made v (axiom_made {i = i} x) new = uses_below [] (by_axiom x) refl (sym (append-nil (if_passive i))) none (λ j m. absurd (in_nil m)) (λ j m. absurd (in_nil m)) new
   uses_made v (unary_made {a = a} m u) new =
       let w = v a m in
       uses_below (passives_of a.how) (by_unary w.reached u) refl refl w.once (λ j n. subset_trans (w.inside j n) (unary_edges u)) (uses_handled m w) new
@@ -317,9 +317,9 @@ within_le m (e ∷ es) = go (is_passive e.item && within (edges_of_item e.item) 
 
 in_within : (m : ℕ) (es : List (Entry Item)) (j : Item) → is_passive j ≡ true → Subset (edges_of_item j) m → In j (items_of es) → In j (list_within m es)
 unfolding list_within
-in_within m [] j p w n = absurd (in-nil n)
+in_within m [] j p w n = absurd (in_nil n)
 in_within m (e ∷ es) j p w n =
-    go (is_passive e.item && within (edges_of_item e.item) m) (λ q. subst (λ (i : Item). T (is_passive i && within (edges_of_item i) m)) q passes) (in_within m es j p w) (in-cons n)
+    go (is_passive e.item && within (edges_of_item e.item) m) (λ q. subst (λ (i : Item). T (is_passive i && within (edges_of_item i) m)) q passes) (in_within m es j p w) (in_cons n)
   where
     passes : T (is_passive j && within (edges_of_item j) m)
     passes = rw p (holds_within (edges_of_item j) m w)

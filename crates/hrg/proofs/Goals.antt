@@ -4,7 +4,7 @@ use Prim.Native.Nat.{ℕ, zero, suc, ◌+◌, ◌-◌, ◌≤◌, ◌<◌}
 use native.Mathlib.Omega.{arith}
 use lib.ListN.{length}
 use Rattle.masks.specs.Masks.{bit, full}
-use Rattle.masks.specs.Laws.{bit_full_in, bit_full_out}
+use Rattle.masks.proofs.Laws.{bit_full_in, bit_full_out}
 use Rattle.hrg.specs.Counts.{occurs}
 use Rattle.hrg.specs.Grammars.{Graph, Grammar}
 use Rattle.hrg.specs.Trees.{Tree, edges_of, inner_of, applications, Generates}
@@ -48,7 +48,7 @@ module _ (G : Grammar) (H : Graph) (ok : GrammarOk G) (hok : GraphOk G H) where
   truth_tree n t =
       record {
         fits = t.fits;
-        apart = record { edges = λ e. omega (arith, t.edges e, Rattle.masks.specs.Laws.bit_le (full (length H.edges)) e); nodes = t.once };
+        apart = record { edges = λ e. omega (arith, t.edges e, Rattle.masks.proofs.Laws.bit_le (full (length H.edges)) e); nodes = t.once };
         edges = λ e l. omega (arith, t.edges e, bit_full_in (length H.edges) e l);
         nodes = λ v l.
             let c = hok.side.covered v l in

@@ -7,7 +7,7 @@ use Prim.Native.Nat.{ℕ, zero, suc, ◌+◌, ◌≤◌, ◌<◌}
 use native.Mathlib.Omega.{arith}
 use lib.ListN.{length, get_or}
 use Rattle.masks.specs.Masks.{bit, ◌∪◌}
-use Rattle.masks.specs.Laws.{bit_union, bit_le}
+use Rattle.masks.proofs.Laws.{bit_union, bit_le}
 use Rattle.hrg.specs.Counts.{hit, occurs, tabulate}
 use Rattle.hrg.specs.Grammars.{Edge, Graph, Rule, Grammar, edge_at}
 use Rattle.hrg.specs.Trees.{unplaced, at, images, Parts, edges_in, inner_in, applications_in, FitsParts}

@@ -1,14 +1,14 @@
 -- Members of lists, lists without repetition, and the pigeonhole principle on them.
 use mathlib.Core.Path.{◌≡◌, refl, sym, ap, ◌∙◌, subst}
 use mathlib.Core.Logic.{◌⊎◌, inl, inr}
-use mathlib.Core.List.Memᴰ.{append_cases as in-append}
+use mathlib.Core.List.Memᴰ.{append_cases as in_append}
 use mathlib.Core.List.Memᴰ.{append_left as in_left}
 use mathlib.Core.List.Memᴰ.{append_right as in_right}
-use mathlib.Core.List.Memᴰ.{cases_cons as in-cons}
+use mathlib.Core.List.Memᴰ.{cases_cons as in_cons}
 use mathlib.Core.List.Memᴰ.{cast as in_cast}
 use mathlib.Core.List.Memᴰ.{head as here}
 use mathlib.Core.List.Memᴰ.{map as in_map}
-use mathlib.Core.List.Memᴰ.{not-nil as in-nil}
+use mathlib.Core.List.Memᴰ.{not-nil as in_nil}
 use mathlib.Core.List.Memᴰ.{of_map}
 use mathlib.Core.List.Memᴰ.{tail as there}
 use mathlib.Core.List.{List, [], ◌∷◌, ◌++◌, map, flat_map, Memᴰ as In}
@@ -70,7 +70,7 @@ module _ {A : Type 0} where
 
   pub distinct_append : (xs : List A) {ys : List A} → Distinct xs → Distinct ys → ((i : A) → In i xs → In i ys → ⊥) → Distinct (xs ++ ys)
   distinct_append [] c d f = d
-  distinct_append (x ∷ xs) {ys} c d f = more (λ m. go (in-append xs m)) (distinct_append xs (distinct_tail c) d (λ i m. f i (there m)))
+  distinct_append (x ∷ xs) {ys} c d f = more (λ m. go (in_append xs m)) (distinct_append xs (distinct_tail c) d (λ i m. f i (there m)))
     where
       go : In x xs ⊎ In x ys → ⊥
       go (inl m) = distinct_head c m
@@ -108,7 +108,7 @@ module _ {A B : Type 0} (f : A → B) where
 
   pub removed_gone : {a : A} {ys zs : List A} → Removed a ys zs → Distinct (map f ys) → In (f a) (map f zs) → ⊥
   removed_gone (first e) d m = distinct_head d (in_cast (ap f (sym e)) m)
-  removed_gone {a} (later {y = y} {zs = zs} r) d m = go (λ n. removed_gone r (distinct_tail d) n) (in-cons m)
+  removed_gone {a} (later {y = y} {zs = zs} r) d m = go (λ n. removed_gone r (distinct_tail d) n) (in_cons m)
     where
       go : (In (f a) (map f zs) → ⊥) → (f a ≡ f y) ⊎ In (f a) (map f zs) → ⊥
       go rest (inl e) = distinct_head d (in_cast (sym e) (in_map f (removed_in r)))
@@ -122,8 +122,8 @@ module _ {A B : Type 0} (f : A → List B) where
 
   pub of_flat : {b : B} (xs : List A) → In b (flat_map f xs) → (a : A) × In a xs × In b (f a)
   unfolding flat_map
-  of_flat [] m = absurd (in-nil m)
-  of_flat {b} (x ∷ xs) m = go (λ n. of_flat xs n) (in-append (f x) m)
+  of_flat [] m = absurd (in_nil m)
+  of_flat {b} (x ∷ xs) m = go (λ n. of_flat xs n) (in_append (f x) m)
     where
       go : (In b (flat_map f xs) → (a : A) × In a xs × In b (f a)) → In b (f x) ⊎ In b (flat_map f xs) → (a : A) × In a (x ∷ xs) × In b (f a)
       go rest (inl m) = (x, here refl, m)

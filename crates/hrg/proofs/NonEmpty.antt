@@ -6,7 +6,7 @@ use native.Mathlib.Nat.{not-suc-le-zero}
 use native.Mathlib.Omega.{arith}
 use lib.ListN.{length, length-append, length-map}
 use Rattle.masks.specs.Masks.{bit}
-use Rattle.masks.specs.Laws.{bit_empty}
+use Rattle.masks.proofs.Laws.{bit_empty}
 use Rattle.hrg.specs.Counts.{occurs}
 use Rattle.hrg.specs.Grammars.{Graph, PlanNode, leaf, introduce, join, Grammar, rule_of, plan_of, plan_node, edge_at, right_of}
 use Rattle.hrg.specs.Items.{below, active, passive}

@@ -2,7 +2,7 @@
 -- ask.
 use mathlib.Core.Path.{◌≡◌, refl, sym, ap, ◌∙◌, subst}
 use mathlib.Core.Logic.{◌⊎◌, inl, inr}
-use mathlib.Core.List.Memᴰ.{append_cases as in-cases}
+use mathlib.Core.List.Memᴰ.{append_cases as in_cases}
 use mathlib.Core.List.Memᴰ.{append_left as in_left}
 use mathlib.Core.List.Memᴰ.{append_right as in_right}
 use mathlib.Core.List.Memᴰ.{eq_of_singleton as in_one}
@@ -57,7 +57,7 @@ module _ (G : Grammar) (ok : GrammarOk G) where
           once = nodes_once;
           external_once = λ v. omega (arith, ap (occurs v) r.externals, k.external_once v);
           externals = λ v h. omega (arith, grown G ok r v, k.externals v (omega (arith, ap (occurs v) r.externals)));
-          edge = λ e i. go e i (in-cases r.before (subst (λ (es : List Edge). In e es) r.edges i));
+          edge = λ e i. go e i (in_cases r.before (subst (λ (es : List Edge). In e es) r.edges i));
         }
       where
         kept : (e : Edge) → In e (r.before ++ (r.replaced ∷ r.after)) → ProperEdge G K'.nodes e
@@ -79,7 +79,7 @@ module _ (G : Grammar) (ok : GrammarOk G) where
 
         go : (e : Edge) → In e K'.edges → In e r.before ⊎ In e (map (renamed (λ x. at a.place x)) (right_of G a.rule).edges ++ r.after) → ProperEdge G K'.nodes e
         go e i (inl j) = kept e (in_left (r.replaced ∷ r.after) j)
-        go e i (inr j) = last e i (in-cases (map (renamed (λ x. at a.place x)) (right_of G a.rule).edges) j)
+        go e i (inr j) = last e i (in_cases (map (renamed (λ x. at a.place x)) (right_of G a.rule).edges) j)
 
   pub derived_proper : {K K' : Hypergraph} {applied : List Application} → Derives G K applied K' → Proper G K → Proper G K'
   derived_proper none k = k

@@ -12,7 +12,7 @@ use native.Mathlib.Decide.{dec_lt}
 use native.Mathlib.Omega.{arith}
 use lib.ListN.{length, get_or-eq_default}
 use Rattle.masks.specs.Masks.{bit}
-use Rattle.masks.specs.Laws.{bits_lt}
+use Rattle.masks.proofs.Laws.{bits_lt}
 use Rattle.hrg.specs.Counts.{occurs, tabulate}
 use Rattle.hrg.specs.Grammars.{Graph, Grammar, rule_of, lhs_of, right_of, plan_of}
 use Rattle.hrg.specs.Trees.{unplaced, at, images, Tree, apply, edges_of, edges_in, Fits}
@@ -92,7 +92,7 @@ module _ (G : Grammar) (H : Graph) (good : GrammarOk G) (ok : GraphOk G H) where
   passive_in : (t : Tree) (s m : ℕ) (L : List ℕ) → Fits G H s L t → m < 2 ^ length H.edges → In (passive s m L) (range G H)
   unfolding range passive_range
   passive_in (apply r place ps) s m L w h =
-      let s-is : lhs_of G r ≡ s = w.0.lhs in
+      let s_is : lhs_of G r ≡ s = w.0.lhs in
       let L-is : images place (right_of G r).externals ≡ L = w.0.externals in
       in_to (length G.rules) _ r w.0.known (in_right (active_range G H r) (in_to (2 ^ length H.edges) _ m h (in_cast (cc)
       (in_map (λ (L : List ℕ). passive (lhs_of G r) m L)

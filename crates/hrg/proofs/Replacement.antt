@@ -11,7 +11,7 @@ use native.Mathlib.Nat.{not-suc-le-zero, le_of_suc-le-suc}
 use native.Mathlib.Omega.{arith}
 use lib.ListN.{length}
 use Rattle.masks.specs.Masks.{bit, member}
-use Rattle.masks.specs.Laws.{bit_le}
+use Rattle.masks.proofs.Laws.{bit_le}
 use Rattle.hrg.specs.Counts.{occurs, tabulate, up_to, select, Reordered}
 use Rattle.hrg.specs.Grammars.{Kind, terminal, nonterminal, Edge, Graph, Grammar, kind_of, edge_at}
 use Rattle.hrg.specs.Trees.{at, images, Tree, Parts, end, edge, tree, edges_of, edges_in, inner_of, inner_in, applications, applications_in, Fits, FitsParts, Generates}

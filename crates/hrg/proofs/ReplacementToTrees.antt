@@ -2,7 +2,7 @@
 -- with.
 use mathlib.Core.Path.{◌≡◌, refl, sym, ap, ap₂, ◌∙◌, subst}
 use mathlib.Core.Logic.{◌⊎◌, inl, inr}
-use mathlib.Core.List.Memᴰ.{append_cases as in-cases}
+use mathlib.Core.List.Memᴰ.{append_cases as in_cases}
 use mathlib.Core.List.Memᴰ.{append_left as in_left}
 use mathlib.Core.List.Memᴰ.{append_right as in_right}
 use mathlib.Core.List.Memᴰ.{head as here}
@@ -138,7 +138,7 @@ module _ (G : Grammar) (ok : GrammarOk G) where
         (λ h. omega (arith, grown G ok r v, old r.replaced (in_right r.before (here refl)) v (subst (λ (l : List ℕ). 0 < occurs v l) r.identified (images_pos a.place P.externals x h))))
 
     pub attached_step : Attached K'
-    attached_step e i v h = go (in-cases r.before (subst (λ (es : List Edge). In e es) r.edges i))
+    attached_step e i v h = go (in_cases r.before (subst (λ (es : List Edge). In e es) r.edges i))
       where
         last : In e (map (renamed (λ x. at a.place x)) (right_of G a.rule).edges) ⊎ In e r.after → 0 < occurs v K'.nodes
         last (inl j) =
@@ -151,7 +151,7 @@ module _ (G : Grammar) (ok : GrammarOk G) where
 
         go : In e r.before ⊎ In e (map (renamed (λ x. at a.place x)) (right_of G a.rule).edges ++ r.after) → 0 < occurs v K'.nodes
         go (inl j) = omega (arith, grown G ok r v, old e (in_left (r.replaced ∷ r.after) j) v h)
-        go (inr j) = last (in-cases (map (renamed (λ x. at a.place x)) (right_of G a.rule).edges) j)
+        go (inr j) = last (in_cases (map (renamed (λ x. at a.place x)) (right_of G a.rule).edges) j)
 
   -- nodes are never lost
   pub nodes_stay : {K K' : Hypergraph} {applied : List Application} → Derives G K applied K' → (v : ℕ) → occurs v K.nodes ≤ occurs v K'.nodes

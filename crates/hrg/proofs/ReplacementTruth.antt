@@ -9,7 +9,7 @@ use native.Mathlib.Omega.{arith}
 use lib.ListN.{length}
 use lib.Dec.{ltb, ltb→lt, lt→ltb}
 use Rattle.masks.specs.Masks.{member}
-use Rattle.masks.specs.Laws.{bit_le}
+use Rattle.masks.proofs.Laws.{bit_le}
 use Rattle.hrg.specs.Counts.{hit, occurs, tabulate, up_to, cons_if, select}
 use Rattle.hrg.specs.Grammars.{nonterminal, Edge, Graph, touches, Rule, Grammar, rule_of, kind_of, edge_at}
 use Rattle.hrg.specs.Trees.{unplaced, at, images, Tree, apply, Parts, edges_of, edges_in, inner_in, Fits, FitsParts}

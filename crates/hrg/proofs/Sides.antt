@@ -8,7 +8,7 @@ use native.Mathlib.Omega.{arith}
 use lib.ListN.{length, get_or}
 use lib.Dec.{T, eqb, ltb, ltb→lt, eqb→eq, eqb_refl}
 use Rattle.masks.specs.Masks.{bit, member}
-use Rattle.masks.specs.Laws.{bit_le, member_true, member_false}
+use Rattle.masks.proofs.Laws.{bit_le, member_true, member_false}
 use Rattle.hrg.specs.Counts.{flag, hit, occurs, tabulate}
 use Rattle.hrg.specs.Grammars.{Edge, Graph, Rule, Grammar, edge_at}
 use Rattle.hrg.specs.Trees.{unplaced, at, images, Parts, edges_in, inner_in, applications_in, FitsParts}

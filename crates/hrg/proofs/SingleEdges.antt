@@ -8,7 +8,7 @@ use native.Mathlib.Omega.{arith}
 use lib.ListN.{length, get_or, length-map}
 use lib.Dec.{T, eqb, eqb→eq, eqb_refl}
 use Rattle.masks.specs.Masks.{bit, single}
-use Rattle.masks.specs.Laws.{bit_single_self, bit_single_other}
+use Rattle.masks.proofs.Laws.{bit_single_self, bit_single_other}
 use Rattle.hrg.specs.Counts.{flag, hit, occurs, tabulate}
 use Rattle.hrg.specs.Grammars.{Edge, Graph, Rule, Grammar, edge_at, rank_of, rule_of, right_of}
 use Rattle.hrg.specs.Trees.{unplaced, at, images, Tree, apply, Parts, end, edge, tree, edges_of, edges_in, inner_of, inner_in, applications, applications_in, FitsEdge, Fits, FitsParts}

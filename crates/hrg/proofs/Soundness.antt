@@ -8,7 +8,7 @@ use native.Mathlib.Omega.{arith}
 use lib.ListN.{length, get_or}
 use lib.Seq.{ext_get_or}
 use Rattle.masks.specs.Masks.{bit, single}
-use Rattle.masks.specs.Laws.{bit_empty}
+use Rattle.masks.proofs.Laws.{bit_empty}
 use Rattle.hrg.specs.Counts.{hit, occurs, tabulate, up_to, Reordered}
 use Rattle.hrg.specs.Grammars.{Edge, Graph, PlanNode, leaf, introduce, join, Rule, Grammar, cost, rule_of, lhs_of, right_of, plan_of, plan_node, edge_at, no_edge}
 use Rattle.hrg.specs.Trees.{unplaced, at, images, Tree, apply, Parts, end, edge, tree, edges_of, edges_in, internals, inner_of, inner_in, applications, applications_in, FitsEdge, Fits, FitsParts}

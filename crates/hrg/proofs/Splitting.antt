@@ -8,7 +8,7 @@ use native.Mathlib.Omega.{arith}
 use lib.ListN.{length, get_or}
 use lib.Dec.{eqb}
 use Rattle.masks.specs.Masks.{bit, ◌∪◌, of_bits}
-use Rattle.masks.specs.Laws.{bit_le, bit_high, bit_of_bits, sum_disjoint, union_of}
+use Rattle.masks.proofs.Laws.{bit_le, bit_high, bit_of_bits, sum_disjoint, union_of}
 use Rattle.hrg.specs.Counts.{hit, occurs, tabulate}
 use Rattle.hrg.specs.Grammars.{Edge, Graph, Rule, Grammar, edge_at}
 use Rattle.hrg.specs.Trees.{unplaced, at, images, Parts, edges_in, inner_in, applications_in, FitsParts}

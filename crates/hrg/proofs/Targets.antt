@@ -10,7 +10,7 @@ use native.Mathlib.Omega.{arith}
 use lib.ListN.{length}
 use lib.Dec.{ltb, ltb→lt, lt→ltb}
 use Rattle.masks.specs.Masks.{bit, member}
-use Rattle.masks.specs.Laws.{bit_le, lt_bits, member_true, true_member}
+use Rattle.masks.proofs.Laws.{bit_le, lt_bits, member_true, true_member}
 use Rattle.hrg.specs.Counts.{occurs, up_to, select, Reordered, none, keep, swap, trans}
 use Rattle.hrg.specs.Grammars.{Edge, Graph, touches, edge_at}
 use Rattle.hrg.specs.Replacement.{Hypergraph, hypergraph_of, subgraph}

@@ -80,12 +80,12 @@ module _ (G : Grammar) where
       parts_derive end place (e ∷ es) ns xs before after x new = absurd x
       parts_derive (edge g ps) place [] ns xs before after x new = absurd x
       parts_derive (edge g ps) place (e ∷ es) ns xs before after x new =
-          let g-edge = edge_at H.edges g in
+          let g_edge = edge_at H.edges g in
           subst₂ (λ (K K' : Hypergraph). Derives G K (preorder_in ps) K')
-          (moved before (g-edge ∷ []) (map (renamed (λ x. at place x)) es ++ after) ns xs
+          (moved before (g_edge ∷ []) (map (renamed (λ x. at place x)) es ++ after) ns xs
           ∙ ap (λ (f : Edge). graph_of ns xs (before ++ (f ∷ (map (renamed (λ x. at place x)) es ++ after)))) (sym (edge_same place e g x.0)))
-          (moved before (g-edge ∷ []) (edges_at H (edges_in ps) ++ after) (ns ++ inner_in G ps) xs)
-          (parts_derive ps place es ns xs (before ++ (g-edge ∷ [])) after x.1 new)
+          (moved before (g_edge ∷ []) (edges_at H (edges_in ps) ++ after) (ns ++ inner_in G ps) xs)
+          (parts_derive ps place es ns xs (before ++ (g_edge ∷ [])) after x.1 new)
       parts_derive (tree t ps) place [] ns xs before after x new = absurd x
       parts_derive (tree t ps) place (e ∷ es) ns xs before after x new =
           let mid = edges_at H (edges_of t) in

@@ -12,7 +12,7 @@ use lib.Bits.{bit_and}
 use lib.Dec.{eqb, leb, ltb}
 use borrow.Author.Tests.{lt-ltb, ltb-true, leb-true, lt-leb, eq-eqb, ne_eqb, eqb-true, not-true, not-false}
 use Rattle.masks.specs.Masks.{bit, member, ◌∪◌, disjoint, within, Subset}
-use Rattle.masks.specs.Laws.{bit_le, member_true, member_false, true_member, lt_bits, within_holds, holds_within}
+use Rattle.masks.proofs.Laws.{bit_le, member_true, member_false, true_member, lt_bits, within_holds, holds_within}
 use Rattle.hrg.specs.Counts.{hit, occurs, tabulate}
 use Rattle.hrg.specs.Grammars.{Graph, Rule, touches, rule_of, edge_at}
 use Rattle.hrg.specs.Trees.{unplaced, at, padded}

@@ -12,7 +12,7 @@ use lib.Pow.{shr-shr}
 use lib.Dec.{eqb, ltb}
 use borrow.Author.Tests.{eq-eqb, ne_eqb, eqb-true, eqb-false, lt-ltb, le-ltb}
 use Rattle.masks.specs.Masks.{bit, member, ◌∪◌, Found, Added}
-use Rattle.masks.specs.Laws.{member_union}
+use Rattle.masks.proofs.Laws.{member_union}
 use Rattle.hrg.specs.Counts.{occurs, tabulate}
 use Rattle.hrg.specs.Grammars.{Edge, no_edge, touches, edge_at}
 use Rattle.hrg.specs.Items.{is_boundary, is_open}

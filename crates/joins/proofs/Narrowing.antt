@@ -69,18 +69,18 @@ kept_into : (n : ℕ) (t : Bool) (v : ℕ) → (v ≡ unplaced) ⊎ (v < n) → 
 kept_into n true v p = p
 kept_into n false v p = inl refl
 
-module _ (n nodes : ℕ) (f k : List ℕ) (few : n ≤ 8) (small : nodes ≤ 64) (f-bare : BareFrom n f) (k-bare : BareFrom n k) (f-into : Into nodes f) (k-into : Into nodes k) where
+module _ (n nodes : ℕ) (f k : List ℕ) (few : n ≤ 8) (small : nodes ≤ 64) (f_bare : BareFrom n f) (k_bare : BareFrom n k) (f_into : Into nodes f) (k_into : Into nodes k) where
   abbrev image_at : ℕ → ℕ
   image_at x = or_else (at f x) (at k x)
 
   image_into : (x : ℕ) → (image_at x ≡ unplaced) ⊎ (image_at x < nodes)
-  image_into x = either_into nodes (eqb (at f x) unplaced) (at f x) (at k x) (f-into x) (k-into x)
+  image_into x = either_into nodes (eqb (at f x) unplaced) (at f x) (at k x) (f_into x) (k_into x)
 
   image_plain : (x : ℕ) → image_at x ≤ unplaced
   image_plain x = ⊎_elim (λ e. omega arith) (λ l. omega arith) (image_into x)
 
   image_bare : (x : ℕ) → n ≤ x → image_at x ≡ unplaced
-  image_bare x l = ap₂ or_else (f-bare.past x l) (k-bare.past x l)
+  image_bare x l = ap₂ or_else (f_bare.past x l) (k_bare.past x l)
 
   -- ---- the tests
   pub agree_few : agree 8 f k ≡ agree n f k
@@ -92,7 +92,7 @@ module _ (n nodes : ℕ) (f k : List ℕ) (few : n ≤ 8) (small : nodes ≤ 64)
     where
       go : (x : ℕ) → Dec (x < n) → every n (agree_at f k) ≡ true → agree_at f k x ≡ true
       go x (yes d) p = every_out n (agree_at f k) p x d
-      go x (no d) p = ap (λ b. b || leb unplaced (at k x) || eqb (at f x) (at k x)) (le-leb unplaced (at f x) (omega (arith, f-bare.past x (omega arith))))
+      go x (no d) p = ap (λ b. b || leb unplaced (at k x) || eqb (at f x) (at k x)) (le-leb unplaced (at f x) (omega (arith, f_bare.past x (omega arith))))
 
   pub once_few : one_to_one 64 (joined 8 f k) ≡ one_to_one nodes (joined n f k)
   unfolding one_to_one joined

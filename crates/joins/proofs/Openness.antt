@@ -13,7 +13,7 @@ use lib.Pow.{shr-shr}
 use lib.Dec.{eqb, ltb}
 use borrow.Author.Tests.{eq-eqb, ne_eqb, eqb-true, eqb-false, lt-ltb, ltb-true, not-true}
 use Rattle.masks.specs.Masks.{bit, member, ◌∪◌, single, Found}
-use Rattle.masks.specs.Laws.{member_true, true_member, member_false, false_member, nonempty, lt_bits, member_union, member_single}
+use Rattle.masks.proofs.Laws.{member_true, true_member, member_false, false_member, nonempty, lt_bits, member_union, member_single}
 use Rattle.hrg.specs.Counts.{occurs, tabulate}
 use Rattle.hrg.specs.Grammars.{touches}
 use Rattle.hrg.specs.Items.{is_boundary, is_open}

@@ -10,7 +10,7 @@ use lib.Seq.{get_or-set_same, get_or-set_other}
 use lib.Dec.{eqb, ltb}
 use borrow.Author.Tests.{lt-ltb, ne_eqb}
 use Rattle.masks.specs.Masks.{member, single, Added, United}
-use Rattle.masks.specs.Laws.{member_union, member_single, false_member, bit_empty}
+use Rattle.masks.proofs.Laws.{member_union, member_single, false_member, bit_empty}
 use Rattle.hrg.specs.Counts.{hit, occurs}
 use Rattle.hrg.specs.Grammars.{PlanNode, leaf, introduce, join, plan_of, plan_node}
 use Rattle.hrg.specs.Items.{below}

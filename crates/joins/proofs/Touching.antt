@@ -9,7 +9,7 @@ use lib.ListN.{length}
 use lib.Bits.{bit_or, bit_and, and_shr, and_step}
 use lib.Dec.{eqb, ltb}
 use Rattle.masks.specs.Masks.{bit, member, ◌∪◌, Added}
-use Rattle.masks.specs.Laws.{member_union, member_true, member_false, true_member, false_member}
+use Rattle.masks.proofs.Laws.{member_union, member_true, member_false, true_member, false_member}
 use Rattle.hrg.specs.Counts.{hit, occurs, tabulate}
 use Rattle.hrg.specs.Grammars.{Edge, Graph, Rule, touches, rule_of, edge_at}
 use Rattle.hrg.specs.Items.{below, is_boundary, is_open_at}

@@ -9,7 +9,7 @@ use lib.ListN.{length, get_or}
 use lib.Dec.{eqb, ltb}
 use borrow.Author.Tests.{eq-eqb, ne_eqb, eqb-true, eqb-false, lt-ltb, le-ltb}
 use Rattle.masks.specs.Masks.{bit, single}
-use Rattle.masks.specs.Laws.{bit_single_other}
+use Rattle.masks.proofs.Laws.{bit_single_other}
 use Rattle.hrg.specs.Grammars.{Rule}
 use Rattle.hrg.specs.Trees.{at}
 use Rattle.hrg.specs.Items.{is_open_at}

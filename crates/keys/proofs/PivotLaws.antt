@@ -9,7 +9,7 @@ use lib.Seq.{get_or-take}
 use lib.Dec.{eqb}
 use borrow.Author.Tests.{eqb-true, eqb-false}
 use Rattle.masks.specs.Masks.{bit}
-use Rattle.masks.specs.Laws.{member_true}
+use Rattle.masks.proofs.Laws.{member_true}
 use Rattle.hrg.specs.Grammars.{Graph, Grammar, introduce, join, rule_of, rank_of, right_of, plan_of, plan_node, edge_at}
 use Rattle.hrg.specs.Trees.{at}
 use Rattle.hrg.specs.Items.{active, passive, is_open_at, attach}

@@ -4,8 +4,8 @@ use mathlib.Core.List.{[], ◌∷◌}
 use Prim.Native.Nat.{ℕ, ◌+◌, ◌-◌, ◌*◌, ◌≤◌}
 use native.Mathlib.Omega.{arith}
 use Rattle.format.specs.Fields.{value_from, value_of, cell_of, none, more}
-use Rattle.format.specs.FieldLaws.{digit_in}
-use Rattle.format.specs.DecimalLaws.{decimal_reads}
+use Rattle.format.proofs.FieldLaws.{digit_in}
+use Rattle.format.proofs.DecimalLaws.{decimal_reads}
 use Rattle.format.specs.declared.Cell.{Cell}
 use Rattle.format.specs.declared.Cell.TheVariants.{Number}
 

@@ -5,7 +5,7 @@ use Prim.Native.Nat.{ℕ, ◌+◌, ◌≤◌}
 use native.Mathlib.Omega.{arith}
 use lib.ListN.{length, drop}
 use Rattle.format.specs.Lines.{line_of, line_end}
-use Rattle.format.specs.LineLaws.{line_of_length, end_in}
+use Rattle.format.proofs.LineLaws.{line_of_length, end_in}
 
 pub found_end : (text : List ℕ) (from : ℕ) (line : List ℕ) → from ≤ length text → line ≡ line_of (drop from text) → from + length line ≡ line_end text from
 found_end text from line h e = omega (arith, ap length e ∙ line_of_length (drop from text), end_in text from h)

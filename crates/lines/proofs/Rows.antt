@@ -7,7 +7,7 @@ use native.Mathlib.Numerals.{add-one}
 use lib.ListN.{length, take, set}
 use lib.Seq.{take-suc, take-suc-set, take_all}
 use Rattle.format.specs.Fields.{field_count, fields_of, number_of}
-use Rattle.format.specs.FieldLaws.{fields_length, fields_in_lem}
+use Rattle.format.proofs.FieldLaws.{fields_length, fields_in_lem}
 
 pub row_more : (line row : List ℕ) (k x : ℕ) → k < field_count line → k < length row → x ≡ number_of line k → take k row ≡ take k (fields_of line)
     → take (k + 1) (set row k x) ≡ take (k + 1) (fields_of line)

@@ -6,9 +6,9 @@ ghost use Rattle.std.specs.Prelude.{◌≡◌, ◌&&◌, [], ◌∷◌, ◌+◌,
 ghost use Rattle.std.proofs.lemmas.List.Edits.{sets};
 ghost use Rattle.format.specs.Tests.{all_below, same_bytes};
 ghost use Rattle.format.specs.Lines.{line_of, line_start, line_end, is_ended, after_line, counting_start, counting_of, PartOf};
-ghost use Rattle.format.specs.Fields.{column as columnOf, digit_of, field_text, value_of, cell_of, field_count, field_of, number_in, number_of, fields_of};
+ghost use Rattle.format.specs.Fields.{column as column_of, digit_of, field_text, value_of, cell_of, field_count, field_of, number_in, number_of, fields_of};
 ghost use Rattle.format.specs.Shape.{letter_of, letter_kind, is_capital, shape_of};
-ghost use Rattle.format.specs.Writing.{fields_text, line_text, writable as writableOf, field_fits, line_fits, Put};
+ghost use Rattle.format.specs.Writing.{fields_text, line_text, writable as writable_of, field_fits, line_fits, Put};
 ghost use Rattle.format.specs.declared.Cell.TheVariants.{Number};
 
 use format::{Cell, Letter};
@@ -109,7 +109,7 @@ fn digit(b: u8) -> u64
 // What stands in the column of p for n. Most numbers are small, and are blank there without a division.
 fn column(p: u64, n: u64) -> u8
     requires { 0 < p }
-    ensures { result ≡ columnOf p n }
+    ensures { result ≡ column_of p n }
 {
     if n < p { 32 } else { (48 + n / p % 10) as u8 }
 }
@@ -373,7 +373,7 @@ fn all_small(fields: &[u64], count: usize) -> bool
 
 fn is_writable(letter: u8, fields: &[u64], count: usize) -> bool
     requires { (count ≤ 18) × (count ≤ length fields.now) }
-    ensures { result ≡ writableOf letter (take count fields.now) }
+    ensures { result ≡ writable_of letter (take count fields.now) }
 {
     if count < 1 {
         return false;

@@ -7,7 +7,7 @@ use native.Mathlib.Omega.{arith}
 use lib.Dec.{T, eqb, ltb}
 use borrow.Author.Tests.{eqb-true, eqb-false, eq-eqb, ne_eqb, lt-ltb, ltb-true}
 use Rattle.masks.specs.Masks.{member, ◌∪◌, single, full}
-use Rattle.masks.specs.Laws.{member_union, member_single, false_member, bit_empty, bits_lt, bit_full_out, member_full, member_ext_below}
+use Rattle.masks.proofs.Laws.{member_union, member_single, false_member, bit_empty, bits_lt, bit_full_out, member_full, member_ext_below}
 use Rattle.hrg.specs.Counts.{hit, occurs}
 use Rattle.hrg.specs.WellFormedTest.{Decides, every}
 use Rattle.hrg.proofs.WellFormedTest.{decides_le, decides_every}

@@ -23,12 +23,12 @@ use Rattle.records.proofs.WordLaws.{length_records, record_in_lem}
 use Rattle.charting.specs.Calls.{number_of, steps_of, Called, fit, fit_chart, answer_of, start_answer, start_of, run_of, runs_of, standing_of}
 use Rattle.charting.specs.Facts.{RunRight}
 use Rattle.charting.specs.declared.Outcome.{Outcome}
-use Rattle.charting.specs.declared.Outcome.TheVariants.{Unfit as Unfit-chart, TooSmall as TooSmall-chart, Unfinished as Unfinished-chart, Done}
+use Rattle.charting.specs.declared.Outcome.TheVariants.{Unfit as UnfitChart, TooSmall as TooSmallChart, Unfinished as UnfinishedChart, Done}
 use Rattle.charting.proofs.Answers.{answer_done}
 use Rattle.charting.proofs.Calls.{fit_grammar, fit_graph, fit_most, after_start, start_is, start_eight, run_is, run_chart_is}
 use Rattle.charting.proofs.Demand.{start_fit, runs_known, runs_chart_lem, runs_right, start_right}
 use Rattle.derivation.specs.Derivations.{derivation_text, replay_text}
-use Rattle.writing.specs.Writing.{Wrote, goal_in, write_goal, write_of, refused as refused-writing}
+use Rattle.writing.specs.Writing.{Wrote, goal_in, write_goal, write_of, refused as refused_writing}
 use Rattle.writing.specs.Demand.{ClosureSize, FewestTree, WritesTree}
 use Rattle.writing.specs.declared.Answer.TheVariants.{Underivable, NoRoom, Written}
 use Rattle.writing.proofs.Writings.{write_by_is}
@@ -89,7 +89,7 @@ module _ (g h w : List ℕ) (e : fit g h w ≡ true) (k : ℕ) where
 
     writes_tree : Writes G H (fit_grammar g h w e) (fit_graph g h w e) (capacity w) (fit_most g h w e) (k ∷ []) c is done.0 done.1 (λ j. record_at v j) look_same (goal_in G H c.records)
         → Deriving g h (write_chart g h v steps)
-    writes_tree (no_tree none f) = means (refused 11) (by_writing (refused-writing Underivable out) (searches out ∙ ap (write_goal G H (λ j. record_at v j) out) f)) (underivable none)
+    writes_tree (no_tree none f) = means (refused 11) (by_writing (refused_writing Underivable out) (searches out ∙ ap (write_goal G H (λ j. record_at v j) out) f)) (underivable none)
     writes_tree (a_tree t few wr l ch) = go (dec_le (length (derivation_text t)) (length out))
       where
         go : Dec (length (derivation_text t) ≤ length out) → Deriving g h (write_chart g h v steps)
@@ -105,7 +105,7 @@ module _ (g h w : List ℕ) (e : fit g h w ≡ true) (k : ℕ) where
             (by_writing x wrote ∙ ap (λ (y : List ℕ). derived y steps) front)
             (derives t steps few passes (omega (arith, length-replicate {A = ℕ} output_bytes 0)) sized most)
         go (no n) =
-            means (refused 12) (by_writing (refused-writing NoRoom out) (searches out ∙ (wr out).short (omega arith))) (long t few (omega (arith, length-replicate {A = ℕ} output_bytes 0)))
+            means (refused 12) (by_writing (refused_writing NoRoom out) (searches out ∙ (wr out).short (omega arith))) (long t few (omega (arith, length-replicate {A = ℕ} output_bytes 0)))
 
     pub chart_deriving : Deriving g h (write_chart g h v steps)
     chart_deriving = writes_tree (goal_writes G H (fit_grammar g h w e) (fit_graph g h w e) (capacity w) (fit_most g h w e) (k ∷ []) c is done.0 done.1 (λ j. record_at v j) look_same)
@@ -115,7 +115,7 @@ start_done_or_nine : (c : Chart) → number_of (start_answer c) ≡ 10 → ⊥
 unfolding start_answer
 start_done_or_nine c = go (eqb c.mark 0)
   where
-    go : (b : Bool) → number_of (cond b (Done 0) TooSmall-chart) ≡ 10 → ⊥
+    go : (b : Bool) → number_of (cond b (Done 0) TooSmallChart) ≡ 10 → ⊥
     go true q = omega arith
     go false q = omega arith
 
@@ -141,9 +141,9 @@ module _ (g h : List ℕ) (e : fit g h (replicate chart_words 0) ≡ true) where
   run_right = runs_right g h w e [] items
 
   ran : (a : Outcome) → (run_of g h (start_of g h w).words items).answer ≡ a → Deriving g h (when_ran a (λ steps. write_chart g h (run_of g h (start_of g h w).words items).words steps))
-  ran Unfit-chart q = absurd (run_right.fit (ap number_of q))
-  ran TooSmall-chart q = too_small (run_right.small (ap number_of q) finite.0 finite.1)
-  ran (Unfinished-chart k) q = absurd (run_right.never (omega (arith, holds_items)) (ap number_of q))
+  ran UnfitChart q = absurd (run_right.fit (ap number_of q))
+  ran TooSmallChart q = too_small (run_right.small (ap number_of q) finite.0 finite.1)
+  ran (UnfinishedChart k) q = absurd (run_right.never (omega (arith, holds_items)) (ap number_of q))
   ran (Done k) q =
       let all : k ≡ length finite.0 = sym (ap steps_of q) ∙ run_right.done (ap number_of q) finite.0 finite.1 in
       let fits : number_of (run_of g h (start_of g h w).words items).answer ≡ 9 → ⊥ = λ z. let y : ◌≡◌ {A = ℕ} 0 9 = sym (ap number_of q) ∙ z in omega (arith, y) in
@@ -158,7 +158,7 @@ module _ (g h : List ℕ) (e : fit g h (replicate chart_words 0) ≡ true) where
   tables_deriving = go (start_of g h w).answer refl
     where
       go : (a : Outcome) → (start_of g h w).answer ≡ a → Deriving g h (cond (eqb (number_of a) 0) next (refused (number_of a)))
-      go Unfit-chart q = absurd (let z : true ≡ false = sym e ∙ (start_eight g h w).0 (ap number_of q) in let y : ◌≡◌ {A = ℕ} 0 1 = cc in omega (arith, y))
-      go TooSmall-chart q = too_small (start_right g h w e q finite.0 finite.1)
-      go (Unfinished-chart k) q = absurd (start_done_or_nine (after_start g w) (ap number_of (sym (ap (λ (d : Called). d.answer) (start_is g h w e)) ∙ q)))
+      go UnfitChart q = absurd (let z : true ≡ false = sym e ∙ (start_eight g h w).0 (ap number_of q) in let y : ◌≡◌ {A = ℕ} 0 1 = cc in omega (arith, y))
+      go TooSmallChart q = too_small (start_right g h w e q finite.0 finite.1)
+      go (UnfinishedChart k) q = absurd (start_done_or_nine (after_start g w) (ap number_of (sym (ap (λ (d : Called). d.answer) (start_is g h w e)) ∙ q)))
       go (Done k) q = ran (run_of g h (start_of g h w).words items).answer refl

@@ -12,7 +12,7 @@ use Rattle.format.specs.Lines.{lines_of, counting_start}
 use Rattle.questions.specs.Layout.{grammar_words, graph_words}
 use Rattle.questions.specs.Reading.{read_grammar, grammar_verdict, read_lines, delivered}
 use Rattle.questions.specs.Checking.{read_graph}
-use Rattle.replayer.specs.Verdicts.{number_of as verdictNumber, replay_of}
+use Rattle.replayer.specs.Verdicts.{number_of as verdict_number, replay_of}
 use Rattle.programs.specs.Files.{FileRead, FilesRead, file_bytes, numbered, grammar_file, graph_file, files_of}
 use Rattle.programs.specs.Programs.{Derived, refused, derive_files, replay_tables, replay_files}
 
@@ -51,7 +51,7 @@ pub derivation_oversize : (g h text : List ℕ) → 32768 < length text → repl
 unfolding replay_tables
 derivation_oversize g h text l = rw (above text l)
 
-pub derivation_within : (g h text : List ℕ) → length text ≤ 32768 → replay_tables g h text ≡ verdictNumber (replay_of g h text)
+pub derivation_within : (g h text : List ℕ) → length text ≤ 32768 → replay_tables g h text ≡ verdict_number (replay_of g h text)
 unfolding replay_tables
 derivation_within g h text l = rw (within text l)
 

@@ -17,7 +17,7 @@ use Rattle.validity.specs.Checking.{holds}
 use Rattle.charting.specs.Calls.{fit}
 use Rattle.charting.proofs.Calls.{and_both}
 use Rattle.derivation.specs.Derivations.{replay_text}
-use Rattle.replayer.specs.Verdicts.{number_of as verdictNumber, fit_tables, replay_of}
+use Rattle.replayer.specs.Verdicts.{number_of as verdict_number, fit_tables, replay_of}
 use Rattle.replayer.specs.declared.Verdict.{Verdict}
 use Rattle.replayer.specs.declared.Verdict.TheVariants.{Unfit, Refused, Passed}
 use Rattle.programs.specs.Files.{FilesRead, file_bytes, files_of}

@@ -3,13 +3,13 @@ use Rattle.std.specs.Prelude.{◌≡◌, cond, List, [], ◌∷◌, ◌++◌, �
 use Rattle.records.specs.Words.{words_for}
 use Rattle.format.specs.Writing.{line_text}
 use Rattle.questions.specs.Layout.{grammar_words, graph_words}
-use Rattle.charting.specs.Calls.{number_of as chartNumber, start_of, run_of}
+use Rattle.charting.specs.Calls.{number_of as chart_number, start_of, run_of}
 use Rattle.charting.specs.declared.Outcome.{Outcome}
-use Rattle.charting.specs.declared.Outcome.TheVariants.{Unfit as Unfit-chart, TooSmall as TooSmall-chart, Unfinished as Unfinished-chart, Done}
+use Rattle.charting.specs.declared.Outcome.TheVariants.{Unfit as UnfitChart, TooSmall as TooSmallChart, Unfinished as UnfinishedChart, Done}
 use Rattle.writing.specs.Writing.{write_of}
 use Rattle.writing.specs.declared.Answer.{Answer}
 use Rattle.writing.specs.declared.Answer.TheVariants.{Unfit, TooSmall, Unfinished, Underivable, NoRoom, Written}
-use Rattle.replayer.specs.Verdicts.{number_of as verdictNumber, replay_of}
+use Rattle.replayer.specs.Verdicts.{number_of as verdict_number, replay_of}
 use Rattle.programs.specs.Files.{file_bytes, files_of}
 
 -- 'one `N` line with the refusal', and 'a `C` line with the steps'
@@ -54,9 +54,9 @@ unfolding write_of
 write_chart g h w steps = let x = write_of g h w (replicate output_bytes 0) in when_written x.answer x.out steps
 
 abbrev pub when_ran : Outcome → (ℕ → Derived) → Derived
-when_ran Unfit-chart next = refused 8
-when_ran TooSmall-chart next = refused 9
-when_ran (Unfinished-chart k) next = refused 10
+when_ran UnfitChart next = refused 8
+when_ran TooSmallChart next = refused 9
+when_ran (UnfinishedChart k) next = refused 10
 when_ran (Done k) next = next k
 
 -- a start on a cleared chart, a run of as many steps as it holds items, and the writing
@@ -66,7 +66,7 @@ derive_tables g h =
     let s = start_of g h (replicate chart_words 0) in
     let r = run_of g h s.words items in
     let next = when_ran r.answer (λ steps. write_chart g h r.words steps) in
-    cond (eqb (chartNumber s.answer) 0) next (refused (chartNumber s.answer))
+    cond (eqb (chart_number s.answer) 0) next (refused (chart_number s.answer))
 
 unfoldable pub derive_files : List ℕ → List ℕ → Derived
 unfolding files_of derive_tables
@@ -77,7 +77,7 @@ derive_files grammar graph =
 -- the refusal of a derivation file, or 0: an oversize one is 1
 unfoldable pub replay_tables : List ℕ → List ℕ → List ℕ → ℕ
 unfolding replay_of
-replay_tables g h text = cond (leb (length text) file_bytes) (verdictNumber (replay_of g h text)) 1
+replay_tables g h text = cond (leb (length text) file_bytes) (verdict_number (replay_of g h text)) 1
 
 unfoldable pub replay_files : List ℕ → List ℕ → List ℕ → ℕ
 unfolding files_of replay_tables

@@ -16,7 +16,7 @@ use Rattle.format.specs.Lines.{Line, lines_of}
 use Rattle.format.specs.Shape.{kind_letter}
 use Rattle.format.specs.Fields.{fields_of}
 use Rattle.format.specs.Writing.{line_body, line_text, Writable}
-use Rattle.format.specs.RoundTrip.{written_letter, written_fields, written_shape, written_line}
+use Rattle.format.proofs.RoundTrip.{written_letter, written_fields, written_shape, written_line}
 use Rattle.questions.specs.Layout.{place_of, letter_due, line_field, stored}
 use Rattle.questions.specs.Questions.{field, judge}
 use Rattle.questions.specs.Reading.{next, judge_line, Verdict, accepted, read_lines, delivered}

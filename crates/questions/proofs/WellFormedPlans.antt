@@ -159,8 +159,8 @@ module _ (edges : ℕ) (pl : List PlanNode) where
           );
       known = λ i o.
           let among : 0 < occurs i (all_introduced pl) = omega (arith, introduced_to_lem i (suc q) h, introduced_more pl i q) in
-          let i-known = ok.edge_known i among in
-          (i-known, omega (arith, ok.edge_once i i-known, introduced_to_lem i (suc q) h, introduced_more pl i q));
+          let i_known = ok.edge_known i among in
+          (i_known, omega (arith, ok.edge_once i i_known, introduced_to_lem i (suc q) h, introduced_more pl i q));
       whole = go (dec_lt (q + 1) (length pl));
     }
       where

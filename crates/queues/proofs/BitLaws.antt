@@ -9,7 +9,7 @@ use lib.Count.{count_trailing_zeros, under}
 use lib.Dec.{eqb}
 use lib.Pow.{pow-lt, shr-shr}
 use Rattle.masks.specs.Masks.{bit, member, ◌∪◌, single}
-use Rattle.masks.specs.Laws.{bit_le, bit_empty, member_true, true_member, false_member, member_union, bit_single_self, bit_single_other}
+use Rattle.masks.proofs.Laws.{bit_le, bit_empty, member_true, true_member, false_member, member_union, bit_single_self, bit_single_other}
 
 -- ---- the lowest bit, and the others
 bit_first : (m : ℕ) → bit m 0 ≡ m % 2

@@ -12,7 +12,7 @@ use lib.ListN.{length, get_or, set, length-set, get_or-eq_default}
 use lib.Seq.{get_or-set_same, get_or-set_other}
 use borrow.Author.Tests.{lt-ltb, ltb-true, ltb-false}
 use Rattle.masks.specs.Masks.{member, ◌∪◌, single}
-use Rattle.masks.specs.Laws.{true_member, false_member}
+use Rattle.masks.proofs.Laws.{true_member, false_member}
 use Rattle.queues.specs.Queues.{bit_from, holds, Agrees, Hinted, Levels, with_bit, without_bit, with_hint, Inserted, Removed, Left, Empty, Started, Reached, Stepped, Cleared}
 use Rattle.queues.proofs.BitLaws.{First, first_bit, set_self, set_other, clear_self, clear_other, member_none, member_some}
 

@@ -9,10 +9,10 @@ use borrow.Author.Tests.{ne_eqb}
 use types.Run.{OneOf, miss}
 use denote.Enum.Declared.{tag_of}
 use Rattle.format.specs.Shape.{shape_of, letter_of, letter_kind, kind_letter}
-use Rattle.format.specs.ShapeLaws.{shape_shaped, letter_kind_lem, kind_letter_lem}
+use Rattle.format.proofs.ShapeLaws.{shape_shaped, letter_kind_lem, kind_letter_lem}
 use Rattle.format.specs.declared.Letter.{Letter}
 use Rattle.format.specs.declared.Letter.TheVariants.{G, S, R, E, P, H, Other}
-use Rattle.format.specs.contracts.Letter.{the_type as letter-type}
+use Rattle.format.specs.contracts.Letter.{the_type as letter_type}
 use Rattle.questions.specs.contracts.Due.{the_type}
 use Rattle.questions.specs.Layout.{letter_due}
 use Rattle.questions.specs.declared.Due.{Due}
@@ -86,18 +86,18 @@ not_graph (GraphEdge e) h = refl
 not_graph Nothing h = refl
 
 -- ---- the letter of a known kind, and any other
-pub known_letter : (b : ℕ) (kind x : Letter) (due : Due) (r : Bool) → kind ≡ letter_kind b → kind ≡ x → tag_of letter-type x < 8 → r ≡ eqb (kind_letter x) (kind_letter (letter_due due))
+pub known_letter : (b : ℕ) (kind x : Letter) (due : Due) (r : Bool) → kind ≡ letter_kind b → kind ≡ x → tag_of letter_type x < 8 → r ≡ eqb (kind_letter x) (kind_letter (letter_due due))
     → r ≡ eqb b (kind_letter (letter_due due))
 known_letter b kind x due r e is known h = h ∙ ap (λ (l : ℕ). eqb l (kind_letter (letter_due due))) (sym (kind_letter_lem b x (sym e ∙ is) not_other))
   where
     not_other : x ≡ Other → ⊥
     not_other o =
-        let last : tag_of letter-type x ≡ 8 = ap (tag_of letter-type) o in
+        let last : tag_of letter_type x ≡ 8 = ap (tag_of letter_type) o in
         omega arith
 
-module _ (b : ℕ) (kind : Letter) (e : kind ≡ letter_kind b) (h : OneOf (6 ∷ 7 ∷ 8 ∷ []) (tag_of letter-type kind)) where
-  not_letter : (x : Letter) → (OneOf (6 ∷ 7 ∷ 8 ∷ []) (tag_of letter-type x) → ⊥) → b ≡ kind_letter x → ⊥
-  not_letter x n is = n (subst (λ (k : Letter). OneOf (6 ∷ 7 ∷ 8 ∷ []) (tag_of letter-type k)) (e ∙ ap letter_kind is ∙ letter_kind_lem x) h)
+module _ (b : ℕ) (kind : Letter) (e : kind ≡ letter_kind b) (h : OneOf (6 ∷ 7 ∷ 8 ∷ []) (tag_of letter_type kind)) where
+  not_letter : (x : Letter) → (OneOf (6 ∷ 7 ∷ 8 ∷ []) (tag_of letter_type x) → ⊥) → b ≡ kind_letter x → ⊥
+  not_letter x n is = n (subst (λ (k : Letter). OneOf (6 ∷ 7 ∷ 8 ∷ []) (tag_of letter_type k)) (e ∙ ap letter_kind is ∙ letter_kind_lem x) h)
 
   pub not_due : (due : Due) → 0 < b → false ≡ eqb b (kind_letter (letter_due due))
   unfolding kind_letter letter_due

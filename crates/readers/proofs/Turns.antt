@@ -7,7 +7,7 @@ use native.Mathlib.Omega.{arith}
 use lib.ListN.{length, drop}
 use lib.Dec.{eqb}
 use Rattle.format.specs.Lines.{counting_lines, counting_of, counting_start, is_ended, after_line}
-use Rattle.format.specs.LineLaws.{counting_lines_at, counting_in, lines_end, after_le, after_forward}
+use Rattle.format.proofs.LineLaws.{counting_lines_at, counting_in, lines_end, after_le, after_forward}
 use Rattle.format.specs.Shape.{shape_of, letter_of, kind_letter}
 use Rattle.format.specs.Fields.{fields_of}
 use Rattle.questions.specs.Layout.{place_of, letter_due, in_table, stored}
@@ -39,12 +39,12 @@ module _ (g t : List ℕ) (due : Due) (line : List ℕ) (ended : Bool) where
     unfolding judge_line
     judged_shape n = rw (h, ← e, n)
 
-    module _ (y : b ≡ true) (due-here : Bool) (fits : due-here ≡ eqb (letter_of line) (kind_letter (letter_due due))) where
-      pub judged_letter : due-here ≡ false → 2 ≡ judge_line g t due (line_with line ended)
+    module _ (y : b ≡ true) (due_here : Bool) (fits : due_here ≡ eqb (letter_of line) (kind_letter (letter_due due))) where
+      pub judged_letter : due_here ≡ false → 2 ≡ judge_line g t due (line_with line ended)
       unfolding judge_line
       judged_letter n = rw (h, ← e, y, ← fits, n)
 
-      pub judged_rest : due-here ≡ true → (k : ℕ) → k ≡ judge g t due (fields_of line) → k ≡ judge_line g t due (line_with line ended)
+      pub judged_rest : due_here ≡ true → (k : ℕ) → k ≡ judge g t due (fields_of line) → k ≡ judge_line g t due (line_with line ended)
       unfolding judge_line
       judged_rest s k j = rw (h, ← e, y, ← fits, s) j
 

@@ -2,7 +2,7 @@
 use Prim.Native.Nat.{ℕ, zero, suc, ◌+◌, ◌≤◌, ◌<◌}
 use mathlib.Core.Path.{◌≡◌, refl, sym, ap, ◌∙◌, subst}
 use mathlib.Core.List.Memᴰ.{head as here}
-use mathlib.Core.List.Memᴰ.{not-nil as in-nil}
+use mathlib.Core.List.Memᴰ.{not-nil as in_nil}
 use mathlib.Core.List.Memᴰ.{tail as there}
 use mathlib.Core.List.{List, [], ◌∷◌, ◌++◌, Memᴰ as In, map}
 use mathlib.Core.Bool.{Bool, true, false}
@@ -26,15 +26,15 @@ abbrev pub Whole : List Record → Type 0
 Whole xs = (x : Record) → In x xs → Compact x
 
 pub whole_none : Whole []
-whole_none x m = absurd (in-nil m)
+whole_none x m = absurd (in_nil m)
 
 pub whole_one : {x : Record} → Compact x → Whole (x ∷ [])
 whole_one e y (here q) = rw q e
-whole_one e y (there m) = absurd (in-nil m)
+whole_one e y (there m) = absurd (in_nil m)
 
 pub whole_guard : (b : Bool) (xs : List Record) → (b ≡ true → Whole xs) → Whole (guard b xs)
 whole_guard true xs e x m = e refl x m
-whole_guard false xs e x m = absurd (in-nil m)
+whole_guard false xs e x m = absurd (in_nil m)
 
 pub whole_append : (xs ys : List Record) → Whole xs → Whole ys → Whole (xs ++ ys)
 whole_append [] ys e f y m = f y m
@@ -42,17 +42,17 @@ whole_append (x ∷ xs) ys e f y (here q) = e y (here q)
 whole_append (x ∷ xs) ys e f y (there m) = whole_append xs ys (λ z n. e z (there n)) f y m
 
 pub whole_map : {A : Type 0} (f : A → Record) (l : List A) → ((a : A) → In a l → Compact (f a)) → Whole (map f l)
-whole_map f [] e x m = absurd (in-nil m)
+whole_map f [] e x m = absurd (in_nil m)
 whole_map f (a ∷ l) e x (here q) = rw q (e a (here refl))
 whole_map f (a ∷ l) e x (there m) = whole_map f l (λ b n. e b (there n)) x m
 
 pub whole_each : (n : ℕ) (f : ℕ → List Record) → ((k : ℕ) → k < n → Whole (f k)) → Whole (each_to n f)
-whole_each zero f e x m = absurd (in-nil m)
+whole_each zero f e x m = absurd (in_nil m)
 whole_each (suc n) f e x m = whole_append (f n) (each_to n f) (e n (omega arith)) (whole_each n f (λ k l. e k (omega arith))) x m
 
 pub whole_gather : (n : ℕ) (f : ℕ → List Record) → ((k : ℕ) → k < n → Whole (f k)) → Whole (gather n f)
 unfolding gather
-whole_gather zero f e x m = absurd (in-nil m)
+whole_gather zero f e x m = absurd (in_nil m)
 whole_gather (suc n) f e x m = whole_append (gather n f) (f n) (whole_gather n f (λ k l. e k (omega arith))) (e n (omega arith)) x m
 
 -- words that hold the chart that they stand for

@@ -12,7 +12,7 @@ use Rattle.masks.specs.Masks.{◌∪◌, single}
 use Rattle.format.specs.Lines.{line_of, after_line}
 use Rattle.format.specs.Fields.{field_count, fields_of}
 use Rattle.format.specs.Shape.{shape_of}
-use Rattle.format.specs.ShapeLaws.{shape_shaped}
+use Rattle.format.proofs.ShapeLaws.{shape_shaped}
 use Rattle.hrg.specs.Grammars.{Kind, Edge, Graph, Grammar, no_edge, kind_of, right_of, edge_at}
 use Rattle.hrg.specs.Trees.{images}
 use Rattle.preorder.specs.Replay.{State, reached, failed, check, by_kind, rule_in, place_in, fields_in, new_nodes, row_test, edge_test, part_test, replay_at, replay_edges}

@@ -11,7 +11,7 @@ use lib.Seq.{drop-cons, take_all}
 use lib.Dec.{eqb}
 use lib.Pow.{pow-lt}
 use Rattle.masks.specs.Masks.{member, single, Found, Added}
-use Rattle.masks.specs.Laws.{false_member, lt_bits, union_lt}
+use Rattle.masks.proofs.Laws.{false_member, lt_bits, union_lt}
 use Rattle.hrg.specs.Counts.{occurs, tabulate, up_to, cons_if, select}
 use Rattle.hrg.specs.Grammars.{Graph, right_of}
 use Rattle.hrg.specs.Trees.{at, images, internals}

@@ -10,7 +10,7 @@ use lib.Seq.{length-take-le, take-suc}
 use lib.Dec.{eqb, ltb}
 use borrow.Author.Tests.{eqb-true, ltb-true}
 use Rattle.masks.specs.Masks.{member, ◌∪◌, single, full, Added, Filled}
-use Rattle.masks.specs.Laws.{bit_empty, bits_lt, bit_single_other, union_lt}
+use Rattle.masks.proofs.Laws.{bit_empty, bits_lt, bit_single_other, union_lt}
 use Rattle.hrg.specs.Counts.{hit, occurs, tabulate}
 use Rattle.hrg.specs.Grammars.{Graph, Grammar, lhs_of, right_of, edge_at}
 use Rattle.hrg.specs.Trees.{at, images, internals}

@@ -7,7 +7,7 @@ use native.Mathlib.Omega.{arith}
 use lib.ListN.{length, get_or, take, drop}
 use lib.Dec.{eqb, ltb}
 use borrow.Author.Tests.{eq-eqb, ne_eqb, lt-ltb, le-ltb, eqb-true, ltb-true}
-use Rattle.format.specs.TestLaws.{both}
+use Rattle.format.proofs.TestLaws.{both}
 use Rattle.hrg.specs.Grammars.{Graph, Grammar, lhs_of, rank_of, right_of}
 use Rattle.hrg.specs.Trees.{images}
 use Rattle.hrg.specs.WellFormedTest.{every, each}

@@ -9,15 +9,15 @@ use lib.ListN.{length, drop}
 use borrow.Author.Tests.{eq-eqb, ne_eqb, le-leb, lt-leb, ltb-true}
 use types.Run.{OneOf, miss}
 use denote.Enum.Declared.{tag_of}
-use Rattle.format.specs.TestLaws.{both}
+use Rattle.format.proofs.TestLaws.{both}
 use Rattle.format.specs.declared.Letter.{Letter}
 use Rattle.format.specs.declared.Letter.TheVariants.{D, A, Other}
 use Rattle.format.specs.contracts.Letter.{the_type}
 use Rattle.format.specs.Lines.{Line, lines_of, line_of, is_ended, after_line, line_end}
-use Rattle.format.specs.LineLaws.{end_in, after_le}
+use Rattle.format.proofs.LineLaws.{end_in, after_le}
 use Rattle.format.specs.Fields.{field_count, number_of, fields_of}
 use Rattle.format.specs.Shape.{letter_of, letter_kind, kind_letter, shape_of}
-use Rattle.format.specs.ShapeLaws.{letter_kind_lem, kind_letter_lem}
+use Rattle.format.proofs.ShapeLaws.{letter_kind_lem, kind_letter_lem}
 use Rattle.scripts.specs.Scripts.{Script, bad, rows, with_row, has_letter, opens, rows_from, rows_in}
 use Rattle.scripts.proofs.ScriptTests.{has_lettered, lettered_has, opens_opening}
 use Rattle.scripts.proofs.ScriptReading.{row_at_is, row_refused_at, row_missing_at, rows_read_at, line_behind_at, script_opened_at, script_refused_at, script_missing_at}
@@ -203,13 +203,13 @@ module _ (text : List ℕ) (n at k : ℕ) (here : Counting text n at k) where
         let y : has_letter 65 (line_from text at) ≡ true = sym lettered ∙ h in
         let inside = letter_inside text at 65 here.within y in
         let rest = rows_from (n - (k + 1)) (lines_of (drop (after_line text at) text)) in
-        let passed-row : counted k (rows_from (n - k) (lines_of (drop at text))) ≡ counted (k + 1) rest =
+        let passed_row : counted k (rows_from (n - k) (lines_of (drop at text))) ≡ counted (k + 1) rest =
         ap (λ m. counted k (rows_from m (lines_of (drop at text)))) left ∙ ap (counted k) (row_at_is text at (n - (k + 1)) inside y) ∙ counted_row k (fields_of (line_of (drop at text))) rest
         in
         record {
           passed = omega arith;
           within = omega (arith, e, after_le text at);
-          rest = rw e (sym passed-row ∙ here.rest);
+          rest = rw e (sym passed_row ∙ here.rest);
         }
 
   module _ (all : n ≤ k) where

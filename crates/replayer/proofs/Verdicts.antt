@@ -107,10 +107,10 @@ module _ (g h : List ℕ) (ok : Accepted g h) (s : ℕ) (e : s ≡ start_symbol 
       unfolding replayed
       start_stands =
           let begun : p.next ≡ 0 = ap (λ (x : Progress). x.next) d in
-          let listed-are = ap (λ (k : ℕ). take k listed) rank_read ∙ externals_take in
+          let listed_are = ap (λ (k : ℕ). take k listed) rank_read ∙ externals_take in
           subst (Stands (graph_of g h) r)
           (ap (λ (k : ℕ). from s (take (rank_of (grammar_of g) s) listed) k) begun
-          ∙ ap₂ (λ (y : ℕ) (L : List ℕ). from y L 0) (e ∙ sym (start_is g)) listed-are)
+          ∙ ap₂ (λ (y : ℕ) (L : List ℕ). from y L 0) (e ∙ sym (start_is g)) listed_are)
           (a.stands (calls (text_rows text)) (omega arith) [] (graph_of g h).externals start_reaches)
 
 -- the four words at the start

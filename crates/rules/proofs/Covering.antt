@@ -87,8 +87,8 @@ module _ (g h : List ℕ) (x : ChartItem) (checked : check_grammar g ≡ true) (
     shown = λ v few p.
         let (i, inside, o, image) = (covering.shown v few p).active is_active in
         let ok = rule_ok g x.of checked known in
-        let at-root = root_external (rule_of (grammar_of g) x.of) x.plan i (λ k d. below_root _ _ ok.plan x.plan k (root ∙ sym (plan_size g x.of checked known)) d) o in
-        let (k, d, e) = occurs_find i ext at-root in
+        let at_root = root_external (rule_of (grammar_of g) x.of) x.plan i (λ k d. below_root _ _ ok.plan x.plan k (root ∙ sym (plan_size g x.of checked known)) d) o in
+        let (k, d, e) = occurs_find i ext at_root in
         let rank = externals_size g x.of checked known in
         record {
           active = λ z. absurd (omega (arith, z));

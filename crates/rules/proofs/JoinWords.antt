@@ -98,13 +98,13 @@ module _ (g : List ℕ) (r q w : ℕ) (is : w ≡ second_word g r q) where
       go false t = omega (arith, by_kind_is false t)
 
 -- ---- which child an item stands at
-module _ (g : List ℕ) (r p w : ℕ) (at-child : JoinAt g r p w) where
+module _ (g : List ℕ) (r p w : ℕ) (at_child : JoinAt g r p w) where
   abbrev above : ℕ
   above = w % 32
 
   by_child : (b : Bool) → eqb (plan_first g r above) p ≡ b → w / 32 ≡ cond b (second_word g r above) (3 + 4 * plan_first g r above)
   unfolding join_word
-  by_child b t = let told = at-child.word ∙ ap (λ b. above + 32 * cond b (second_word g r above) (3 + 4 * plan_first g r above)) t in omega (arith, told)
+  by_child b t = let told = at_child.word ∙ ap (λ b. above + 32 * cond b (second_word g r above) (3 + 4 * plan_first g r above)) t in omega (arith, told)
 
   pub join_first : (w / 32 % 4 ≡ 3 → ⊥) → (plan_first g r above ≡ p) × (w / 32 ≡ second_word g r above)
   join_first first = go (eqb (plan_first g r above) p) refl
@@ -123,4 +123,4 @@ module _ (g : List ℕ) (r p w : ℕ) (at-child : JoinAt g r p w) where
 
     -- an item at the second child is below a join
     pub later_joins : KnownNode g r above → (plan_kind g r above ≡ 0 → ⊥) × (plan_kind g r above ≡ 1 → ⊥)
-    later_joins known = (child_kind g r above known p at-child.child, λ e. join_later.0 (child_first g r above known e p at-child.child))
+    later_joins known = (child_kind g r above known p at_child.child, λ e. join_later.0 (child_first g r above known e p at_child.child))

@@ -26,7 +26,7 @@ use Rattle.rules.specs.Plans.{ParentAt, Leads}
 use Rattle.rules.proofs.Parents.{child_lower}
 use Rattle.rules.proofs.RuleItems.{guard_none, each_none, item_active, pair_passive}
 use Rattle.rules.proofs.Meeting.{rule_or_none}
-use Rattle.rules.proofs.JoinWords.{join_first, join_later as word-later}
+use Rattle.rules.proofs.JoinWords.{join_first, join_later as word_later}
 
 -- ---- the first child of a plan node, d where there is none
 abbrev first_of : ℕ → PlanNode → ℕ
@@ -145,12 +145,12 @@ module _ (g : List ℕ) (checked : check_grammar g ≡ true) (x : ChartItem) whe
       unfolding occurs
       not_second n q a b d node e =
           let two : occurs x.plan (children (plan_node pl q)) ≡ hit x.plan a + (hit x.plan b + 0) = ap (λ (n : PlanNode). occurs x.plan (children n)) node in
-          let hit-b : hit x.plan b ≡ 1 = ap (hit x.plan) e ∙ hit_self x.plan in
+          let hit_b : hit x.plan b ≡ 1 = ap (hit x.plan) e ∙ hit_self x.plan in
           let s : q ≡ up = only q d (omega arith) in
           let same : a ≡ x.plan =
           ap (first_of c) (sym node) ∙ ap (λ q. first_of c (plan_node pl q)) s ∙ ap (first_of c) from ∙ first_from_lem (plan_kind g x.of up) c (plan_second g x.of up) ∙ n
           in
-          let hit-a : hit x.plan a ≡ 1 = ap (hit x.plan) same ∙ hit_self x.plan in
+          let hit_a : hit x.plan a ≡ 1 = ap (hit x.plan) same ∙ hit_self x.plan in
           let size = plan_size g x.of checked known.rule in
           let lower : x.plan < q = child_lower g x.of x.plan checked known.rule q (omega arith) (omega arith) in
           omega (arith, child_some pl x.plan q, (plan_ok g x.of checked known.rule).child_once x.plan (omega arith))
@@ -164,6 +164,6 @@ module _ (g : List ℕ) (checked : check_grammar g ≡ true) (x : ChartItem) whe
       leads_first = record {
         not = λ e H y.
             ap (λ (i : Item). binary_of G H i (item_of G y)) item
-            ∙ binary_later G H _ _ _ _ (not_first (word-later g x.of x.plan above.word (is.join l) (eqb-true (above.word / 32 % 4) 3 (not-false _ e))).0) (item_of G y);
+            ∙ binary_later G H _ _ _ _ (not_first (word_later g x.of x.plan above.word (is.join l) (eqb-true (above.word / 32 % 4) 3 (not-false _ e))).0) (item_of G y);
         yes = λ e H y. second_none (join_first g x.of x.plan above.word (is.join l) (eqb-false (above.word / 32 % 4) 3 (not-true _ e))).0 H y (eqb y.kind 0) refl;
       }

@@ -10,7 +10,7 @@ use lib.Seq.{get_or-set_same, get_or-set_other}
 use lib.Dec.{eqb, ltb}
 use borrow.Author.Tests.{eq-eqb, ne_eqb, eqb-true, eqb-false, lt-ltb, le-ltb, ltb-true}
 use Rattle.masks.specs.Masks.{bit, member}
-use Rattle.masks.specs.Laws.{member_false, lt_bits, bits_lt}
+use Rattle.masks.proofs.Laws.{member_false, lt_bits, bits_lt}
 use Rattle.hrg.specs.Counts.{hit, occurs}
 use Rattle.hrg.specs.Grammars.{PlanNode, join, touches, rule_of, plan_of, plan_node}
 use Rattle.hrg.specs.Items.{is_boundary, is_open_at}

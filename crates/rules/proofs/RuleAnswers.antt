@@ -12,7 +12,7 @@ use lib.Bits.{bit_or}
 use lib.Dec.{eqb}
 use borrow.Author.Tests.{eq-eqb, ne_eqb, ltb-true}
 use Rattle.masks.specs.Masks.{◌∪◌, disjoint, single, Added}
-use Rattle.masks.specs.Laws.{bit_empty, union_of}
+use Rattle.masks.proofs.Laws.{bit_empty, union_of}
 use Rattle.hrg.specs.Counts.{occurs}
 use Rattle.hrg.specs.Grammars.{Edge, Graph, PlanNode, leaf, introduce, join, Rule, Grammar, rank_of, rule_of, right_of, plan_of, plan_node, edge_at}
 use Rattle.hrg.specs.Trees.{unplaced, at, padded}
@@ -35,7 +35,7 @@ use Rattle.rules.specs.Coverage.{Shown, Covering}
 use Rattle.rules.specs.Rules.{Gives, Second, terminal_items, binary_at, made_of, Above, Usable, StandsFor}
 use Rattle.joins.proofs.Known.{right_nodes, nodes_few, plan_size, graph_size, graph_nodes_lem, graph_ok, graph_edges_few, graph_nodes_few}
 use Rattle.joins.proofs.PlanMasks.{node_is, joined_is}
-use Rattle.joins.proofs.EdgeMaps.{edge_ok, edge_label_is as rule-label, edge_rank, rank_cap, node_there, edge_node_known, at_padded, at_past, take_padded, padded_bare, length_attach, attach_place}
+use Rattle.joins.proofs.EdgeMaps.{edge_ok, edge_label_is as rule_label, edge_rank, rank_cap, node_there, edge_node_known, at_padded, at_past, take_padded, padded_bare, length_attach, attach_place}
 use Rattle.joins.proofs.Openness.{open_single}
 use Rattle.joins.proofs.GraphPlaces.{Placeable, in_padded, in_take, in_attach}
 use Rattle.rules.proofs.JoinWords.{introduced, second_edge, asked_known, asked_label, second_other}
@@ -116,18 +116,18 @@ module _ (g : List ℕ) (r q : ℕ) (known : KnownNode g r q) where
     with_passive e H p m f = ap (λ (b : Item). binary_at G H (active r p m f) b q) (item_passive G y (ne_eqb y.kind 0 e))
 
     -- the nonterminal rule
-    module _ (w i : ℕ) (asks : w ≡ second_word g r q) (for-edge : w % 4 ≡ 1) (second : i ≡ plan_second g r q) where
+    module _ (w i : ℕ) (asks : w ≡ second_word g r q) (for_edge : w % 4 ≡ 1) (second : i ≡ plan_second g r q) where
       edge_node_is : node ≡ introduce (plan_first g r q) i
-      edge_node_is = introduced g r q known (second_edge g r q w asks for-edge known).0 ∙ ap (introduce (plan_first g r q)) (sym second)
+      edge_node_is = introduced g r q known (second_edge g r q w asks for_edge known).0 ∙ ap (introduce (plan_first g r q)) (sym second)
 
       edge_known : KnownEdge g r i
-      edge_known = asked_known g r q w asks for-edge known i second
+      edge_known = asked_known g r q w asks for_edge known i second
 
       abbrev edge : Edge
       edge = edge_at R.production.right.edges i
 
       edge_label_is : edge.label ≡ edge_label g r i
-      edge_label_is = rule-label g r i edge_known
+      edge_label_is = rule_label g r i edge_known
 
       pub filled_active : y.kind ≡ 0 → Second g r q y t false
       unfolding join_at
@@ -150,7 +150,7 @@ module _ (g : List ℕ) (r q : ℕ) (known : KnownNode g r q) where
 
       module _ (is_passive : y.kind ≡ 0 → ⊥) where
         label : w / 4 % 64 ≡ edge_label g r i
-        label = asked_label g r q w asks for-edge known i second
+        label = asked_label g r q w asks for_edge known i second
 
         pub filled_label : (w / 4 % 64 ≡ y.of → ⊥) → Second g r q y t false
         filled_label e =
@@ -207,14 +207,14 @@ module _ (g : List ℕ) (r q : ℕ) (known : KnownNode g r q) where
                 (nodes_few g r known.grammar known.rule))
 
     -- the join rule
-    module _ (w : ℕ) (asks : w ≡ second_word g r q) (not-leaf : plan_kind g r q ≡ 0 → ⊥) (not_edge : w % 4 ≡ 1 → ⊥) where
+    module _ (w : ℕ) (asks : w ≡ second_word g r q) (not_leaf : plan_kind g r q ≡ 0 → ⊥) (not_edge : w % 4 ≡ 1 → ⊥) where
       abbrev d : ℕ
       d = w / 4
 
       join_node : node ≡ join (plan_first g r q) d
       join_node =
           let other = second_other g r q w asks not_edge in
-          joined_is g r q known (plan_kind g r q) (plan_first g r q) d refl refl other.1 not-leaf other.0
+          joined_is g r q known (plan_kind g r q) (plan_first g r q) d refl refl other.1 not_leaf other.0
 
       pub joined_passive : (y.kind ≡ 0 → ⊥) → Second g r q y t false
       unfolding nonterminal_at

@@ -7,11 +7,11 @@ use lib.ListN.{length, get_or}
 use lib.Seq.{ext_get_or}
 use native.Mathlib.Omega.{arith}
 use Rattle.format.specs.Lines.{Line, lines_of, text_of}
-use Rattle.format.specs.LineLaws.{text_of_lines, lines_end}
+use Rattle.format.proofs.LineLaws.{text_of_lines, lines_end}
 use Rattle.format.specs.Fields.{field_count, number_of, fields_of}
-use Rattle.format.specs.FieldLaws.{fields_length, fields_in_lem}
+use Rattle.format.proofs.FieldLaws.{fields_length, fields_in_lem}
 use Rattle.format.specs.Writing.{line_body, Writable}
-use Rattle.format.specs.RoundTrip.{written_letter, written_count, written_number, written_fields, written_shape, written_line, shape_written, shape_writable}
+use Rattle.format.proofs.RoundTrip.{written_letter, written_count, written_number, written_fields, written_shape, written_line, shape_written, shape_writable}
 use Rattle.scripts.specs.Scripts.{row_lines, rows_text, WritableLines, none, more, WritableRows, Script, bad, rows, with_row, has_letter, opens, rows_from, script_of, rows_in}
 use Rattle.scripts.proofs.ScriptTests.{Lettered, has_lettered, lettered_has, opens_opening, opening_opens}
 
@@ -47,10 +47,10 @@ written_lettered letter ns w = record { closed = refl; shape = written_shape let
 lettered_written : (letter : ℕ) (l : Line) → Lettered letter l → l ≡ written letter (fields_of l.bytes)
 unfolding written
 lettered_written letter l h =
-    let bytes-are : l.bytes ≡ line_body letter (fields_of l.bytes) =
+    let bytes_are : l.bytes ≡ line_body letter (fields_of l.bytes) =
     shape_written l.bytes h.shape ∙ ap (λ (x : ℕ). line_body x (fields_of l.bytes)) h.first
     in
-    made l.bytes (line_body letter (fields_of l.bytes)) l.ended bytes-are h.closed
+    made l.bytes (line_body letter (fields_of l.bytes)) l.ended bytes_are h.closed
   where
     made : (bs cs : List ℕ) (e : Bool) → bs ≡ cs → e ≡ true → ◌≡◌ {A = Line} (record { bytes = bs; ended = e }) (record { bytes = cs; ended = true })
     made bs cs e p q = rw (p, q)

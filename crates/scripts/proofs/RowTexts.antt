@@ -6,7 +6,7 @@ use lib.ListN.{length, get_or, length-append}
 use native.Mathlib.Omega.{arith}
 use Rattle.format.specs.Fields.{column, field_text}
 use Rattle.format.specs.Writing.{fields_text, line_body, line_text, Writable}
-use Rattle.format.specs.WritingLaws.{line_text_length}
+use Rattle.format.proofs.WritingLaws.{line_text_length}
 use Rattle.scripts.specs.Scripts.{row_lines, rows_text, row_bytes, WritableLines, none, more}
 
 -- ---- lengths

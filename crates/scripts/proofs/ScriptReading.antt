@@ -5,7 +5,7 @@ use mathlib.Core.Bool.{true, false}
 use mathlib.Core.List.{List, [], ◌∷◌}
 use lib.ListN.{length, drop}
 use Rattle.format.specs.Lines.{Line, lines_of, line_of, is_ended, after_line}
-use Rattle.format.specs.LineLaws.{lines_at, lines_end}
+use Rattle.format.proofs.LineLaws.{lines_at, lines_end}
 use Rattle.format.specs.Fields.{number_of, fields_of}
 use Rattle.scripts.specs.Scripts.{bad, rows, with_row, has_letter, opens, rows_from, script_of, rows_in}
 

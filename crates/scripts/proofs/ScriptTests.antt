@@ -4,7 +4,7 @@ use mathlib.Core.Path.{◌≡◌}
 use mathlib.Core.Bool.{true}
 use borrow.Author.Tests.{eqb-true, eq-eqb, leb-true, le-leb}
 use Rattle.format.specs.Lines.{Line}
-use Rattle.format.specs.TestLaws.{both}
+use Rattle.format.proofs.TestLaws.{both}
 use Rattle.format.specs.Fields.{field_count, number_of}
 use Rattle.format.specs.Shape.{letter_of, shape_of}
 use Rattle.scripts.specs.Scripts.{has_letter, opens}

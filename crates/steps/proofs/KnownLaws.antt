@@ -4,7 +4,7 @@ use Prim.Native.Nat.{ℕ, ◌≤◌, ◌<◌}
 use mathlib.Core.Path.{◌≡◌, refl, sym, ap, ◌∙◌, subst}
 use mathlib.Core.Bool.{true}
 use mathlib.Core.List.Memᴰ.{head as here}
-use mathlib.Core.List.Memᴰ.{not-nil as in-nil}
+use mathlib.Core.List.Memᴰ.{not-nil as in_nil}
 use mathlib.Core.List.Memᴰ.{tail as there}
 use mathlib.Core.List.{List, [], ◌∷◌, Memᴰ as In}
 use native.Mathlib.Omega.{arith}
@@ -102,7 +102,7 @@ module _ (g h : List ℕ) where
       where
         alone : (P : Record → Type 0) → P z → (y : Record) → In y (z ∷ []) → P y
         alone P p y (here t) = subst P (sym t) p
-        alone P p y (there m) = absurd (in-nil m)
+        alone P p y (there m) = absurd (in_nil m)
 
   -- ---- what it makes by one rule can be added to the words
   module _ (accepted : Accepted g h) (w : List ℕ) (N : known_chart G H w ≡ true) (small : capacity w ≤ 4096) where

@@ -4,7 +4,7 @@ use mathlib.Core.Path.{◌≡◌, refl, sym, ap, ◌∙◌, subst}
 use native.Mathlib.Omega.{arith}
 use mathlib.Core.Bool.{Bool, true, false, cond}
 use mathlib.Core.List.Memᴰ.{head as here}
-use mathlib.Core.List.Memᴰ.{not-nil as in-nil}
+use mathlib.Core.List.Memᴰ.{not-nil as in_nil}
 use mathlib.Core.List.Memᴰ.{tail as there}
 use mathlib.Core.List.{List, [], ◌∷◌, ◌++◌, map, map-append, Memᴰ as In}
 use lib.Dec.{eqb}
@@ -66,9 +66,9 @@ module _ (G : Grammar) (ok : GrammarOk G) (r : ℕ) (known : r < length G.rules)
     leaf_compact leaf i (here q) =
         subst (λ (j : Item). Compact (record_of j 0 0 0)) (sym q)
         (compact_new (compact_active (tabulate (right_of G r).nodes (λ x. unplaced)) (λ k l. omega (arith, at_unplaced (right_of G r).nodes k)) 0 (omega (arith, ok.rule_count_is.upper)) (omega (arith, (ok.rule r known).plan.size.upper))) (omega arith) (omega arith))
-    leaf_compact leaf i (there m) = absurd (in-nil m)
-    leaf_compact (introduce c e) i m = absurd (in-nil m)
-    leaf_compact (join a b) i m = absurd (in-nil m)
+    leaf_compact leaf i (there m) = absurd (in_nil m)
+    leaf_compact (introduce c e) i m = absurd (in_nil m)
+    leaf_compact (join a b) i m = absurd (in_nil m)
 
     pub leaf_whole : Whole (leaf_record G r p)
     unfolding leaf_record

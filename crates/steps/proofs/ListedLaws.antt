@@ -34,7 +34,7 @@ use Rattle.steps.specs.Ready.{Ready, Handled, Joining}
 use Rattle.steps.proofs.KnownLaws.{known_placed, record_whole}
 use Rattle.steps.proofs.PartnerLaws.{unjoined_none, waiting_none, overlap_none}
 use Rattle.steps.proofs.ReadyLaws.{stays_record, stays_handled}
-use Rattle.steps.proofs.StepLaws.{Gathered, nothing_added, added_longer, partners_whole as gather-whole, again_whole, gathered_none, gathered_skip, gathered_all, partners_next}
+use Rattle.steps.proofs.StepLaws.{Gathered, nothing_added, added_longer, partners_whole as gather_whole, again_whole, gathered_none, gathered_skip, gathered_all, partners_next}
 
 -- ---- a record that may be done already
 pub next_done : (w : List ℕ) → Fits w → (done k : ℕ) (xs : List Record) → k < done → w ≡ grown_by w (guard (leb done k) xs)
@@ -101,7 +101,7 @@ module _ (g h w : List ℕ) (H : Graph) (j : ℕ) (f : Fits w) (D : Handled w j)
   partners = gather done (λ i. with_record (grammar_of g) H (record_at w j) j (record_at w i) i)
 
   partners_whole : Whole partners
-  partners_whole = gather-whole (grammar_of g) H w f (record_at w j) j e done low
+  partners_whole = gather_whole (grammar_of g) H w f (record_at w j) j e done low
 
   dealt_longer : item_count w ≤ item_count v
   dealt_longer = added_longer w v partners f partners_whole A.is
@@ -151,7 +151,7 @@ module _ (g h keys : List ℕ) (H : Graph) (w : List ℕ) (x : Record) (j n : �
   unfolding chart_of
   in_chart v i l = record_in_lem v (item_count v) i l
 
-  module _ (f : Fits w) (all : n ≤ item_count w) (partner-whole : (i : ℕ) → i < item_count w → Whole (partner i)) where
+  module _ (f : Fits w) (all : n ≤ item_count w) (partner_whole : (i : ℕ) → i < item_count w → Whole (partner i)) where
     pub going_start : (ix ls bs cs : List ℕ) (k : ℕ) → Ready g h keys w ix ls → bs ≡ starts_of ls (query_of keys x.item) → SkimsAll quiet ls n bs cs → k ≡ least_of cs → k ≤ 4096 → Going w ix ls cs k 0
     going_start ix ls bs cs k R e s q l = record {
       ready = R;
@@ -167,7 +167,7 @@ module _ (g h keys : List ℕ) (H : Graph) (w : List ℕ) (x : Record) (j n : �
 
     module _ (v ix ls cs : List ℕ) (k done : ℕ) (S : Going v ix ls cs k done) where
       dealt_whole : (m : ℕ) → m ≤ n → Whole (gather m partner)
-      dealt_whole m l = gather-whole G H w f x j partner-whole m (omega arith)
+      dealt_whole m l = gather_whole G H w f x j partner_whole m (omega arith)
 
       grown : v ≡ grown_by w (gather done partner)
       grown = S.gathered.is
@@ -204,7 +204,7 @@ module _ (g h keys : List ℕ) (H : Graph) (w : List ℕ) (x : Record) (j n : �
           dealt : (b : Bool) → leb done k ≡ b → u ≡ grown_by v (guard b (with_record G H x j (record_at v k) k)) → Gathered w partner u later
           dealt true e h =
               let skip = gathered_skip w f partner v done k (λ i a b. passed_over i a b (omega arith)) (leb-true done k e) S.gathered in
-              partners_next G H w f x j partner-whole v u k later (omega (arith, leb-true done k e)) (omega arith) skip h
+              partners_next G H w f x j partner_whole v u k later (omega (arith, leb-true done k e)) (omega arith) skip h
           dealt false e h =
               let same : u ≡ v = h ∙ grown_none v S.ready.fits in
               subst (λ (t : List ℕ). Gathered w partner t later) (sym same) (subst (Gathered w partner v) (let o : done ≡ later = omega (arith, leb-false done k e) in o) S.gathered)
@@ -212,7 +212,7 @@ module _ (g h keys : List ℕ) (H : Graph) (w : List ℕ) (x : Record) (j n : �
           grown_ahead : Ahead quiet (keys_in u) (query_of keys x.item) n done cs
           grown_ahead =
               let ys = guard (leb done k) (with_record G H x j (record_at v k) k) in
-              let m = keys_grown keys v u ys S.ready.fits (whole_guard (leb done k) (with_record G H x j (record_at v k) k) (λ _. again_whole G H w f x j partner-whole v done k (omega (arith, S.low)) (omega arith) S.gathered)) p in
+              let m = keys_grown keys v u ys S.ready.fits (whole_guard (leb done k) (with_record G H x j (record_at v k) k) (λ _. again_whole G H w f x j partner_whole v done k (omega (arith, S.low)) (omega arith) S.gathered)) p in
               subst (λ (ks : List ℕ). Ahead quiet ks (query_of keys x.item) n done cs) (sym m.is) (ahead_grown quiet (keys_in v) m.more (query_of keys x.item) n done cs S.ahead)
 
           module _ (bs ds : List ℕ) (e : bs ≡ passed_of ms cs k) (s : SkimsAll (quiet_in u x.item.edges) ms n bs ds) where

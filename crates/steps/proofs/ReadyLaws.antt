@@ -23,7 +23,7 @@ use Rattle.questions.specs.Layout.{rule_nodes, graph_nodes}
 use Rattle.joins.specs.Joins.{Accepted, BareFrom, Into}
 use Rattle.records.specs.Words.{Fits, Compact, capacity, item_count, record_at, chart_of, added_to, marked_at, grown_by}
 use Rattle.records.proofs.WordLaws.{length_records, record_in_lem, Below, one, least_below}
-use Rattle.records.proofs.Written.{handle_written, capacity_written, fits_written, marked_count as count-marked, marked_handled}
+use Rattle.records.proofs.Written.{handle_written, capacity_written, fits_written, marked_count as count_marked, marked_handled}
 use Rattle.records.proofs.Rewritten.{handled_in, grown_handled}
 use Rattle.records.proofs.Grown.{Whole, whole_one, holds_own, grown_one, grown_fits, grown_capacity, grown_longer, grown_record}
 use Rattle.index.specs.Index.{Indexed, doubt_of, Covered, DoubtKept}
@@ -112,7 +112,7 @@ place_few {w = w} R {k} l = omega (arith, handled_small w k R.small l)
 
 -- a handled record leaves the number of items
 pub marked_count : (w v : List ℕ) (j : ℕ) → j < item_count w → v ≡ marked_at w j → item_count v ≡ item_count w
-marked_count w v j l p = ap item_count p ∙ count-marked w j l
+marked_count w v j l p = ap item_count p ∙ count_marked w j l
 
 -- ---- the record that a step handles
 pub handled_now_lem : (w v : List ℕ) (j : ℕ) → j < item_count w → v ≡ marked_at w j → Handled v j

@@ -199,9 +199,9 @@ module _ (G : Grammar) (H : Graph) where
     unfolding grown_by handled_at
     step_by whole v u is p =
         let cs = consequences G H c.records j in
-        let v-is : v ≡ written w c = is ∙ handle_written w j o l in
+        let v_is : v ≡ written w c = is ∙ handle_written w j o l in
         p
-        ∙ ap (λ (n : ℕ). written v (added_all n (consequences G H (chart_of v).records j) (chart_of v))) (capacity_on w c held.holds v v-is)
-        ∙ ap (λ (d : Chart). written v (added_all (capacity w) (consequences G H d.records j) d)) (ap chart_of v-is ∙ chart_of_written w c held.holds)
-        ∙ ap (λ (t : List ℕ). written t (added_all (capacity w) cs c)) v-is
+        ∙ ap (λ (n : ℕ). written v (added_all n (consequences G H (chart_of v).records j) (chart_of v))) (capacity_on w c held.holds v v_is)
+        ∙ ap (λ (d : Chart). written v (added_all (capacity w) (consequences G H d.records j) d)) (ap chart_of v_is ∙ chart_of_written w c held.holds)
+        ∙ ap (λ (t : List ℕ). written t (added_all (capacity w) cs c)) v_is
         ∙ written_over w c held.holds (added_all (capacity w) cs c) (grown_all w cs c held.holds whole).longer

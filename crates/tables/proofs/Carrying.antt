@@ -9,7 +9,7 @@ use mathlib.Core.List.{List, [], ◌∷◌, ◌++◌}
 use lib.Dec.{ltb, leb, eqb}
 use borrow.Author.Tests.{ltb-true, lt-ltb, le-ltb, eq-eqb, ne_eqb, le-leb, lt-leb, not-true, not-false}
 use Rattle.masks.specs.Masks.{bit, member, ◌∪◌, full, Added}
-use Rattle.masks.specs.Laws.{bit_empty, member_true, member_false}
+use Rattle.masks.proofs.Laws.{bit_empty, member_true, member_false}
 use Rattle.hrg.specs.Counts.{hit, occurs, tabulate}
 use Rattle.hrg.proofs.Sums.{occurs_append, hit_self, hit_ne}
 use Rattle.questions.specs.declared.Due.TheVariants.{PlanLine}

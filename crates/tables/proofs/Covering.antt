@@ -12,7 +12,7 @@ use lib.Seq.{drop-cons}
 use lib.Dec.{ltb, leb, eqb}
 use borrow.Author.Tests.{lt-ltb, le-ltb}
 use Rattle.masks.specs.Masks.{bit, member, ◌∪◌, single, full, Added}
-use Rattle.masks.specs.Laws.{bit_le, bit_empty, member_union, member_single, member_full, member_true, true_member, member_false, false_member, shifted_single, mask_ext}
+use Rattle.masks.proofs.Laws.{bit_le, bit_empty, member_union, member_single, member_full, member_true, true_member, member_false, false_member, shifted_single, mask_ext}
 use Rattle.hrg.specs.Counts.{hit, occurs, tabulate}
 use Rattle.hrg.specs.WellFormedTest.{Decides, every}
 use Rattle.hrg.proofs.Sums.{hit_ne, length_tabulate}

@@ -9,7 +9,7 @@ use lib.ListN.{length, get_or, take, drop, length-drop}
 use lib.Seq.{take_all, get_or-drop}
 use lib.Dec.{T}
 use Rattle.masks.specs.Masks.{bit, member, ◌∪◌, single, Apart, Added, Found}
-use Rattle.masks.specs.Laws.{bit_le, bit_empty, bit_union, sum_disjoint, bit_single_self, bit_single_other, member_true, member_false}
+use Rattle.masks.proofs.Laws.{bit_le, bit_empty, bit_union, sum_disjoint, bit_single_self, bit_single_other, member_true, member_false}
 use Rattle.hrg.specs.Counts.{hit, occurs}
 use Rattle.hrg.specs.WellFormedTest.{Decides}
 use Rattle.hrg.proofs.Sums.{occurs_around, occurs_next, hit_self, hit_ne}

@@ -19,7 +19,7 @@ use Rattle.questions.specs.Questions.{judge_rule, judge_rule_edge, judge}
 use Rattle.questions.specs.Reading.{Verdict, refused, accepted, when_done, go_on, next}
 use Rattle.questions.specs.Checking.{fields_due, stored_fields, check_lines, filled_by, check_grammar, check_graph}
 use Rattle.questions.specs.Walk.{Room}
-use Rattle.questions.proofs.StoredLaws.{get_d_tabulate, packed_short, packed_line, length_stored, stored_same, stored_other, same_line, cleared as cleared-zero}
+use Rattle.questions.proofs.StoredLaws.{get_d_tabulate, packed_short, packed_line, length_stored, stored_same, stored_other, same_line, cleared as cleared_zero}
 use Rattle.questions.proofs.WellFormedQuestions.{passes_rule, passes_edge}
 use Rattle.questions.proofs.WellFormedWalk.{IsLine, reach, reach_line, room_place, room_next, next_forward, judged_line, Agree, Before, next_agree, judge_agree, before_next, walk_onward}
 use Rattle.questions.proofs.WellFormedReading.{check_walk}
@@ -80,7 +80,7 @@ pass_start size g t left first room b e = record {
   room = room;
   before = b;
   same = λ q l. absurd (omega arith);
-  clear = λ q l. cleared-zero size q;
+  clear = λ q l. cleared_zero size q;
   low = omega arith;
   enough = omega arith;
   verdict = refl;

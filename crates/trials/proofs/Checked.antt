@@ -19,7 +19,7 @@ use Rattle.validity.specs.Checking.{holds, known_chart}
 use Rattle.charting.specs.Calls.{Called, number_of, steps_of, refused, fit, fit_chart, answer_of, start_answer, start_of, run_of, standing_of, runs_of}
 use Rattle.charting.specs.declared.Outcome.{Outcome as Standing}
 use Rattle.charting.specs.declared.Outcome.TheVariants.{Unfit}
-use Rattle.writing.specs.Writing.{Wrote, number_of as writingNumber, write_by, write_goal, goal_in, write_of}
+use Rattle.writing.specs.Writing.{Wrote, number_of as writing_number, write_by, write_goal, goal_in, write_of}
 use Rattle.trials.specs.Trials.{Trial, Told, reading_number, written_bytes, answers, told}
 
 -- ---- the calls
@@ -103,7 +103,7 @@ told_by G H chart out runs =
       opening = 0 ∷ 0 ∷ number_of s.answer ∷ [];
       ran = answers_by G H s.words runs;
       kept = same_list w s.words;
-      writing = writingNumber x.answer;
+      writing = writing_number x.answer;
       bytes = take (written_bytes x.answer) x.out;
     }
 
@@ -117,7 +117,7 @@ told_on a b chart out runs =
       opening = reading_number a.answer ∷ reading_number b.answer ∷ number_of s.answer ∷ [];
       ran = answers a.table b.table s.words runs;
       kept = same_list w s.words;
-      writing = writingNumber x.answer;
+      writing = writing_number x.answer;
       bytes = take (written_bytes x.answer) x.out;
     }
 

@@ -9,7 +9,7 @@ use Rattle.questions.specs.Checking.{read_graph}
 use Rattle.questions.specs.declared.Answer.{Answer}
 use Rattle.questions.specs.declared.Answer.TheVariants.{Done, Refused}
 use Rattle.charting.specs.Calls.{number_of, steps_of, start_of, run_of, runs_of}
-use Rattle.writing.specs.Writing.{number_of as writingNumber, write_of}
+use Rattle.writing.specs.Writing.{number_of as writing_number, write_of}
 use Rattle.writing.specs.declared.Answer.{Answer as Writing}
 use Rattle.writing.specs.declared.Answer.TheVariants.{Unfit, TooSmall, Unfinished, Underivable, NoRoom, Written}
 
@@ -61,6 +61,6 @@ told t =
       opening = reading_number a.answer ∷ reading_number b.answer ∷ number_of s.answer ∷ [];
       ran = answers a.table b.table s.words t.runs;
       kept = same_list w s.words;
-      writing = writingNumber x.answer;
+      writing = writing_number x.answer;
       bytes = take (written_bytes x.answer) x.out;
     }

@@ -10,7 +10,7 @@ use lib.ListN.{length}
 use lib.Dec.{T, eqb}
 use borrow.Author.Tests.{ltb-true, lt-ltb, eqb-true, eq-eqb, ne_eqb}
 use Rattle.masks.specs.Masks.{bit, member, full}
-use Rattle.masks.specs.Laws.{bit_le, member_true, member_false, true_member, member_full, within_holds, holds_within}
+use Rattle.masks.proofs.Laws.{bit_le, member_true, member_false, true_member, member_full, within_holds, holds_within}
 use Rattle.hrg.specs.Grammars.{Kind, terminal, nonterminal, Graph, PlanNode, leaf, introduce, join, Grammar, kind_of, right_of, plan_of, plan_node, edge_at}
 use Rattle.hrg.specs.Trees.{unplaced, at}
 use Rattle.hrg.specs.ClosureRun.{is_terminal}

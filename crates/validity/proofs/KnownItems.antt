@@ -12,7 +12,7 @@ use lib.Seq.{get_or-take}
 use lib.Dec.{eqb, ltb}
 use borrow.Author.Tests.{eqb-true, eqb-false, ltb-true, ltb-false}
 use Rattle.masks.specs.Masks.{member, ◌∪◌, single}
-use Rattle.masks.specs.Laws.{member_union, member_single}
+use Rattle.masks.proofs.Laws.{member_union, member_single}
 use Rattle.hrg.specs.Counts.{occurs, tabulate}
 use Rattle.hrg.specs.Grammars.{nonterminal, Graph, introduce, Rule, Grammar, kind_of, rank_of, rule_of, right_of, plan_of, plan_node, edge_at}
 use Rattle.hrg.specs.Trees.{unplaced, at, images, padded}

@@ -25,7 +25,7 @@ use Rattle.questions.specs.Abstract.{grammar_of, graph_of}
 use Rattle.records.specs.Words.{record_at, chart_of}
 use Rattle.charting.specs.Calls.{fit, fit_chart, standing_of}
 use Rattle.charting.specs.declared.Outcome.{Outcome}
-use Rattle.charting.specs.declared.Outcome.TheVariants.{Unfit as Unfit-chart, TooSmall as TooSmall-chart, Unfinished as Unfinished-chart, Done}
+use Rattle.charting.specs.declared.Outcome.TheVariants.{Unfit as UnfitChart, TooSmall as TooSmallChart, Unfinished as UnfinishedChart, Done}
 use Rattle.validity.specs.Checking.{known_chart}
 use Rattle.charting.proofs.Calls.{chart_fit, chart_known}
 use Rattle.chart.proofs.CallSteps.{fit_accepted}
@@ -127,13 +127,13 @@ module _ (g h w out : List ℕ) (o : Outcome) (stands : o ≡ standing_of g h w)
       let q : now ≡ (write_of g h w out).out = l.bytes ∙ ap (λ (x : Wrote). x.out) (sym e) in
       (p, q, subst (λ (b : Answer). WriteChoices g h w out b now) (sym p) (subst (λ (x : List ℕ). WriteChoices g h w out (write_of g h w out).answer x) (sym q) (write_choices g h w out)))
 
-  pub written_unfit : o ≡ Unfit-chart → WroteAs Unfit out
+  pub written_unfit : o ≡ UnfitChart → WroteAs Unfit out
   written_unfit e = written_by Unfit out (subst (λ (p : Outcome). Leaves (write_by p out found) Unfit out) (sym e) (record { answer = refl; bytes = refl }))
 
-  pub written_small : o ≡ TooSmall-chart → WroteAs TooSmall out
+  pub written_small : o ≡ TooSmallChart → WroteAs TooSmall out
   written_small e = written_by TooSmall out (subst (λ (p : Outcome). Leaves (write_by p out found) TooSmall out) (sym e) (record { answer = refl; bytes = refl }))
 
-  pub written_unfinished : (k : ℕ) → o ≡ Unfinished-chart k → WroteAs (Unfinished k) out
+  pub written_unfinished : (k : ℕ) → o ≡ UnfinishedChart k → WroteAs (Unfinished k) out
   written_unfinished k e = written_by (Unfinished k) out (subst (λ (p : Outcome). Leaves (write_by p out found) (Unfinished k) out) (sym e) (record { answer = refl; bytes = refl }))
 
   pub written_done : (k : ℕ) (a : Answer) (now : List ℕ) → o ≡ Done k → Leaves found a now → WroteAs a now
@@ -148,7 +148,7 @@ module _ (g h w out : List ℕ) (o : Outcome) (stands : o ≡ standing_of g h w)
       go true f q = refl
       go false f q = absurd (never (sym (rw f) ∙ q))
         where
-          never : Unfit-chart ≡ Done k → ⊥
+          never : UnfitChart ≡ Done k → ⊥
           never z = let y : ◌≡◌ {A = ℕ} 0 1 = cc in omega (arith, y)
 
   pub done_known : (k : ℕ) → o ≡ Done k → known_chart (grammar_of g) (graph_of g h) w ≡ true

@@ -22,7 +22,7 @@ use Rattle.questions.specs.Abstract.{grammar_of, graph_of}
 use Rattle.joins.proofs.MapLaws.{every_same}
 use Rattle.records.specs.Numbers.{number_in}
 use Rattle.records.specs.Words.{capacity, item_count, record_at, records_at, chart_of}
-use Rattle.records.proofs.WordLaws.{length_records, record_in_lem, same_capacity as capacity-by}
+use Rattle.records.proofs.WordLaws.{length_records, record_in_lem, same_capacity as capacity_by}
 use Rattle.validity.specs.Checking.{known_record, known_chart}
 use Rattle.validity.proofs.AnyNumber.{counted, count_free}
 use Rattle.charting.specs.Calls.{fit_chart, when_waiting, answer_of, standing_of}
@@ -114,7 +114,7 @@ pub record SameButCounts (w v : List ℕ) : Type 0 where
 
 module _ (w v : List ℕ) (s : SameButCounts w v) where
   same_capacity : capacity w ≡ capacity v
-  same_capacity = capacity-by w v s.long
+  same_capacity = capacity_by w v s.long
 
   same_count : item_count w ≡ item_count v
   unfolding item_count

@@ -26,7 +26,7 @@ use Rattle.records.specs.Words.{capacity, item_count, record_at, records_at, cha
 use Rattle.records.proofs.WordLaws.{length_records, record_in_lem}
 use Rattle.charting.specs.Calls.{fit, fit_chart, when_waiting, answer_of, start_of, run_of, runs_of, standing_of}
 use Rattle.charting.specs.declared.Outcome.{Outcome}
-use Rattle.charting.specs.declared.Outcome.TheVariants.{TooSmall as TooSmall-chart, Unfinished as Unfinished-chart, Done}
+use Rattle.charting.specs.declared.Outcome.TheVariants.{TooSmall as TooSmallChart, Unfinished as UnfinishedChart, Done}
 use Rattle.charting.proofs.Answers.{answer_marked, answer_waiting}
 use Rattle.charting.proofs.Calls.{fit_grammar, fit_graph, fit_most}
 use Rattle.charting.proofs.Demand.{runs_known, runs_chart_lem}
@@ -194,10 +194,10 @@ module _ (g h w : List ℕ) (e : fit g h w ≡ true) (ks : List ℕ) where
         go (no_tree none f) = absurd (none u gen)
         go (a_tree t few wr l ch) = (t, few, λ out. subst (λ (x : Wrote). WritesTree t out x) (sym (searches out)) (wr out), tree_fills t few.generates l ch)
 
-  stands_small : c.mark ≢ 0 → standing_of g h v ≡ TooSmall-chart
+  stands_small : c.mark ≢ 0 → standing_of g h v ≡ TooSmallChart
   stands_small m = stands ∙ answer_marked c m
 
-  stands_waiting : c.mark ≡ 0 → SomeLeft c.records → standing_of g h v ≡ Unfinished-chart (handled_count c.records)
+  stands_waiting : c.mark ≡ 0 → SomeLeft c.records → standing_of g h v ≡ UnfinishedChart (handled_count c.records)
   stands_waiting m s = stands ∙ answer_waiting c m ∙ ap (when_waiting (handled_count c.records)) (some_left c.records s).found
 
   runs_calls : CallsRight g h (capacity w) (sum_of ks) (runs_of g h (start_of g h w).words ks)
@@ -213,10 +213,10 @@ module _ (g h w : List ℕ) (e : fit g h w ≡ true) (ks : List ℕ) where
         underivable = write_underivable;
         underivable_row = fill_underivable;
         writes = write_fewest;
-        nine = λ m out. write_by_is g h v out TooSmall-chart (stands_small m);
-        nine_row = λ m former. fill_refuses g h v former TooSmall (chosen_by_is g h v TooSmall-chart (stands_small m));
-        ten = λ m s out. write_by_is g h v out (Unfinished-chart (handled_count c.records)) (stands_waiting m s);
-        ten_row = λ m s former. fill_refuses g h v former (Unfinished (handled_count c.records)) (chosen_by_is g h v (Unfinished-chart (handled_count c.records)) (stands_waiting m s));
+        nine = λ m out. write_by_is g h v out TooSmallChart (stands_small m);
+        nine_row = λ m former. fill_refuses g h v former TooSmall (chosen_by_is g h v TooSmallChart (stands_small m));
+        ten = λ m s out. write_by_is g h v out (UnfinishedChart (handled_count c.records)) (stands_waiting m s);
+        ten_row = λ m s former. fill_refuses g h v former (Unfinished (handled_count c.records)) (chosen_by_is g h v (UnfinishedChart (handled_count c.records)) (stands_waiting m s));
       }
 
 -- Demand 3: after a start that passes question 8 and any list of runs and writings, as text or as records.

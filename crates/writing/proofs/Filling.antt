@@ -20,7 +20,7 @@ use Rattle.questions.specs.Abstract.{grammar_of, graph_of}
 use Rattle.records.specs.Words.{record_at, chart_of}
 use Rattle.charting.specs.Calls.{fit, standing_of}
 use Rattle.charting.specs.declared.Outcome.{Outcome}
-use Rattle.charting.specs.declared.Outcome.TheVariants.{Unfit as Unfit-chart, TooSmall as TooSmall-chart, Unfinished as Unfinished-chart, Done}
+use Rattle.charting.specs.declared.Outcome.TheVariants.{Unfit as UnfitChart, TooSmall as TooSmallChart, Unfinished as UnfinishedChart, Done}
 use Rattle.charting.proofs.Calls.{chart_fit, fit_grammar, fit_graph}
 use Rattle.scripts.specs.Scripts.{rows, rows_text, rows_in}
 use Rattle.preorder.specs.Rows.{size, size_in, part_numbers, tree_rows, part_rows, rows_of}
@@ -52,9 +52,9 @@ module _ (G : Grammar) (H : Graph) (out : List ℕ) where
   write_goal_is look (At j) = write_spelt_is (tree_at look G H 4096 j)
 
   write_standing : (o : Outcome) (x : Wrote) (c : Choice) → x ≡ write_by c out → writeStanding o out x ≡ write_by (chosen_by o c) out
-  write_standing Unfit-chart x c e = refl
-  write_standing TooSmall-chart x c e = refl
-  write_standing (Unfinished-chart k) x c e = refl
+  write_standing UnfitChart x c e = refl
+  write_standing TooSmallChart x c e = refl
+  write_standing (UnfinishedChart k) x c e = refl
   write_standing (Done k) x c e = e
 
 pub write_chosen : (g h w out : List ℕ) → write_of g h w out ≡ write_by (chosen_of g h w) out

@@ -20,7 +20,7 @@ use Rattle.questions.specs.Abstract.{grammar_of, graph_of}
 use Rattle.records.specs.Words.{record_at, chart_of}
 use Rattle.charting.specs.Calls.{fit_chart, standing_of}
 use Rattle.charting.specs.declared.Outcome.{Outcome}
-use Rattle.charting.specs.declared.Outcome.TheVariants.{Unfit as Unfit-chart, TooSmall as TooSmall-chart, Unfinished as Unfinished-chart, Done}
+use Rattle.charting.specs.declared.Outcome.TheVariants.{Unfit as UnfitChart, TooSmall as TooSmallChart, Unfinished as UnfinishedChart, Done}
 use Rattle.charting.proofs.Calls.{chart_fit, fit_grammar, fit_graph}
 use Rattle.preorder.specs.Rows.{size}
 use Rattle.derivation.specs.Derivations.{derivation_text, replay_text, DerivationOf}
@@ -86,9 +86,9 @@ module _ (G : Grammar) (H : Graph) (out : List ℕ) where
   way_goal look (At j) = way_spelt (tree_at look G H 4096 j)
 
   way_by : (o : Outcome) (x : Wrote) → Way G H out x → Way G H out (write_by o out x)
-  way_by Unfit-chart x y = refusing Unfit (λ z. omega (arith, z))
-  way_by TooSmall-chart x y = refusing TooSmall (λ z. omega (arith, z))
-  way_by (Unfinished-chart k) x y = refusing (Unfinished k) (λ z. omega (arith, z))
+  way_by UnfitChart x y = refusing Unfit (λ z. omega (arith, z))
+  way_by TooSmallChart x y = refusing TooSmall (λ z. omega (arith, z))
+  way_by (UnfinishedChart k) x y = refusing (Unfinished k) (λ z. omega (arith, z))
   way_by (Done k) x y = y
 
 module _ (g h w out : List ℕ) where
@@ -121,7 +121,7 @@ module _ (g h w out : List ℕ) where
   -- 8 comes first
   pub write_unfit : fit_chart g h w ≡ false → write_of g h w out ≡ refused Unfit out
   unfolding standing_of
-  write_unfit n = write_by_is Unfit-chart (rw n)
+  write_unfit n = write_by_is UnfitChart (rw n)
 
   -- something is written only where the tables and the chart pass question 8
   pub written_fit : number_of (write_of g h w out).answer ≡ 0 → fit_chart g h w ≡ true

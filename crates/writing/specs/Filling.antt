@@ -10,7 +10,7 @@ use Rattle.questions.specs.Abstract.{grammar_of, graph_of}
 use Rattle.records.specs.Words.{record_at, chart_of}
 use Rattle.charting.specs.Calls.{standing_of}
 use Rattle.charting.specs.declared.Outcome.{Outcome}
-use Rattle.charting.specs.declared.Outcome.TheVariants.{Unfit as Unfit-chart, TooSmall as TooSmall-chart, Unfinished as Unfinished-chart, Done}
+use Rattle.charting.specs.declared.Outcome.TheVariants.{Unfit as UnfitChart, TooSmall as TooSmallChart, Unfinished as UnfinishedChart, Done}
 use Rattle.scripts.specs.Scripts.{Script, bad, rows, rows_text, rows_in}
 use Rattle.preorder.specs.Rows.{size, part_numbers}
 use Rattle.derivation.specs.Derivations.{derivation_text}
@@ -92,9 +92,9 @@ chosen_goal G H look Nowhere = refuses Underivable
 chosen_goal G H look (At j) = chosen_spelt G H (tree_at look G H 4096 j)
 
 abbrev pub chosen_by : Outcome → Choice → Choice
-chosen_by Unfit-chart c = refuses Unfit
-chosen_by TooSmall-chart c = refuses TooSmall
-chosen_by (Unfinished-chart k) c = refuses (Unfinished k)
+chosen_by UnfitChart c = refuses Unfit
+chosen_by TooSmallChart c = refuses TooSmall
+chosen_by (UnfinishedChart k) c = refuses (Unfinished k)
 chosen_by (Done k) c = c
 
 unfoldable pub chosen_of : List ℕ → List ℕ → List ℕ → Choice

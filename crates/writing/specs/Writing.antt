@@ -14,7 +14,7 @@ use Rattle.questions.specs.Abstract.{grammar_of, graph_of}
 use Rattle.records.specs.Words.{record_at, chart_of}
 use Rattle.charting.specs.Calls.{standing_of}
 use Rattle.charting.specs.declared.Outcome.{Outcome}
-use Rattle.charting.specs.declared.Outcome.TheVariants.{Unfit as Unfit-chart, TooSmall as TooSmall-chart, Unfinished as Unfinished-chart, Done}
+use Rattle.charting.specs.declared.Outcome.TheVariants.{Unfit as UnfitChart, TooSmall as TooSmallChart, Unfinished as UnfinishedChart, Done}
 use Rattle.preorder.specs.Rows.{size}
 use Rattle.derivation.specs.Derivations.{derivation_text, replay_text}
 use Rattle.extraction.specs.Extraction.{Spelt, nothing, spelt, tree_at}
@@ -73,9 +73,9 @@ write_goal G H look out (At j) = write_spelt G H out (tree_at look G H 4096 j)
 
 -- 8, 9 and 10 as a run of no steps
 abbrev pub write_by : Outcome → List ℕ → Wrote → Wrote
-write_by Unfit-chart out wrote = refused Unfit out
-write_by TooSmall-chart out wrote = refused TooSmall out
-write_by (Unfinished-chart k) out wrote = refused (Unfinished k) out
+write_by UnfitChart out wrote = refused Unfit out
+write_by TooSmallChart out wrote = refused TooSmall out
+write_by (UnfinishedChart k) out wrote = refused (Unfinished k) out
 write_by (Done k) out wrote = wrote
 
 unfoldable pub write_of : List ℕ → List ℕ → List ℕ → List ℕ → Wrote

@@ -9,17 +9,17 @@ four_below : (a b c d : ℕ) → a < 4294967296 → b < 4294967296 → c < 42949
     → a * 1051780055 + b * 668265263 + c * 904645227 + d * 374761393 < 14500000000000000000
 four_below a b c d p q r s = omega arith
 
-mix-below : (e m h : ℕ) → e < 18446744073709551616 → m < 18446744073709551616 → h < 4294967296
+mix_below : (e m h : ℕ) → e < 18446744073709551616 → m < 18446744073709551616 → h < 4294967296
     → e % 4294967296 * 1051780055 + e / 4294967296 * 668265263
     + m % 4294967296 * 904645227 + (m / 4294967296 + h) * 374761393 < 14500000000000000000
-mix-below e m h p q r = four_below _ _ _ _ (omega arith) (omega arith) (omega arith) (omega arith)
+mix_below e m h p q r = four_below _ _ _ _ (omega arith) (omega arith) (omega arith) (omega arith)
 
 pub overflow_add-mix-4 : goal.overflow_add-mix-4
 overflow_add-mix-4 c =
     let small = c.tag_of-tag.ensures.1 in
     omega (
       arith,
-      mix-below c.args.x.edges c.word_of-map.result _ (search rules)
+      mix_below c.args.x.edges c.word_of-map.result _ (search rules)
           (search rules) small,
     )
 
@@ -28,7 +28,7 @@ overflow_add-result c =
     let small = c.tag_of-tag.ensures.1 in
     omega (
       arith,
-      mix-below c.args.x.edges c.word_of-map.result _ (search rules)
+      mix_below c.args.x.edges c.word_of-map.result _ (search rules)
           (search rules) small,
     )
 

@@ -7,7 +7,7 @@ use lib.Bits.{bit_or, or_lt}
 use lib.ListN.{get_or, length-set}
 use lib.Pow.{pow-lt}
 use Rattle.masks.specs.Masks.{◌∪◌}
-use Rattle.masks.specs.Laws.{shifted_single}
+use Rattle.masks.proofs.Laws.{shifted_single}
 use Rattle.chains.specs.Chains.{linked}
 use Rattle.chains.proofs.link.Goals as goal
 

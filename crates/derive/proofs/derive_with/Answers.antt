@@ -3,8 +3,8 @@ use borrow.Author.Rules.{rules}
 use Rattle.driver.proofs.PrintLaws.{prints_front}
 use Rattle.derive.proofs.derive_with.Goals as goal
 
-slice-aggregate-read-file : tie.Need-slice-aggregate-read-file
-slice-aggregate-read-file c = search rules
+slice_aggregate_read_file : tie.Need-slice-aggregate-read-file
+slice_aggregate_read_file c = search rules
 
 pub slice_bounds-out-end : goal.slice_bounds-out-end
 slice_bounds-out-end c = (prints_front _ _ _ _ c.derive-count.ensures).0

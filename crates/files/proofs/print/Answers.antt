@@ -14,5 +14,5 @@ whole l = (omega arith, ap length (sym (take-length l)))
 pub returns-then-write_all : goal.returns-then-write_all
 returns-then-write_all c = whole c.args.bytes.now
 
-slice-aggregate-fail : tie.Need-slice-aggregate-fail
-slice-aggregate-fail c = search rules
+slice_aggregate_fail : tie.Need-slice-aggregate-fail
+slice_aggregate_fail c = search rules

@@ -21,9 +21,9 @@ loop-rest-preserved c =
     let small = c.ranges.w.fits in
     let before = c.loop-rest.invariant in
     elim c.if-v-lt64.branch [
-      then-v-lt64+else-lost w ↦
-        passed_next _ _ _ _ small before _ refl (sym w.lost.ensures ∙ w.if-lost.false)
-    | else-v-lt64 w ↦ passed_bare _ _ _ _ small before _ refl w.if-v-lt64.false
+      | then-v-lt64+else-lost w ↦
+          passed_next _ _ _ _ small before _ refl (sym w.lost.ensures ∙ w.if-lost.false)
+      | else-v-lt64 w ↦ passed_bare _ _ _ _ small before _ refl w.if-v-lt64.false
     ]
 
 pub returns : goal.returns

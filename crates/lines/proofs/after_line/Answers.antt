@@ -1,7 +1,7 @@
 -- Behind the line feed, or at the end.
 use native.Mathlib.Omega.{arith}
 use mathlib.Core.Path.{sym}
-use Rattle.format.specs.LineLaws.{after_feed, after_last}
+use Rattle.format.proofs.LineLaws.{after_feed, after_last}
 use Rattle.lines.proofs.after_line.Goals as goal
 
 pub returns-then-e-text : goal.returns-then-e-text

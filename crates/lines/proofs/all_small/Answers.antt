@@ -8,7 +8,7 @@ use lib.Dec.{leb}
 use borrow.Author.Tests.{le-leb, lt-leb}
 use borrow.Author.Rules.{rules}
 use Rattle.format.specs.Tests.{all_below}
-use Rattle.format.specs.TestLaws.{all_none, all_next, all_no}
+use Rattle.format.proofs.TestLaws.{all_none, all_next, all_no}
 use Rattle.lines.proofs.all_small.Goals as goal
 
 pub loop-k-init : goal.loop-k-init

@@ -1,7 +1,7 @@
 -- Behind the line feed, or at the end.
 use native.Mathlib.Omega.{arith}
 use mathlib.Core.Path.{sym}
-use Rattle.format.specs.LineLaws.{end_le, after_feed, after_last}
+use Rattle.format.proofs.LineLaws.{end_le, after_feed, after_last}
 use Rattle.lines.proofs.Places.{found_end}
 use Rattle.lines.proofs.behind.Goals as goal
 

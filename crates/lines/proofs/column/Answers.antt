@@ -1,6 +1,6 @@
 -- A division by a number above 0, and a cast to a byte.
 use mathlib.Core.Path.{sym}
-use Rattle.format.specs.FieldLaws.{column_blank, column_digit}
+use Rattle.format.proofs.FieldLaws.{column_blank, column_digit}
 use Rattle.lines.proofs.column.Goals as goal
 
 pub returns-then-n-p : goal.returns-then-n-p

@@ -1,6 +1,6 @@
 -- The value decides which text is compared.
 use mathlib.Core.Path.{sym, ◌∙◌}
-use Rattle.format.specs.FieldLaws.{cell_yes, cell_no}
+use Rattle.format.proofs.FieldLaws.{cell_yes, cell_no}
 use Rattle.lines.proofs.compared_cell.Goals as goal
 
 pub returns-then-is_text : goal.returns-then-is_text

@@ -1,7 +1,7 @@
 -- A digit less 48, and 0 on both sides of the digits.
 use native.Mathlib.Omega.{arith}
 use mathlib.Core.Path.{sym}
-use Rattle.format.specs.FieldLaws.{digit_in, digit_below, digit_above}
+use Rattle.format.proofs.FieldLaws.{digit_in, digit_below, digit_above}
 use Rattle.lines.proofs.digit.Goals as goal
 
 pub returns-then-b-lt48 : goal.returns-then-b-lt48

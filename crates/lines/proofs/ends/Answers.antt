@@ -1,7 +1,7 @@
 -- The line ends where its bytes end.
 use native.Mathlib.Omega.{arith}
 use Rattle.format.specs.Lines.{is_ended}
-use Rattle.format.specs.LineLaws.{end_le}
+use Rattle.format.proofs.LineLaws.{end_le}
 use Rattle.lines.proofs.Places.{found_end}
 use Rattle.lines.proofs.ends.Goals as goal
 

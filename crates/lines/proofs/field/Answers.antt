@@ -2,7 +2,7 @@
 use native.Mathlib.Omega.{arith}
 use mathlib.Core.Path.{sym, ◌∙◌}
 use Rattle.format.specs.Fields.{field_count, field_bytes}
-use Rattle.format.specs.FieldLaws.{field_missing, field_cell}
+use Rattle.format.proofs.FieldLaws.{field_missing, field_cell}
 use Rattle.lines.proofs.field.Goals as goal
 
 pub returns-then-field_count-k : goal.returns-then-field_count-k

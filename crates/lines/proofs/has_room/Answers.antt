@@ -3,7 +3,7 @@ use native.Mathlib.Omega.{arith}
 use Prim.Native.Nat.{◌+◌}
 use mathlib.Core.Path.{sym}
 use borrow.Author.Tests.{lt-leb}
-use Rattle.format.specs.TestLaws.{leb_sum}
+use Rattle.format.proofs.TestLaws.{leb_sum}
 use Rattle.lines.proofs.has_room.Goals as goal
 
 pub returns-then-len-at : goal.returns-then-len-at

@@ -1,6 +1,6 @@
 -- Four comparisons, one for each column.
 use Rattle.format.specs.Fields.{column, field_text}
-use Rattle.format.specs.TestLaws.{same_four}
+use Rattle.format.proofs.TestLaws.{same_four}
 use Rattle.lines.proofs.is_text.Goals as goal
 
 pub returns : goal.returns

@@ -1,6 +1,6 @@
 -- Two tests, after the one that the loop does not make.
 use mathlib.Core.Path.{sym}
-use Rattle.format.specs.WritingLaws.{writable_first, writable_none}
+use Rattle.format.proofs.WritingLaws.{writable_first, writable_none}
 use Rattle.lines.proofs.is_writable.Goals as goal
 
 pub returns-then-count-lt1 : goal.returns-then-count-lt1

@@ -2,7 +2,7 @@
 use native.Mathlib.Omega.{arith}
 use Prim.Native.Nat.{◌-◌}
 use borrow.Author.Rules.{rules}
-use Rattle.format.specs.LineLaws.{start_le, scan_start, scan_end, scan_feed, scan_more}
+use Rattle.format.proofs.LineLaws.{start_le, scan_start, scan_end, scan_feed, scan_more}
 use Rattle.lines.proofs.line_end.Goals as goal
 
 pub loop-i-init : goal.loop-i-init

@@ -4,7 +4,7 @@ use Prim.Native.Nat.{ℕ}
 use mathlib.Core.Path.{◌≡◌, ap, ◌∙◌}
 use lib.ListN.{drop}
 use Rattle.format.specs.Lines.{line_of, counting_start, counting_of}
-use Rattle.format.specs.LineLaws.{start_in, counting_le, counting_part}
+use Rattle.format.proofs.LineLaws.{start_in, counting_le, counting_part}
 use Rattle.lines.proofs.next_counting.Goals as goal
 
 pub returns : goal.returns

@@ -1,7 +1,7 @@
 -- A part of the lent text is returned: its place and its bytes.
 use native.Mathlib.Omega.{arith}
 use mathlib.Core.Path.{refl}
-use Rattle.format.specs.LineLaws.{end_le, start_le_end, line_part, part_line}
+use Rattle.format.proofs.LineLaws.{end_le, start_le_end, line_part, part_line}
 use Rattle.lines.proofs.next_line.Goals as goal
 
 pub slice_bounds-result-count : goal.slice_bounds-result-count

@@ -2,7 +2,7 @@
 use mathlib.Core.Path.{sym, ◌∙◌}
 use borrow.Author.Tests.{leb-true}
 use Rattle.format.specs.Fields.{field_text}
-use Rattle.format.specs.WritingLaws.{field_large, field_room, put_refused, put_made}
+use Rattle.format.proofs.WritingLaws.{field_large, field_room, put_refused, put_made}
 use Rattle.lines.proofs.put_field.Goals as goal
 
 pub returns-then-n-gt9999 : goal.returns-then-n-gt9999

@@ -5,7 +5,7 @@ use lib.ListN.{length, take}
 use lib.Seq.{length-take-le}
 use borrow.Author.Tests.{leb-true}
 use borrow.Author.Rules.{rules}
-use Rattle.format.specs.WritingLaws.{line_text_length, line_many, line_not, line_room, put_refused, put_made}
+use Rattle.format.proofs.WritingLaws.{line_text_length, line_many, line_not, line_room, put_refused, put_made}
 use Rattle.lines.proofs.put_line.Goals as goal
 
 pub returns-then-count-gt18 : goal.returns-then-count-gt18

@@ -1,6 +1,6 @@
 -- A sum of products that fits, since a digit is at most 9.
 use native.Mathlib.Omega.{arith}
-use Rattle.format.specs.FieldLaws.{value_four}
+use Rattle.format.proofs.FieldLaws.{value_four}
 use Rattle.lines.proofs.value.Goals as goal
 
 pub returns : goal.returns

@@ -4,7 +4,7 @@ use Prim.Native.Nat.{◌-◌}
 use mathlib.Core.Path.{◌≡◌, refl, ◌∙◌}
 use borrow.Author.Rules.{rules}
 use Rattle.format.specs.Writing.{fields_text}
-use Rattle.format.specs.WritingLaws.{fields_next}
+use Rattle.format.proofs.WritingLaws.{fields_next}
 use Rattle.lines.proofs.write_fields.Goals as goal
 
 pub loop-k-init : goal.loop-k-init

@@ -5,7 +5,7 @@ use mathlib.Core.Path.{◌≡◌, ap, ◌∙◌}
 use mathlib.Core.List.{List}
 use lib.ListN.{length, take, set, length-set}
 use lib.Seq.{length-take-le}
-use Rattle.format.specs.WritingLaws.{line_sets}
+use Rattle.format.proofs.WritingLaws.{line_sets}
 use Rattle.lines.proofs.write_line.Goals as goal
 
 pub write_fields-p-requires : goal.write_fields-p-requires

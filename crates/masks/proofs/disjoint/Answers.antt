@@ -4,7 +4,7 @@ use lib.Bits.{bit_and}
 use lib.Dec.{eqb→eq}
 use borrow.Author.Tests.{eq-eqb}
 use Rattle.masks.specs.Masks.{disjoint}
-use Rattle.masks.specs.Laws.{disjoint_holds, holds_disjoint}
+use Rattle.masks.proofs.Laws.{disjoint_holds, holds_disjoint}
 use Rattle.masks.proofs.disjoint.Goals as goal
 
 pub returns : goal.returns

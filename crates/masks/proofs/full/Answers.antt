@@ -5,7 +5,7 @@ use mathlib.Core.Path.{◌≡◌, sym, ◌∙◌}
 use lib.Pow.{pow_pos}
 use borrow.Author.Tests.{lt-ltb}
 use Rattle.masks.specs.Masks.{single, full}
-use Rattle.masks.specs.Laws.{member_full, shifted_single}
+use Rattle.masks.proofs.Laws.{member_full, shifted_single}
 use Rattle.masks.proofs.full.Goals as goal
 
 pub returns-then-n-ge64 : goal.returns-then-n-ge64

@@ -3,7 +3,7 @@ use native.Mathlib.Omega.{arith}
 use mathlib.Core.Path.{sym}
 use lib.Bits.{and_mask}
 use Rattle.masks.specs.Masks.{bit, member}
-use Rattle.masks.specs.Laws.{lt_bits, false_member}
+use Rattle.masks.proofs.Laws.{lt_bits, false_member}
 use Rattle.masks.proofs.has.Goals as goal
 
 pub returns-then-e-ge64 : goal.returns-then-e-ge64

@@ -5,7 +5,7 @@ use mathlib.Core.Bool.{or-false}
 use lib.Bits.{bit_or}
 use borrow.Author.Tests.{ne_eqb}
 use Rattle.masks.specs.Masks.{member, ◌∪◌, single}
-use Rattle.masks.specs.Laws.{member_union, member_single, shifted_single}
+use Rattle.masks.proofs.Laws.{member_union, member_single, shifted_single}
 use Rattle.masks.proofs.with.Goals as goal
 
 pub returns-then-e-ge64 : goal.returns-then-e-ge64

@@ -54,10 +54,10 @@ loop-i-preserved c = (
     c.loop-i-test.true,
   ) in
       elim c.if-want-ne80.branch [
-        then-want-ne80 w ↦ subst (λ t. Filled c.args.g.now t (c.loop-i.i + 1)) (sym w.t-is)
+        | then-want-ne80 w ↦ subst (λ t. Filled c.args.g.now t (c.loop-i.i + 1)) (sym w.t-is)
             (filled_more _ _ _ _ c.loop-i.invariant.1 low (omega arith) _ c.want_of-want.ensures
             _ w.pivot-w.ensures _ w.enter.ensures)
-      | else-want-ne80 w ↦ subst (λ t. Filled c.args.g.now t (c.loop-i.i + 1)) (sym w.t-is)
+        | else-want-ne80 w ↦ subst (λ t. Filled c.args.g.now t (c.loop-i.i + 1)) (sym w.t-is)
             (filled_idle _ _ _ _ c.loop-i.invariant.1 low (omega arith) _ c.want_of-want.ensures
             w.if-want-ne80.false)
       ],

@@ -11,15 +11,15 @@ use Rattle.readers.specs.Readers.{missing}
 use Rattle.readers.proofs.missing_line.Goals as goal
 
 -- what the other arms leave
-some-line : (due : Due) → OneOf (0 ∷ 1 ∷ 2 ∷ 3 ∷ 4 ∷ 5 ∷ 6 ∷ []) (tag_of the_type due) → 2 ≡ missing due
-some-line Nothing h = absurd (miss (0 ∷ 1 ∷ 2 ∷ 3 ∷ 4 ∷ 5 ∷ 6 ∷ []) 7 tt h)
-some-line Grammar h = refl
-some-line (Symbol s) h = refl
-some-line (Rule r) h = refl
-some-line (RuleEdge r i) h = refl
-some-line (PlanLine r q) h = refl
-some-line Graph h = refl
-some-line (GraphEdge e) h = refl
+some_line : (due : Due) → OneOf (0 ∷ 1 ∷ 2 ∷ 3 ∷ 4 ∷ 5 ∷ 6 ∷ []) (tag_of the_type due) → 2 ≡ missing due
+some_line Nothing h = absurd (miss (0 ∷ 1 ∷ 2 ∷ 3 ∷ 4 ∷ 5 ∷ 6 ∷ []) 7 tt h)
+some_line Grammar h = refl
+some_line (Symbol s) h = refl
+some_line (Rule r) h = refl
+some_line (RuleEdge r i) h = refl
+some_line (PlanLine r q) h = refl
+some_line Graph h = refl
+some_line (GraphEdge e) h = refl
 
 pub returns-in_default : goal.returns-in_default
-returns-in_default c = some-line c.args.due (opened c.in_default.in_default-own.keys2)
+returns-in_default c = some_line c.args.due (opened c.in_default.in_default-own.keys2)

@@ -2,7 +2,7 @@
 use native.Mathlib.Omega.{arith}
 use mathlib.Core.Path.{sym, ◌∙◌}
 use lib.ListN.{length-take}
-use Rattle.format.specs.ShapeLaws.{shape_shaped}
+use Rattle.format.proofs.ShapeLaws.{shape_shaped}
 use Rattle.readers.proofs.Turns.{judged_fields, stored_fields_is}
 use Rattle.readers.proofs.store_line.Goals as goal
 

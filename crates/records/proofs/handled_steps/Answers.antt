@@ -14,13 +14,13 @@ pub loop-i-preserved : goal.loop-i-preserved
 loop-i-preserved c =
     let l = c.loop-i in
     elim c.if-is_handled.branch [
-      then-is_handled w ↦ (
+      | then-is_handled w ↦ (
         omega arith,
         omega arith,
         w.done-is ∙ handled_more c.args.chart.now l.i l.done
             (sym c.is_handled.ensures ∙ w.if-is_handled.true) l.invariant.2,
       )
-    | else-is_handled w ↦ (
+      | else-is_handled w ↦ (
         omega arith,
         omega arith,
         w.done-is ∙ handled_same c.args.chart.now l.i l.done

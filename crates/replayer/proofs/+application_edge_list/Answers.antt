@@ -3,7 +3,7 @@ use native.Mathlib.Omega.{arith}
 use mathlib.Core.Path.{refl, sym, ap, ◌∙◌}
 use mathlib.Core.Bool.{true}
 use lib.ListN.{length}
-use Rattle.format.specs.FieldLaws.{fields_length}
+use Rattle.format.proofs.FieldLaws.{fields_length}
 use Rattle.joins.proofs.Known.{graph_ok}
 use Rattle.replayer.specs.Following.{progress_in}
 use Rattle.replayer.proofs.MaskTests.{edge_known, ruled, four_length}

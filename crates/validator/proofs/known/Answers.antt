@@ -45,13 +45,13 @@ loop-j-preserved c =
     _ _ _ c.load-x.ensures
     c.known_record.ensures c.if-not-known_record.false l.invariant.2 in
     elim c.if-x-ne0.branch [
-      then-x-ne0 p ↦ (
+      | then-x-ne0 p ↦ (
         omega arith,
         omega arith,
         passed,
         p.handled-is ∙ count_more w l.j l.handled _ c.load-x.ensures p.if-x-ne0.true l.invariant.3,
       )
-    | else-x-ne0 p ↦ (
+      | else-x-ne0 p ↦ (
         omega arith,
         omega arith,
         passed,

@@ -21,9 +21,9 @@ loop-i-preserved c =
     l = omega (arith, length_places c.word_of-map.result) in (
       omega arith,
       elim c.if-has.branch [
-        then-has w ↦ imaged_with l _ _ _ _ _ _ _ inside c.has.ensures w.if-has.true w.node_at.ensures.0
-          w.with-set.ensures w.set-is before
-      | else-has w ↦ imaged_skip l _ _ _ _ w.set-is before
+        | then-has w ↦ imaged_with l _ _ _ _ _ _ _ inside c.has.ensures w.if-has.true w.node_at.ensures.0
+            w.with-set.ensures w.set-is before
+        | else-has w ↦ imaged_skip l _ _ _ _ w.set-is before
       ],
     )
 

@@ -22,9 +22,9 @@ met : (c : Joined-x-eq0)
 met c =
     let own = c.item_at-x.ensures in
     elim c.if-x-eq0.branch [
-      then-x-eq0+else-w-ge16 w ↦ alone_same w.chart-is w.index-is w.lists-is w.lead-is
+      | then-x-eq0+else-w-ge16 w ↦ alone_same w.chart-is w.index-is w.lists-is w.lead-is
           (alone_child c.requires own w.if-x-eq0.true w.parent_in-w.ensures w.if-w-ge16.false w.add_terminals.ensures)
-    | else-x-eq0 w ↦ alone_same w.chart-is w.index-is w.lists-is w.lead-is (alone_passive c.requires own w.if-x-eq0.false)
+      | else-x-eq0 w ↦ alone_same w.chart-is w.index-is w.lists-is w.lead-is (alone_passive c.requires own w.if-x-eq0.false)
     ]
 
 pub add_each-requires : goal.add_each-requires

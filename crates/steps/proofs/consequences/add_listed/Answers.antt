@@ -57,9 +57,9 @@ after-c-requires c =
     let own = c.edges_at-edges.ensures in
     let q = c.quiet.ensures in (
       single_size p A t (elim c.if-not-quiet.branch [
-        then-not-quiet w ↦ loud _ _ _ _ w.chart-is w.index-is w.lists-is w.past-is w.add_met-past.ensures.0
+        | then-not-quiet w ↦ loud _ _ _ _ w.chart-is w.index-is w.lists-is w.past-is w.add_met-past.ensures.0
             w.add_met-past.ensures.1 w.add_met-past.ensures.2
-      | else-not-quiet w ↦ quiet (quiet_by _ _ _ _ _ own q w.if-not-quiet.false) w.chart-is w.index-is w.lists-is w.past-is
+        | else-not-quiet w ↦ quiet (quiet_by _ _ _ _ _ own q w.if-not-quiet.false) w.chart-is w.index-is w.lists-is w.past-is
       ]),
       omega (arith, single_few p, single_low p A t),
     )
@@ -72,10 +72,10 @@ loop-c-smaller c =
     let own = c.edges_at-edges.ensures in
     let q = c.quiet.ensures in
     single_less p A t _ c.after-c.ensures (elim c.if-not-quiet.branch [
-        then-not-quiet w ↦ loud _ _ _ _ w.chart-is w.index-is w.lists-is w.past-is w.add_met-past.ensures.0
-            w.add_met-past.ensures.1 w.add_met-past.ensures.2
+      | then-not-quiet w ↦ loud _ _ _ _ w.chart-is w.index-is w.lists-is w.past-is w.add_met-past.ensures.0
+          w.add_met-past.ensures.1 w.add_met-past.ensures.2
       | else-not-quiet w ↦ quiet (quiet_by _ _ _ _ _ own q w.if-not-quiet.false) w.chart-is w.index-is w.lists-is w.past-is
-      ])
+    ])
 
 pub loop-c-preserved : goal.loop-c-preserved
 loop-c-preserved c =
@@ -85,21 +85,21 @@ loop-c-preserved c =
     let own = c.edges_at-edges.ensures in
     let q = c.quiet.ensures in (
       elim c.if-not-quiet.branch [
-        then-not-quiet w ↦ ap length w.chart-is ∙ w.add_met-past.auto.chart ∙ l.invariant.0
-      | else-not-quiet w ↦ ap length w.chart-is ∙ l.invariant.0
+        | then-not-quiet w ↦ ap length w.chart-is ∙ w.add_met-past.auto.chart ∙ l.invariant.0
+        | else-not-quiet w ↦ ap length w.chart-is ∙ l.invariant.0
       ],
       elim c.if-not-quiet.branch [
-        then-not-quiet w ↦ ap length w.lists-is ∙ w.add_met-past.auto.lists ∙ l.invariant.1
-      | else-not-quiet w ↦ ap length w.lists-is ∙ l.invariant.1
+        | then-not-quiet w ↦ ap length w.lists-is ∙ w.add_met-past.auto.lists ∙ l.invariant.1
+        | else-not-quiet w ↦ ap length w.lists-is ∙ l.invariant.1
       ],
       elim c.if-not-quiet.branch [
-        then-not-quiet w ↦ ap length w.index-is ∙ w.add_met-past.auto.index ∙ l.invariant.2
-      | else-not-quiet w ↦ ap length w.index-is ∙ l.invariant.2
+        | then-not-quiet w ↦ ap length w.index-is ∙ w.add_met-past.auto.index ∙ l.invariant.2
+        | else-not-quiet w ↦ ap length w.index-is ∙ l.invariant.2
       ],
       single_next p l.invariant.3 t _ c.after-c.ensures (elim c.if-not-quiet.branch [
-        then-not-quiet w ↦ loud _ _ _ _ w.chart-is w.index-is w.lists-is w.past-is w.add_met-past.ensures.0
+        | then-not-quiet w ↦ loud _ _ _ _ w.chart-is w.index-is w.lists-is w.past-is w.add_met-past.ensures.0
             w.add_met-past.ensures.1 w.add_met-past.ensures.2
-      | else-not-quiet w ↦ quiet (quiet_by _ _ _ _ _ own q w.if-not-quiet.false) w.chart-is w.index-is w.lists-is w.past-is
+        | else-not-quiet w ↦ quiet (quiet_by _ _ _ _ _ own q w.if-not-quiet.false) w.chart-is w.index-is w.lists-is w.past-is
       ]),
     )
 

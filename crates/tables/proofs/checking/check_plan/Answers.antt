@@ -34,12 +34,12 @@ returns-then-not-ends c = passed_no _ _ _ _ c.loop-q.invariant.2 c.loop-q-test.t
 
 pub loop-q-preserved : goal.loop-q-preserved
 loop-q-preserved c =
-    let with-line = c.with_line-line in
+    let with_line = c.with_line-line in
     let if1 = c.if-not-line in (
       omega arith,
-      with-line.ensures.sets (not-false _ if1.false),
+      with_line.ensures.sets (not-false _ if1.false),
       passed_next _ _ _ _ c.loop-q.invariant.2 c.loop-q-test.true c.requires.1
-          (line_stands _ _ _ _ with-line.ensures.so _ (ends_at _ _ _ _ _ c.plan_place.ensures
+          (line_stands _ _ _ _ with_line.ensures.so _ (ends_at _ _ _ _ _ c.plan_place.ensures
           c.ends.ensures) if1.false c.if-not-ends.false-raw),
     )
 

@@ -12,12 +12,12 @@ overflow_add-sum c = omega (arith, c.requires.lines, c.loop-q.invariant.1, c.chi
 
 pub loop-q-preserved : goal.loop-q-preserved
 loop-q-preserved c =
-    let loop = c.loop-q in let child-in = c.child_in-sum in (
+    let loop = c.loop-q in let child_in = c.child_in-sum in (
       omega arith,
-      omega (arith, loop.invariant.1, child-in.ensures.1),
+      omega (arith, loop.invariant.1, child_in.ensures.1),
       children_next _ _ _ _ _ _ _ _ _ c.plan_kind_in-kind.ensures
           c.plan_first_in-first.ensures c.plan_second_in-second.ensures loop.invariant.2
-          child-in.ensures.0,
+          child_in.ensures.0,
     )
 
 pub returns : goal.returns

@@ -12,12 +12,12 @@ overflow_add-sum c = omega (arith, c.requires.lines, c.loop-q.invariant.1, c.int
 
 pub loop-q-preserved : goal.loop-q-preserved
 loop-q-preserved c =
-    let loop = c.loop-q in let introduced-in = c.introduced_in-sum in (
+    let loop = c.loop-q in let introduced_in = c.introduced_in-sum in (
       omega arith,
-      omega (arith, loop.invariant.1, introduced-in.ensures.1),
+      omega (arith, loop.invariant.1, introduced_in.ensures.1),
       introduced_next _ _ _ _ _ _ _ _ _ c.plan_kind_in-kind.ensures
           c.plan_first_in-first.ensures c.plan_second_in-second.ensures loop.invariant.2
-          introduced-in.ensures.0,
+          introduced_in.ensures.0,
     )
 
 pub returns : goal.returns

@@ -4,13 +4,13 @@ use Rattle.std.proofs.Common.{ap, ◌∙◌, append_assoc, drop_of_length-le, dr
 use Rattle.std.proofs.Math.ListN.{get_or-eq_default}
 use Rattle.std.proofs.Math.Decide.{dec_lt}
 use Rattle.format.specs.Lines.{lines_of, NoFeed, none, more}
-use Rattle.format.specs.LineLaws.{lines_of_line}
+use Rattle.format.proofs.LineLaws.{lines_of_line}
 use Rattle.format.specs.Fields.{column, field_text, field_count, field_bytes, field_of, number_of, numbers_from, fields_of}
-use Rattle.format.specs.FieldLaws.{column_blank, column_digit, text_field, field_text_lem, field_missing, number_field, number_reads, fields_length, fields_in_lem}
+use Rattle.format.proofs.FieldLaws.{column_blank, column_digit, text_field, field_text_lem, field_missing, number_field, number_reads, fields_length, fields_in_lem}
 use Rattle.format.specs.Shape.{letter_of, shape_of}
-use Rattle.format.specs.ShapeLaws.{shape_shaped, shaped_shape}
+use Rattle.format.proofs.ShapeLaws.{shape_shaped, shaped_shape}
 use Rattle.format.specs.Writing.{fields_text, line_body, line_text, Writable, line_fits}
-use Rattle.format.specs.WritingLaws.{line_body_length, fits_line}
+use Rattle.format.proofs.WritingLaws.{line_body_length, fits_line}
 use Rattle.format.specs.declared.Cell.TheVariants.{Number, Missing}
 
 -- ---- a written line is read back

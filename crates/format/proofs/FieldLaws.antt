@@ -5,7 +5,7 @@ use Rattle.std.proofs.Math.Nat.{div-div-eq-div-mul}
 use Rattle.std.proofs.Math.Decide.{dec_lt}
 use Rattle.std.proofs.lemmas.Bool.{lt-leb}
 use Rattle.format.specs.Tests.{same_bytes}
-use Rattle.format.specs.TestLaws.{both, same_refl, same_eq}
+use Rattle.format.proofs.TestLaws.{both, same_refl, same_eq}
 use Rattle.format.specs.Fields.{column, field_text, digit_of, value_from, value_of, cell_of, field_count, field_bytes, field_of, number_in, number_of, numbers_from, fields_of}
 use Rattle.format.specs.declared.Cell.{Cell}
 use Rattle.format.specs.declared.Cell.TheVariants.{Number, Bad, Missing}

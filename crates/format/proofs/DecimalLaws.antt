@@ -4,7 +4,7 @@ use Rattle.std.proofs.Common.{sym, ap, ◌∙◌, length-append, arith}
 use Rattle.std.proofs.lemmas.List.{length-replicate}
 use Rattle.std.proofs.Math.Decide.{dec_lt}
 use Rattle.format.specs.Fields.{column, field_text, digit_of, value_from, value_of, cell_of, Digits, none, more, Decimal}
-use Rattle.format.specs.FieldLaws.{digit_of_lem, digits_of, digit_in, digit_le, column_blank, column_digit, cell_written, cell_text}
+use Rattle.format.proofs.FieldLaws.{digit_of_lem, digits_of, digit_in, digit_le, column_blank, column_digit, cell_written, cell_text}
 use Rattle.format.specs.declared.Cell.TheVariants.{Number}
 
 -- the digit of x in front of other digits
@@ -96,15 +96,15 @@ two_back : (a b n : ℕ) → 1 ≤ a → a ≤ 9 → b ≤ 9 → a * 10 + b ≡ 
 unfolding field_text
 two_back a b n l p q e =
     let sum : ((0 * 10 + 0) * 10 + a) * 10 + b ≡ n = omega arith in
-    let zero-le : 0 ≤ 9 = omega arith in
-    rw (column_blank 1000 n (omega arith), column_blank 100 n (omega arith), tens_back 0 0 a b zero-le zero-le p q n sum (omega arith), units_back 0 0 a b zero-le zero-le p q n sum)
+    let zero_le : 0 ≤ 9 = omega arith in
+    rw (column_blank 1000 n (omega arith), column_blank 100 n (omega arith), tens_back 0 0 a b zero_le zero_le p q n sum (omega arith), units_back 0 0 a b zero_le zero_le p q n sum)
 
 three_back : (a b c n : ℕ) → 1 ≤ a → a ≤ 9 → b ≤ 9 → c ≤ 9 → (a * 10 + b) * 10 + c ≡ n → 32 ∷ (48 + a) ∷ (48 + b) ∷ (48 + c) ∷ [] ≡ field_text n
 unfolding field_text
 three_back a b c n l p q r e =
     let sum : ((0 * 10 + a) * 10 + b) * 10 + c ≡ n = omega arith in
-    let zero-le : 0 ≤ 9 = omega arith in
-    rw (column_blank 1000 n (omega arith), hundreds_back 0 a b c zero-le p q r n sum (omega arith), tens_back 0 a b c zero-le p q r n sum (omega arith), units_back 0 a b c zero-le p q r n sum)
+    let zero_le : 0 ≤ 9 = omega arith in
+    rw (column_blank 1000 n (omega arith), hundreds_back 0 a b c zero_le p q r n sum (omega arith), tens_back 0 a b c zero_le p q r n sum (omega arith), units_back 0 a b c zero_le p q r n sum)
 
 four_back : (a b c d n : ℕ) → 1 ≤ a → a ≤ 9 → b ≤ 9 → c ≤ 9 → d ≤ 9 → ((a * 10 + b) * 10 + c) * 10 + d ≡ n → (48 + a) ∷ (48 + b) ∷ (48 + c) ∷ (48 + d) ∷ [] ≡ field_text n
 unfolding field_text

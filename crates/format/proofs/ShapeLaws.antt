@@ -1,7 +1,7 @@
 -- Laws of the shape of a line and of its letter.
 use Rattle.std.specs.Prelude.{ℕ, ◌+◌, ◌*◌, ◌≤◌, ◌≡◌, refl, Bool, true, false, cond, List, length, eqb, leb}
 use Rattle.std.proofs.Common.{sym, ap, ◌∙◌, eqb-true, eq-eqb, leb-true, le-leb}
-use Rattle.format.specs.TestLaws.{both, all_at, all_of}
+use Rattle.format.proofs.TestLaws.{both, all_at, all_of}
 use Rattle.format.specs.Fields.{field_count, number_of}
 use Rattle.format.specs.Shape.{letter_of, letter_kind, kind_letter, is_capital, shape_of, Shaped}
 use Rattle.format.specs.declared.Letter.{Letter}

@@ -6,10 +6,10 @@ use Rattle.std.proofs.lemmas.List.Edits.{sets}
 use Rattle.std.proofs.Math.Decide.{dec_lt}
 use Rattle.std.proofs.lemmas.Bool.{lt-leb}
 use Rattle.format.specs.Tests.{all_below}
-use Rattle.format.specs.TestLaws.{both, all_at, all_of, all_same}
+use Rattle.format.proofs.TestLaws.{both, all_at, all_of, all_same}
 use Rattle.format.specs.Fields.{field_text}
 use Rattle.format.specs.Shape.{is_capital}
-use Rattle.format.specs.ShapeLaws.{capital_true, true_capital}
+use Rattle.format.proofs.ShapeLaws.{capital_true, true_capital}
 use Rattle.format.specs.Writing.{fields_text, line_body, line_text, Writable, writable, field_fits, line_fits, Put}
 
 -- ---- lengths
