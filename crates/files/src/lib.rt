@@ -3,64 +3,106 @@
 
 #![tactic(auto)]
 
-ghost use Rattle.io.specs.Counts.{IsPrefixLen};
-ghost use Rattle.libc.specs.Io.{Moved};
+ghost use Rattle.std.specs.Prelude.{IfOk};
+ghost use Rattle.files.specs.Counts.{IsPrefixLen, Moved};
 
-use libc::STDOUT_FILENO;
+use std::fmt::Display;
+use std::io::{ErrorKind, Read};
+use std::rt::Files;
+use std::{fs, io, str};
+
+// Writes a line to standard error: what failed, as the caller names it, a colon and why.
+fn fail<W: Display + Drop>(rt: &impl Eprint, what: &[u8], why: W) {
+    let name = what.escape_ascii();
+    let _ = eprintln!(rt; "{name}: {why}");
+}
+
+// Reads until the text is full or the file ends, and answers how many bytes it put at the text's start.
+fn read_full<F: Read>(file: &mut F, text: &mut [u8]) -> io::Result<usize>
+    ensures { IfOk result (λ n. IsPrefixLen n text.new) }
+{
+    let mut done = 0;
+    while done < text.len() {
+        let n = file.read(&mut text[done..])?;
+        if n == 0 {
+            break;
+        }
+        done += n;
+    }
+    Ok(done)
+}
 
 // Whether nothing is left to read of a file whose first `n` bytes were read. A failed read is not the end.
-fn is_at_end(fd: i32) -> bool {
+fn is_at_end<F: Read>(file: &mut F) -> bool {
     let mut next = [0u8; 1];
-    libc::read(fd, &mut next) == 0
+    matches!(file.read(&mut next), Ok(0))
 }
 
 // Reads a file that is open. One of more bytes than a text holds needs no end: it is refused by its length.
-fn read_open(fd: i32, path: &[u8], text: &mut [u8; 32769]) -> isize
+fn read_open<F: Read>(rt: &impl Eprint, file: &mut F, path: &[u8], text: &mut [u8; 32769]) -> isize
     ensures { Moved 32769 result }
 {
-    let n = io::read_full(fd, text);
-    if n < 32769 {
-        if !is_at_end(fd) {
-            os::fail(path);
-            return -1;
+    match read_full(file, text) {
+        Ok(n) => {
+            if n < 32769 {
+                if !is_at_end(file) {
+                    fail(rt, path, "its end cannot be read");
+                    return -1;
+                }
+            }
+            n as isize
+        }
+        Err(e) => {
+            fail(rt, path, e);
+            -1
         }
     }
-    n as isize
 }
 
 // Reads a file's first bytes, one more than 32,768 at most, and answers how many. A missing file is empty. One that
-// is there and cannot be read is told on standard error, and answered -1.
-pub fn read_file(path: &[u8], text: &mut [u8; 32769]) -> isize
+// is there and cannot be read is told on standard error, and answered -1. So is a path that is no UTF-8, under which
+// the library opens nothing.
+pub fn read_file<R: Files + Eprint>(rt: &R, path: &[u8], text: &mut [u8; 32769]) -> isize
     ensures { Moved 32769 result }
 {
-    let fd = os::open_read(path);
-    if fd < 0 {
-        if os::errno() == libc::ENOENT {
-            return 0;
+    match str::from_utf8(path) {
+        Ok(name) => match fs::open(rt, name) {
+            Ok(mut file) => read_open(rt, &mut file, path, text),
+            Err(e) => {
+                if e.kind() == ErrorKind::NotFound {
+                    return 0;
+                }
+                fail(rt, path, e);
+                -1
+            }
+        },
+        Err(e) => {
+            fail(rt, path, e);
+            -1
         }
-        os::fail(path);
-        return -1;
     }
-    let got = read_open(fd, path, text);
-    libc::close(fd);
-    got
 }
 
 // How many bytes of the text were read.
 pub fn count(got: isize, text: &[u8; 32769]) -> usize
     ensures { IsPrefixLen result text.now }
 {
-    io::count(got, text)
+    if got < 0 {
+        return 0;
+    }
+    text.len().min(got as usize)
 }
 
 // Writes the bytes to standard output, and answers how many: all, or 0 where not all were taken, which is told on
 // standard error: a program has no exit status.
-pub fn print(bytes: &[u8]) -> usize
+pub fn print<R: Print + Eprint>(rt: &R, bytes: &[u8]) -> usize
     ensures { IsPrefixLen result bytes.now }
 {
-    if io::write_all(STDOUT_FILENO, bytes) {
-        return bytes.len();
+    match rt.write_all(bytes) {
+        Ok(()) => bytes.len(),
+        Err(e) => {
+            fail(rt, b"standard output", e);
+            0
+        }
     }
-    os::fail(b"standard output");
-    0
 }

@@ -2,33 +2,35 @@
 
 #![tactic(auto)]
 
+use std::rt::Files;
+
 // Each of these reads one file more. A file that cannot be read is no text: nothing is printed.
-fn replay_with(grammar: &[u8], graph: &[u8]) {
+fn replay_with<R: Files + Print + Eprint>(rt: &R, grammar: &[u8], graph: &[u8]) {
     let mut text = [0u8; 32769];
-    let got = files::read_file(b"derivation.txt", &mut text);
+    let got = files::read_file(rt, b"derivation.txt", &mut text);
     if got < 0 {
         return;
     }
     let n = files::count(got, &text);
-    files::print(&driver::replay(grammar, graph, &text[..n]));
+    files::print(rt, &driver::replay(grammar, graph, &text[..n]));
 }
 
-fn with_graph(grammar: &[u8]) {
+fn with_graph<R: Files + Print + Eprint>(rt: &R, grammar: &[u8]) {
     let mut text = [0u8; 32769];
-    let got = files::read_file(b"graph.txt", &mut text);
+    let got = files::read_file(rt, b"graph.txt", &mut text);
     if got < 0 {
         return;
     }
     let n = files::count(got, &text);
-    replay_with(grammar, &text[..n]);
+    replay_with(rt, grammar, &text[..n]);
 }
 
-fn main() {
+fn main(rt: HostRuntime) {
     let mut text = [0u8; 32769];
-    let got = files::read_file(b"grammar.txt", &mut text);
+    let got = files::read_file(&rt, b"grammar.txt", &mut text);
     if got < 0 {
         return;
     }
     let n = files::count(got, &text);
-    with_graph(&text[..n]);
+    with_graph(&rt, &text[..n]);
 }
