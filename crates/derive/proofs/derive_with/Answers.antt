@@ -1,13 +1,9 @@
 -- What is printed is a part of the output.
-use borrow.Author.Rules.{rules}
 use Rattle.driver.proofs.PrintLaws.{prints_front}
 use Rattle.derive.proofs.derive_with.Goals as goal
 
-slice_aggregate_read_file : tie.Need-slice-aggregate-read-file
-slice_aggregate_read_file c = search rules
-
 pub slice_bounds-out-end : goal.slice_bounds-out-end
-slice_bounds-out-end c = (prints_front _ _ _ _ c.derive-count.ensures).0
+slice_bounds-out-end g c = (prints_front _ _ _ _ c.derive-count.ensures).0
 
 pub slice_bounds-print-end : goal.slice_bounds-print-end
-slice_bounds-print-end c = (prints_front _ _ _ _ c.derive-count.ensures).1
+slice_bounds-print-end g c = (prints_front _ _ _ _ c.derive-count.ensures).1
