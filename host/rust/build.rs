@@ -1,11 +1,12 @@
-//! Links the proved library: target/staticlib of the repository, made by `rt staticlib capi`; BOBBINMARL_LIB names another folder.
+//! Links the proved library: crates/capi/out of the repository, made by `rt lib` in crates/capi; BOBBINMARL_LIB names
+//! another folder.
 
 use std::env;
 use std::path::PathBuf;
 
 fn main() {
     let crate_folder = PathBuf::from(env::var_os("CARGO_MANIFEST_DIR").expect("cargo's folder"));
-    let usual = crate_folder.join("../../target/staticlib");
+    let usual = crate_folder.join("../../crates/capi/out");
     let folder = env::var_os("BOBBINMARL_LIB").map_or(usual, PathBuf::from);
     println!("cargo:rustc-link-search=native={}", folder.display());
     println!("cargo:rustc-link-lib=static=capi");
