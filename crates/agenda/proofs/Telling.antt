@@ -8,7 +8,7 @@ use lib.ListN.{length, get_or, drop}
 use lib.Seq.{get_or-append-add, get_or-drop}
 use borrow.Author.Tests.{lt-ltb, le-ltb, le-leb, lt-leb}
 use Rattle.agenda.specs.declared.Record.{Record}
-use Rattle.agenda.specs.Telling.{fields_of, ItemTold, untold, tell_record, tell_item, TellsItem, Names}
+use Rattle.agenda.specs.Telling.{fields_of, untold, tell_record, tell_item, TellsItem, Names}
 
 node_told : (x : Record) (out : List ℕ) (k : ℕ) → k < 8 → get_or (fields_of x ++ drop 16 out) (6 + k) 0 ≡ get_or x.item.nodes k 0
 unfolding fields_of

@@ -1,6 +1,6 @@
 -- The run of a chart in steps, on its records: at most `cap` of them, and a mark where one item more was found than
 -- it holds.
-use Rattle.std.specs.Prelude.{◌||◌, not, cond, List, [], ◌∷◌, ◌++◌, ℕ, zero, suc, ◌+◌, length, set, eqb, ltb, leb}
+use Rattle.std.specs.Prelude.{◌||◌, cond, List, [], ◌∷◌, ◌++◌, ℕ, zero, suc, ◌+◌, length, set, eqb, ltb, leb}
 use Rattle.hrg.specs.Counts.{flag}
 use Rattle.hrg.specs.Grammars.{Graph, Grammar}
 use Rattle.agenda.specs.Records.{same_chart_item, is_handled}

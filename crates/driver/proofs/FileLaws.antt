@@ -1,16 +1,14 @@
 -- Laws of the files: one for each way that a reading can go.
-use mathlib.Core.Path.{◌≡◌, refl, sym, ap, ◌∙◌}
-use mathlib.Core.Bool.{Bool, true, false, cond}
+use mathlib.Core.Path.{◌≡◌, refl, ap, ◌∙◌}
 use mathlib.Core.List.{List}
 use Prim.Native.Nat.{ℕ, ◌≤◌, ◌<◌}
 use lib.ListN.{length}
-use lib.Dec.{eqb}
 use borrow.Author.Tests.{eq-eqb, ne_eqb}
 use Rattle.questions.specs.Reading.{read_grammar}
 use Rattle.questions.specs.Checking.{read_graph}
 use Rattle.questions.specs.declared.Answer.{Answer}
 use Rattle.readers.specs.Readers.{Gives}
-use Rattle.programs.specs.Files.{reading_number, file_bytes, numbered, grammar_file, graph_file, files_of, FileGives, FilesGive}
+use Rattle.programs.specs.Files.{reading_number, file_bytes, grammar_file, graph_file, files_of, FileGives, FilesGive}
 use Rattle.programs.proofs.Limits.{grammar_oversize, grammar_within, graph_oversize, graph_within}
 
 pub grammar_over : (text former : List ℕ) → file_bytes < length text → FileGives (grammar_file text former) 1 former

@@ -1,19 +1,17 @@
 -- The rows that are made of a listing from its end are those of the tree.
 use mathlib.Core.Path.{◌≡◌, refl, sym, ap, ap₂, ◌∙◌, subst}
-use mathlib.Core.Bool.{Bool, true, false, cond}
 use mathlib.Core.List.{List, [], ◌∷◌, ◌++◌, append_assoc, append-nil}
-use Prim.Native.Nat.{ℕ, zero, suc, ◌+◌, ◌-◌, ◌≤◌, ◌<◌}
+use Prim.Native.Nat.{ℕ, zero, suc, ◌+◌, ◌≤◌}
 use native.Mathlib.Omega.{arith}
-use lib.ListN.{length, get_or}
-use lib.Dec.{eqb}
+use lib.ListN.{get_or}
 use borrow.Author.Tests.{eq-eqb, ne_eqb}
-use Rattle.hrg.specs.Grammars.{Kind, terminal, nonterminal, Edge, Graph, Grammar, kind_of, right_of}
+use Rattle.hrg.specs.Grammars.{terminal, nonterminal, Edge, Graph, Grammar, kind_of, right_of}
 use Rattle.hrg.specs.Trees.{Tree, Parts, apply, end, edge, tree}
 use Rattle.preorder.specs.Rows.{size, size_in, part_numbers, tree_rows, part_rows, rows_of}
 use Rattle.agenda.specs.declared.Record.{Record}
-use Rattle.extraction.specs.Extraction.{rule_at, partners_at, place_at, Spelt, spelt, tree_at}
+use Rattle.extraction.specs.Extraction.{rule_at, partners_at, place_at, spelt, tree_at}
 use Rattle.extraction.specs.Listing.{children_from, children_at, numbers_from, end_from, row_at, span_at, sizes_from, rows_from}
-use Rattle.extraction.proofs.Listings.{flat, records_under, PartsSpelt, no_edges, an_edge, a_tree, Applied, tree_applied, tree_none}
+use Rattle.extraction.proofs.Listings.{flat, records_under, PartsSpelt, no_edges, an_edge, a_tree, tree_applied, tree_none}
 
 module _ (look : ℕ → Record) (G : Grammar) (H : Graph) where
   -- the rows and sizes of the records ls from number n on, where the first of them are those of a tree, and then come

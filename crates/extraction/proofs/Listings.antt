@@ -1,18 +1,16 @@
 -- The listing of the records under a passive record ends exactly where partners spell a tree that is small enough,
 -- and then has a record for each application.
 use mathlib.Core.Path.{◌≡◌, refl, sym, ap, ◌∙◌, subst}
-use mathlib.Core.Logic.{◌⊎◌, inl, inr}
 use mathlib.Core.List.{List, [], ◌∷◌, ◌++◌, append_assoc, append-nil}
 use Prim.Native.Nat.{ℕ, zero, suc, ◌+◌, ◌-◌, ◌≤◌, ◌<◌}
-use native.Mathlib.Nat.{add_assoc, add_comm, add-zero, suc-add}
+use native.Mathlib.Nat.{add_assoc, suc-add}
 use native.Mathlib.Omega.{arith}
-use native.Mathlib.Numerals.{add-one}
 use lib.ListN.{length, get_or, length-append}
 use Rattle.hrg.specs.Grammars.{Kind, terminal, nonterminal, Edge, Graph, Grammar, kind_of, right_of}
 use Rattle.hrg.specs.Trees.{Tree, Parts, apply, end, edge, tree}
 use Rattle.preorder.specs.Rows.{size, size_in}
 use Rattle.agenda.specs.declared.Record.{Record}
-use Rattle.extraction.specs.Extraction.{rule_at, partners_at, place_at, Spelt, nothing, spelt, SpeltParts, nothing_in, spelt_in, with_edge, with_tree, with_part, parts_by, applied, tree_at}
+use Rattle.extraction.specs.Extraction.{rule_at, partners_at, place_at, Spelt, nothing, spelt, SpeltParts, nothing_in, spelt_in, with_tree, with_part, parts_by, applied, tree_at}
 use Rattle.extraction.specs.Listing.{cons_if, children_from, children_at, Listing, endless, listed, listed_with, listing}
 
 -- ---- listings

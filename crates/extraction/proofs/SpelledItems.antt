@@ -8,7 +8,7 @@ use lib.ListN.{length, get_or, take, replicate}
 use Rattle.masks.specs.Masks.{single}
 use Rattle.hrg.specs.Counts.{tabulate, up_to}
 use Rattle.hrg.specs.Grammars.{Edge, Graph, leaf, introduce, join, Grammar, cost, rank_of, rule_of, lhs_of, right_of, plan_of, plan_node, edge_at}
-use Rattle.hrg.specs.Trees.{unplaced, images, Tree, Parts, apply, tree, FitsEdge, FitsParts}
+use Rattle.hrg.specs.Trees.{unplaced, images, Tree, Parts, apply, FitsEdge, FitsParts}
 use Rattle.hrg.specs.Items.{below, attach, Joins}
 use Rattle.hrg.specs.Truth.{ActiveTruth, PassiveTruth}
 use Rattle.hrg.specs.WellFormed.{GrammarOk, GraphOk, RuleOk}

@@ -1,6 +1,6 @@
 -- The applications of the tree that partners spell, listed from the top as the writer finds them, and their rows from
 -- the last one up.
-use Rattle.std.specs.Prelude.{cond, List, [], ◌∷◌, ◌++◌, ℕ, zero, suc, ◌+◌, ◌-◌, length, get_or, eqb}
+use Rattle.std.specs.Prelude.{cond, List, [], ◌∷◌, ◌++◌, ℕ, zero, suc, ◌+◌, ◌-◌, get_or, eqb}
 use Rattle.hrg.specs.Grammars.{Kind, terminal, nonterminal, Edge, Graph, Grammar, kind_of, right_of}
 use Rattle.agenda.specs.declared.Record.{Record}
 use Rattle.extraction.specs.Extraction.{rule_at, partners_at, place_at}

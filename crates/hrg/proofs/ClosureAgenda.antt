@@ -1,26 +1,23 @@
 -- T4 for the closure of a grammar and a graph: it is finite, every run is correct and ends, and outcomes are right.
 use mathlib.Core.Path.{◌≡◌, refl, sym, ap, ◌∙◌, subst}
 use mathlib.Core.Bool.{Bool, true, false}
-use mathlib.Core.Logic.{◌⊎◌, inl, inr}
 use mathlib.Core.List.Memᴰ
 use mathlib.Core.List.Memᴰ.{head as here}
 use mathlib.Core.List.Memᴰ.{tail as there}
-use mathlib.Core.List.{List, [], ◌∷◌, ◌++◌, map, map-append, Memᴰ as In}
-use Prim.Native.Nat.{ℕ, zero, suc, ◌+◌, ◌≤◌, ◌<◌, min}
-use native.Mathlib.Omega.{arith}
+use mathlib.Core.List.{List, [], ◌∷◌, map-append, Memᴰ as In}
+use Prim.Native.Nat.{ℕ, ◌≤◌}
 use lib.ListN.{length, length-map}
 use lib.Dec.{T}
 use Rattle.hrg.specs.Grammars.{Graph, Grammar}
-use Rattle.hrg.specs.Trees.{Tree, applications, Generates}
+use Rattle.hrg.specs.Trees.{applications}
 use Rattle.hrg.specs.Deduction.{Reachable}
 use Rattle.hrg.specs.Items.{Item, closure, goal}
-use Rattle.hrg.specs.Truth.{Truth, Fewest}
 use Rattle.hrg.specs.WellFormed.{GrammarOk, GraphOk}
-use Rattle.hrg.specs.Agenda.{Entry, State, Distinct, items_of, Start, Run, Has, Closure}
-use Rattle.hrg.specs.AgendaRun.{Computes, start_state, run_state}
+use Rattle.hrg.specs.Agenda.{Entry, State, Distinct, items_of, Start, Run, Closure}
+use Rattle.hrg.specs.AgendaRun.{Computes}
 use Rattle.hrg.specs.ClosureRun.{same_item, rules_of}
 use Rattle.hrg.specs.AgendaFacts.{Correct}
-use Rattle.hrg.specs.Outcome.{derivable, underivable, unfinished, goal_among, outcome_of, outcome, Right}
+use Rattle.hrg.specs.Outcome.{derivable, unfinished, goal_among, outcome_of, outcome, Right}
 use Rattle.hrg.proofs.Soundness.{sound}
 use Rattle.hrg.proofs.Completeness.{complete, least_fewest}
 use Rattle.hrg.proofs.Goals.{goal_reached, goal_generated}

@@ -1,29 +1,29 @@
 -- T1, completeness: an item that is true by trees with n applications is reachable with n.
-use mathlib.Core.Path.{◌≡◌, refl, sym, ap, ap₂, ◌∙◌, subst, subst₂}
+use mathlib.Core.Path.{◌≡◌, refl, sym, ap, ◌∙◌, subst, subst₂}
 use mathlib.Core.Bool.{Bool, true, false}
-use mathlib.Core.List.{List, [], ◌∷◌, ◌++◌, map}
+use mathlib.Core.List.{List, [], ◌∷◌}
 use Prim.Native.Nat.{ℕ, zero, suc, ◌+◌, ◌-◌, ◌≤◌, ◌<◌}
 use native.Mathlib.Nat.{not-suc-le-zero}
 use native.Mathlib.Omega.{arith}
-use lib.ListN.{length, get_or}
+use lib.ListN.{length}
 use Rattle.masks.specs.Masks.{bit, single}
 use Rattle.masks.proofs.Laws.{bit_empty, mask_ext}
-use Rattle.hrg.specs.Counts.{hit, occurs, tabulate}
-use Rattle.hrg.specs.Grammars.{Edge, Graph, PlanNode, leaf, introduce, join, Rule, Grammar, cost, rule_of, lhs_of, right_of, plan_of, plan_node, edge_at}
-use Rattle.hrg.specs.Trees.{unplaced, at, images, Tree, apply, Parts, end, edge, tree, edges_of, edges_in, internals, inner_of, inner_in, applications, applications_in, FitsRule, Fits, FitsParts}
+use Rattle.hrg.specs.Counts.{occurs, tabulate}
+use Rattle.hrg.specs.Grammars.{Graph, PlanNode, leaf, introduce, join, Grammar, cost, rule_of, right_of, plan_of, plan_node, edge_at}
+use Rattle.hrg.specs.Trees.{unplaced, at, images, Tree, apply, Parts, end, edge, tree, edges_of, edges_in, internals, inner_of, inner_in, applications, applications_in, Fits, FitsParts}
 use Rattle.hrg.specs.Deduction.{Reachable, by_axiom, by_unary, by_binary}
 use Rattle.hrg.specs.Items.{below, is_open_at, keep_if, node_for, attach, restrict, Covers, Joins, Item, active, passive, leaf_rule, terminal_rule, root_rule, nonterminal_rule, join_rule, closure}
-use Rattle.hrg.specs.Truth.{edges_below, IsBelow, ActiveTruth, PassiveTruth, Truth, Fewest}
-use Rattle.hrg.specs.WellFormed.{GrammarOk, GraphOk, RuleOk}
+use Rattle.hrg.specs.Truth.{IsBelow, ActiveTruth, Truth, Fewest}
+use Rattle.hrg.specs.WellFormed.{GrammarOk, GraphOk}
 use Rattle.hrg.proofs.Sums.{occurs_at, occurs_append, length_tabulate, at_tabulate, tabulate_ext, images_le, images_split}
 use Rattle.hrg.proofs.Plans.{below_leaf, below_introduce, below_join, below_known, introduce_known, introduce_lower, join_lower}
-use Rattle.hrg.proofs.Degrees.{degree, places, degree_zero, zero_or}
+use Rattle.hrg.proofs.Degrees.{zero_or}
 use Rattle.hrg.proofs.Reordering.{reordered_sym}
 use Rattle.hrg.proofs.Parts.{size, size_in, fits_reorder}
 use Rattle.hrg.proofs.TreeNodes.{images_pos, images_find, pos_sum, parts_inside}
-use Rattle.hrg.proofs.Sides.{tentacles, tentacles_one, length_restrict, restrict_open, below_of, images_eq, edges_at}
+use Rattle.hrg.proofs.Sides.{tentacles_one, length_restrict, below_of, images_eq, edges_at}
 use Rattle.hrg.proofs.SingleEdges.{node_out, node_image, bit_hit}
-use Rattle.hrg.proofs.Splitting.{Cut, swap_cut, cut_at, mask_of, place_of, bit_b, open_node, child_truth, child_parts, Shows, child_shows, cut_joins}
+use Rattle.hrg.proofs.Splitting.{swap_cut, cut_at, mask_of, place_of, bit_b, open_node, child_truth, child_parts, Shows, child_shows, cut_joins}
 use Rattle.hrg.proofs.Soundness.{sound, root_order, root_below, root_shown}
 
 module _ (G : Grammar) (H : Graph) where

@@ -1,16 +1,16 @@
 -- How many tentacles end at a node, counted over weighed edges; boundary nodes by these counts.
 use mathlib.Core.Path.{◌≡◌, refl, sym, ap, ap₂, ◌∙◌, subst}
 use mathlib.Core.Bool.{Bool, true, false, ◌&&◌, ◌||◌, not}
-use mathlib.Core.List.{List, [], ◌∷◌, ◌++◌}
+use mathlib.Core.List.{List, [], ◌∷◌}
 use Prim.Native.Nat.{ℕ, zero, suc, ◌+◌, ◌*◌, ◌≤◌, ◌<◌}
 use native.Mathlib.Nat.{add-mul, mul-le-mul_right, not-suc-le-zero, zero-mul, one-mul}
 use native.Mathlib.Omega.{arith}
-use lib.ListN.{length, get_or}
-use lib.Dec.{T, eqb, ltb, ltb→lt, lt→ltb}
+use lib.ListN.{length}
+use lib.Dec.{T, ltb, ltb→lt, lt→ltb}
 use Rattle.hrg.specs.Counts.{flag, hit, occurs}
 use Rattle.hrg.specs.Grammars.{Edge, Graph, touches, edge_at}
 use Rattle.hrg.specs.Items.{is_boundary}
-use Rattle.hrg.proofs.Sums.{hit_self, hit_ne, hit_suc, occurs_append}
+use Rattle.hrg.proofs.Sums.{hit_self, hit_ne, hit_suc}
 
 -- the tentacles at x, those of edge number i counted w i times
 unfoldable pub degree : (ℕ → ℕ) → List Edge → ℕ → ℕ

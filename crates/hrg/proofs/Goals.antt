@@ -1,19 +1,18 @@
 -- T2: the goal is reachable with n exactly when a tree with n applications generates the graph.
-use mathlib.Core.Path.{◌≡◌, refl, sym, ap, ◌∙◌}
-use Prim.Native.Nat.{ℕ, zero, suc, ◌+◌, ◌-◌, ◌≤◌, ◌<◌}
+use mathlib.Core.Path.{◌≡◌, refl, sym, ◌∙◌}
+use Prim.Native.Nat.{ℕ, ◌-◌}
 use native.Mathlib.Omega.{arith}
 use lib.ListN.{length}
 use Rattle.masks.specs.Masks.{bit, full}
 use Rattle.masks.proofs.Laws.{bit_full_in, bit_full_out}
-use Rattle.hrg.specs.Counts.{occurs}
 use Rattle.hrg.specs.Grammars.{Graph, Grammar}
-use Rattle.hrg.specs.Trees.{Tree, edges_of, inner_of, applications, Generates}
+use Rattle.hrg.specs.Trees.{Tree, applications, Generates}
 use Rattle.hrg.specs.Deduction.{Reachable}
 use Rattle.hrg.specs.Items.{Covers, closure, goal}
 use Rattle.hrg.specs.Truth.{Truth}
 use Rattle.hrg.specs.WellFormed.{GrammarOk, GraphOk}
 use Rattle.hrg.proofs.Sums.{none_left}
-use Rattle.hrg.proofs.Degrees.{degree, places, degree_same, zero_or}
+use Rattle.hrg.proofs.Degrees.{places, degree_same, zero_or}
 use Rattle.hrg.proofs.TreeNodes.{held_tree, edges_known}
 use Rattle.hrg.proofs.Sides.{open_in}
 use Rattle.hrg.proofs.Soundness.{sound}

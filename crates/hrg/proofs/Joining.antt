@@ -2,23 +2,23 @@
 -- that join.
 use mathlib.Core.Path.{◌≡◌, refl, sym, ap, ap₂, ◌∙◌, subst}
 use mathlib.Core.Bool.{Bool, true, false}
-use mathlib.Core.List.{List, [], ◌∷◌, ◌++◌, map}
+use mathlib.Core.List.{List, [], ◌∷◌, ◌++◌}
 use Prim.Native.Nat.{ℕ, zero, suc, ◌+◌, ◌≤◌, ◌<◌}
 use native.Mathlib.Omega.{arith}
-use lib.ListN.{length, get_or}
-use Rattle.masks.specs.Masks.{bit, ◌∪◌}
+use lib.ListN.{length}
+use Rattle.masks.specs.Masks.{bit}
 use Rattle.masks.proofs.Laws.{bit_union, bit_le}
-use Rattle.hrg.specs.Counts.{hit, occurs, tabulate}
+use Rattle.hrg.specs.Counts.{hit, occurs}
 use Rattle.hrg.specs.Grammars.{Edge, Graph, Rule, Grammar, edge_at}
-use Rattle.hrg.specs.Trees.{unplaced, at, images, Parts, edges_in, inner_in, applications_in, FitsParts}
-use Rattle.hrg.specs.Items.{below, is_open, is_open_at, or_else, joined, keep_if, restrict, Covers, Joins}
-use Rattle.hrg.specs.Truth.{edges_below, IsBelow, ActiveTruth}
+use Rattle.hrg.specs.Trees.{unplaced, at, images, edges_in, inner_in, FitsParts}
+use Rattle.hrg.specs.Items.{below, is_open_at, or_else, joined, keep_if, restrict, Joins}
+use Rattle.hrg.specs.Truth.{ActiveTruth}
 use Rattle.hrg.specs.WellFormed.{GrammarOk, GraphOk, RuleOk}
 use Rattle.hrg.proofs.Sums.{sum_to, sum_le, sum_add, occurs_sum, occurs_find, length_tabulate, at_tabulate, tabulate_ext}
-use Rattle.hrg.proofs.Degrees.{degree, places, degree_add, degree_le, degree_pos, degree_find, zero_or, by_test}
+use Rattle.hrg.proofs.Degrees.{degree, places, degree_add, degree_le, degree_pos, degree_find, zero_or}
 use Rattle.hrg.proofs.Parts.{◌⧺◌, edges_append, inner_append, applications_append, fits_append, fits_place}
 use Rattle.hrg.proofs.TreeNodes.{Touched, touched_inner, touched_at, images_pos, pos_sum}
-use Rattle.hrg.proofs.Sides.{tentacles, tentacles_append, tentacles_le, open_in, open_of, once, open_at_in, below_in, below_of, either_set, either_none, either_right, hit_either, images_eq, edges_at, edges_at_lem, Side}
+use Rattle.hrg.proofs.Sides.{tentacles, tentacles_append, tentacles_le, open_of, once, open_at_in, below_in, below_of, either_set, either_none, either_right, hit_either, images_eq, edges_at, edges_at_lem, Side}
 
 pub keep_ext : (b : Bool) (a c : ℕ) → (b ≡ true → a ≡ c) → keep_if b a ≡ keep_if b c
 keep_ext true a c h = h refl

@@ -1,19 +1,18 @@
 -- T5: no true item has an empty edge set, but for active items with nothing below but leaves.
-use mathlib.Core.Path.{◌≡◌, refl, sym, ap, ◌∙◌, subst}
-use mathlib.Core.List.{List, [], ◌∷◌, ◌++◌}
-use Prim.Native.Nat.{ℕ, zero, suc, ◌+◌, ◌≤◌, ◌<◌}
+use mathlib.Core.Path.{◌≡◌, refl, ap}
+use mathlib.Core.List.{List, [], ◌∷◌}
+use Prim.Native.Nat.{ℕ, zero, suc, ◌<◌}
 use native.Mathlib.Nat.{not-suc-le-zero}
 use native.Mathlib.Omega.{arith}
 use lib.ListN.{length, length-append, length-map}
 use Rattle.masks.specs.Masks.{bit}
 use Rattle.masks.proofs.Laws.{bit_empty}
-use Rattle.hrg.specs.Counts.{occurs}
-use Rattle.hrg.specs.Grammars.{Graph, PlanNode, leaf, introduce, join, Grammar, rule_of, plan_of, plan_node, edge_at, right_of}
+use Rattle.hrg.specs.Grammars.{Graph, PlanNode, leaf, introduce, join, Grammar, rule_of, plan_of, plan_node, edge_at}
 use Rattle.hrg.specs.Items.{below, active, passive}
 use Rattle.hrg.specs.Truth.{edges_below, LeavesOnly, a_leaf, a_join, Truth}
-use Rattle.hrg.specs.WellFormed.{GrammarOk, GraphOk, PlanOk}
+use Rattle.hrg.specs.WellFormed.{GrammarOk, PlanOk}
 use Rattle.hrg.proofs.Degrees.{zero_or}
-use Rattle.hrg.proofs.Plans.{below_introduce, below_join, join_lower, inside_join}
+use Rattle.hrg.proofs.Plans.{below_introduce, below_join, join_lower}
 use Rattle.hrg.proofs.TreeNodes.{tree_edge, parts_edge}
 
 filled : (m e : ℕ) → 0 < bit m e → 0 < m

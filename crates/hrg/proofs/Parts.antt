@@ -1,13 +1,12 @@
 -- Parts of an application: put together, taken apart, put into another order, moved to another placement.
-use mathlib.Core.Path.{◌≡◌, refl, sym, ap, ap₂, ◌∙◌, subst}
-use mathlib.Core.List.{List, [], ◌∷◌, ◌++◌, map, append_assoc}
-use Prim.Native.Nat.{ℕ, zero, suc, ◌+◌, ◌≤◌, ◌<◌}
-use native.Mathlib.Nat.{not-suc-le-zero, add_assoc}
+use mathlib.Core.Path.{◌≡◌, refl, ap, ◌∙◌, subst}
+use mathlib.Core.List.{List, [], ◌∷◌, ◌++◌}
+use Prim.Native.Nat.{ℕ, suc, ◌+◌, ◌<◌}
 use native.Mathlib.Omega.{arith}
-use lib.ListN.{length, get_or}
-use Rattle.hrg.specs.Counts.{hit, occurs, Reordered, none, keep, swap, trans}
+use lib.ListN.{length}
+use Rattle.hrg.specs.Counts.{occurs, Reordered, none, keep, swap, trans}
 use Rattle.hrg.specs.Grammars.{Edge, Graph, Grammar, edge_at}
-use Rattle.hrg.specs.Trees.{at, images, Tree, apply, Parts, end, edge, tree, edges_of, edges_in, inner_of, inner_in, applications, applications_in, FitsEdge, Fits, FitsParts}
+use Rattle.hrg.specs.Trees.{images, Tree, apply, Parts, end, edge, tree, edges_of, edges_in, inner_of, inner_in, applications_in, FitsEdge, Fits, FitsParts}
 use Rattle.hrg.proofs.Sums.{occurs_append}
 
 infixr 50 ◌⧺◌

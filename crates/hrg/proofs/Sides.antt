@@ -1,23 +1,23 @@
 -- Some edges of a right side, placed in the graph: the form in which active items, single edges and trees are joined.
-use mathlib.Core.Path.{◌≡◌, refl, sym, ap, ap₂, ◌∙◌, subst}
+use mathlib.Core.Path.{◌≡◌, refl, sym, ap, ap₂, ◌∙◌}
 use mathlib.Core.Bool.{Bool, true, false}
 use mathlib.Core.List.{List, [], ◌∷◌, ◌++◌, map}
 use Prim.Native.Nat.{ℕ, zero, suc, ◌+◌, ◌≤◌, ◌<◌}
 use native.Mathlib.Nat.{not-suc-le-zero}
 use native.Mathlib.Omega.{arith}
-use lib.ListN.{length, get_or}
-use lib.Dec.{T, eqb, ltb, ltb→lt, eqb→eq, eqb_refl}
+use lib.ListN.{length}
+use lib.Dec.{T, eqb, ltb, eqb→eq}
 use Rattle.masks.specs.Masks.{bit, member}
-use Rattle.masks.proofs.Laws.{bit_le, member_true, member_false}
-use Rattle.hrg.specs.Counts.{flag, hit, occurs, tabulate}
+use Rattle.masks.proofs.Laws.{member_true, member_false}
+use Rattle.hrg.specs.Counts.{flag, hit, occurs}
 use Rattle.hrg.specs.Grammars.{Edge, Graph, Rule, Grammar, edge_at}
 use Rattle.hrg.specs.Trees.{unplaced, at, images, Parts, edges_in, inner_in, applications_in, FitsParts}
 use Rattle.hrg.specs.Items.{below, is_open, is_open_at, either, or_else, keep_if, restrict, Covers}
-use Rattle.hrg.specs.Truth.{edges_below, IsBelow, ActiveTruth}
+use Rattle.hrg.specs.Truth.{IsBelow, ActiveTruth}
 use Rattle.hrg.specs.WellFormed.{RuleOk}
-use Rattle.hrg.proofs.Sums.{hit_self, hit_eq, hit_ne, occurs_append, length_tabulate, at_tabulate}
+use Rattle.hrg.proofs.Sums.{hit_self, occurs_append, length_tabulate, at_tabulate}
 use Rattle.hrg.proofs.Plans.{below_once}
-use Rattle.hrg.proofs.Degrees.{degree, places, degree_add, degree_le, degree_pos, degree_find, degree_same, degree_one, boundary_in, boundary_of, by_test, test_T}
+use Rattle.hrg.proofs.Degrees.{degree, places, degree_add, degree_le, degree_pos, degree_find, degree_same, degree_one, boundary_in, boundary_of, by_test}
 
 -- ---- tentacles of some edges of a right side
 abbrev pub tentacles : Graph → List ℕ → ℕ → ℕ

@@ -1,22 +1,22 @@
 -- One edge of a right side with what stands for it, a graph edge or a tree, as a side.
 use mathlib.Core.Path.{◌≡◌, refl, sym, ap, ap₂, ◌∙◌, subst}
 use mathlib.Core.Bool.{Bool, true, false}
-use mathlib.Core.List.{List, [], ◌∷◌, ◌++◌, map}
+use mathlib.Core.List.{List, [], ◌∷◌, map}
 use Prim.Native.Nat.{ℕ, zero, suc, ◌+◌, ◌≤◌, ◌<◌}
 use native.Mathlib.Nat.{not-suc-le-zero}
 use native.Mathlib.Omega.{arith}
-use lib.ListN.{length, get_or, length-map}
+use lib.ListN.{length, length-map}
 use lib.Dec.{T, eqb, eqb→eq, eqb_refl}
 use Rattle.masks.specs.Masks.{bit, single}
 use Rattle.masks.proofs.Laws.{bit_single_self, bit_single_other}
-use Rattle.hrg.specs.Counts.{flag, hit, occurs, tabulate}
-use Rattle.hrg.specs.Grammars.{Edge, Graph, Rule, Grammar, edge_at, rank_of, rule_of, right_of}
-use Rattle.hrg.specs.Trees.{unplaced, at, images, Tree, apply, Parts, end, edge, tree, edges_of, edges_in, inner_of, inner_in, applications, applications_in, FitsEdge, Fits, FitsParts}
+use Rattle.hrg.specs.Counts.{flag, hit, occurs}
+use Rattle.hrg.specs.Grammars.{Graph, Rule, Grammar, edge_at, rank_of, rule_of, right_of}
+use Rattle.hrg.specs.Trees.{unplaced, at, images, Tree, apply, Parts, end, edge, tree, edges_of, edges_in, inner_of, inner_in, applications_in, FitsEdge, Fits, FitsParts}
 use Rattle.hrg.specs.Items.{either, node_for, attach, Covers}
 use Rattle.hrg.specs.Truth.{PassiveTruth}
 use Rattle.hrg.specs.WellFormed.{GrammarOk, GraphOk, RuleOk}
 use Rattle.hrg.proofs.Sums.{hit_le, hit_self, hit_eq, hit_ne, hit_suc, sum_to, sum_le, sum_add, sum_zero, occurs_sum, occurs_append, occurs_at, length_tabulate, at_tabulate}
-use Rattle.hrg.proofs.Degrees.{degree, places, degree_same, degree_one, by_test, zero_or, test_T}
+use Rattle.hrg.proofs.Degrees.{degree_same, degree_one, by_test, zero_or, test_T}
 use Rattle.hrg.proofs.TreeNodes.{images_pos, images_find, tree_inside}
 use Rattle.hrg.proofs.Sides.{tentacles, tentacles_one, open_in, Side}
 

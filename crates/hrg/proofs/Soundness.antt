@@ -3,18 +3,16 @@ use mathlib.Core.Path.{◌≡◌, refl, sym, ap, ap₂, ◌∙◌, subst}
 use mathlib.Core.Bool.{Bool, true, false}
 use mathlib.Core.List.{List, [], ◌∷◌, ◌++◌, map}
 use Prim.Native.Nat.{ℕ, zero, suc, ◌+◌, ◌-◌, ◌≤◌, ◌<◌}
-use native.Mathlib.Nat.{not-suc-le-zero, le_of_suc-le-suc}
 use native.Mathlib.Omega.{arith}
-use lib.ListN.{length, get_or}
-use lib.Seq.{ext_get_or}
+use lib.ListN.{length}
 use Rattle.masks.specs.Masks.{bit, single}
 use Rattle.masks.proofs.Laws.{bit_empty}
 use Rattle.hrg.specs.Counts.{hit, occurs, tabulate, up_to, Reordered}
-use Rattle.hrg.specs.Grammars.{Edge, Graph, PlanNode, leaf, introduce, join, Rule, Grammar, cost, rule_of, lhs_of, right_of, plan_of, plan_node, edge_at, no_edge}
-use Rattle.hrg.specs.Trees.{unplaced, at, images, Tree, apply, Parts, end, edge, tree, edges_of, edges_in, internals, inner_of, inner_in, applications, applications_in, FitsEdge, Fits, FitsParts}
+use Rattle.hrg.specs.Grammars.{Edge, Graph, leaf, introduce, join, Rule, Grammar, cost, rule_of, lhs_of, right_of, plan_of, plan_node, edge_at}
+use Rattle.hrg.specs.Trees.{unplaced, at, images, apply, end, edge, tree, edges_of, edges_in, internals, inner_of, inner_in, applications, applications_in, FitsEdge, Fits, FitsParts}
 use Rattle.hrg.specs.Deduction.{Reachable, by_axiom, by_unary, by_binary}
-use Rattle.hrg.specs.Items.{below, is_open, is_open_at, keep_if, restrict, attach, Covers, Joins, Item, active, passive, LeafRule, leaf_rule, terminal_rule, root_rule, nonterminal_rule, join_rule, closure}
-use Rattle.hrg.specs.Truth.{edges_below, IsBelow, ActiveTruth, PassiveTruth, Truth}
+use Rattle.hrg.specs.Items.{below, is_open_at, keep_if, restrict, attach, Joins, Item, leaf_rule, terminal_rule, root_rule, nonterminal_rule, join_rule, closure}
+use Rattle.hrg.specs.Truth.{edges_below, ActiveTruth, PassiveTruth, Truth}
 use Rattle.hrg.specs.WellFormed.{GrammarOk, GraphOk, RuleOk}
 use Rattle.hrg.proofs.Sums.{hit_ne, sum_zero, occurs_sum, occurs_find, occurs_append, occurs_up_to, occurs_past, length_tabulate, at_tabulate, tabulate_ext, images_split}
 use Rattle.hrg.proofs.Plans.{below_leaf, below_introduce, below_join, below_known, below_root, introduce_known}
@@ -22,7 +20,7 @@ use Rattle.hrg.proofs.Degrees.{degree, places, degree_same, degree_pos, degree_z
 use Rattle.hrg.proofs.Reordering.{reordered_of, reordered_map}
 use Rattle.hrg.proofs.Parts.{◌⧺◌, Moved, fits_reorder}
 use Rattle.hrg.proofs.TreeNodes.{images_pos, tree_inside}
-use Rattle.hrg.proofs.Sides.{tentacles, open_in, open_at_in, length_restrict, restrict_open, restrict_shown, below_in, below_of, images_eq, edges_at, Side, truth_side, truth_side_parts}
+use Rattle.hrg.proofs.Sides.{tentacles, open_in, length_restrict, restrict_open, restrict_shown, below_in, below_of, images_eq, edges_at, Side, truth_side, truth_side_parts}
 use Rattle.hrg.proofs.Joining.{join_truth, join_parts}
 use Rattle.hrg.proofs.SingleEdges.{edge_side, edge_side_parts, tree_side, tree_side_parts}
 

@@ -1,23 +1,23 @@
 -- A true active item, taken apart along its plan node: the converse of Joining.
-use mathlib.Core.Path.{◌≡◌, refl, sym, ap, ap₂, ◌∙◌, subst}
+use mathlib.Core.Path.{◌≡◌, refl, sym, ap, ◌∙◌, subst}
 use mathlib.Core.Bool.{Bool, true, false}
-use mathlib.Core.List.{List, [], ◌∷◌, ◌++◌, map}
+use mathlib.Core.List.{List, [], ◌∷◌, ◌++◌}
 use Prim.Native.Nat.{ℕ, zero, suc, ◌+◌, ◌-◌, ◌≤◌, ◌<◌}
-use native.Mathlib.Nat.{not-suc-le-zero, le_of_suc-le-suc, add_comm}
+use native.Mathlib.Nat.{not-suc-le-zero, le_of_suc-le-suc}
 use native.Mathlib.Omega.{arith}
-use lib.ListN.{length, get_or}
+use lib.ListN.{length}
 use lib.Dec.{eqb}
-use Rattle.masks.specs.Masks.{bit, ◌∪◌, of_bits}
+use Rattle.masks.specs.Masks.{bit, of_bits}
 use Rattle.masks.proofs.Laws.{bit_le, bit_high, bit_of_bits, sum_disjoint, union_of}
 use Rattle.hrg.specs.Counts.{hit, occurs, tabulate}
 use Rattle.hrg.specs.Grammars.{Edge, Graph, Rule, Grammar, edge_at}
 use Rattle.hrg.specs.Trees.{unplaced, at, images, Parts, edges_in, inner_in, applications_in, FitsParts}
-use Rattle.hrg.specs.Items.{below, is_open, is_open_at, either, or_else, joined, keep_if, restrict, Covers, Joins}
-use Rattle.hrg.specs.Truth.{edges_below, IsBelow, ActiveTruth}
+use Rattle.hrg.specs.Items.{below, is_open, is_open_at, either, or_else, joined, keep_if, restrict, Joins}
+use Rattle.hrg.specs.Truth.{ActiveTruth}
 use Rattle.hrg.specs.WellFormed.{GrammarOk, GraphOk, RuleOk}
-use Rattle.hrg.proofs.Sums.{hit_self, hit_eq, hit_ne, sum_to, sum_le, occurs_sum, occurs_find, occurs_at, occurs_append, length_tabulate, at_tabulate, tabulate_ext}
+use Rattle.hrg.proofs.Sums.{hit_self, hit_eq, hit_ne, sum_le, occurs_sum, occurs_find, occurs_at, occurs_append, length_tabulate, at_tabulate, tabulate_ext}
 use Rattle.hrg.proofs.Degrees.{degree, places, degree_add, degree_pos, degree_find, zero_or}
-use Rattle.hrg.proofs.Parts.{◌⧺◌, edges_append, inner_append, applications_append, size_append, size_in, Halves, fits_split, fits_place}
+use Rattle.hrg.proofs.Parts.{edges_append, inner_append, applications_append, size_append, size_in, fits_split, fits_place}
 use Rattle.hrg.proofs.TreeNodes.{Held, inside, ends, held_parts, images_find}
 use Rattle.hrg.proofs.Sides.{tentacles, tentacles_append, tentacles_le, open_in, open_of, once, open_at_in, below_in, below_of, length_restrict, restrict_none, restrict_open, restrict_shown, either_set, either_none, edges_at, edges_at_lem}
 use Rattle.hrg.proofs.Joining.{keep_ext, agree_at_lem}

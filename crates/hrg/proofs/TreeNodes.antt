@@ -1,16 +1,15 @@
 -- The nodes and edges of a tree: every listed or inner node lies on one of its edges (T5), every node on one of its
 -- edges is listed or inner, all are the graph's own, and no tree is without edges.
-use mathlib.Core.Path.{◌≡◌, refl, sym, ap, ap₂, ◌∙◌, subst}
-use mathlib.Core.Logic.{◌⊎◌, inl, inr}
-use mathlib.Core.List.{List, [], ◌∷◌, ◌++◌, map}
+use mathlib.Core.Path.{◌≡◌, refl, sym, ap, subst}
+use mathlib.Core.List.{List, [], ◌∷◌, ◌++◌}
 use Prim.Native.Nat.{ℕ, zero, suc, ◌+◌, ◌≤◌, ◌<◌}
 use native.Mathlib.Nat.{not-suc-le-zero, le_of_suc-le-suc}
 use native.Mathlib.Omega.{arith}
-use lib.ListN.{length, get_or}
+use lib.ListN.{length}
 use Rattle.hrg.specs.Counts.{hit, occurs}
 use Rattle.hrg.specs.Grammars.{Edge, Graph, Grammar, right_of, edge_at}
 use Rattle.hrg.specs.Trees.{at, images, Tree, apply, Parts, end, edge, tree, edges_of, edges_in, internals, inner_of, inner_in, FitsEdge, FitsRule, Fits, FitsParts}
-use Rattle.hrg.specs.WellFormed.{GrammarOk, OnEdge}
+use Rattle.hrg.specs.WellFormed.{GrammarOk}
 use Rattle.hrg.proofs.Sums.{hit_self, hit_eq, occurs_append, internals_inside, images_split, occurs_at}
 
 -- ---- members of a list of images

@@ -1,6 +1,6 @@
 -- Hypergraphs, productions, plans and grammars. Numbers stand for nodes, edges, symbols and rules, from 0 on (01,
 -- 'Lines and columns').
-use Rattle.std.specs.Prelude.{Bool, true, false, ◌&&◌, ◌||◌, List, [], ◌∷◌, ℕ, suc, get_or, ltb}
+use Rattle.std.specs.Prelude.{Bool, false, ◌&&◌, ◌||◌, List, [], ◌∷◌, ℕ, suc, get_or, ltb}
 use Rattle.hrg.specs.Counts.{occurs}
 
 -- 000 definition 3, 003 definition 3: terminal and nonterminal symbols, each with its rank.

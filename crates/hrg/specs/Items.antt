@@ -2,9 +2,9 @@
 use Rattle.std.specs.Prelude.{◌≡◌, Bool, true, false, ◌&&◌, ◌||◌, not, List, [], ◌∷◌, ◌++◌, ℕ, zero, suc, ◌≤◌, ◌<◌, length, eqb, ltb}
 use Rattle.masks.specs.Masks.{member, ◌∪◌, Apart as Disjoint, single, full}
 use Rattle.hrg.specs.Counts.{occurs, tabulate}
-use Rattle.hrg.specs.Grammars.{Edge, Graph, touches, PlanNode, leaf, introduce, join, Rule, Grammar, cost, rule_of, lhs_of, right_of, plan_of, plan_node, edge_at}
+use Rattle.hrg.specs.Grammars.{Graph, touches, PlanNode, leaf, introduce, join, Rule, Grammar, cost, rule_of, lhs_of, right_of, plan_of, plan_node, edge_at}
 use Rattle.hrg.specs.Trees.{unplaced, at, images, FitsEdge}
-use Rattle.hrg.specs.Deduction.{System, Reachable}
+use Rattle.hrg.specs.Deduction.{System}
 
 -- ---- what lies below a plan node
 abbrev pub below_node : (ℕ → List ℕ) → PlanNode → List ℕ

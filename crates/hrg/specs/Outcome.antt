@@ -1,5 +1,5 @@
 -- What a run to the end tells of a graph: the applications of a fewest derivation and the steps.
-use Rattle.std.specs.Prelude.{◌≡◌, Bool, true, false, List, [], ◌∷◌, ℕ, ◌≤◌, length}
+use Rattle.std.specs.Prelude.{◌≡◌, true, false, List, [], ◌∷◌, ℕ, ◌≤◌, length}
 use Rattle.masks.specs.Masks.{full}
 use Rattle.hrg.specs.Grammars.{Graph, Grammar}
 use Rattle.hrg.specs.Trees.{Tree, applications, Generates}

@@ -4,7 +4,7 @@ use Rattle.masks.specs.Masks.{bit}
 use Rattle.hrg.specs.Counts.{occurs}
 use Rattle.hrg.specs.Grammars.{Edge, Graph, PlanNode, leaf, join, Rule, Grammar, rule_of, plan_of, plan_node, edge_at}
 use Rattle.hrg.specs.Trees.{unplaced, at, Tree, Parts, edges_of, edges_in, inner_of, inner_in, applications, applications_in, Fits, FitsParts}
-use Rattle.hrg.specs.Items.{below, is_open_at, restrict, Covers, Item, active, passive}
+use Rattle.hrg.specs.Items.{below, restrict, Covers, Item, active, passive}
 
 -- A tree of symbol s on the nodes L has just the edges m, and every open node of the set is listed.
 pub record PassiveTruth (G : Grammar) (H : Graph) (s m : ℕ) (L : List ℕ) (n : ℕ) : Type 0 where

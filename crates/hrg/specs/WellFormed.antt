@@ -1,7 +1,7 @@
 -- What an accepted grammar file and a graph file read with it establish (01, 'Lines and columns', questions 3 to 7).
 use Rattle.std.specs.Prelude.{◌≡◌, ◌⊎◌, List, [], ◌∷◌, ◌++◌, ℕ, suc, ◌≤◌, ◌<◌, length}
 use Rattle.hrg.specs.Counts.{occurs}
-use Rattle.hrg.specs.Grammars.{terminal, nonterminal, Edge, Graph, Production, PlanNode, leaf, introduce, join, Rule, Grammar, kind_of, rank_of, rule_of, plan_node, edge_at}
+use Rattle.hrg.specs.Grammars.{terminal, nonterminal, Edge, Graph, PlanNode, leaf, introduce, join, Rule, Grammar, kind_of, rank_of, rule_of, plan_node, edge_at}
 
 -- low ≤ n ≤ high
 pub record Between (low n high : ℕ) : Type 0 where

@@ -4,7 +4,7 @@ use Rattle.std.proofs.Common.{sym, ap, ◌∙◌, div-one, lt_of_lt_of_le, mod-e
 use Rattle.std.proofs.Math.Nat.{zero-div, div_self, div-eq_of_lt}
 use Rattle.std.proofs.Math.Decide.{dec_lt}
 use Rattle.std.proofs.Math.Arith.{bin_ind, dbl_pred}
-use Rattle.std.specs.Int.Bits.{bit_or, bit_and, or_step, and_step}
+use Rattle.std.specs.Int.Bits.{bit_and, or_step, and_step}
 use Rattle.std.proofs.lemmas.Nat.{or_shr, and_shr, or_lt}
 use Rattle.std.proofs.Math.Dec.{eqb_refl}
 use Rattle.std.proofs.Math.Pow.{pow-lt, ones_lt}

@@ -5,7 +5,7 @@ use Prim.Native.Nat.{ℕ, zero, suc, ◌+◌, ◌-◌, ◌*◌, ◌/◌, ◌%◌
 use native.Mathlib.Nat.{one-mul}
 use native.Mathlib.Decide.{dec_lt}
 use native.Mathlib.Omega.{arith}
-use borrow.Author.Tests.{eqb-true, eqb-false, eq-eqb, ne_eqb, lt-ltb, le-ltb}
+use borrow.Author.Tests.{eq-eqb, ne_eqb, lt-ltb, le-ltb}
 use lib.Bits.{bit_and, bit_or, and_mask, and_high, or_shr, or_lt}
 use lib.Dec.{eqb, ltb}
 use Rattle.masks.specs.Masks.{member}
@@ -16,7 +16,7 @@ use Rattle.places.specs.Words.{word_by, places_of}
 use Rattle.places.specs.Laws.{Bytes}
 use Rattle.places.specs.Swar.{choose_of, differs_of, spread_of, over_of}
 use Rattle.places.specs.Maps.{fits}
-use Rattle.places.proofs.Bytewise.{by_ext, and_by, or_by, add_by, times_by, full, high, high_byte, highs, nones, same_byte, eqb_cases, differs_by, choose_by}
+use Rattle.places.proofs.Bytewise.{by_ext, and_by, or_by, add_by, times_by, high, high_byte, highs, nones, same_byte, eqb_cases, differs_by, choose_by}
 use Rattle.places.proofs.Spreading.{spread_by}
 use Rattle.places.proofs.Reading.{word_at_lem, word_packed, place_byte}
 use Rattle.places.proofs.Once.{every_ext}

@@ -8,17 +8,15 @@ use native.Mathlib.Omega.{arith}
 use lib.ListN.{length, take, drop, replicate, length-replicate}
 use lib.Seq.{take_at}
 use lib.Dec.{eqb}
-use borrow.Author.Tests.{eqb-true, eqb-false}
 use Rattle.hrg.specs.Grammars.{Graph, Grammar}
 use Rattle.hrg.specs.Items.{Item, closure}
 use Rattle.hrg.specs.Agenda.{Closure}
-use Rattle.hrg.specs.WellFormed.{GrammarOk, GraphOk}
 use Rattle.hrg.proofs.ClosureAgenda.{closure_finite}
 use Rattle.agenda.specs.Consequences.{record_in}
 use Rattle.agenda.specs.Steps.{Chart, least_waiting, start_chart, runs_chart, sum_of}
 use Rattle.agenda.specs.declared.Found.TheVariants.{Nowhere}
 use Rattle.questions.specs.Abstract.{grammar_of, graph_of}
-use Rattle.records.specs.Words.{capacity, item_count, record_at, records_at, chart_of}
+use Rattle.records.specs.Words.{capacity, item_count, record_at, chart_of}
 use Rattle.records.proofs.WordLaws.{length_records, record_in_lem}
 use Rattle.charting.specs.Calls.{number_of, steps_of, Called, fit, fit_chart, answer_of, start_answer, start_of, run_of, runs_of, standing_of}
 use Rattle.charting.specs.Facts.{RunRight}
@@ -29,7 +27,7 @@ use Rattle.charting.proofs.Calls.{fit_grammar, fit_graph, fit_most, after_start,
 use Rattle.charting.proofs.Demand.{start_fit, runs_known, runs_chart_lem, runs_right, start_right}
 use Rattle.derivation.specs.Derivations.{derivation_text, replay_text}
 use Rattle.writing.specs.Writing.{Wrote, goal_in, write_goal, write_of, refused as refused_writing}
-use Rattle.writing.specs.Demand.{ClosureSize, FewestTree, WritesTree}
+use Rattle.writing.specs.Demand.{ClosureSize}
 use Rattle.writing.specs.declared.Answer.TheVariants.{Underivable, NoRoom, Written}
 use Rattle.writing.proofs.Writings.{write_by_is}
 use Rattle.writing.proofs.Derivations.{written_passes}

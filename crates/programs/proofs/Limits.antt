@@ -1,20 +1,19 @@
 -- Which files the programs hand on: one above 32,768 bytes is refused 1, any other goes to its reader or to the
 -- replay, the grammar before the graph; a missing file counts as empty.
-use mathlib.Core.Path.{◌≡◌, refl, ◌∙◌}
-use mathlib.Core.Bool.{true, false, cond}
+use mathlib.Core.Path.{◌≡◌, refl}
+use mathlib.Core.Bool.{true, false}
 use mathlib.Core.List.{List, []}
 use Prim.Native.Nat.{ℕ, ◌≤◌, ◌<◌}
-use lib.ListN.{length, replicate}
+use lib.ListN.{length}
 use lib.Dec.{leb}
 use native.Mathlib.Omega.{arith}
 use borrow.Author.Tests.{le-leb, lt-leb, eq-eqb, ne_eqb}
 use Rattle.format.specs.Lines.{lines_of, counting_start}
-use Rattle.questions.specs.Layout.{grammar_words, graph_words}
 use Rattle.questions.specs.Reading.{read_grammar, grammar_verdict, read_lines, delivered}
 use Rattle.questions.specs.Checking.{read_graph}
 use Rattle.replayer.specs.Verdicts.{number_of as verdict_number, replay_of}
-use Rattle.programs.specs.Files.{FileRead, FilesRead, file_bytes, numbered, grammar_file, graph_file, files_of}
-use Rattle.programs.specs.Programs.{Derived, refused, derive_files, replay_tables, replay_files}
+use Rattle.programs.specs.Files.{FileRead, file_bytes, numbered, grammar_file, graph_file, files_of}
+use Rattle.programs.specs.Programs.{refused, derive_files, replay_tables}
 
 abbrev oversize : List ℕ → FileRead
 oversize former = record { refusal = 1; table = former }

@@ -1,11 +1,11 @@
 -- The theorems of the two programs, over the texts of their files.
 use mathlib.Core.Path.{◌≡◌, refl, sym, ap, ◌∙◌, subst}
-use mathlib.Core.Bool.{Bool, true, false, cond, ◌&&◌}
+use mathlib.Core.Bool.{Bool, true, false}
 use mathlib.Core.List.{List, []}
 use Prim.Native.Nat.{ℕ, ◌≤◌}
 use native.Mathlib.Omega.{arith}
 use lib.ListN.{length, replicate}
-use lib.Dec.{eqb, leb}
+use lib.Dec.{eqb}
 use borrow.Author.Tests.{eq-eqb, ne_eqb, eqb-true, eqb-false, le-leb}
 use Rattle.format.specs.Lines.{lines_of}
 use Rattle.scripts.specs.Scripts.{rows_in, script_of}
@@ -17,9 +17,7 @@ use Rattle.validity.specs.Checking.{holds}
 use Rattle.charting.specs.Calls.{fit}
 use Rattle.charting.proofs.Calls.{and_both}
 use Rattle.derivation.specs.Derivations.{replay_text}
-use Rattle.replayer.specs.Verdicts.{number_of as verdict_number, fit_tables, replay_of}
-use Rattle.replayer.specs.declared.Verdict.{Verdict}
-use Rattle.replayer.specs.declared.Verdict.TheVariants.{Unfit, Refused, Passed}
+use Rattle.replayer.specs.Verdicts.{fit_tables, replay_of}
 use Rattle.programs.specs.Files.{FilesRead, file_bytes, files_of}
 use Rattle.programs.specs.Programs.{Derived, refused, derived, chart_words, derive_tables, derive_files, replay_tables, replay_files}
 use Rattle.programs.specs.Facts.{Deriving, derives, small, underivable, long}

@@ -8,7 +8,7 @@ use lib.ListN.{length}
 use Rattle.hrg.specs.Counts.{occurs}
 use Rattle.hrg.specs.Grammars
 use Rattle.hrg.specs.Grammars.{Kind, terminal, nonterminal, kind_of, rank_of, rule_of, lhs_of, right_of, plan_of, plan_node, edge_at}
-use Rattle.hrg.specs.WellFormed.{Between, Listed, EdgeOk, SideOk, children, RuleOk, SymbolOk, GrammarOk}
+use Rattle.hrg.specs.WellFormed.{Between, Listed, EdgeOk, SideOk, RuleOk, SymbolOk, GrammarOk}
 use Rattle.questions.specs.Layout.{start_symbol, rule_nodes, rule_edges, rule_plan}
 use Rattle.questions.specs.Questions.{field, nodes_on_edges, judge}
 use Rattle.questions.specs.TableText.{kind_number, plan_fields, grammar_fields}
@@ -16,7 +16,7 @@ use Rattle.questions.specs.declared.Due.{Due}
 use Rattle.questions.specs.declared.Due.TheVariants.{Grammar, Symbol, Rule, RuleEdge, PlanLine, Graph, GraphEdge, Nothing}
 use Rattle.questions.proofs.WellFormedQuestions.{InOrder, Covers, PassedGrammar, passes_grammar, PassedSymbol, passes_symbol, PassedRule, passes_rule, PassedEdge, passes_edge, Whole, PassedPlan, passes_plan}
 use Rattle.questions.proofs.WellFormedPlans.{Complete, NodeOk, plan_ok, ok_node}
-use Rattle.questions.proofs.WellFormedTables.{in_order_listed, listed_in_order, Covering, covering_side, side_covering, number_nonterminal, nonterminal_number, number_le, children_of_lem, introduced_by_lem, plan_kind_lem, plan_three, plan_leaf, HasLine, GrammarIn, Ranked, symbol_count_is, rule_count_is, start_symbol_is, kind_field_lem, rank_at_lem, rule_nodes_lem, rule_edges_lem, rule_plan_lem, nodes_on_edges_lem, introduced_before_lem, children_so_far, introduced_so_far}
+use Rattle.questions.proofs.WellFormedTables.{in_order_listed, listed_in_order, Covering, covering_side, side_covering, number_nonterminal, nonterminal_number, number_le, children_of_lem, introduced_by_lem, plan_kind_lem, plan_three, plan_leaf, HasLine, GrammarIn, Ranked, symbol_count_is, start_symbol_is, kind_field_lem, rank_at_lem, rule_nodes_lem, rule_edges_lem, rule_plan_lem, nodes_on_edges_lem, introduced_before_lem, children_so_far, introduced_so_far}
 
 -- every line passes
 abbrev pub AllPass : Grammars.Grammar → List ℕ → Type 0

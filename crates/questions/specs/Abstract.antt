@@ -1,7 +1,7 @@
 -- The grammar and the graph of crate `hrg` that tables stand for.
-use Rattle.std.specs.Prelude.{Bool, true, false, cond, List, [], ◌∷◌, ℕ, zero, suc, eqb}
+use Rattle.std.specs.Prelude.{cond, List, [], ◌∷◌, ℕ, zero, suc, eqb}
 use Rattle.hrg.specs.Counts.{tabulate}
-use Rattle.hrg.specs.Grammars.{Kind, terminal, nonterminal, Symbol, Edge, Graph, PlanNode, leaf, introduce, join, Rule, Grammar}
+use Rattle.hrg.specs.Grammars.{Kind, terminal, nonterminal, Graph, PlanNode, leaf, introduce, join, Rule, Grammar}
 use Rattle.questions.specs.Layout.{symbol_count, rule_count, start_symbol, kind_field, rank_at, rule_symbol, rule_nodes, rule_edges, rule_plan, rule_external, edge_label, edge_node, plan_kind, plan_first, plan_second, graph_nodes, graph_edges, graph_external, graph_label, graph_node}
 
 -- the list f 0, f 1, .. of n values

@@ -1,6 +1,6 @@
 -- Question 8 for tables: could accepted texts have filled them? The lines that a table holds are judged as a reader
 -- judges them and stored in a cleared table, which must then be the table itself.
-use Rattle.std.specs.Prelude.{◌≡◌, Bool, true, false, ◌&&◌, cond, List, [], ◌∷◌, ◌++◌, ℕ, zero, suc, ◌+◌, length, take, replicate, leb}
+use Rattle.std.specs.Prelude.{◌≡◌, Bool, false, ◌&&◌, cond, List, [], ℕ, zero, suc, ◌+◌, length, take, replicate, leb}
 use Rattle.hrg.specs.Counts.{tabulate}
 use Rattle.hrg.specs.ClosureRun.{same_list}
 use Rattle.questions.specs.Layout.{place_of, line_field, stored, grammar_words, graph_words, start_symbol, rank_at}
@@ -8,7 +8,6 @@ use Rattle.questions.specs.Questions.{judge}
 use Rattle.questions.specs.Reading.{Verdict, refused, accepted, when_done, go_on, next, delivered, Outcome, graph_verdict, read_grammar}
 use Rattle.questions.specs.declared.Due.{Due}
 use Rattle.questions.specs.declared.Due.TheVariants.{Grammar, Symbol, Rule, RuleEdge, PlanLine, Graph, GraphEdge, Nothing}
-use Rattle.questions.specs.declared.Answer.{Answer}
 use Rattle.questions.specs.declared.Answer.TheVariants.{Done, Refused}
 
 -- how many fields the line at a place of t has, by the ranks in the lines read before it: those of c, or of the

@@ -3,7 +3,7 @@
 -- above 64.
 use Rattle.std.specs.Prelude.{Bool, true, ◌&&◌, List, ℕ, zero, suc, ◌+◌, ◌*◌, ◌/◌, ◌%◌, ◌^◌, min, get_or, set, drop, ltb}
 use Rattle.format.specs.declared.Letter.{Letter}
-use Rattle.format.specs.declared.Letter.TheVariants.{G, S, R, E, P, H, D, A, Other}
+use Rattle.format.specs.declared.Letter.TheVariants.{G, S, R, E, P, H, Other}
 use Rattle.questions.specs.declared.Due.{Due}
 use Rattle.questions.specs.declared.Due.TheVariants.{Grammar, Symbol, Rule, RuleEdge, PlanLine, Graph, GraphEdge, Nothing}
 

@@ -1,6 +1,6 @@
 -- Questions 3 to 7 of 01, one definition for each kind of line, over the lines stored so far. The first no is the
 -- result; 0 is no refusal.
-use Rattle.std.specs.Prelude.{Bool, true, false, ◌&&◌, ◌||◌, not, cond, List, [], ◌∷◌, ◌++◌, ℕ, zero, suc, ◌+◌, ◌-◌, ◌*◌, min, length, get_or, drop, eqb, ltb, leb}
+use Rattle.std.specs.Prelude.{Bool, true, false, ◌&&◌, ◌||◌, not, cond, List, [], ◌∷◌, ◌++◌, ℕ, zero, suc, ◌+◌, min, length, get_or, drop, eqb, ltb, leb}
 use Rattle.hrg.specs.Counts.{hit, occurs, tabulate}
 use Rattle.hrg.specs.WellFormedTest.{every, each, between_test}
 use Rattle.questions.specs.Layout.{symbol_count, start_symbol, kind_field, rank_at, rule_nodes, rule_edges, rule_plan, edge_label, edge_node, plan_kind, plan_first, plan_second, graph_nodes, graph_edges, graph_label, graph_node}

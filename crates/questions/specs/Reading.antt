@@ -1,6 +1,6 @@
 -- Reading a grammar text and a graph text: line by line, questions 1 to 7 for each line, the first no is the result
 -- (01, 'Questions in their order').
-use Rattle.std.specs.Prelude.{Bool, true, false, ◌&&◌, cond, List, [], ◌∷◌, ◌++◌, ℕ, zero, suc, ◌+◌, min, length, drop, replicate, eqb, ltb, leb}
+use Rattle.std.specs.Prelude.{◌&&◌, cond, List, [], ◌∷◌, ◌++◌, ℕ, zero, suc, ◌+◌, min, length, drop, replicate, eqb, ltb, leb}
 use Rattle.format.specs.Lines.{Line, lines_of}
 use Rattle.format.specs.Shape.{shape_of, letter_of, kind_letter}
 use Rattle.format.specs.Fields.{fields_of}

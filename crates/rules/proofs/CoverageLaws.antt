@@ -1,14 +1,13 @@
 -- Which graph nodes the places of a map show, and that an item shows each open one.
 use mathlib.Core.Path.{◌≡◌, sym, ap, ◌∙◌}
-use mathlib.Core.Bool.{Bool, true, ◌&&◌, false≢true}
+use mathlib.Core.Bool.{Bool, true, false≢true}
 use mathlib.Core.List.{List}
-use Prim.Native.Nat.{ℕ, zero, suc, ◌+◌, ◌≤◌, ◌<◌}
+use Prim.Native.Nat.{ℕ, ◌+◌, ◌≤◌, ◌<◌}
 use native.Mathlib.Omega.{arith}
-use native.Mathlib.Decide.{dec_lt}
 use lib.ListN.{length, get_or}
 use lib.Bits.{bit_and}
-use lib.Dec.{eqb, leb}
-use borrow.Author.Tests.{eqb-true, leb-true}
+use lib.Dec.{eqb}
+use borrow.Author.Tests.{eqb-true}
 use Rattle.masks.specs.Masks.{member, Added, Found}
 use Rattle.hrg.specs.Trees.{unplaced, at}
 use Rattle.hrg.specs.Items.{is_open}
@@ -17,12 +16,11 @@ use Rattle.questions.specs.Layout.{rank_at, rule_count, rule_nodes, rule_plan}
 use Rattle.questions.specs.Checking.{check_grammar}
 use Rattle.questions.specs.Abstract.{graph_of}
 use Rattle.agenda.specs.declared.ChartItem.{ChartItem}
-use Rattle.joins.specs.Joins.{KnownNode, OpenAt, OpenIn, Plain}
+use Rattle.joins.specs.Joins.{KnownNode, OpenAt, OpenIn}
 use Rattle.joins.proofs.Known.{nodes_few}
 use Rattle.joins.proofs.PlanMasks.{member_none}
 use Rattle.joins.proofs.Touching.{member_both}
 use Rattle.joins.proofs.Openness.{spans_none, either_way}
-use Rattle.joins.proofs.EdgeMaps.{at_past}
 use Rattle.joins.proofs.MapLaws.{get_d_any}
 use Rattle.rules.specs.Coverage.{Shown, Covering}
 

@@ -1,8 +1,8 @@
 -- What the rules make of items that show each open graph node of their edges does so too.
 use mathlib.Core.Path.{◌≡◌, refl, sym, ap, ◌∙◌, subst}
 use mathlib.Core.Bool.{Bool, true, not, false≢true}
-use mathlib.Core.List.{List, [], ◌∷◌}
-use Prim.Native.Nat.{ℕ, zero, suc, ◌≤◌, ◌<◌}
+use mathlib.Core.List.{List}
+use Prim.Native.Nat.{ℕ, suc, ◌<◌}
 use native.Mathlib.Omega.{arith}
 use lib.ListN.{length, take}
 use lib.Seq.{get_or-take}
@@ -23,7 +23,7 @@ use Rattle.questions.specs.Layout.{rank_at, rule_count, rule_symbol, rule_nodes,
 use Rattle.questions.specs.Checking.{check_grammar}
 use Rattle.questions.specs.Abstract.{grammar_of, graph_of}
 use Rattle.joins.specs.Joins.{Accepted, KnownNode, Holds, Makes}
-use Rattle.joins.proofs.Known.{rule_ok, nodes_few, plan_size}
+use Rattle.joins.proofs.Known.{rule_ok, plan_size}
 use Rattle.joins.proofs.Touching.{touches_some}
 use Rattle.joins.proofs.Openness.{either_way, some_find}
 use Rattle.joins.proofs.EdgeMaps.{rank_cap, at_padded}

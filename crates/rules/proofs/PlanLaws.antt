@@ -12,7 +12,7 @@ use borrow.Author.Tests.{eq-eqb, ne_eqb, eqb-true, eqb-false, lt-ltb, le-ltb, lt
 use Rattle.masks.specs.Masks.{bit, member}
 use Rattle.masks.proofs.Laws.{member_false, lt_bits, bits_lt}
 use Rattle.hrg.specs.Counts.{hit, occurs}
-use Rattle.hrg.specs.Grammars.{PlanNode, join, touches, rule_of, plan_of, plan_node}
+use Rattle.hrg.specs.Grammars.{PlanNode, touches, rule_of, plan_of, plan_node}
 use Rattle.hrg.specs.Items.{is_boundary, is_open_at}
 use Rattle.hrg.specs.WellFormed.{children}
 use Rattle.hrg.proofs.Sums.{hit_self, none_left}

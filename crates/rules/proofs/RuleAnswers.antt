@@ -1,7 +1,7 @@
 -- What the rules make over accepted tables, and what callers read off the answers.
 use mathlib.Core.Path.{◌≡◌, refl, sym, ap, ap₂, ◌∙◌, subst}
 use mathlib.Core.Bool.{Bool, true, false, ◌&&◌, cond, true≢false, false≢true}
-use mathlib.Core.Logic.{◌⊎◌, inl, inr}
+use mathlib.Core.Logic.{inl, inr}
 use mathlib.Core.List.{List, [], ◌∷◌, map}
 use Prim.Native.Nat.{ℕ, ◌/◌, ◌%◌, ◌≤◌, ◌<◌}
 use native.Mathlib.Omega.{arith}
@@ -11,7 +11,7 @@ use lib.Seq.{get_or-take, length-take-le}
 use lib.Bits.{bit_or}
 use lib.Dec.{eqb}
 use borrow.Author.Tests.{eq-eqb, ne_eqb, ltb-true}
-use Rattle.masks.specs.Masks.{◌∪◌, disjoint, single, Added}
+use Rattle.masks.specs.Masks.{◌∪◌, single, Added}
 use Rattle.masks.proofs.Laws.{bit_empty, union_of}
 use Rattle.hrg.specs.Counts.{occurs}
 use Rattle.hrg.specs.Grammars.{Edge, Graph, PlanNode, leaf, introduce, join, Rule, Grammar, rank_of, rule_of, right_of, plan_of, plan_node, edge_at}
@@ -33,7 +33,7 @@ use Rattle.joins.specs.Joins.{Accepted, KnownNode, KnownEdge, BareFrom, Into, Ma
 use Rattle.rules.specs.Plans.{second_word}
 use Rattle.rules.specs.Coverage.{Shown, Covering}
 use Rattle.rules.specs.Rules.{Gives, Second, terminal_items, binary_at, made_of, Above, Usable, StandsFor}
-use Rattle.joins.proofs.Known.{right_nodes, nodes_few, plan_size, graph_size, graph_nodes_lem, graph_ok, graph_edges_few, graph_nodes_few}
+use Rattle.joins.proofs.Known.{right_nodes, nodes_few, plan_size, graph_size, graph_nodes_lem, graph_ok, graph_edges_few}
 use Rattle.joins.proofs.PlanMasks.{node_is, joined_is}
 use Rattle.joins.proofs.EdgeMaps.{edge_ok, edge_label_is as rule_label, edge_rank, rank_cap, node_there, edge_node_known, at_padded, at_past, take_padded, padded_bare, length_attach, attach_place}
 use Rattle.joins.proofs.Openness.{open_single}
@@ -41,7 +41,7 @@ use Rattle.joins.proofs.GraphPlaces.{Placeable, in_padded, in_take, in_attach}
 use Rattle.rules.proofs.JoinWords.{introduced, second_edge, asked_known, asked_label, second_other}
 use Rattle.rules.proofs.NodeLists.{label_is, edge_ranked}
 use Rattle.rules.proofs.Covering.{made_covering}
-use Rattle.rules.proofs.RuleItems.{guard_none, binary_nowhere, binary_place, first_is, first_none, item_active, item_passive, item_edges, with_terminal_lem, binary_apart, pair_passive, edge_pair}
+use Rattle.rules.proofs.RuleItems.{guard_none, binary_nowhere, binary_place, first_is, first_none, item_active, item_passive, with_terminal_lem, pair_passive, edge_pair}
 
 -- ---- the one plan node above
 module _ (g : List ℕ) (H : Graph) (r p m : ℕ) (f : List ℕ) (x : Place) (above : Above g r p x) where

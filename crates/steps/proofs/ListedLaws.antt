@@ -18,7 +18,7 @@ use Rattle.questions.specs.Abstract.{grammar_of, graph_of}
 use Rattle.questions.specs.Checking.{check_grammar}
 use Rattle.records.specs.Words.{Fits, capacity, item_count, record_at, chart_of, grown_by}
 use Rattle.records.proofs.WordLaws.{length_records, record_in_lem}
-use Rattle.records.proofs.Grown.{Whole, whole_gather, whole_guard, grown_none, grown_flag, grown_record}
+use Rattle.records.proofs.Grown.{Whole, whole_guard, grown_none, grown_flag, grown_record}
 use Rattle.lists.specs.Lists.{Within}
 use Rattle.lists.specs.Cursors.{starts_of, least_of, passed_of, left_all, Ahead, SkimsAll}
 use Rattle.lists.proofs.CursorLaws.{ahead_start, ahead_within, least_none, ahead_passed, ahead_grown, left_falls, skims_by, ahead_skims, left_skims}

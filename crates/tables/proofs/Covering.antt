@@ -14,7 +14,7 @@ use borrow.Author.Tests.{lt-ltb, le-ltb}
 use Rattle.masks.specs.Masks.{bit, member, ◌∪◌, single, full, Added}
 use Rattle.masks.proofs.Laws.{bit_le, bit_empty, member_union, member_single, member_full, member_true, true_member, member_false, false_member, shifted_single, mask_ext}
 use Rattle.hrg.specs.Counts.{hit, occurs, tabulate}
-use Rattle.hrg.specs.WellFormedTest.{Decides, every}
+use Rattle.hrg.specs.WellFormedTest.{Decides}
 use Rattle.hrg.proofs.Sums.{hit_ne, length_tabulate}
 use Rattle.hrg.proofs.WellFormedTest.{◌and◌, decides_le, decides_eq, decides_map, decides_every}
 use Rattle.questions.specs.Layout.{graph_edge_place, edge_place, line_field, rank_at, edge_label, graph_label}

@@ -1,7 +1,7 @@
 -- The tables that the texts of grammars A and B and of graphs K1 to K6 fill, and what they stand for.
-use mathlib.Core.Path.{◌≡◌, refl, sym, ap, ◌∙◌}
-use mathlib.Core.Bool.{Bool, true, false}
-use mathlib.Core.List.{List, [], ◌∷◌}
+use mathlib.Core.Path.{◌≡◌, refl, ap, ◌∙◌}
+use mathlib.Core.Bool.{true, false}
+use mathlib.Core.List.{List, []}
 use Prim.Native.Nat.{ℕ}
 use lib.ListN.{get_or, replicate}
 use Rattle.format.specs.Tests.{all_below, same_bytes}
@@ -10,18 +10,18 @@ use Rattle.format.specs.Fields.{column, field_text, digit_of, value_from, value_
 use Rattle.format.specs.Shape.{letter_of, letter_kind, kind_letter, is_capital, shape_of}
 use Rattle.hrg.specs.Counts.{hit, occurs, tabulate, up_to, select}
 use Rattle.hrg.specs.Grammars.{Grammar, Graph}
-use Rattle.hrg.specs.Cases.{Case, grammar_a, grammar_b, k1, k2, k3, k4, k5, k6}
+use Rattle.hrg.specs.Cases.{grammar_a, grammar_b, k1, k2, k3, k4, k5, k6}
 use Rattle.hrg.specs.WellFormedTest.{every, some, each}
 use Rattle.questions.specs.Layout.{grammar_words, graph_words, place_of, letter_due, in_table, word_field, line_field, packed, stored}
 use Rattle.questions.specs.Questions.{listed, covered, judge_grammar, judge_symbol, judge_rule, nodes_on_edges, judge_rule_edge, children_of, introduced_by, children_before, introduced_before, plan_so_far, plan_whole, judge_plan, judge_graph, nodes_on_graph, judge_graph_edge, judge}
 use Rattle.questions.specs.Reading.{Outcome, next, judge_line, read_lines, grammar_verdict, graph_verdict, delivered, read_grammar}
-use Rattle.questions.specs.Checking.{check_grammar, check_graph, read_graph, FilledGrammar, FilledGraph}
+use Rattle.questions.specs.Checking.{check_grammar, read_graph}
 use Rattle.questions.specs.Abstract.{build, rule_from, grammar_of, graph_of}
 use Rattle.questions.specs.declared.Answer.{Answer}
-use Rattle.questions.specs.declared.Answer.TheVariants.{Done, Refused}
+use Rattle.questions.specs.declared.Answer.TheVariants.{Done}
 use Rattle.questions.proofs.Refusals.{grammar_passed_first}
 use Rattle.questions.proofs.Filled.{grammar_filled_check, graph_filled_check}
-use Rattle.trials.specs.Trials.{Trial, Told}
+use Rattle.trials.specs.Trials.{Trial}
 use Rattle.trials.specs.Table.{bytes_of, Row, table}
 use Rattle.trials.proofs.Checked.{Reading, accepted_whole}
 

@@ -1,6 +1,6 @@
 -- The graphs K1 to K10 with the grammars A and B (01, 'Graphs K1 to K10'), and what each must tell.
 use Rattle.std.specs.Prelude.{Bool, true, false, List, [], ◌∷◌, ℕ}
-use Prim.Native.Char.{Char, code}
+use Prim.Native.Char.{code}
 use Prim.Native.String.{String, [] as done, ◌∷◌ as ◌before◌, ◌++◌ as ◌and◌}
 use Rattle.trials.specs.Trials.{Trial, Told}
 

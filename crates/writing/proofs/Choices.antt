@@ -2,14 +2,13 @@
 -- a chart untouched since a start.
 use mathlib.Core.Path.{◌≡◌, refl, sym, ap, ◌∙◌, subst}
 use mathlib.Core.Logic.{◌≢◌, ◌⊎◌, inl, inr}
-use mathlib.Core.Bool.{Bool, true, false}
 use mathlib.Core.List.{List, ◌++◌}
-use Prim.Native.Nat.{ℕ, ◌≤◌, ◌<◌}
+use Prim.Native.Nat.{ℕ, ◌≤◌}
 use native.Mathlib.Decide.{dec_le}
 use native.Mathlib.Omega.{arith}
 use lib.ListN.{length, take, drop}
 use lib.Seq.{take_at, drop_at}
-use Rattle.hrg.specs.Trees.{Tree, Generates}
+use Rattle.hrg.specs.Trees.{Tree}
 use Rattle.agenda.specs.Steps.{least_waiting}
 use Rattle.agenda.specs.declared.Record.{Record}
 use Rattle.agenda.specs.declared.Found.{Found}
@@ -17,12 +16,11 @@ use Rattle.agenda.specs.declared.Found.TheVariants.{At, Nowhere}
 use Rattle.agenda.proofs.Choice.{Chosen, waits, nothing, chosen}
 use Rattle.questions.specs.Abstract.{grammar_of, graph_of}
 use Rattle.records.specs.Words.{capacity, chart_of}
-use Rattle.charting.specs.Calls.{fit, start_of}
 use Rattle.preorder.specs.Rows.{size}
 use Rattle.derivation.specs.Derivations.{derivation_text}
 use Rattle.writing.specs.Writing.{number_of, Wrote, refused, write_of}
 use Rattle.writing.specs.Filling.{records_of, records_in, Choice, refuses, chooses, chosen_of, Filled, unfilled, fill_records, fill_of}
-use Rattle.writing.specs.Demand.{Call, after_calls, steps_given, AllHandled, SomeLeft, FewestTree, WritesTree, FillsTree, RecordsOf, CallsRight, WriteChoices, FillChoices}
+use Rattle.writing.specs.Demand.{steps_given, AllHandled, SomeLeft, FewestTree, WritesTree, FillsTree, RecordsOf, CallsRight, WriteChoices, FillChoices}
 use Rattle.writing.specs.declared.Application.{Application}
 use Rattle.writing.specs.declared.Answer.{Answer}
 use Rattle.writing.specs.declared.Answer.TheVariants.{TooSmall, Unfinished, NoRoom, Written}

@@ -1,19 +1,16 @@
 -- Demand 3: one theorem over any list of calls after a start that passes question 8.
 use mathlib.Core.Path.{◌≡◌, refl, sym, ap, ◌∙◌, subst}
 use mathlib.Core.Logic.{◌≢◌, ◌↔◌}
-use mathlib.Core.Bool.{Bool, true, false}
+use mathlib.Core.Bool.{true, false}
 use mathlib.Core.List.{List, [], ◌∷◌, ◌++◌}
-use Prim.Native.Nat.{ℕ, ◌+◌, ◌≤◌, ◌<◌, min}
+use Prim.Native.Nat.{ℕ, ◌+◌, ◌≤◌, ◌<◌}
 use native.Mathlib.Decide.{dec_le}
 use native.Mathlib.Omega.{arith}
-use lib.ListN.{length, take, drop}
+use lib.ListN.{length, drop}
 use Rattle.hrg.specs.Grammars.{Graph, Grammar}
 use Rattle.hrg.specs.Trees.{Tree, Generates}
-use Rattle.hrg.specs.Items.{Item, closure}
-use Rattle.hrg.specs.Agenda.{Closure}
 use Rattle.hrg.specs.WellFormed.{GrammarOk, GraphOk}
 use Rattle.hrg.proofs.ClosureAgenda.{closure_finite}
-use Rattle.agenda.specs.Records.{is_handled}
 use Rattle.agenda.specs.Consequences.{record_in}
 use Rattle.agenda.specs.Steps.{Chart, least_waiting, start_chart, runs_chart, handled_count, sum_of}
 use Rattle.agenda.specs.declared.Record.{Record}
@@ -22,10 +19,9 @@ use Rattle.agenda.specs.declared.Found.TheVariants.{At, Nowhere}
 use Rattle.agenda.proofs.Choice.{Chosen, waits, nothing, chosen}
 use Rattle.agenda.proofs.RunFacts.{runs_correct, marked_small, done_size}
 use Rattle.questions.specs.Abstract.{grammar_of, graph_of}
-use Rattle.records.specs.Words.{capacity, item_count, record_at, records_at, chart_of}
+use Rattle.records.specs.Words.{capacity, item_count, record_at, chart_of}
 use Rattle.records.proofs.WordLaws.{length_records, record_in_lem}
-use Rattle.charting.specs.Calls.{fit, fit_chart, when_waiting, answer_of, start_of, run_of, runs_of, standing_of}
-use Rattle.charting.specs.declared.Outcome.{Outcome}
+use Rattle.charting.specs.Calls.{fit, when_waiting, answer_of, start_of, run_of, runs_of, standing_of}
 use Rattle.charting.specs.declared.Outcome.TheVariants.{TooSmall as TooSmallChart, Unfinished as UnfinishedChart, Done}
 use Rattle.charting.proofs.Answers.{answer_marked, answer_waiting}
 use Rattle.charting.proofs.Calls.{fit_grammar, fit_graph, fit_most}
@@ -33,11 +29,10 @@ use Rattle.charting.proofs.Demand.{runs_known, runs_chart_lem}
 use Rattle.preorder.specs.Rows.{size}
 use Rattle.derivation.specs.Derivations.{derivation_text}
 use Rattle.writing.specs.Writing.{number_of, Wrote, refused, goal_in, write_goal, write_of}
-use Rattle.writing.specs.Filling.{records_of, Choice, chooses, chosen_goal, chosen_of, Filled, unfilled, fill_of}
+use Rattle.writing.specs.Filling.{records_of, chooses, chosen_goal, chosen_of, Filled, unfilled, fill_of}
 use Rattle.writing.specs.Demand.{Call, run, write, fill, after_calls, steps_given, AllHandled, SomeLeft, FewestTree, WritesTree, FillsTree, CallsRight}
 use Rattle.writing.specs.declared.Application.{Application}
-use Rattle.writing.specs.declared.Answer.{Answer}
-use Rattle.writing.specs.declared.Answer.TheVariants.{TooSmall, Unfinished, Underivable, NoRoom, Written}
+use Rattle.writing.specs.declared.Answer.TheVariants.{TooSmall, Unfinished, Underivable, Written}
 use Rattle.writing.proofs.Writings.{write_by_is}
 use Rattle.writing.proofs.Filling.{records_held, records_short, records_size, chosen_by_is, fill_refuses, chosen_records}
 use Rattle.writing.proofs.OwnCharts.{Writes, no_tree, a_tree, goal_writes}

@@ -1,13 +1,13 @@
 -- Demand 2 of what the writer writes, in the request's words: membership is edge replacement, a written derivation
 -- replays to exactly the graph, and untouched since the start it has the fewest applications.
-use mathlib.Core.Path.{◌≡◌, refl, sym, ap, ◌∙◌, subst}
+use mathlib.Core.Path.{◌≡◌, refl, ap}
 use mathlib.Core.Logic.{◌↔◌}
-use mathlib.Core.Bool.{Bool, true, false}
+use mathlib.Core.Bool.{true}
 use mathlib.Core.List.{List}
 use Prim.Native.Nat.{ℕ, ◌≤◌}
 use native.Mathlib.Omega.{arith}
 use lib.ListN.{take}
-use Rattle.hrg.specs.Trees.{Tree, applications, Generates}
+use Rattle.hrg.specs.Trees.{Tree, applications}
 use Rattle.hrg.specs.Replacement.{Member}
 use Rattle.hrg.proofs.Degrees.{test_T, T_test}
 use Rattle.hrg.proofs.Replacement.{member_generated}
@@ -20,7 +20,7 @@ use Rattle.preorder.proofs.Rows.{size_applications}
 use Rattle.derivation.specs.Derivations.{derivation_text, replay_text, ReplayedFrom}
 use Rattle.derivation.proofs.Derivations.{replay_text_is, replay_member}
 use Rattle.writing.specs.Writing.{number_of, refused, write_of}
-use Rattle.writing.specs.Demand.{Call, after_calls, AllHandled, FewestTree}
+use Rattle.writing.specs.Demand.{Call, after_calls, AllHandled}
 use Rattle.writing.specs.declared.Answer.TheVariants.{Underivable, Written}
 use Rattle.writing.proofs.Writings.{written_fit, written_derivation}
 use Rattle.writing.proofs.Demand.{demand_3}

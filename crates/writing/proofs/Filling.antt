@@ -1,13 +1,12 @@
 -- A row of records is filled with the same derivation whose text is written: on any words, for any row.
-use mathlib.Core.Path.{◌≡◌, refl, sym, ap, ◌∙◌, subst}
+use mathlib.Core.Path.{◌≡◌, refl, ap, ◌∙◌, subst}
 use mathlib.Core.Logic.{◌≢◌}
 use mathlib.Core.Bool.{Bool, true, false, cond}
 use mathlib.Core.List.{List, [], ◌∷◌, ◌++◌, map, map-append}
 use Prim.Native.Nat.{ℕ, suc, ◌+◌, ◌-◌, ◌≤◌, ◌<◌}
 use native.Mathlib.Omega.{arith}
-use lib.ListN.{length, take, drop, get_or, replicate, length-append}
+use lib.ListN.{length, take, drop, replicate, length-append}
 use lib.Seq.{take-append_seam, take-append-add, take_at, drop_at}
-use lib.Dec.{T, leb}
 use borrow.Author.Tests.{le-leb, lt-leb}
 use Rattle.hrg.specs.Grammars.{Edge, Graph, Grammar, right_of}
 use Rattle.hrg.specs.Trees.{Tree, Parts, apply, end, edge, tree, images, FitsRule, Fits, FitsParts, Generates}
@@ -22,19 +21,18 @@ use Rattle.charting.specs.Calls.{fit, standing_of}
 use Rattle.charting.specs.declared.Outcome.{Outcome}
 use Rattle.charting.specs.declared.Outcome.TheVariants.{Unfit as UnfitChart, TooSmall as TooSmallChart, Unfinished as UnfinishedChart, Done}
 use Rattle.charting.proofs.Calls.{chart_fit, fit_grammar, fit_graph}
-use Rattle.scripts.specs.Scripts.{rows, rows_text, rows_in}
+use Rattle.scripts.specs.Scripts.{rows_text}
 use Rattle.preorder.specs.Rows.{size, size_in, part_numbers, tree_rows, part_rows, rows_of}
-use Rattle.preorder.proofs.Rows.{length_rows}
 use Rattle.derivation.specs.Derivations.{derivation_text, replay_text, DerivationOf}
 use Rattle.derivation.proofs.WritableTrees.{numbers_length}
 use Rattle.derivation.proofs.Derivations.{derivation_rows, derivation_passes, derivation_length}
 use Rattle.extraction.specs.Extraction.{Spelt, nothing, spelt, tree_at}
 use Rattle.writing.specs.Writing.{number_of, Wrote, refused, write_text, derives, write_spelt, goal_in, write_goal, write_by as writeStanding, write_of}
-use Rattle.writing.specs.Filling.{eight, application_of, tree_records, part_records, records_of, row_of, rows_for, records_text, application_in, records_by, records_in, Choice, refuses, chooses, chosen_spelt, chosen_goal, chosen_by, chosen_of, write_by, Filled, unfilled, fill_records, fill_by, fill_of}
+use Rattle.writing.specs.Filling.{eight, application_of, tree_records, part_records, records_of, row_of, rows_for, records_text, application_in, records_by, records_in, Choice, refuses, chooses, chosen_spelt, chosen_goal, chosen_by, chosen_of, write_by, unfilled, fill_records, fill_by, fill_of}
 use Rattle.writing.specs.Demand.{RecordsOf}
 use Rattle.writing.specs.declared.Application.{Application}
 use Rattle.writing.specs.declared.Answer.{Answer}
-use Rattle.writing.specs.declared.Answer.TheVariants.{Unfit, TooSmall, Unfinished, Underivable, NoRoom, Written}
+use Rattle.writing.specs.declared.Answer.TheVariants.{Unfit, NoRoom, Written}
 use Rattle.writing.proofs.Writings.{Way, refusing, writing, holding, text_held, write_way, written_fit, written_derivation}
 
 -- ---- the writer goes by the choice

@@ -1,17 +1,17 @@
 -- Demand 3 over any list of calls: a start that passes question 8, then runs of whatever steps and writings, refused
 -- ones included, each on the chart as the last call left it. Trees are defined without items or plans.
-use Rattle.std.specs.Prelude.{◌≡◌, ◌↔◌, Bool, true, false, List, [], ◌∷◌, ◌++◌, ℕ, ◌+◌, ◌≤◌, ◌<◌, min, length, take, drop}
+use Rattle.std.specs.Prelude.{◌≡◌, ◌↔◌, true, false, List, [], ◌∷◌, ◌++◌, ℕ, ◌+◌, ◌≤◌, ◌<◌, min, length, take, drop}
 use Rattle.hrg.specs.Grammars.{Graph, Grammar}
 use Rattle.hrg.specs.Trees.{Tree, applications, Generates}
 use Rattle.hrg.specs.Items.{Item, closure}
 use Rattle.hrg.specs.Agenda.{Closure}
 use Rattle.agenda.specs.Records.{is_handled}
 use Rattle.agenda.specs.Consequences.{record_in}
-use Rattle.agenda.specs.Steps.{Chart, handled_count}
+use Rattle.agenda.specs.Steps.{handled_count}
 use Rattle.agenda.specs.RunFacts.{ChartCorrect}
 use Rattle.agenda.specs.declared.Record.{Record}
 use Rattle.questions.specs.Abstract.{grammar_of, graph_of}
-use Rattle.records.specs.Words.{capacity, chart_of}
+use Rattle.records.specs.Words.{chart_of}
 use Rattle.charting.specs.Calls.{fit, start_of, run_of}
 use Rattle.preorder.specs.Rows.{size}
 use Rattle.derivation.specs.Derivations.{derivation_text, replay_text, DerivationOf}

@@ -1,5 +1,4 @@
 use native.Mathlib.Omega.{arith}
-use Prim.Native.Nat.{◌-◌}
 use Rattle.records.proofs.WordLaws.{item_inside}
 use Rattle.chains.proofs.ChainLaws.{chained_first, chained_next, chained_all}
 use Rattle.chains.proofs.build.Goals as goal

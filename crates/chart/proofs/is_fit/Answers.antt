@@ -1,6 +1,4 @@
 -- A law for each test.
-use Prim.Native.Nat.{◌-◌}
-use borrow.Author.Tests.{not-true, not-false}
 use Rattle.chart.proofs.CallSteps.{fit_size, fit_grammar, fit_graph}
 use Rattle.chart.proofs.is_fit.Goals as goal
 

@@ -1,7 +1,6 @@
 -- By the mark, where no step is left; else by what stands in the chart.
 use Prim.Native.Nat.{ℕ}
 use mathlib.Core.Path.{ap, ◌∙◌}
-use borrow.Author.Tests.{not-false}
 use Rattle.agenda.specs.Steps.{handled_count}
 use Rattle.records.specs.Words.{records_at}
 use Rattle.chart.proofs.CallSteps.{outcome_small, outcome_idle}

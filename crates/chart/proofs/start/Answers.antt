@@ -1,6 +1,4 @@
 -- A law for each answer.
-use Prim.Native.Nat.{◌-◌}
-use borrow.Author.Tests.{not-true, not-false}
 use Rattle.chart.proofs.CallSteps.{fit_accepted, fit_header, start_refuses, start_small, start_done}
 use Rattle.chart.proofs.start.Goals as goal
 

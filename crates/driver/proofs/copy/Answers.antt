@@ -1,6 +1,5 @@
 -- A loop that copies one byte a turn.
 use native.Mathlib.Omega.{arith}
-use Prim.Native.Nat.{◌-◌}
 use lib.ListN.{length-set}
 use Rattle.format.specs.Copying.{copy_more, copy_done}
 use Rattle.driver.proofs.copy.Goals as goal

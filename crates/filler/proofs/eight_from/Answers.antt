@@ -1,6 +1,5 @@
 -- The places passed have their numbers, those behind them 0.
 use native.Mathlib.Omega.{arith}
-use Prim.Native.Nat.{◌-◌}
 use mathlib.Core.Path.{◌∙◌}
 use Rattle.filler.proofs.Eights.{numbers_of, fields_few, eight_none, place_filled, place_kept, places_done}
 use Rattle.filler.proofs.eight_from.Goals as goal

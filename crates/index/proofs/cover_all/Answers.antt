@@ -1,10 +1,7 @@
 use native.Mathlib.Omega.{arith}
-use Prim.Native.Nat.{◌-◌}
-use Prim.Native.Nat.{◌-◌}
 use Rattle.records.specs.Words.{chart_of}
 use Rattle.records.proofs.WordLaws.{item_inside}
 use Rattle.index.proofs.CoverLaws.{indexed_doubted, covered_doubted, covered_first, covered_next, covered_all}
-use borrow.Author.Tests.{not-false}
 use Rattle.index.proofs.cover_all.Goals as goal
 
 pub loop-j-init : goal.loop-j-init

@@ -1,5 +1,4 @@
 use native.Mathlib.Omega.{arith}
-use Prim.Native.Nat.{◌-◌}
 use Rattle.records.specs.Words.{records_at}
 use Rattle.records.proofs.WordLaws.{item_inside}
 use Rattle.lists.proofs.ListLaws.{listed_ready}

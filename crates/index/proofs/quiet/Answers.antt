@@ -1,5 +1,4 @@
 use mathlib.Core.Path.{sym, ◌∙◌}
-use borrow.Author.Tests.{not-true, not-false}
 use Rattle.index.proofs.QuietLaws.{quiet_edges, quiet_waits, quiet_not}
 use Rattle.records.proofs.WordLaws.{item_inside}
 use Rattle.index.proofs.quiet.Goals as goal

@@ -1,8 +1,6 @@
 -- The cursor has come along its list, over quiet records only.
 use native.Mathlib.Omega.{arith}
-use Prim.Native.Nat.{◌-◌}
 use mathlib.Core.Path.{refl, sym}
-use borrow.Author.Tests.{not-false}
 use Rattle.lists.specs.Cursors.{stays}
 use Rattle.index.specs.Quiet.{quiet_in}
 use Rattle.index.proofs.QuietLaws.{skim_on}

@@ -1,5 +1,4 @@
 -- The nodes at the places passed.
-use Prim.Native.Nat.{◌-◌}
 use mathlib.Core.Path.{subst}
 use native.Mathlib.Omega.{arith}
 use Rattle.places.specs.Words.{places_of}

@@ -1,6 +1,6 @@
 -- The mask has the fields passed.
 use native.Mathlib.Omega.{arith}
-use Prim.Native.Nat.{◌+◌, ◌-◌}
+use Prim.Native.Nat.{◌+◌}
 use Rattle.questions.specs.Layout.{line_field}
 use Rattle.joins.proofs.Touching.{listed_none, listed_next, listed_done}
 use Rattle.joins.proofs.listed.Goals as goal

@@ -1,6 +1,5 @@
 -- The two masks have the nodes on the edges passed.
 use native.Mathlib.Omega.{arith}
-use Prim.Native.Nat.{◌-◌}
 use Rattle.joins.proofs.Touching.{sides_none, sides_next, sides_done}
 use Rattle.joins.proofs.nodes_by.Goals as goal
 

@@ -1,7 +1,6 @@
 -- The digits so far are those of the nodes passed.
 use native.Mathlib.Omega.{arith}
 use mathlib.Core.Path.{ap, ◌∙◌}
-use Prim.Native.Nat.{◌-◌}
 use Rattle.questions.specs.Layout.{rank_at}
 use Rattle.joins.proofs.Known.{edge_there}
 use Rattle.joins.proofs.EdgeMaps.{edge_label_few, edge_node_few, digits_few, digits_none, digits_next, digits_all}

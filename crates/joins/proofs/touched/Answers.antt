@@ -1,6 +1,5 @@
 -- The nodes of the groups passed, on edges of the set and on others.
 use native.Mathlib.Omega.{arith}
-use Prim.Native.Nat.{◌-◌}
 use Rattle.joins.proofs.Known.{graph_edges_few}
 use Rattle.joins.proofs.GraphLaws.{touched_none, touched_next, touched_all}
 use Rattle.joins.proofs.touched.Goals as goal

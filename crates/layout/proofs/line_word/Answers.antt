@@ -1,6 +1,5 @@
 -- A loop over nine fields from the last one to the first.
 use native.Mathlib.Omega.{arith}
-use Prim.Native.Nat.{◌-◌}
 use mathlib.Core.Path.{refl}
 use Rattle.questions.specs.Layout.{packed}
 use Rattle.layout.proofs.Fields.{packed_room, packed_next, packed_done}

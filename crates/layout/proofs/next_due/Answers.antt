@@ -1,7 +1,6 @@
 -- Each arm is its clause of the order of lines; a line that passed the test has small numbers.
 use native.Mathlib.Omega.{arith}
 use mathlib.Core.Path.{◌∙◌}
-use borrow.Author.Tests.{not-true, not-false}
 use Rattle.questions.specs.Reading.{next}
 use Rattle.questions.specs.declared.Due.TheVariants.{Nothing}
 use Rattle.layout.proofs.Fields.{known, chosen, passed}

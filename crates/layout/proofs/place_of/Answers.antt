@@ -1,7 +1,6 @@
 -- A line that passed the test has small numbers, so no sum wraps.
 use mathlib.Core.Path.{refl}
 use native.Mathlib.Omega.{arith}
-use borrow.Author.Tests.{not-true, not-false}
 use Rattle.questions.specs.Layout.{place_of}
 use Rattle.layout.proofs.Fields.{known, passed, placed}
 use Rattle.layout.proofs.place_of.Goals as goal

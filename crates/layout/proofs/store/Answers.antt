@@ -1,5 +1,4 @@
 -- Unchanged where the line is in no table or the table too short; else the line's word stands at its place.
-use borrow.Author.Tests.{not-true, not-false}
 use Rattle.layout.proofs.Fields.{store_out, store_short, store_in}
 use Rattle.layout.proofs.store.Goals as goal
 

@@ -1,5 +1,5 @@
 -- Four comparisons, one for each column.
-use Rattle.format.specs.Fields.{column, field_text}
+use Rattle.format.specs.Fields.{field_text}
 use Rattle.format.proofs.TestLaws.{same_four}
 use Rattle.lines.proofs.is_text.Goals as goal
 

@@ -1,6 +1,5 @@
 -- A search: from the place reached the line ends where it ends from its start.
 use native.Mathlib.Omega.{arith}
-use Prim.Native.Nat.{◌-◌}
 use borrow.Author.Rules.{rules}
 use Rattle.format.proofs.LineLaws.{start_le, scan_start, scan_end, scan_feed, scan_more}
 use Rattle.lines.proofs.line_end.Goals as goal

@@ -1,7 +1,5 @@
 -- Behind two blanks by the last two columns, else by the text.
 use Rattle.lines.proofs.Cells.{two_blanks}
-use Rattle.lines.proofs.compared_cell.Reads as compared-cell-reads
-use Rattle.lines.proofs.last_two.Reads as last-two-reads
 use Rattle.lines.proofs.read_cell.Goals as goal
 
 pub returns-then-n-lt100 : goal.returns-then-n-lt100

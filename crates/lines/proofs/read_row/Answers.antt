@@ -1,6 +1,5 @@
 -- A loop that reads one field a turn: the row holds the fields so far.
 use native.Mathlib.Omega.{arith}
-use Prim.Native.Nat.{◌-◌}
 use mathlib.Core.Path.{refl, ◌∙◌}
 use lib.ListN.{length-set}
 use lib.Seq.{drop-set-lt}

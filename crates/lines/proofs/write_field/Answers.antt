@@ -3,7 +3,7 @@ use native.Mathlib.Omega.{arith}
 use mathlib.Core.Path.{refl}
 use lib.ListN.{length-set}
 use native.Mathlib.Numerals.{add-one, add-two, add-three}
-use Rattle.format.specs.Fields.{column, field_text}
+use Rattle.format.specs.Fields.{field_text}
 use Rattle.lines.proofs.write_field.Goals as goal
 
 pub bounds-out-at-2 : goal.bounds-out-at-2

@@ -1,6 +1,5 @@
 -- A loop that writes through a callee: place, length and contents in one invariant.
 use native.Mathlib.Omega.{arith}
-use Prim.Native.Nat.{◌-◌}
 use mathlib.Core.Path.{◌≡◌, refl, ◌∙◌}
 use borrow.Author.Rules.{rules}
 use Rattle.format.specs.Writing.{fields_text}

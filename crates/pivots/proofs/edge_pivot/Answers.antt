@@ -1,6 +1,5 @@
 -- Any position of the edge whose node is open will do.
 use native.Mathlib.Omega.{arith}
-use Prim.Native.Nat.{◌-◌}
 use Rattle.pivots.proofs.TableLaws.{no_edge_pivot, node_few, edge_pivot}
 use Rattle.pivots.proofs.edge_pivot.Goals as goal
 

@@ -1,6 +1,6 @@
 -- Two words, or three.
 use native.Mathlib.Omega.{arith}
-use Prim.Native.Nat.{◌+◌, ◌-◌}
+use Prim.Native.Nat.{◌+◌}
 use mathlib.Core.Path.{refl}
 use lib.ListN.{length-set}
 use Rattle.pivots.proofs.TableLaws.{with_small, size_two, entered_two, entered_three}

@@ -1,6 +1,6 @@
 -- The places so far; those of rules that are not there stay as they are.
 use native.Mathlib.Omega.{arith}
-use Prim.Native.Nat.{◌+◌, ◌*◌, ◌-◌, ◌<◌}
+use Prim.Native.Nat.{◌+◌, ◌*◌, ◌<◌}
 use mathlib.Core.Path.{ap, sym, subst}
 use Rattle.rules.proofs.WantLaws.{rules_few}
 use Rattle.pivots.proofs.TableLaws.{Filled, filled_none, filled_idle, filled_more, filled_all}

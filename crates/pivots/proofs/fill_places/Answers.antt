@@ -1,6 +1,6 @@
 -- The symbols so far.
 use native.Mathlib.Omega.{arith}
-use Prim.Native.Nat.{◌+◌, ◌-◌}
+use Prim.Native.Nat.{◌+◌}
 use mathlib.Core.Path.{refl}
 use lib.ListN.{length-set}
 use Rattle.pivots.proofs.TableLaws.{placed_none, placed_more, placed_all}

@@ -1,6 +1,5 @@
 -- A law for each test.
 use native.Mathlib.Omega.{arith}
-use Prim.Native.Nat.{◌-◌}
 use Rattle.pivots.proofs.Answers.{idle_word, edge_word_is, join_word_is}
 use Rattle.pivots.proofs.key_word.Goals as goal
 

@@ -1,5 +1,4 @@
 -- The one plan node above tells.
-use Prim.Native.Nat.{◌-◌}
 use borrow.Author.Tests.{not-true, not-false}
 use Rattle.pivots.proofs.TableLaws.{pivot_missing, pivot_found}
 use Rattle.pivots.proofs.pivot.Goals as goal

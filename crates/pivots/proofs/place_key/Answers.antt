@@ -1,5 +1,4 @@
 -- A law for each test.
-use Prim.Native.Nat.{◌-◌}
 use Rattle.pivots.proofs.Answers.{place_unused, place_key_is}
 use Rattle.pivots.proofs.place_key.Goals as goal
 

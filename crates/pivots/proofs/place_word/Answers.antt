@@ -1,6 +1,5 @@
 -- A law for each test.
 use native.Mathlib.Omega.{arith}
-use Prim.Native.Nat.{◌-◌}
 use Rattle.pivots.proofs.Answers.{no_place, last_place, node_place}
 use Rattle.pivots.proofs.place_word.Goals as goal
 

@@ -1,4 +1,3 @@
-use Prim.Native.Nat.{◌-◌}
 use Rattle.pivots.proofs.TableLaws.{Searched}
 use Rattle.pivots.proofs.shared_node.Given as goal
 

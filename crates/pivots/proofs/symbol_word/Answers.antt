@@ -1,6 +1,6 @@
 -- A law for each test.
 use native.Mathlib.Omega.{arith}
-use Prim.Native.Nat.{◌+◌, ◌-◌}
+use Prim.Native.Nat.{◌+◌}
 use Rattle.pivots.proofs.TableLaws.{symbol_far, symbol_there}
 use Rattle.pivots.proofs.symbol_word.Goals as goal
 

@@ -1,7 +1,6 @@
 -- The words before i are 0.
 use Rattle.queues.proofs.LevelLaws.{zero_levels, zeros_more}
 use native.Mathlib.Omega.{arith}
-use Prim.Native.Nat.{◌-◌}
 use mathlib.Core.Path.{◌∙◌}
 use lib.ListN.{length-set}
 use Rattle.queues.proofs.clear.Goals as goal

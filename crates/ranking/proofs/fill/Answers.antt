@@ -1,9 +1,8 @@
 use native.Mathlib.Omega.{arith}
-use Prim.Native.Nat.{ℕ, ◌+◌, ◌-◌}
+use Prim.Native.Nat.{ℕ, ◌+◌}
 use mathlib.Core.Path.{sym, ◌∙◌}
 use mathlib.Core.Path.{subst}
 use mathlib.Core.List.{List}
-use borrow.Author.Tests.{not-true, not-false}
 use Rattle.records.specs.Words.{records_at}
 use Rattle.records.proofs.WordLaws.{item_inside}
 use Rattle.ranking.specs.Ranking.{Ranked}

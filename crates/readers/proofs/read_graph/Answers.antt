@@ -1,5 +1,4 @@
 -- The grammar table first, then the lines read into a cleared table.
-use borrow.Author.Tests.{not-true, not-false}
 use Rattle.readers.proofs.Delivery.{gives_touched, gives_graph}
 use Rattle.readers.proofs.read_graph.Goals as goal
 

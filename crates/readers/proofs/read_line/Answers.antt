@@ -1,7 +1,6 @@
 -- The questions in their order, by a law each.
 use native.Mathlib.Omega.{arith}
 use mathlib.Core.Path.{sym, ◌∙◌}
-use borrow.Author.Tests.{not-true, not-false}
 use Rattle.readers.proofs.Letters.{letter_some}
 use Rattle.readers.proofs.Turns.{judged_open, judged_shape, judged_letter, judged_rest}
 use Rattle.readers.proofs.read_line.Goals as goal

@@ -1,6 +1,5 @@
 -- The loop over the lines that count: reading what is left gives what the whole text gives.
 use native.Mathlib.Omega.{arith}
-use Prim.Native.Nat.{◌-◌}
 use mathlib.Core.Path.{refl, ◌∙◌}
 use Rattle.readers.proofs.Turns.{reads_done, turn_no, turn_on, turn_less}
 use Rattle.readers.proofs.read_lines.Goals as goal

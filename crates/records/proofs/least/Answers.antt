@@ -1,7 +1,5 @@
 use native.Mathlib.Omega.{arith}
-use Prim.Native.Nat.{◌-◌}
 use mathlib.Core.Path.{sym, ap, ◌∙◌}
-use borrow.Author.Tests.{not-true, not-false}
 use Rattle.agenda.specs.Steps.{least_waiting}
 use Rattle.records.specs.Words.{records_at}
 use Rattle.records.proofs.WordLaws.{least_start, least_none, least_one}

@@ -1,6 +1,5 @@
 -- The choice among the records so far, one of which waits.
 use native.Mathlib.Omega.{arith}
-use Prim.Native.Nat.{◌-◌}
 use mathlib.Core.Path.{ap, ◌∙◌}
 use Rattle.agenda.specs.declared.Found.TheVariants.{At}
 use Rattle.records.specs.Words.{records_at}

@@ -1,6 +1,5 @@
 -- The mask has the nodes passed.
 use native.Mathlib.Omega.{arith}
-use Prim.Native.Nat.{◌-◌}
 use Rattle.replayer.proofs.MaskTests.{with_none, mask_next, with_done}
 use Rattle.replayer.proofs.mask_of.Goals as goal
 

@@ -1,7 +1,6 @@
 -- A text without rows, a replay that fails, and one that is whole or not.
 use native.Mathlib.Omega.{arith}
 use mathlib.Core.Path.{refl, sym, ◌∙◌}
-use borrow.Author.Tests.{not-true, not-false}
 use Rattle.joins.proofs.Known.{graph_nodes_few, graph_edges_few}
 use Rattle.replayer.proofs.Verdicts.{none_refused, failed_answer, whole_answer}
 use Rattle.replayer.proofs.passes.Goals as goal

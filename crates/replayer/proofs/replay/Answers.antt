@@ -1,6 +1,5 @@
 -- A law for each answer.
 use mathlib.Core.Path.{sym, ◌∙◌}
-use borrow.Author.Tests.{not-true, not-false}
 use Rattle.replayer.proofs.Verdicts.{tables_accepted, answer_unfit_grammar, answer_unfit_graph, answer_refused, answer_passed}
 use Rattle.replayer.proofs.replay.Goals as goal
 

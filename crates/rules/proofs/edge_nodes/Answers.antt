@@ -1,6 +1,6 @@
 -- The places passed have the edge's nodes, the others none.
 use native.Mathlib.Omega.{arith}
-use Prim.Native.Nat.{◌-◌, ◌<◌}
+use Prim.Native.Nat.{◌<◌}
 use mathlib.Core.Path.{ap, ◌∙◌}
 use Rattle.questions.specs.Layout.{rank_at, graph_label}
 use Rattle.joins.proofs.GraphLaws.{label_few, node_few}

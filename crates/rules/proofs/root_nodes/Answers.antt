@@ -1,6 +1,6 @@
 -- The places passed have the images of the external nodes, the others none.
 use native.Mathlib.Omega.{arith}
-use Prim.Native.Nat.{◌+◌, ◌-◌, ◌≤◌, ◌<◌}
+use Prim.Native.Nat.{◌+◌, ◌≤◌, ◌<◌}
 use mathlib.Core.Path.{sym, ap, subst, ◌∙◌}
 use lib.ListN.{take}
 use Rattle.hrg.specs.Trees.{at}

@@ -1,6 +1,5 @@
 -- Each turn is a step of the model; where none is left, the steps given beyond change nothing.
 use native.Mathlib.Omega.{arith}
-use Prim.Native.Nat.{◌-◌}
 use mathlib.Core.Path.{refl, ◌∙◌}
 use mathlib.Core.Bool.{false≢true}
 use Rattle.questions.specs.Abstract.{grammar_of, graph_of}

@@ -1,9 +1,7 @@
 -- Every record passed is known, and the handled ones among them are counted.
 use native.Mathlib.Omega.{arith}
-use Prim.Native.Nat.{◌-◌}
 use mathlib.Core.Path.{refl, sym, ◌∙◌}
 use mathlib.Core.Bool.{false≢true}
-use borrow.Author.Tests.{not-true, not-false}
 use Rattle.records.proofs.WordLaws.{handled_start}
 use Rattle.validator.proofs.WordTests.{passed_none, chart_over, chart_not, chart_next, chart_all, count_all, count_more, count_same, below_capacity}
 use Rattle.validator.proofs.known.Goals as goal

@@ -1,5 +1,4 @@
 -- The tests in the order of the definition.
-use borrow.Author.Tests.{not-true, not-false}
 use Rattle.validator.proofs.WordTests.{rule_inside, node_known, in_sizes, active_no_rule, active_no_node, active_outside, active_by}
 use Rattle.validator.proofs.known_active.Goals as goal
 

@@ -1,5 +1,4 @@
 -- The tests in the order of the definition.
-use borrow.Author.Tests.{not-true, not-false}
 use Rattle.validator.proofs.WordTests.{symbol_known, in_sizes, passive_no_symbol, passive_terminal, passive_outside, passive_by}
 use Rattle.validator.proofs.known_passive.Goals as goal
 

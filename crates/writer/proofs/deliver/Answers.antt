@@ -1,5 +1,4 @@
 -- A law for each answer.
-use borrow.Author.Tests.{not-true, not-false}
 use Rattle.writer.proofs.Deliveries.{deliver_refused, deliver_short, deliver_written}
 use Rattle.writer.proofs.deliver.Goals as goal
 

@@ -1,8 +1,8 @@
 -- The places passed have the external nodes, the others none.
 use native.Mathlib.Omega.{arith}
-use Prim.Native.Nat.{◌-◌, ◌<◌}
+use Prim.Native.Nat.{◌<◌}
 use mathlib.Core.Path.{ap, ◌∙◌}
-use Rattle.questions.specs.Layout.{rank_at, start_symbol, graph_external}
+use Rattle.questions.specs.Layout.{rank_at, start_symbol}
 use Rattle.joins.proofs.MapLaws.{placed_bare, placed_put}
 use Rattle.writer.proofs.Goals.{external_few, externals_all}
 use Rattle.writer.proofs.external_nodes.Goals as goal

@@ -1,6 +1,5 @@
 -- What is listed and what is due are the whole listing; more due than may be listed is endless.
 use native.Mathlib.Omega.{arith}
-use Prim.Native.Nat.{◌-◌}
 use mathlib.Core.Path.{refl}
 use lib.ListN.{get_or, length-set}
 use Rattle.extractor.proofs.ListLaws.{going_start, going_on, going_over, going_done}

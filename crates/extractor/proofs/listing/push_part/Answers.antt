@@ -1,5 +1,4 @@
 -- A terminal edge pushes nothing, a nonterminal one its partner.
-use borrow.Author.Tests.{not-true, not-false}
 use Rattle.extractor.proofs.ListLaws.{part_skipped, part_pushed}
 use Rattle.extractor.proofs.listing.push_part.Goals as goal
 

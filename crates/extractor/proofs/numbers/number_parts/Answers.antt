@@ -1,6 +1,5 @@
 -- The numbers so far and those of the edges left are all.
 use native.Mathlib.Omega.{arith}
-use Prim.Native.Nat.{◌-◌}
 use Rattle.extractor.proofs.RuleLookup.{known_edge}
 use Rattle.extractor.proofs.NumberLaws.{numbering_start, numbering_next, numbering_done}
 use Rattle.extractor.proofs.numbers.number_parts.Goals as goal

@@ -1,6 +1,5 @@
 -- The map so far is that of the edges passed.
 use native.Mathlib.Omega.{arith}
-use Prim.Native.Nat.{◌-◌}
 use mathlib.Core.Path.{sym}
 use Rattle.joins.proofs.Known.{right_nodes, nodes_few}
 use Rattle.extractor.proofs.RuleLookup.{known_by_edge, known_edge}

@@ -1,6 +1,5 @@
 -- The edges passed have their sets.
 use native.Mathlib.Omega.{arith}
-use Prim.Native.Nat.{◌-◌}
 use Rattle.joins.proofs.Touching.{listed_at}
 use Rattle.joins.proofs.GraphLaws.{sets_none, sets_next, sets_all}
 use Rattle.joins.proofs.graphs.edge_sets.Goals as goal

@@ -1,6 +1,5 @@
 -- The word of the label, and then of each place passed.
 use native.Mathlib.Omega.{arith}
-use Prim.Native.Nat.{◌-◌}
 use Rattle.joins.proofs.GraphLaws.{label_few, node_few, marked_label, marked_place, marked_edge, place_in_lem}
 use Rattle.joins.proofs.graphs.mark_edge.Goals as goal
 

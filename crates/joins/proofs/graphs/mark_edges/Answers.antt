@@ -1,6 +1,5 @@
 -- The edges passed are in their words.
 use native.Mathlib.Omega.{arith}
-use Prim.Native.Nat.{◌-◌}
 use Rattle.joins.proofs.GraphLaws.{indexed_all}
 use Rattle.joins.proofs.graphs.mark_edges.Goals as goal
 

@@ -1,6 +1,5 @@
 -- The words passed are those of their groups.
 use native.Mathlib.Omega.{arith}
-use Prim.Native.Nat.{◌-◌}
 use Rattle.joins.proofs.GraphLaws.{groups_none, groups_next, groups_all}
 use Rattle.joins.proofs.graphs.put_groups.Goals as goal
 

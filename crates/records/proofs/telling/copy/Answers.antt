@@ -1,6 +1,5 @@
 -- A loop that copies one word a turn.
 use native.Mathlib.Omega.{arith}
-use Prim.Native.Nat.{◌-◌}
 use lib.ListN.{length-set}
 use Rattle.format.specs.Copying.{copy_more, copy_done}
 use Rattle.records.proofs.telling.copy.Goals as goal

@@ -1,5 +1,4 @@
 -- The tests in their order, by a law each.
-use borrow.Author.Tests.{not-true, not-false}
 use Rattle.replayer.proofs.RowPlaces.{rule_there}
 use Rattle.replayer.proofs.EdgeTests.{edge_unknown, edge_label_no, edge_there, edge_labelled, edge_nodes_no, edge_new}
 use Rattle.replayer.proofs.fitting.edge_passes.Goals as goal

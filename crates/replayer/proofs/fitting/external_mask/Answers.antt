@@ -1,5 +1,4 @@
 -- The mask has the external nodes that were passed.
-use Prim.Native.Nat.{◌-◌}
 use Rattle.hrg.specs.Grammars.{right_of}
 use Rattle.questions.specs.Abstract.{grammar_of}
 use Rattle.replayer.proofs.MaskTests.{with_none}

@@ -1,6 +1,5 @@
 -- The external nodes that were passed lie on the listed nodes.
 use native.Mathlib.Omega.{arith}
-use Prim.Native.Nat.{◌-◌}
 use Rattle.replayer.proofs.NodeTests.{passed_none, passed_next}
 use Rattle.replayer.proofs.RowPlaces.{rule_there}
 use Rattle.replayer.proofs.RowTests.{same_place, external_there, externals_no, externals_all}

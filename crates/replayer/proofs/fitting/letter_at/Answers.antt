@@ -1,5 +1,4 @@
 -- The tests in their order, by a law each.
-use borrow.Author.Tests.{not-true, not-false}
 use Rattle.replayer.proofs.TextRows.{letter_open, letter_shape, letter_kept}
 use Rattle.replayer.proofs.fitting.letter_at.Goals as goal
 

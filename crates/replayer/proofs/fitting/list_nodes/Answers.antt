@@ -1,6 +1,5 @@
 -- The places passed have the graph nodes of the edge, the others none.
 use native.Mathlib.Omega.{arith}
-use Prim.Native.Nat.{◌-◌}
 use mathlib.Core.Path.{ap}
 use Rattle.replayer.specs.Fitting.{node_in}
 use Rattle.replayer.proofs.NodeTests.{placed_none, placed_next}

@@ -1,7 +1,5 @@
 -- The nodes passed are the same.
 use native.Mathlib.Omega.{arith}
-use Prim.Native.Nat.{◌-◌}
-use Rattle.questions.specs.Layout.{graph_node}
 use Rattle.replayer.proofs.NodeTests.{passed_none, passed_next}
 use Rattle.replayer.proofs.RowPlaces.{rule_there}
 use Rattle.replayer.proofs.EdgeTests.{same_node, edge_node_there, nodes_no, nodes_same}

@@ -1,6 +1,5 @@
 -- Every place passed is below the number of nodes.
 use native.Mathlib.Omega.{arith}
-use Prim.Native.Nat.{◌-◌}
 use borrow.Author.Tests.{lt-ltb}
 use Rattle.replayer.proofs.NodeTests.{passed_none, passed_next, passed_all}
 use Rattle.replayer.proofs.RowTests.{places_no}

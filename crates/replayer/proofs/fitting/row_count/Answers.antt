@@ -1,6 +1,4 @@
 -- The rows that are left, with those passed, make the count of the text.
-use Prim.Native.Nat.{◌-◌}
-use borrow.Author.Tests.{not-true, not-false}
 use Rattle.replayer.proofs.TextRows.{count_none, count_first, count_refused, count_next, count_behind, count_all}
 use Rattle.replayer.proofs.fitting.row_count.Goals as goal
 

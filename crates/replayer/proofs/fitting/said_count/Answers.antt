@@ -1,6 +1,5 @@
 -- The tests of the first line in their order, by a law each.
 use native.Mathlib.Omega.{arith}
-use borrow.Author.Tests.{not-true, not-false}
 use Rattle.replayer.proofs.TextRows.{said_letter, said_fields, said_few, said_many, said_all}
 use Rattle.replayer.proofs.fitting.said_count.Goals as goal
 

@@ -1,5 +1,4 @@
 -- The tests in their order, by a law each.
-use borrow.Author.Tests.{not-true, not-false}
 use Rattle.replayer.proofs.RowTests.{row_head, row_ruled, row_few, row_places, row_sized, row_externals, row_inner}
 use Rattle.replayer.proofs.fitting.taken.Goals as goal
 

@@ -1,7 +1,7 @@
 -- The set has the nodes of the chosen places passed.
 use native.Mathlib.Omega.{arith}
 use mathlib.Core.Path.{subst}
-use Prim.Native.Nat.{◌-◌, ◌<◌}
+use Prim.Native.Nat.{◌<◌}
 use lib.ListN.{length}
 use Rattle.places.specs.Words.{places_of}
 use Rattle.places.specs.Laws.{length_places}

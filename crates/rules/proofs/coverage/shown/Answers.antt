@@ -1,5 +1,4 @@
 -- By the kind of the item; where the rule, the plan node or the symbol is unknown the set is empty.
-use borrow.Author.Rules.{rules}
 use Rattle.rules.proofs.CoverageLaws.{known_by, known_few, shown_none, shown_passive, shown_active}
 use Rattle.rules.proofs.coverage.shown.Goals as goal
 

@@ -2,7 +2,7 @@
 use native.Mathlib.Omega.{arith}
 use mathlib.Core.Path.{sym, subst}
 use mathlib.Core.List.{List}
-use Prim.Native.Nat.{ℕ, ◌-◌}
+use Prim.Native.Nat.{ℕ}
 use Rattle.rules.specs.Filling.{ToldTo}
 use Rattle.rules.proofs.WantLaws.{rules_few}
 use Rattle.rules.proofs.PlanLaws.{told_none, told_all}

@@ -1,7 +1,6 @@
 -- The children of the plan nodes passed are told; the masks are those of what lies below them.
 use native.Mathlib.Omega.{arith}
 use mathlib.Core.Path.{refl}
-use Prim.Native.Nat.{◌-◌}
 use Rattle.joins.proofs.Known.{plan_few}
 use Rattle.joins.proofs.PlanMasks.{masks_none, masks_more, set_size}
 use Rattle.rules.proofs.PlanLaws.{open_small, told_next, told_rule}

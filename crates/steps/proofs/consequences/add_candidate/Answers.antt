@@ -1,7 +1,6 @@
 -- An edge that is no candidate makes nothing; else what the item that stands for it makes is added.
 use native.Mathlib.Omega.{arith}
 use Rattle.joins.proofs.Known.{graph_edges_few}
-use borrow.Author.Tests.{not-true}
 use Rattle.records.proofs.WordLaws.{item_inside}
 use Rattle.steps.proofs.ReadyLaws.{run_tables, usable_at, place_few}
 use Rattle.steps.proofs.CandidateSteps.{candidate_none}

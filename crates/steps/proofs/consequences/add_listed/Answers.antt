@@ -2,7 +2,6 @@
 use native.Mathlib.Omega.{arith}
 use mathlib.Core.Path.{refl, ap, ◌∙◌}
 use lib.ListN.{length}
-use borrow.Author.Tests.{not-true, not-false}
 use Rattle.records.proofs.WordLaws.{item_inside}
 use Rattle.steps.proofs.ListedLaws.{quiet_by, loud_handled}
 use Rattle.steps.proofs.SingleLaws.{quiet, loud, single_key, single_few, single_start, single_joining, single_end, single_low, single_some, single_known, single_size, single_next, single_less}

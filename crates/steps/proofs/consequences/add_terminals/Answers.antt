@@ -1,6 +1,5 @@
 -- What is made with the graph edges so far.
 use native.Mathlib.Omega.{arith}
-use Prim.Native.Nat.{◌-◌}
 use mathlib.Core.Path.{refl, ◌∙◌}
 use Rattle.records.proofs.WordLaws.{item_inside}
 use Rattle.steps.proofs.ReadyLaws.{run_tables}

@@ -1,6 +1,5 @@
 -- Line after line with the set of their nodes, which answers question 6 for the last (proofs/EdgeLines).
 use native.Mathlib.Omega.{arith}
-use Prim.Native.Nat.{◌-◌}
 use mathlib.Core.List.{[]}
 use Rattle.questions.specs.Layout.{grammar_words}
 use Rattle.tables.proofs.Leading.{reaches_no}

@@ -1,7 +1,6 @@
 -- A short table is refused; else by the first line, by the symbols, and by the rules behind them.
 use native.Mathlib.Omega.{arith}
 use mathlib.Core.List.{[]}
-use borrow.Author.Tests.{not-false}
 use Rattle.questions.specs.Layout.{grammar_words}
 use Rattle.tables.proofs.OnePass.{grammar_short, grammar_is}
 use Rattle.tables.proofs.Leading.{concludes_no, concludes_at, through, through_no, concludes_on, symbols_few, rules_few, grammar_no, grammar_line_is}

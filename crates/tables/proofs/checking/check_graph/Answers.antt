@@ -1,5 +1,4 @@
 -- A short table is refused; else by the first line, and by what is behind it.
-use borrow.Author.Tests.{not-false}
 use Rattle.questions.specs.Layout.{graph_words}
 use Rattle.tables.proofs.OnePass.{graph_short, graph_is}
 use Rattle.tables.proofs.Leading.{concludes_on, graph_edges_few, graph_no, graph_line_lem}

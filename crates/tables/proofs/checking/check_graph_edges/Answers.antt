@@ -1,7 +1,6 @@
 -- Line after line with the set of their nodes, which answers question 6 for the last, and the words behind it
 -- (proofs/EdgeLines).
 use native.Mathlib.Omega.{arith}
-use Prim.Native.Nat.{◌-◌}
 use Rattle.questions.specs.Layout.{graph_words}
 use Rattle.tables.proofs.Leading.{concludes_no, concludes_on, concludes_last}
 use Rattle.tables.proofs.EdgeLines.{graph_lines_lem, passed_none, passed_more, passed_no, passed_uncovered, passed_all}

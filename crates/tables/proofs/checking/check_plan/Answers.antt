@@ -1,5 +1,4 @@
 -- Line after line with the sets of those passed, which decide at the end (proofs/Carrying).
-use Prim.Native.Nat.{◌-◌}
 use native.Mathlib.Omega.{arith}
 use borrow.Author.Tests.{not-false}
 use Rattle.tables.proofs.LineFields.{ends_at}

@@ -2,7 +2,6 @@
 use native.Mathlib.Omega.{arith}
 use mathlib.Core.Path.{ap}
 use mathlib.Core.Bool.{false≢true}
-use borrow.Author.Tests.{not-false}
 use Rattle.questions.specs.Layout.{plan_place, grammar_words}
 use Rattle.tables.proofs.Gaps.{zeros_at}
 use Rattle.tables.proofs.Leading.{edges_few, plan_few, rule_no, rule_edges_no, rule_gap_no, rule_plan_lem}

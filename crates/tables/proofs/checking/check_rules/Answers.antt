@@ -1,11 +1,9 @@
 -- Rule after rule, and the words before each and behind the last (proofs/Leading).
-use Prim.Native.Nat.{◌-◌}
 use native.Mathlib.Omega.{arith}
 use mathlib.Core.Path.{refl, sym, ap, ◌∙◌}
 use mathlib.Core.List.{[]}
-use borrow.Author.Tests.{not-false}
 use Rattle.questions.specs.declared.Due.TheVariants.{Rule}
-use Rattle.questions.specs.Layout.{rule_place, plan_place, grammar_words}
+use Rattle.questions.specs.Layout.{plan_place, grammar_words}
 use Rattle.tables.proofs.Gaps.{zeros_at}
 use Rattle.tables.proofs.Leading.{concludes_on, concludes_last, lines_start, lines_end, rules_gap_no, rules_no, rules_next}
 use Rattle.tables.proofs.checking.check_rules.Goals as goal

@@ -1,6 +1,5 @@
 -- The words passed are 0.
 use native.Mathlib.Omega.{arith}
-use Prim.Native.Nat.{◌-◌}
 use Rattle.tables.proofs.Gaps.{zero_none, zero_more, zeros_no, zeros_all}
 use Rattle.tables.proofs.checking.few_zeros.Goals as goal
 

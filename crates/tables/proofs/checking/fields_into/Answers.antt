@@ -1,5 +1,4 @@
 -- Field after field (proofs/LineFields).
-use Prim.Native.Nat.{◌-◌}
 use native.Mathlib.Omega.{arith}
 use lib.ListN.{length-set}
 use Rattle.tables.proofs.LineFields.{copied_next, copied_done}

@@ -1,6 +1,5 @@
 -- One word made of those passed in each half, 16 a turn.
 use native.Mathlib.Omega.{arith}
-use Prim.Native.Nat.{◌-◌}
 use mathlib.Core.Path.{◌≡◌, refl}
 use Rattle.tables.proofs.Gaps.{none_from, gathered_turn, halves}
 use Rattle.tables.proofs.checking.gather.Goals as goal

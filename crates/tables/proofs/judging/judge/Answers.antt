@@ -1,7 +1,6 @@
 -- Each arm is its kind of line; a line that passed the test has small numbers.
 use native.Mathlib.Omega.{arith}
 use mathlib.Core.Path.{◌∙◌}
-use borrow.Author.Tests.{not-true, not-false}
 use Rattle.questions.specs.Questions.{judge}
 use Rattle.layout.proofs.Fields.{known, chosen, passed}
 use Rattle.tables.proofs.Planning.{room_lines}

@@ -1,5 +1,4 @@
 -- Each node found new, and their set (proofs/Covering).
-use Prim.Native.Nat.{◌-◌}
 use Rattle.tables.proofs.Covering.{sought_none, sought_all, sought_out, sought_twice, sought_more}
 use Rattle.tables.proofs.marks.distinct.Goals as goal
 

@@ -1,5 +1,4 @@
 -- The loop over listed nodes: the mask seen has each node passed, once (proofs/Listing).
-use Prim.Native.Nat.{◌-◌}
 use mathlib.Core.Path.{refl}
 use Rattle.tables.proofs.Listing.{look_none, look_all, look_out, look_twice, look_more}
 use Rattle.tables.proofs.marks.listed.Goals as goal

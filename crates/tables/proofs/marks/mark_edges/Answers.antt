@@ -1,5 +1,4 @@
 -- The mask of the edges passed, one edge a turn.
-use Prim.Native.Nat.{◌-◌}
 use native.Mathlib.Omega.{arith}
 use Rattle.tables.proofs.Covering.{edges_none, edges_next, edges_done}
 use Rattle.tables.proofs.marks.mark_edges.Goals as goal

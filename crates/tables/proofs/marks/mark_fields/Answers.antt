@@ -1,5 +1,4 @@
 -- The mask with the fields still to come is the mask of all.
-use Prim.Native.Nat.{◌-◌}
 use mathlib.Core.Path.{refl}
 use Rattle.tables.proofs.Covering.{marks_next, marks_done}
 use Rattle.tables.proofs.marks.mark_fields.Goals as goal

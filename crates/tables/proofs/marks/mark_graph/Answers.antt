@@ -1,5 +1,4 @@
 -- The mask of the edges passed, one edge a turn.
-use Prim.Native.Nat.{◌-◌}
 use native.Mathlib.Omega.{arith}
 use Rattle.tables.proofs.Covering.{graph_none, graph_next, graph_done}
 use Rattle.tables.proofs.marks.mark_graph.Goals as goal

@@ -1,5 +1,5 @@
 -- The mask with the fields still to come is the mask of all.
-use Prim.Native.Nat.{◌+◌, ◌-◌}
+use Prim.Native.Nat.{◌+◌}
 use Rattle.questions.specs.Layout.{line_field}
 use Rattle.tables.proofs.Covering.{line_next, line_done}
 use Rattle.tables.proofs.marks.mark_line.Goals as goal

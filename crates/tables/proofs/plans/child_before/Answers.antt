@@ -1,5 +1,4 @@
 -- The count over the plan lines passed, one line a turn.
-use Prim.Native.Nat.{◌-◌}
 use native.Mathlib.Omega.{arith}
 use Rattle.tables.proofs.Planning.{children_start, children_next, children_done}
 use Rattle.tables.proofs.plans.child_before.Goals as goal

@@ -1,5 +1,4 @@
 -- The count over the plan lines passed, one line a turn.
-use Prim.Native.Nat.{◌-◌}
 use native.Mathlib.Omega.{arith}
 use Rattle.tables.proofs.Planning.{introduced_start, introduced_next, introduced_done}
 use Rattle.tables.proofs.plans.introduced_before.Goals as goal

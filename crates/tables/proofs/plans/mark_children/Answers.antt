@@ -1,6 +1,5 @@
 -- By the kind: one child, two, or none.
 use Rattle.tables.proofs.Planning.{marks_one, marks_two, marks_none}
-use Rattle.masks.proofs.with.Reads as with-reads
 use Rattle.tables.proofs.plans.mark_children.Goals as goal
 
 pub returns-in-1 : goal.returns-in-1

@@ -1,6 +1,5 @@
 -- By the kind: one edge or none.
 use Rattle.tables.proofs.Planning.{marks_edge, marks_no_edge}
-use Rattle.masks.proofs.with.Reads as with-reads
 use Rattle.tables.proofs.plans.mark_introduced.Goals as goal
 
 pub returns-in-1 : goal.returns-in-1

@@ -1,6 +1,5 @@
 -- The sets over the plan lines passed, one line a turn.
 use native.Mathlib.Omega.{arith}
-use Prim.Native.Nat.{◌-◌}
 use Rattle.tables.proofs.Planning.{marked_start, marked_next, marked_done}
 use Rattle.tables.proofs.plans.marks_before.Goals as goal
 

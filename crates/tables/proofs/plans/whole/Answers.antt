@@ -2,12 +2,6 @@
 use native.Mathlib.Omega.{arith}
 use mathlib.Core.Path.{refl}
 use Rattle.tables.proofs.Planning.{all_marked, eight_edges, whole_ok}
-use Rattle.layout.proofs.at_most.Reads as at-most-reads
-use Rattle.layout.proofs.rule_edges.Reads as rule-edges-reads
-use Rattle.tables.proofs.marks.has_all.Reads as has-all-reads
-use Rattle.tables.proofs.plans.mark_children.Reads as mark-children-reads
-use Rattle.tables.proofs.plans.mark_introduced.Reads as mark-introduced-reads
-use Rattle.tables.proofs.plans.marks_before.Reads as marks-before-reads
 use Rattle.tables.proofs.plans.whole.Goals as goal
 
 pub returns : goal.returns
