@@ -91,7 +91,7 @@ fn prepare(grammar: &[u64], graph: &[u64], chart: &[u64], room: usize, text: &mu
     }
 }
 
-// ---- the row: references to structs, proved by hand
+// ---- the row
 
 // The first n records of the row, from the lines of the text behind its first one.
 fn fill_row(rows: &mut [Application], grammar: &[u64], text: &[u8], n: usize)
