@@ -5,3 +5,4 @@ pub mod TextLines
 pub mod ChosenRows
 pub mod RowLaws
 pub mod Preparing
+pub mod LocalArray
