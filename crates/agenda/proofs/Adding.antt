@@ -1,5 +1,6 @@
 -- Records that are added to a chart: each is found again, with the lesser count, or has a record of its own; a full
 -- chart is marked.
+use Rattle.std.specs.Prelude.{Option, Some, None}
 use mathlib.Core.Path.{◌≡◌, refl, sym, subst}
 use mathlib.Core.Logic.{◌⊎◌, inl, inr}
 use mathlib.Core.Bool.{Bool, true, false, ◌||◌, cond}
@@ -17,8 +18,6 @@ use Rattle.agenda.specs.Records.{same_chart_item, is_handled}
 use Rattle.agenda.specs.Consequences.{record_in}
 use Rattle.agenda.specs.Steps.{Chart, last_same, improved, placed, added, added_all}
 use Rattle.agenda.specs.declared.Record.{Record}
-use Rattle.agenda.specs.declared.Found.{Found}
-use Rattle.agenda.specs.declared.Found.TheVariants.{At, Nowhere}
 use Rattle.agenda.proofs.Records.{bare, same_bare, bare_same}
 
 -- No record is of the same item as x.
@@ -43,9 +42,9 @@ pub data Ends (cap : ℕ) (xs rs : List Record) (c : Chart) : Type 0 where
       → cap ≤ length c.records → Ends cap xs rs c
 
 -- ---- what the search finds
-pub data Search (x : Record) (rs : List Record) (n : ℕ) : Found → Type 0 where
-  found : {k : ℕ} → k < n → bare x ≡ bare (record_in rs k) → Search x rs n (At k)
-  missing : ((k : ℕ) → k < n → bare x ≡ bare (record_in rs k) → ⊥) → Search x rs n Nowhere
+pub data Search (x : Record) (rs : List Record) (n : ℕ) : Option ℕ → Type 0 where
+  found : {k : ℕ} → k < n → bare x ≡ bare (record_in rs k) → Search x rs n (Some k)
+  missing : ((k : ℕ) → k < n → bare x ≡ bare (record_in rs k) → ⊥) → Search x rs n None
 
 pub apart : {b : Bool} → b ≡ true → b ≡ false → ⊥
 apart x y = let z : ◌≡◌ {A = ℕ} 0 1 = cc in omega arith
@@ -65,9 +64,9 @@ searched x rs (suc n) =
     last k l f e (yes h) = h
     last k l f e (no h) = let q : k ≡ n = omega arith in absurd (apart (bare_same x.item (record_in rs n).item (subst (λ (i : ℕ). bare x ≡ bare (record_in rs i)) q e)) f)
 
-    before : same_chart_item x.item (record_in rs n).item ≡ false → (f : Found) → Search x rs n f → Search x rs (suc n) f
-    before e (At k) (found l s) = found {k = k} (omega arith) s
-    before e Nowhere (missing g) = missing (λ k l s. g k (last k l e s (dec_lt k n)) s)
+    before : same_chart_item x.item (record_in rs n).item ≡ false → (f : Option ℕ) → Search x rs n f → Search x rs (suc n) f
+    before e (Some k) (found l s) = found {k = k} (omega arith) s
+    before e None (missing g) = missing (λ k l s. g k (last k l e s (dec_lt k n)) s)
 
 -- ---- one record
 data Added (cap : ℕ) (x : Record) (c : Chart) : Chart → Type 0 where
@@ -82,9 +81,9 @@ pub or_false : (a b : Bool) → a || b ≡ false → (a ≡ false) × (b ≡ fal
 or_false true b e = absurd (apart refl e)
 or_false false b e = (refl, e)
 
-placed_adds : (cap : ℕ) (x : Record) (c : Chart) (f : Found) → Search x c.records (length c.records) f → Added cap x c (placed cap x c f)
+placed_adds : (cap : ℕ) (x : Record) (c : Chart) (f : Option ℕ) → Search x c.records (length c.records) f → Added cap x c (placed cap x c f)
 unfolding placed
-placed_adds cap x c (At k) (found l e) =
+placed_adds cap x c (Some k) (found l e) =
     cond_by (Added cap x c) _ (λ h. adds (kept k l e (less (or_true _ _ h)))) (λ h. let t = or_false (is_handled y) (leb y.item.count x.item.count) h in adds (better k l e t.0 (leb-false _ _ t.1)))
   where
     y : Record
@@ -93,7 +92,7 @@ placed_adds cap x c (At k) (found l e) =
     less : (is_handled y ≡ true) ⊎ (leb y.item.count x.item.count ≡ true) → (is_handled y ≡ true) ⊎ (y.item.count ≤ x.item.count)
     less (inl h) = inl h
     less (inr h) = inr (leb-true _ _ h)
-placed_adds cap x c Nowhere (missing g) = cond_by (Added cap x c) _ (λ h. adds (new g (ltb-true _ _ h))) (λ h. marks g (ltb-false _ _ h))
+placed_adds cap x c None (missing g) = cond_by (Added cap x c) _ (λ h. adds (new g (ltb-true _ _ h))) (λ h. marks g (ltb-false _ _ h))
 
 added_adds : (cap : ℕ) (x : Record) (c : Chart) → c.mark ≡ 0 → Added cap x c (added cap x c)
 unfolding added

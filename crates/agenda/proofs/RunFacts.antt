@@ -1,4 +1,5 @@
 -- The run part of demand 3 on the records of a chart, after a start and any list of runs.
+use Rattle.std.specs.Prelude.{Option, Some, None}
 use mathlib.Core.Path.{◌≡◌, refl, sym, ap, ◌∙◌, subst, subst₂}
 use mathlib.Core.Logic.{◌⊎◌, inl, inr, ◌≢◌}
 use mathlib.Core.Bool.{Bool, true, false}
@@ -31,8 +32,6 @@ use Rattle.agenda.specs.Consequences.{record_in, no_record}
 use Rattle.agenda.specs.Steps.{Chart, least_waiting, handled_now, start_chart, runs_chart, handled_count, sum_of}
 use Rattle.agenda.specs.RunFacts.{Present, Handled, OneRule, by_leaf, by_one, by_two, ChartCorrect}
 use Rattle.agenda.specs.declared.Record.{Record}
-use Rattle.agenda.specs.declared.Found.{Found}
-use Rattle.agenda.specs.declared.Found.TheVariants.{At, Nowhere}
 use Rattle.agenda.proofs.Growth.{count_set, count_le}
 use Rattle.agenda.proofs.Choice.{Chosen, waits, nothing, chosen}
 use Rattle.agenda.proofs.Spelling.{Spells, EntryOf}
@@ -202,31 +201,31 @@ module _ (G : Grammar) (H : Graph) (ok : GrammarOk G) (hok : GraphOk G H) where
         go (over n f) = f
 
     -- an untouched chart of k items never gives 10 once k steps are done
-    pub full_run : cap ≤ sum_of ks → c.mark ≡ 0 → least_waiting c.records (length c.records) ≡ Nowhere
+    pub full_run : cap ≤ sum_of ks → c.mark ≡ 0 → least_waiting c.records (length c.records) ≡ None
     full_run l m = go (least_waiting c.records (length c.records)) (chosen c.records (length c.records))
       where
-        go : (f : Found) → Chosen c.records (length c.records) f → f ≡ Nowhere
-        go Nowhere (nothing h) = refl
-        go (At j) (waits i w h) = absurd (reached_full (runs_reached m) l j i w)
+        go : (f : Option ℕ) → Chosen c.records (length c.records) f → f ≡ None
+        go None (nothing h) = refl
+        go (Some j) (waits i w h) = absurd (reached_full (runs_reached m) l j i w)
 
     -- while something waits, the closure has more items than steps were given
-    pub waiting_more : c.mark ≡ 0 → least_waiting c.records (length c.records) ≢ Nowhere → (is : List Item) → Closure (closure G H) is → sum_of ks < length is
+    pub waiting_more : c.mark ≡ 0 → least_waiting c.records (length c.records) ≢ None → (is : List Item) → Closure (closure G H) is → sum_of ks < length is
     waiting_more m x is d = go (least_waiting c.records (length c.records)) (chosen c.records (length c.records)) x
       where
-        go : (f : Found) → Chosen c.records (length c.records) f → f ≢ Nowhere → sum_of ks < length is
-        go Nowhere (nothing h) q = absurd (q refl)
-        go (At j) (waits l w h) q = omega (arith, reached_more (runs_reached m) j l w, closure_size_is G H ok hok is d)
+        go : (f : Option ℕ) → Chosen c.records (length c.records) f → f ≢ None → sum_of ks < length is
+        go None (nothing h) q = absurd (q refl)
+        go (Some j) (waits l w h) q = omega (arith, reached_more (runs_reached m) j l w, closure_size_is G H ok hok is d)
 
     -- where nothing waits, every record is handled
-    pub all_handled : least_waiting c.records (length c.records) ≡ Nowhere → (k : ℕ) → k < length c.records → is_handled (record_in c.records k) ≡ true
+    pub all_handled : least_waiting c.records (length c.records) ≡ None → (k : ℕ) → k < length c.records → is_handled (record_in c.records k) ≡ true
     all_handled e = go (least_waiting c.records (length c.records)) (chosen c.records (length c.records)) e
       where
-        go : (f : Found) → Chosen c.records (length c.records) f → f ≡ Nowhere → (k : ℕ) → k < length c.records → is_handled (record_in c.records k) ≡ true
-        go Nowhere (nothing h) q = h
-        go (At j) (waits i w h) q = let z : ◌≡◌ {A = ℕ} 0 1 = cc in absurd (omega arith)
+        go : (f : Option ℕ) → Chosen c.records (length c.records) f → f ≡ None → (k : ℕ) → k < length c.records → is_handled (record_in c.records k) ≡ true
+        go None (nothing h) q = h
+        go (Some j) (waits i w h) q = let z : ◌≡◌ {A = ℕ} 0 1 = cc in absurd (omega arith)
 
     -- then the steps done are the closure's size, and every item of the closure is handled
-    module _ (m : c.mark ≡ 0) (e : least_waiting c.records (length c.records) ≡ Nowhere) where
+    module _ (m : c.mark ≡ 0) (e : least_waiting c.records (length c.records) ≡ None) where
       waits_not : (r : Reached G H cap (sum_of ks) c.records) → r.state.waiting ≡ []
       waits_not r = nothing_waits G H ok most r (all_handled e)
 
@@ -263,9 +262,9 @@ module _ (G : Grammar) (H : Graph) (ok : GrammarOk G) (hok : GraphOk G H) where
     unfolding runs_chart sum_of
     leaf_present = let o = some_leaf G ok in (o.0, ((runs_correct cap most [] (start_chart G cap) refl m).present o.0).1 (by_leaf o.1))
 
-    pub start_waits : (j : ℕ) × (least_waiting fresh (length fresh) ≡ At j)
+    pub start_waits : (j : ℕ) × (least_waiting fresh (length fresh) ≡ Some j)
     start_waits = go (least_waiting fresh (length fresh)) (chosen fresh (length fresh))
       where
-        go : (f : Found) → Chosen fresh (length fresh) f → (j : ℕ) × (f ≡ At j)
-        go (At j) (waits l w h) = (j, refl)
-        go Nowhere (nothing h) = let p = leaf_present.1 in absurd (omega (arith, handled_some fresh p.at p.known (h p.at p.known), start_none G H cap))
+        go : (f : Option ℕ) → Chosen fresh (length fresh) f → (j : ℕ) × (f ≡ Some j)
+        go (Some j) (waits l w h) = (j, refl)
+        go None (nothing h) = let p = leaf_present.1 in absurd (omega (arith, handled_some fresh p.at p.known (h p.at p.known), start_none G H cap))

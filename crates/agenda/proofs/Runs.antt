@@ -1,5 +1,6 @@
 -- A chart after a start and runs: it stands for a run of the agenda over the closure, or the closure has more items
 -- than it holds.
+use Rattle.std.specs.Prelude.{Option, Some, None}
 use mathlib.Core.Path.{◌≡◌, refl, sym, ap, ◌∙◌, subst}
 use mathlib.Core.Logic.{◌⊎◌, inl, inr, ◌≢◌}
 use mathlib.Core.Bool.{Bool, true, false, cond}
@@ -25,8 +26,6 @@ use Rattle.agenda.specs.Records.{is_handled}
 use Rattle.agenda.specs.Consequences.{record_in, consequences, leaf_records}
 use Rattle.agenda.specs.Steps.{Chart, least_waiting, handled_now, handled_at, step_with, step_chart, run_chart, start_chart, runs_chart, handled_count, sum_of}
 use Rattle.agenda.specs.declared.Record.{Record}
-use Rattle.agenda.specs.declared.Found.{Found}
-use Rattle.agenda.specs.declared.Found.TheVariants.{At, Nowhere}
 use Rattle.agenda.proofs.Consequences.{in_consequence, in_leaf_record}
 use Rattle.agenda.proofs.Adding.{apart, cond_by, AddsAll, done, Ends, held, full, all_ends, marked_all}
 use Rattle.agenda.proofs.Growth.{SetAt, changed, other, set_at, Fresh, all_grew, all_held, all_count, count_set, count_le}
@@ -59,7 +58,7 @@ sum_last (j ∷ ks) k = omega (arith, sum_last ks k)
 -- ---- runs in parts, on any chart
 module _ (G : Grammar) (H : Graph) (cap : ℕ) where
   -- where nothing waits, a step changes nothing
-  pub idle_step : (c : Chart) → least_waiting c.records (length c.records) ≡ Nowhere → step_chart G H cap c ≡ c
+  pub idle_step : (c : Chart) → least_waiting c.records (length c.records) ≡ None → step_chart G H cap c ≡ c
   unfolding step_chart
   idle_step c e = ap (step_with G H cap c) e
 
@@ -104,7 +103,7 @@ module _ (G : Grammar) (H : Graph) (cap : ℕ) where
   runs_last (j ∷ ks) k c = runs_last ks k (run_chart G H cap j c)
 
   -- where nothing waits, a run changes nothing
-  pub idle_run : (k : ℕ) (c : Chart) → least_waiting c.records (length c.records) ≡ Nowhere → run_chart G H cap k c ≡ c
+  pub idle_run : (k : ℕ) (c : Chart) → least_waiting c.records (length c.records) ≡ None → run_chart G H cap k c ≡ c
   idle_run zero c e = run_none c
   idle_run (suc k) c e = run_more k c ∙ ap again (idle_run k c e) ∙ cond_by (λ (d : Chart). d ≡ c) (eqb c.mark 0) (λ t. idle_step c e) (λ t. refl)
 
@@ -135,9 +134,9 @@ module _ (G : Grammar) (H : Graph) (cap : ℕ) where
   unfolding step_chart
   step_moved c = go (least_waiting c.records (length c.records)) (chosen c.records (length c.records))
     where
-      go : (f : Found) → Chosen c.records (length c.records) f → Moved c (step_with G H cap c f)
-      go Nowhere (nothing h) = unmoved
-      go (At j) (waits l w m) = handled_moved c j l w
+      go : (f : Option ℕ) → Chosen c.records (length c.records) f → Moved c (step_with G H cap c f)
+      go None (nothing h) = unmoved
+      go (Some j) (waits l w m) = handled_moved c j l w
 
   -- a property of charts that steps keep holds after every run
   module _ (P : Chart → Type 0) (kept : (c d : Chart) → Moved c d → P c → P d) where
@@ -303,9 +302,9 @@ module _ (G : Grammar) (H : Graph) (ok : GrammarOk G) {cap : ℕ} (most : cap �
       after (stepped m t z s l) = fits m (record { start = r.start; state = t; starts = r.starts; run = run_append r.run (step z stop); shows = s; held = l })
       after (too_small m f) = over m f
 
-      go : (f : Found) → Chosen c.records (length c.records) f → Fate G H cap (n + 1) (step_with G H cap c f)
-      go Nowhere (nothing h) = fits e (record { start = r.start; state = r.state; starts = r.starts; run = run_append r.run (idle (nothing_waits r h)); shows = r.shows; held = r.held })
-      go (At j) (waits l w h) = after (handled_stepped r c.mark j e l w h)
+      go : (f : Option ℕ) → Chosen c.records (length c.records) f → Fate G H cap (n + 1) (step_with G H cap c f)
+      go None (nothing h) = fits e (record { start = r.start; state = r.state; starts = r.starts; run = run_append r.run (idle (nothing_waits r h)); shows = r.shows; held = r.held })
+      go (Some j) (waits l w h) = after (handled_stepped r c.mark j e l w h)
 
   -- a start of the chart is one of the agenda, and a step where something waits is one of its steps
   pub start_simulates : (start_chart G cap).mark ≡ 0 → (s : State Item) × Start (closure G H) s × Shows G H (start_chart G cap).records s
@@ -315,7 +314,7 @@ module _ (G : Grammar) (H : Graph) (ok : GrammarOk G) {cap : ℕ} (most : cap �
       go (held e a) m = start_shown G H ok a
       go (full n ys x sub i a k l) m = absurd (n m)
 
-  pub step_simulates : {n : ℕ} (c : Chart) (r : Reached G H cap n c.records) → c.mark ≡ 0 → least_waiting c.records (length c.records) ≢ Nowhere → (step_chart G H cap c).mark ≡ 0
+  pub step_simulates : {n : ℕ} (c : Chart) (r : Reached G H cap n c.records) → c.mark ≡ 0 → least_waiting c.records (length c.records) ≢ None → (step_chart G H cap c).mark ≡ 0
       → (t : State Item) × Step (closure G H) r.state t × Shows G H (step_chart G H cap c).records t
   unfolding step_chart
   step_simulates {n} c r e = go (least_waiting c.records (length c.records)) (chosen c.records (length c.records))
@@ -324,9 +323,9 @@ module _ (G : Grammar) (H : Graph) (ok : GrammarOk G) {cap : ℕ} (most : cap �
       after (stepped m t z s l) q = (t, z, s)
       after (too_small m f) q = absurd (m q)
 
-      go : (f : Found) → Chosen c.records (length c.records) f → f ≢ Nowhere → (step_with G H cap c f).mark ≡ 0 → (t : State Item) × Step (closure G H) r.state t × Shows G H (step_with G H cap c f).records t
-      go Nowhere (nothing h) x m = absurd (x refl)
-      go (At j) (waits l w h) x m = after (handled_stepped r c.mark j e l w h) m
+      go : (f : Option ℕ) → Chosen c.records (length c.records) f → f ≢ None → (step_with G H cap c f).mark ≡ 0 → (t : State Item) × Step (closure G H) r.state t × Shows G H (step_with G H cap c f).records t
+      go None (nothing h) x m = absurd (x refl)
+      go (Some j) (waits l w h) x m = after (handled_stepped r c.mark j e l w h) m
 
   again_fate : {n : ℕ} (d : Chart) → Fate G H cap n d → Fate G H cap (n + 1) (again G H cap d)
   again_fate {n} d (fits e r) = cond_by (Fate G H cap (n + 1)) _ (λ t. step_fate d e r) (λ t. absurd (eqb-false _ _ t e))

@@ -57,7 +57,7 @@ module _ (n : ℕ) (records : ℕ → Record) (j : ℕ) (out : List ℕ) where
     item_told l = rw (item_full l) (names (records j) out)
 
 -- ---- as facts about a call
-fields_size : (x : Record) → length (fields_of x) ≡ 16
+pub fields_size : (x : Record) → length (fields_of x) ≡ 16
 unfolding fields_of
 fields_size x = refl
 

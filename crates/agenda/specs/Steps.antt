@@ -1,24 +1,22 @@
 -- The run of a chart in steps, on its records: at most `cap` of them, and a mark where one item more was found than
 -- it holds.
-use Rattle.std.specs.Prelude.{◌||◌, cond, List, [], ◌∷◌, ◌++◌, ℕ, zero, suc, ◌+◌, length, set, eqb, ltb, leb}
+use Rattle.std.specs.Prelude.{Option, Some, None, ◌||◌, cond, List, [], ◌∷◌, ◌++◌, ℕ, zero, suc, ◌+◌, length, set, eqb, ltb, leb}
 use Rattle.hrg.specs.Counts.{flag}
 use Rattle.hrg.specs.Grammars.{Graph, Grammar}
 use Rattle.agenda.specs.Records.{same_chart_item, is_handled}
 use Rattle.agenda.specs.Consequences.{record_in, consequences, leaf_records}
 use Rattle.agenda.specs.declared.ChartItem.{ChartItem}
 use Rattle.agenda.specs.declared.Record.{Record}
-use Rattle.agenda.specs.declared.Found.{Found}
-use Rattle.agenda.specs.declared.Found.TheVariants.{At, Nowhere}
 
 pub record Chart : Type 0 where
   pub mark : ℕ
   pub records : List Record
 
 -- the last record of the item x among the first n
-unfoldable pub last_same : ChartItem → List Record → ℕ → Found
+unfoldable pub last_same : ChartItem → List Record → ℕ → Option ℕ
 unfolding same_chart_item
-last_same x rs zero = Nowhere
-last_same x rs (suc n) = cond (same_chart_item x (record_in rs n).item) (At n) (last_same x rs n)
+last_same x rs zero = None
+last_same x rs (suc n) = cond (same_chart_item x (record_in rs n).item) (Some n) (last_same x rs n)
 
 -- an item with another count
 abbrev pub with_count : ChartItem → ℕ → ChartItem
@@ -30,11 +28,11 @@ improved y x = record { item = with_count y.item x.item.count; handled = y.handl
 
 -- An item found again takes the lesser count and its partners, unless it is handled; a new one has a record of its
 -- own, and where there is none left the chart is marked.
-unfoldable pub placed : ℕ → Record → Chart → Found → Chart
-placed cap x c (At j) =
+unfoldable pub placed : ℕ → Record → Chart → Option ℕ → Chart
+placed cap x c (Some j) =
     cond (is_handled (record_in c.records j) || leb (record_in c.records j).item.count x.item.count) c
     (record { mark = c.mark; records = set c.records j (improved (record_in c.records j) x) })
-placed cap x c Nowhere =
+placed cap x c None =
     cond (ltb (length c.records) cap) (record { mark = c.mark; records = c.records ++ (x ∷ []) }) (record { mark = 1; records = c.records })
 
 -- once a chart is marked nothing changes
@@ -48,15 +46,15 @@ added_all cap [] c = c
 added_all cap (x ∷ xs) c = added_all cap xs (added cap x c)
 
 -- the lesser of the one found so far and the record at n, if that is not handled
-unfoldable pub lesser : List Record → ℕ → Found → Found
-lesser rs n Nowhere = cond (is_handled (record_in rs n)) Nowhere (At n)
-lesser rs n (At j) = cond (is_handled (record_in rs n) || leb (record_in rs j).item.count (record_in rs n).item.count) (At j) (At n)
+unfoldable pub lesser : List Record → ℕ → Option ℕ → Option ℕ
+lesser rs n None = cond (is_handled (record_in rs n)) None (Some n)
+lesser rs n (Some j) = cond (is_handled (record_in rs n) || leb (record_in rs j).item.count (record_in rs n).item.count) (Some j) (Some n)
 
 -- the first of least count among the first n records, of those that are not handled: the program's choice among equal
 -- counts
-unfoldable pub least_waiting : List Record → ℕ → Found
+unfoldable pub least_waiting : List Record → ℕ → Option ℕ
 unfolding lesser
-least_waiting rs zero = Nowhere
+least_waiting rs zero = None
 least_waiting rs (suc n) = lesser rs n (least_waiting rs n)
 
 abbrev pub handled_now : Record → Record
@@ -69,9 +67,9 @@ handled_at G H cap j c =
     let rs = set c.records j (handled_now (record_in c.records j)) in
     added_all cap (consequences G H rs j) (record { mark = c.mark; records = rs })
 
-abbrev pub step_with : Grammar → Graph → ℕ → Chart → Found → Chart
-step_with G H cap c Nowhere = c
-step_with G H cap c (At j) = handled_at G H cap j c
+abbrev pub step_with : Grammar → Graph → ℕ → Chart → Option ℕ → Chart
+step_with G H cap c None = c
+step_with G H cap c (Some j) = handled_at G H cap j c
 
 unfoldable pub step_chart : Grammar → Graph → ℕ → Chart → Chart
 unfolding least_waiting handled_at

@@ -25,10 +25,3 @@ pub struct Record {
     pub first: u16,
     pub second: u16,
 }
-
-// A place among the records, or none.
-#[derive(Clone, Copy)]
-pub enum Found {
-    At(u64),
-    Nowhere,
-}

@@ -1,4 +1,5 @@
 -- What is found on a chain is what a search through all records finds, and how chains are kept as records come.
+use Rattle.std.specs.Prelude.{Some, None}
 use Prim.Native.Nat.{ℕ, zero, suc, ◌+◌, ◌-◌, ◌*◌, ◌/◌, ◌%◌, ◌^◌, ◌≤◌, ◌<◌}
 use mathlib.Core.Path.{◌≡◌, refl, sym, ap, ap₂, ◌∙◌, subst}
 use mathlib.Core.Logic.{◌≢◌}
@@ -15,7 +16,6 @@ use lib.Seq.{get_or-set_same, get_or-set_other, get_or_at}
 use borrow.Author.Tests.{eq-eqb, ne_eqb, eqb-true, eqb-false}
 use Rattle.agenda.specs.declared.ChartItem.{ChartItem}
 use Rattle.agenda.specs.declared.Record.{Record}
-use Rattle.agenda.specs.declared.Found.TheVariants.{At, Nowhere}
 use Rattle.agenda.specs.Records.{same_chart_item}
 use Rattle.agenda.specs.Consequences.{record_in, no_record}
 use Rattle.agenda.specs.Steps.{last_same, improved, handled_now}
@@ -193,7 +193,7 @@ not_added m g e h =
 
 -- ---- the search
 module _ (x : ChartItem) (rs : List Record) where
-  search_turn : (n : ℕ) (t : Bool) → same_chart_item x (record_in rs n).item ≡ t → last_same x rs (suc n) ≡ cond t (At n) (last_same x rs n)
+  search_turn : (n : ℕ) (t : Bool) → same_chart_item x (record_in rs n).item ≡ t → last_same x rs (suc n) ≡ cond t (Some n) (last_same x rs n)
   unfolding last_same
   search_turn n t e = rw e
 
@@ -207,12 +207,12 @@ module _ (x : ChartItem) (rs : List Record) where
       (λ t. same_on_chain n ∙ sym (search_turn n false (other_bucket x (record_in rs n).item (eqb-false _ _ t))))
 
   -- where the bit of x is missing no record is of its item
-  none_on_chain : (n : ℕ) → bit (bits_in (bucket_of x) rs n) (bit_of x) ≡ 0 → last_same x rs n ≡ Nowhere
+  none_on_chain : (n : ℕ) → bit (bits_in (bucket_of x) rs n) (bit_of x) ≡ 0 → last_same x rs n ≡ None
   unfolding last_same
   none_on_chain zero h = refl
   none_on_chain (suc n) h = go (none_on_chain n) (eqb (bucket_of (record_in rs n).item) (bucket_of x)) refl
     where
-      go : (bit (bits_in (bucket_of x) rs n) (bit_of x) ≡ 0 → last_same x rs n ≡ Nowhere) → (t : Bool) → eqb (bucket_of (record_in rs n).item) (bucket_of x) ≡ t → last_same x rs (suc n) ≡ Nowhere
+      go : (bit (bits_in (bucket_of x) rs n) (bit_of x) ≡ 0 → last_same x rs n ≡ None) → (t : Bool) → eqb (bucket_of (record_in rs n).item) (bucket_of x) ≡ t → last_same x rs (suc n) ≡ None
       go back true p =
           let d = not_added (bits_in (bucket_of x) rs n) (bit_of (record_in rs n).item) (bit_of x) (ap (λ m. bit m (bit_of x)) (sym (bits_own (bucket_of x) rs n (eqb-true _ _ p))) ∙ h) in
           search_turn n false (other_bit x (record_in rs n).item d.1) ∙ back d.0
@@ -257,10 +257,10 @@ module _ (x : ChartItem) (rs : List Record) (i : ℕ) (o : Leads x rs i) (n : i 
   place : i % 8192 ≡ i % 8192 - 1 + 1
   place = omega (arith, chain_some)
 
-  turn : (t : Bool) → same_chart_item x (record_in rs (i % 8192 - 1)).item ≡ t → last_same x rs (i % 8192) ≡ cond t (At (i % 8192 - 1)) (last_same x rs (i % 8192 - 1))
+  turn : (t : Bool) → same_chart_item x (record_in rs (i % 8192 - 1)).item ≡ t → last_same x rs (i % 8192) ≡ cond t (Some (i % 8192 - 1)) (last_same x rs (i % 8192 - 1))
   turn t e = ap (last_same x rs) (place ∙ add-one (i % 8192 - 1)) ∙ search_turn x rs (i % 8192 - 1) t e
 
-  pub chain_hit : same_chart_item x (record_in rs (i % 8192 - 1)).item ≡ true → At (i % 8192 - 1) ≡ last_same x rs (length rs)
+  pub chain_hit : same_chart_item x (record_in rs (i % 8192 - 1)).item ≡ true → Some (i % 8192 - 1) ≡ last_same x rs (length rs)
   chain_hit e = sym (turn true e) ∙ o.at.found
 
   module _ (links : List ℕ) (c : Chained links rs) (e : same_chart_item x (record_in rs (i % 8192 - 1)).item ≡ false) (m : ℕ) (p : m ≡ get_or links (4095 + i % 8192) 0) where
@@ -282,7 +282,7 @@ module _ (x : ChartItem) (rs : List Record) (i : ℕ) (o : Leads x rs i) (n : i 
         omega (arith, place, ap (λ k. k % 8192) back, link_place (bucket_of x) rs (i % 8192 - 1) (omega arith))
 
 -- the set has not the bit of x, so none of its item is left
-pub chain_end : (x : ChartItem) (rs : List Record) (i h : ℕ) → Leads x rs i → h ≡ hash_of x → bit (i / 8192) (h / 65536 % 16) ≡ 0 → Nowhere ≡ last_same x rs (length rs)
+pub chain_end : (x : ChartItem) (rs : List Record) (i h : ℕ) → Leads x rs i → h ≡ hash_of x → bit (i / 8192) (h / 65536 % 16) ≡ 0 → None ≡ last_same x rs (length rs)
 unfolding bit_of
 chain_end x rs i h o e z =
     let q : i / 8192 ≡ bits_in (bucket_of x) rs (i % 8192) = ap (λ k. k / 8192) o.word ∙ link_bits (bucket_of x) rs (i % 8192) (omega arith) in

@@ -7,7 +7,7 @@ ghost use Rattle.agenda.specs.Steps.{last_same};
 ghost use Rattle.records.specs.Words.{item_count, chart_of};
 ghost use Rattle.chains.specs.Chains.{tag_of, hash_of, link_words, Chained, linked, Cleared};
 
-use agenda::{ChartItem, Found};
+use agenda::ChartItem;
 
 // The kind, the plan node and the rule or symbol of an item as one number. They come in another order than in the
 // struct: else they are loaded at once, and that load waits where they have just been stored one by one.
@@ -34,7 +34,7 @@ pub fn hash(x: ChartItem) -> u64
 
 // The last record of the item x, whose hash is h: only those of its bucket are looked at, from the last one back, as
 // long as its bit is in the set of those that are left.
-pub fn find(chart: &[u64], links: &[u32], x: ChartItem, h: u64) -> Found
+pub fn find(chart: &[u64], links: &[u32], x: ChartItem, h: u64) -> Option<u64>
     requires { Chained links.now (chart_of chart.now).records × (h ≡ hash_of x) × (h < 4294967296) }
     ensures { result ≡ last_same x (chart_of chart.now).records (length (chart_of chart.now).records) }
 {
@@ -43,11 +43,11 @@ pub fn find(chart: &[u64], links: &[u32], x: ChartItem, h: u64) -> Found
     while i & bit != 0 {
         let k = i % 8192;
         if records::same(chart, k - 1, x) {
-            return Found::At(k - 1);
+            return Some(k - 1);
         }
         i = links[(4095 + k) as usize] as u64;
     }
-    Found::Nowhere
+    None
 }
 
 // Record j, the last one, whose hash is h, joins its bucket, and its bit the set beside the place.
@@ -67,10 +67,8 @@ pub fn build(chart: &[u64], links: &mut [u32])
     ensures { Chained links.new (chart_of chart.now).records }
 {
     let n = records::item_count(chart);
-    let mut j = 0;
-    while j < n {
+    for j in 0..n {
         let h = hash(records::item_at(chart, j));
         link(links, j, h);
-        j += 1;
     }
 }

@@ -1,4 +1,5 @@
 -- The chart beside the indexes: a record is found again, comes behind the others, or becomes handled.
+use Rattle.std.specs.Prelude.{Option, Some, None}
 use Prim.Native.Nat.{ℕ, ◌≤◌, ◌<◌}
 use mathlib.Core.Path.{◌≡◌, refl, sym, ap, ◌∙◌, subst}
 use mathlib.Core.List.{List, [], ◌∷◌, ◌++◌}
@@ -8,8 +9,6 @@ use lib.Dec.{leb}
 use lib.ListN.{length, get_or, set}
 use borrow.Author.Tests.{eq-eqb, lt-ltb, le-ltb, le-leb, lt-leb}
 use Rattle.agenda.specs.declared.Record.{Record}
-use Rattle.agenda.specs.declared.Found.{Found}
-use Rattle.agenda.specs.declared.Found.TheVariants.{At, Nowhere}
 use Rattle.agenda.specs.Records.{is_handled}
 use Rattle.agenda.specs.Consequences.{record_in}
 use Rattle.agenda.specs.Steps.{Chart, improved, handled_now, last_same, placed, added}
@@ -25,20 +24,20 @@ use Rattle.index.proofs.CoverLaws.{covered_kept, covered_again, covered_handled,
 
 -- ---- the records of a chart with one record more
 module _ (cap : ℕ) (x : Record) (c : Chart) where
-  placed_stays : (j : ℕ) → is_handled (record_in c.records j) || leb (record_in c.records j).item.count x.item.count ≡ true → (placed cap x c (At j)).records ≡ c.records
+  placed_stays : (j : ℕ) → is_handled (record_in c.records j) || leb (record_in c.records j).item.count x.item.count ≡ true → (placed cap x c (Some j)).records ≡ c.records
   unfolding placed
   placed_stays j e = rw e
 
   placed_improved : (j : ℕ) → is_handled (record_in c.records j) || leb (record_in c.records j).item.count x.item.count ≡ false
-      → (placed cap x c (At j)).records ≡ set c.records j (improved (record_in c.records j) x)
+      → (placed cap x c (Some j)).records ≡ set c.records j (improved (record_in c.records j) x)
   unfolding placed
   placed_improved j e = rw e
 
-  placed_room : length c.records < cap → (placed cap x c Nowhere).records ≡ c.records ++ (x ∷ [])
+  placed_room : length c.records < cap → (placed cap x c None).records ≡ c.records ++ (x ∷ [])
   unfolding placed
   placed_room h = rw (lt-ltb (length c.records) cap h)
 
-  placed_full : cap ≤ length c.records → (placed cap x c Nowhere).records ≡ c.records
+  placed_full : cap ≤ length c.records → (placed cap x c None).records ≡ c.records
   unfolding placed
   placed_full h = rw (le-ltb (length c.records) cap h)
 
@@ -63,7 +62,7 @@ module _ (w : List ℕ) (j : ℕ) (l : j < item_count w) where
 
 module _ (w ix : List ℕ) (j : ℕ) (x : Record) (l : j < item_count w) where
   abbrev Placed : List ℕ → Type 0
-  Placed new = (keys ls : List ℕ) → Indexed keys ix ls (chart_of w).records → Indexed keys new ls (placed (capacity w) x (chart_of w) (At j)).records
+  Placed new = (keys ls : List ℕ) → Indexed keys ix ls (chart_of w).records → Indexed keys new ls (placed (capacity w) x (chart_of w) (Some j)).records
 
   pub again_handled : is_handled (record_at w j) ≡ true → (w ≡ improved_at w j x) × Placed ix
   again_handled h =
@@ -84,7 +83,7 @@ module _ (w ix : List ℕ) (j : ℕ) (x : Record) (l : j < item_count w) where
         (improve_less w j x z (omega arith), λ keys ls I. rw (placed_stays (capacity w) x (chart_of w) j t) I)
 
     pub again_more : (keys new ls : List ℕ) → x.item.count < n → Indexed keys new ls (set (chart_of w).records j (improved (record_in (chart_of w).records j) x))
-        → Indexed keys new ls (placed (capacity w) x (chart_of w) (At j)).records
+        → Indexed keys new ls (placed (capacity w) x (chart_of w) (Some j)).records
     again_more keys new ls h J =
         let q : x.item.count < (record_in (chart_of w).records j).item.count = omega (arith, count_is) in
         let t : is_handled (record_in (chart_of w).records j) || leb (record_in (chart_of w).records j).item.count x.item.count ≡ false = rw (waits, lt-leb _ _ q) in
@@ -95,31 +94,31 @@ pub number : (w : List ℕ) (n : ℕ) → n ≡ item_count w → n ≡ length (c
 number w n p = p ∙ sym (counted w)
 
 module _ (keys w ix ls : List ℕ) (x : Record) (n cap : ℕ) (p : n ≡ item_count w) (q : cap ≡ capacity w) where
-  pub behind_room : n < cap → Indexed keys ix ls ((chart_of w).records ++ (x ∷ [])) → Indexed keys ix ls (placed (capacity w) x (chart_of w) Nowhere).records
+  pub behind_room : n < cap → Indexed keys ix ls ((chart_of w).records ++ (x ∷ [])) → Indexed keys ix ls (placed (capacity w) x (chart_of w) None).records
   behind_room h I = rw (placed_room (capacity w) x (chart_of w) (omega (arith, number w n p))) I
 
-  pub behind_full : cap ≤ n → Indexed keys ix ls (chart_of w).records → Indexed keys ix ls (placed (capacity w) x (chart_of w) Nowhere).records
+  pub behind_full : cap ≤ n → Indexed keys ix ls (chart_of w).records → Indexed keys ix ls (placed (capacity w) x (chart_of w) None).records
   behind_full h I = rw (placed_full (capacity w) x (chart_of w) (omega (arith, number w n p))) I
 
   -- .. and covers its open nodes
   pub room_covered : (g h new : List ℕ) → n < cap → DoubtKept ix new → Covered g h ix (chart_of w).records → (doubt_of ix ≡ 0 → Covering g h x.item)
-      → Covered g h new (placed (capacity w) x (chart_of w) Nowhere).records
+      → Covered g h new (placed (capacity w) x (chart_of w) None).records
   room_covered g h new room k C f =
       rw (placed_room (capacity w) x (chart_of w) (omega (arith, number w n p)))
       (covered_kept g h ix new ((chart_of w).records ++ (x ∷ [])) k (covered_more g h ix x (chart_of w).records C f))
 
-  pub full_covered : (g h : List ℕ) → cap ≤ n → Covered g h ix (chart_of w).records → Covered g h ix (placed (capacity w) x (chart_of w) Nowhere).records
+  pub full_covered : (g h : List ℕ) → cap ≤ n → Covered g h ix (chart_of w).records → Covered g h ix (placed (capacity w) x (chart_of w) None).records
   full_covered g h l C = rw (placed_full (capacity w) x (chart_of w) (omega (arith, number w n p))) C
 
 -- ---- either way
-at_below : (n j : ℕ) (g : Found) → g ≡ At j → Below n g → j < n
+at_below : (n j : ℕ) (g : Option ℕ) → g ≡ Some j → Below n g → j < n
 at_below n j g e b = go (subst (Below n) e b)
   where
-    go : Below n (At j) → j < n
+    go : Below n (Some j) → j < n
     go (one h) = h
 
-module _ (w : List ℕ) (x : Record) (o : Found) (p : o ≡ last_same x.item (chart_of w).records (length (chart_of w).records)) where
-  pub found_inside : (j : ℕ) → o ≡ At j → j < item_count w
+module _ (w : List ℕ) (x : Record) (o : Option ℕ) (p : o ≡ last_same x.item (chart_of w).records (length (chart_of w).records)) where
+  pub found_inside : (j : ℕ) → o ≡ Some j → j < item_count w
   found_inside j e = let h = at_below (length (chart_of w).records) j o e (rw p (last_below x.item (chart_of w).records (length (chart_of w).records))) in omega (arith, counted w)
 
   module _ (keys : List ℕ) (f : Fits w) (e : Compact x) (m : ℕ) (is : m ≡ get_or w 1 0) (z : m ≡ 0) where
@@ -136,11 +135,11 @@ module _ (w : List ℕ) (x : Record) (o : Found) (p : o ≡ last_same x.item (ch
     by : (v ix ls : List ℕ) → v ≡ added_to w x → Indexed keys ix ls (placed (capacity w) x (chart_of w) o).records → (v ≡ added_to w x) × Indexed keys ix ls (chart_of v).records
     by v ix ls q I = (q, subst (λ (d : Chart). Indexed keys ix ls d.records) (sym (ap chart_of q ∙ chart_added)) I)
 
-    add_again : (v ix ls : List ℕ) (j : ℕ) → o ≡ At j → v ≡ improved_at w j x → Indexed keys ix ls (placed (capacity w) x (chart_of w) (At j)).records
+    add_again : (v ix ls : List ℕ) (j : ℕ) → o ≡ Some j → v ≡ improved_at w j x → Indexed keys ix ls (placed (capacity w) x (chart_of w) (Some j)).records
         → (v ≡ added_to w x) × Indexed keys ix ls (chart_of v).records
     add_again v ix ls j t q I = by v ix ls (add_found w x m (item_count w) o is z refl (p ∙ same_found x.item w) v j t q) (rw t I)
 
-    add_behind : (v ix ls : List ℕ) → o ≡ Nowhere → v ≡ appended_to w (item_count w) x → Indexed keys ix ls (placed (capacity w) x (chart_of w) Nowhere).records
+    add_behind : (v ix ls : List ℕ) → o ≡ None → v ≡ appended_to w (item_count w) x → Indexed keys ix ls (placed (capacity w) x (chart_of w) None).records
         → (v ≡ added_to w x) × Indexed keys ix ls (chart_of v).records
     add_behind v ix ls t q I = by v ix ls (add_new w x m (item_count w) o is z refl (p ∙ same_found x.item w) v t q) (rw t I)
 
@@ -148,21 +147,21 @@ module _ (w : List ℕ) (x : Record) (o : Found) (p : o ≡ last_same x.item (ch
     covered_by g h v ix q C = subst (λ (d : Chart). Covered g h ix d.records) (sym (ap chart_of q ∙ chart_added)) C
 
     -- a record found again covers what it did
-    again_covered : (v ix new : List ℕ) (j : ℕ) → o ≡ At j → v ≡ added_to w x → DoubtKept ix new → (g h : List ℕ) → Covered g h ix (chart_of w).records → Covered g h new (chart_of v).records
+    again_covered : (v ix new : List ℕ) (j : ℕ) → o ≡ Some j → v ≡ added_to w x → DoubtKept ix new → (g h : List ℕ) → Covered g h ix (chart_of w).records → Covered g h new (chart_of v).records
     again_covered v ix new j t q k g h C = covered_by g h v new q (rw t (covered_again g h new (capacity w) x (chart_of w) j (covered_kept g h ix new (chart_of w).records k C)))
 
-    behind_covered : (v ix : List ℕ) → o ≡ Nowhere → v ≡ added_to w x → (g h : List ℕ) → Covered g h ix (placed (capacity w) x (chart_of w) Nowhere).records → Covered g h ix (chart_of v).records
+    behind_covered : (v ix : List ℕ) → o ≡ None → v ≡ added_to w x → (g h : List ℕ) → Covered g h ix (placed (capacity w) x (chart_of w) None).records → Covered g h ix (chart_of v).records
     behind_covered v ix t q g h C = covered_by g h v ix q (rw t C)
 
     -- ---- what `index::add` leaves
-    pub adds_again : (v ix jx ls : List ℕ) (j : ℕ) → o ≡ At j → v ≡ improved_at w j x → Indexed keys jx ls (placed (capacity w) x (chart_of w) (At j)).records → DoubtKept ix jx
+    pub adds_again : (v ix jx ls : List ℕ) (j : ℕ) → o ≡ Some j → v ≡ improved_at w j x → Indexed keys jx ls (placed (capacity w) x (chart_of w) (Some j)).records → DoubtKept ix jx
         → Adds keys w ix v jx ls x
     adds_again v ix jx ls j t q I k =
         let (chart, indexed) = add_again v jx ls j t q I in
         record { compact = e; chart = chart; indexed = indexed; covered = λ g h C f. again_covered v ix jx j t chart k g h C }
 
-    pub adds_behind : (v ix jx ls : List ℕ) → o ≡ Nowhere → v ≡ appended_to w (item_count w) x → Indexed keys jx ls (placed (capacity w) x (chart_of w) Nowhere).records
-        → ((g h : List ℕ) → Covered g h ix (chart_of w).records → (doubt_of ix ≡ 0 → Covering g h x.item) → Covered g h jx (placed (capacity w) x (chart_of w) Nowhere).records)
+    pub adds_behind : (v ix jx ls : List ℕ) → o ≡ None → v ≡ appended_to w (item_count w) x → Indexed keys jx ls (placed (capacity w) x (chart_of w) None).records
+        → ((g h : List ℕ) → Covered g h ix (chart_of w).records → (doubt_of ix ≡ 0 → Covering g h x.item) → Covered g h jx (placed (capacity w) x (chart_of w) None).records)
         → Adds keys w ix v jx ls x
     adds_behind v ix jx ls t q I c =
         let (chart, indexed) = add_behind v jx ls t q I in

@@ -1,5 +1,6 @@
 -- The word that tells whether each record covers its open nodes: it stays or is set, and records come, are improved
 -- or handled.
+use Rattle.std.specs.Prelude.{Some}
 use Prim.Native.Nat.{ℕ, ◌+◌, ◌≤◌, ◌<◌}
 use mathlib.Core.Path.{◌≡◌, refl, sym, ap, ◌∙◌, subst}
 use mathlib.Core.List.{List, [], ◌∷◌, ◌++◌}
@@ -12,7 +13,6 @@ use lib.ListN.{length, length-append, set, length-set, get_or-append}
 use lib.Seq.{get_or_at, get_or-set_same, get_or-set_other}
 use Rattle.agenda.specs.declared.ChartItem.{ChartItem}
 use Rattle.agenda.specs.declared.Record.{Record}
-use Rattle.agenda.specs.declared.Found.TheVariants.{At}
 use Rattle.agenda.specs.Records.{is_handled}
 use Rattle.agenda.specs.Consequences.{no_record, record_in}
 use Rattle.agenda.specs.Steps.{Chart, improved, handled_now, placed}
@@ -64,11 +64,11 @@ module _ (g h : List ℕ) where
           subst (λ (z : Record). Covering g h z.item) (sym (ap (record_in (set rs j y)) p ∙ get_or-set_same rs j y no_record (omega arith))) (f (subst (λ i. Covering g h (record_in rs i).item) p (C.each z k l)))
       at z k l (no n) = subst (λ (z : Record). Covering g h z.item) (sym (get_or-set_other rs j k y no_record n)) (C.each z k l)
 
-  pub covered_again : (ix : List ℕ) (cap : ℕ) (x : Record) (c : Chart) (j : ℕ) → Covered g h ix c.records → Covered g h ix (placed cap x c (At j)).records
+  pub covered_again : (ix : List ℕ) (cap : ℕ) (x : Record) (c : Chart) (j : ℕ) → Covered g h ix c.records → Covered g h ix (placed cap x c (Some j)).records
   unfolding placed
   covered_again ix cap x c j C = go (is_handled (record_in c.records j) || leb (record_in c.records j).item.count x.item.count) refl
     where
-      go : (b : Bool) → (is_handled (record_in c.records j) || leb (record_in c.records j).item.count x.item.count) ≡ b → Covered g h ix (placed cap x c (At j)).records
+      go : (b : Bool) → (is_handled (record_in c.records j) || leb (record_in c.records j).item.count x.item.count) ≡ b → Covered g h ix (placed cap x c (Some j)).records
       go true e = rw e C
       go false e = rw e (covered_set ix c.records j (improved (record_in c.records j) x) (covering_improved (record_in c.records j) x) C)
 

@@ -1,4 +1,5 @@
 -- The indexes as a record comes, is improved or taken.
+use Rattle.std.specs.Prelude.{Option, Some, None}
 use Prim.Native.Nat.{ℕ, ◌+◌, ◌*◌, ◌≤◌, ◌<◌}
 use mathlib.Core.Path.{◌≡◌, refl, sym, ap, ◌∙◌, subst}
 use mathlib.Core.List.{List, [], ◌∷◌, ◌++◌}
@@ -10,8 +11,6 @@ use lib.Dec.{eqb}
 use lib.ListN.{length, get_or, set, replicate, length-replicate, get_or-replicate, get_or-eq_default}
 use Rattle.agenda.specs.declared.ChartItem.{ChartItem}
 use Rattle.agenda.specs.declared.Record.{Record}
-use Rattle.agenda.specs.declared.Found.{Found}
-use Rattle.agenda.specs.declared.Found.TheVariants.{At, Nowhere}
 use Rattle.agenda.specs.Records.{is_handled}
 use Rattle.agenda.specs.Consequences.{record_in}
 use Rattle.agenda.specs.Steps.{least_waiting, improved, handled_now}
@@ -201,10 +200,10 @@ module _ (ix ls ranks : List ℕ) (j : ℕ) (keys : List ℕ) (rs : List Record)
       indexed_ranks keys ix ranks ls (set rs j (handled_now y)) I.size (listed_set (handled_now y) refl) (chained_handled (links_of ix) rs j I.chained) r
 
 -- ---- a record is taken, or none: then the ranking may be made anew
-pub taken_by : (keys ix ls ranks : List ℕ) (rs : List Record) (f : Found) → f ≡ least_waiting rs (length rs) → Ranked ranks (taken_from rs f) → Indexed keys ix ls rs
+pub taken_by : (keys ix ls ranks : List ℕ) (rs : List Record) (f : Option ℕ) → f ≡ least_waiting rs (length rs) → Ranked ranks (taken_from rs f) → Indexed keys ix ls rs
     → Indexed keys (with_ranks ix ranks) ls (taken_from rs f)
 taken_by keys ix ls ranks rs f e r I = go f (rw e (least_below rs (length rs))) r
   where
-    go : (f : Found) → Below (length rs) f → Ranked ranks (taken_from rs f) → Indexed keys (with_ranks ix ranks) ls (taken_from rs f)
-    go Nowhere b r = indexed_ranks keys ix ranks ls rs I.size I.listed I.chained r
-    go (At j) (one l) r = handled_by ix ls ranks j keys rs I l r
+    go : (f : Option ℕ) → Below (length rs) f → Ranked ranks (taken_from rs f) → Indexed keys (with_ranks ix ranks) ls (taken_from rs f)
+    go None b r = indexed_ranks keys ix ranks ls rs I.size I.listed I.chained r
+    go (Some j) (one l) r = handled_by ix ls ranks j keys rs I l r

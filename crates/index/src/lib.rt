@@ -5,9 +5,8 @@
 
 #![tactic(auto)]
 
-ghost use Rattle.std.specs.Prelude.{◌≡◌, false, List, [], ◌∷◌, ◌++◌, ℕ, ◌*◌, ◌≤◌, ◌<◌, eqb, length, set};
+ghost use Rattle.std.specs.Prelude.{Some, None, ◌≡◌, false, List, [], ◌∷◌, ◌++◌, ℕ, ◌*◌, ◌≤◌, ◌<◌, eqb, length, set};
 ghost use Rattle.agenda.specs.declared.Record.{Record};
-ghost use Rattle.agenda.specs.declared.Found.TheVariants.{At, Nowhere};
 ghost use Rattle.agenda.specs.Records.{is_handled, new_record};
 ghost use Rattle.agenda.specs.Consequences.{record_in};
 ghost use Rattle.agenda.specs.Steps.{least_waiting, improved, placed};
@@ -22,7 +21,7 @@ ghost use Rattle.lists.specs.Cursors.{Skims, SkimsAll};
 ghost use Rattle.index.specs.Quiet.{quiet_in};
 ghost use Rattle.index.specs.Index.{index_words, ranks_of, doubt_of, keys_for, Indexed, Empty, Covered, DoubtKept, Adds};
 
-use agenda::{ChartItem, Found, Record};
+use agenda::{ChartItem, Record};
 use joins::graphs::GRAPH_TABLE_WORDS;
 use pivots::KEY_TABLE_WORDS;
 use rules::plans::PLAN_TABLE_WORDS;
@@ -62,10 +61,8 @@ fn list_all(keys: &[u32; KEY_TABLE_WORDS], chart: &[u64], lists: &mut [u16])
     ensures { Listed lists.new (keys_for keys.now (chart_of chart.now).records) }
 {
     let n = records::item_count(chart);
-    let mut j = 0;
-    while j < n {
+    for j in 0..n {
         list_many(keys, lists, j, records::item_at(chart, j));
-        j += 1;
     }
 }
 
@@ -82,13 +79,11 @@ fn cover_all(
     ensures { Covered g.now h.now index.new (chart_of chart.now).records × ((keys ls : List ℕ) (rs : List Record) → Indexed keys index.old ls rs → Indexed keys index.new ls rs) }
 {
     let n = records::item_count(chart);
-    let mut j = 0;
-    while j < n {
+    for j in 0..n {
         if !rules::coverage::covers(g, h, plans, graph, records::item_at(chart, j)) {
             index[DOUBT] = 1;
             return;
         }
-        j += 1;
     }
 }
 
@@ -114,7 +109,7 @@ pub fn build(
 
 // The first waiting record of least count waits no more: whoever takes it marks it in the chart. The ranking may be
 // made anew for it.
-pub fn take(chart: &[u64], index: &mut [u32]) -> Found
+pub fn take(chart: &[u64], index: &mut [u32]) -> Option<u64>
     requires { (length index.old ≡ index_words) × Ranked (ranks_of index.old) (chart_of chart.now).records × (length (chart_of chart.now).records ≤ 4096) }
     ensures { (result ≡ least_waiting (chart_of chart.now).records (length (chart_of chart.now).records)) × ((keys ls : List ℕ) → Indexed keys index.old ls (chart_of chart.now).records → Indexed keys index.new ls (taken_from (chart_of chart.now).records result)) × DoubtKept index.old index.new }
 {
@@ -215,7 +210,7 @@ fn recount(index: &mut [u32], j: u64, old: u64, count: u64)
 // The record at place j, found again with the item of x, takes the count and the partners of x if that is better.
 fn again(chart: &mut [u64], index: &mut [u32], j: u64, x: Record)
     requires { (length index.old ≡ index_words) × (j < item_count chart.old) × (j < 4096) }
-    ensures { (chart.new ≡ improved_at chart.old j x) × ((keys ls : List ℕ) → Indexed keys index.old ls (chart_of chart.old).records → Indexed keys index.new ls (placed (capacity chart.old) x (chart_of chart.old) (At j)).records) × DoubtKept index.old index.new }
+    ensures { (chart.new ≡ improved_at chart.old j x) × ((keys ls : List ℕ) → Indexed keys index.old ls (chart_of chart.old).records → Indexed keys index.new ls (placed (capacity chart.old) x (chart_of chart.old) (Some j)).records) × DoubtKept index.old index.new }
 {
     if records::is_handled(chart, j) {
         return;
@@ -240,7 +235,7 @@ fn behind(
     h: u64,
 )
     requires { Indexed keys.now index.old lists.old (chart_of chart.old).records × (capacity chart.old ≤ 4096) × (h ≡ hash_of x.item) × (h < 4294967296) }
-    ensures { (chart.new ≡ appended_to chart.old (item_count chart.old) x) × Indexed keys.now index.new lists.new (placed (capacity chart.old) x (chart_of chart.old) Nowhere).records × ((g h : List ℕ) → Covered g h index.old (chart_of chart.old).records → (doubt_of index.old ≡ 0 → Covering g h x.item) → Covered g h index.new (placed (capacity chart.old) x (chart_of chart.old) Nowhere).records) }
+    ensures { (chart.new ≡ appended_to chart.old (item_count chart.old) x) × Indexed keys.now index.new lists.new (placed (capacity chart.old) x (chart_of chart.old) None).records × ((g h : List ℕ) → Covered g h index.old (chart_of chart.old).records → (doubt_of index.old ≡ 0 → Covering g h x.item) → Covered g h index.new (placed (capacity chart.old) x (chart_of chart.old) None).records) }
 {
     let n = records::item_count(chart);
     if n < records::capacity_of(chart) {
@@ -272,7 +267,7 @@ pub fn add(
         return;
     }
     match chains::find(chart, &index[0..RANKS], item, h) {
-        Found::At(j) => again(chart, index, j, x),
-        Found::Nowhere => behind(keys, chart, lists, index, x, h),
+        Some(j) => again(chart, index, j, x),
+        None => behind(keys, chart, lists, index, x, h),
     }
 }

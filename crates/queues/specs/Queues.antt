@@ -2,11 +2,9 @@
 -- words before those tell which words are not 0, each of 32 of them, so that the least number is found by three
 -- words. The last word is a hint: of the lowest words those before word 132 + hint are 0, so that this word has the
 -- least number where it is not 0.
-use Rattle.std.specs.Prelude.{Bool, true, false, List, ◌≡◌, ℕ, ◌+◌, ◌-◌, ◌*◌, ◌/◌, ◌%◌, ◌≤◌, ◌<◌, min, ltb, length, get_or, set}
+use Rattle.std.specs.Prelude.{Option, Some, None, Bool, true, false, List, ◌≡◌, ℕ, ◌+◌, ◌-◌, ◌*◌, ◌/◌, ◌%◌, ◌≤◌, ◌<◌, min, ltb, length, get_or, set}
 use Rattle.std.specs.Int.Bits.{bit_and}
 use Rattle.masks.specs.Masks.{member, ◌∪◌, single}
-use Rattle.queues.specs.declared.Taken.{Taken}
-use Rattle.queues.specs.declared.Taken.TheVariants.{Number, Nothing}
 
 -- bit q of the words from word a on
 unfoldable pub bit_from : List ℕ → ℕ → ℕ → Bool
@@ -75,9 +73,9 @@ abbrev pub Empty : List ℕ → Type 0
 Empty ws = (q : ℕ) → q < 131072 → holds ws q ≡ false
 
 -- what was taken out is the least number of the set, or nothing where it has none
-abbrev pub LeastTaken : List ℕ → Taken → List ℕ → Type 0
-LeastTaken ws (Number p) new = Left ws p new
-LeastTaken ws Nothing new = Empty ws × (new ≡ ws)
+abbrev pub LeastTaken : List ℕ → Option ℕ → List ℕ → Type 0
+LeastTaken ws (Some p) new = Left ws p new
+LeastTaken ws None new = Empty ws × (new ≡ ws)
 
 -- of the n words from word a on, word a + r is the first that is not 0, or r is n
 pub record Started (ws : List ℕ) (a n r : ℕ) : Type 0 where

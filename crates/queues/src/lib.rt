@@ -8,13 +8,6 @@
 ghost use Rattle.std.specs.Prelude.{◌≡◌, ◌+◌, ◌≤◌, ◌<◌, length, get_or};
 ghost use Rattle.queues.specs.Queues.{Levels, with_bit, without_bit, with_hint, Inserted, Removed, Left, LeastTaken, Started, Reached, Stepped, Cleared};
 
-// The least number of a set that left it, or nothing where the set had none.
-#[derive(Clone, Copy)]
-pub enum Taken {
-    Number(u64),
-    Nothing,
-}
-
 // where the hint is
 const HINT: usize = 4228;
 
@@ -133,20 +126,20 @@ fn leave(ws: &mut [u32], a: u64) -> u64
 }
 
 // The least number leaves the set by the way down the levels, and its word is the next hint.
-pub fn next(ws: &mut [u32]) -> Taken
+pub fn next(ws: &mut [u32]) -> Option<u64>
     requires { Levels ws.old }
     ensures { LeastTaken ws.old result ws.new }
 {
     let a = search(ws);
     if a == 4096 {
-        return Taken::Nothing;
+        return None;
     }
     ws[HINT] = a as u32;
-    Taken::Number(leave(ws, a))
+    Some(leave(ws, a))
 }
 
 // The least number leaves the set, straight from the word of the hint where that has one.
-pub fn take(ws: &mut [u32]) -> Taken
+pub fn take(ws: &mut [u32]) -> Option<u64>
     requires { Levels ws.old }
     ensures { LeastTaken ws.old result ws.new }
 {
@@ -154,7 +147,7 @@ pub fn take(ws: &mut [u32]) -> Taken
     if ws[(132 + a) as usize] == 0 {
         return next(ws);
     }
-    Taken::Number(leave(ws, a))
+    Some(leave(ws, a))
 }
 
 // No number is in the set.
@@ -162,9 +155,7 @@ pub fn clear(ws: &mut [u32])
     requires { length ws.old ≡ 4229 }
     ensures { Cleared ws.new }
 {
-    let mut i: usize = 0;
-    while i < 4229 {
-        ws[i] = 0;
-        i += 1;
+    for w in ws.iter_mut() {
+        *w = 0;
     }
 }

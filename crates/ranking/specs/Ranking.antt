@@ -1,9 +1,7 @@
 -- The ranking of a chart's records: a set of numbers in words, whose least is that of the first waiting record of
 -- least count.
-use Rattle.std.specs.Prelude.{Bool, ◌&&◌, not, cond, List, ◌≡◌, ℕ, ◌+◌, ◌*◌, ◌%◌, ◌≤◌, ◌<◌, length, get_or, set, take, drop, eqb, ltb}
+use Rattle.std.specs.Prelude.{Option, Some, None, Bool, ◌&&◌, not, cond, List, ◌≡◌, ℕ, ◌+◌, ◌*◌, ◌%◌, ◌≤◌, ◌<◌, length, get_or, set, take, drop, eqb, ltb}
 use Rattle.agenda.specs.declared.Record.{Record}
-use Rattle.agenda.specs.declared.Found.{Found}
-use Rattle.agenda.specs.declared.Found.TheVariants.{At, Nowhere}
 use Rattle.agenda.specs.Records.{is_handled}
 use Rattle.agenda.specs.Consequences.{record_in}
 use Rattle.agenda.specs.Steps.{handled_now}
@@ -65,6 +63,6 @@ pub record Replaces (j p : ℕ) (rs rs' : List Record) : Type 0 where
   pub others : (k : ℕ) → (k ≡ j → ⊥) → order_at rs' k ≡ order_at rs k
 
 -- the records, of which the one found is handled
-abbrev pub taken_from : List Record → Found → List Record
-taken_from rs Nowhere = rs
-taken_from rs (At j) = set rs j (handled_now (record_in rs j))
+abbrev pub taken_from : List Record → Option ℕ → List Record
+taken_from rs None = rs
+taken_from rs (Some j) = set rs j (handled_now (record_in rs j))

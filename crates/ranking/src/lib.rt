@@ -12,9 +12,6 @@ ghost use Rattle.agenda.specs.Steps.{least_waiting};
 ghost use Rattle.records.specs.Words.{item_count, chart_of};
 ghost use Rattle.ranking.specs.Ranking.{order_of, order_at, rank_words, Ranked, Blank, Replaces, taken_from};
 
-use agenda::Found;
-use queues::Taken;
-
 // where the set begins and ends
 const SET: usize = 2;
 
@@ -82,12 +79,10 @@ fn fill(chart: &[u64], ranks: &mut [u32])
     ensures { Ranked ranks.new (chart_of chart.now).records }
 {
     let n = records::item_count(chart);
-    let mut j = 0;
-    while j < n {
+    for j in 0..n {
         if !records::is_handled(chart, j) {
             insert(ranks, j, records::count_at(chart, j));
         }
-        j += 1;
     }
 }
 
@@ -107,25 +102,20 @@ fn renew(chart: &[u64], ranks: &mut [u32], base: u64)
 }
 
 // The records looked through: the words are made anew from the least count, and the record found leaves them.
-fn again(chart: &[u64], ranks: &mut [u32]) -> Found
+fn again(chart: &[u64], ranks: &mut [u32]) -> Option<u64>
     requires { Ranked ranks.old (chart_of chart.now).records × (length (chart_of chart.now).records ≤ 4096) }
     ensures { (result ≡ least_waiting (chart_of chart.now).records (length (chart_of chart.now).records)) × Ranked ranks.new (taken_from (chart_of chart.now).records result) }
 {
-    let found = records::least(chart, records::item_count(chart));
-    match found {
-        Found::Nowhere => Found::Nowhere,
-        Found::At(j) => {
-            let count = records::count_at(chart, j);
-            renew(chart, ranks, count);
-            remove(ranks, j, count);
-            Found::At(j)
-        }
-    }
+    let j = records::least(chart, records::item_count(chart))?;
+    let count = records::count_at(chart, j);
+    renew(chart, ranks, count);
+    remove(ranks, j, count);
+    Some(j)
 }
 
 // The set is empty, but records may be missing in it: it is made anew for the next 32 counts and, where none waits
 // with one of these, from the least. The hint of a set made anew tells nothing yet.
-fn onward(chart: &[u64], ranks: &mut [u32]) -> Found
+fn onward(chart: &[u64], ranks: &mut [u32]) -> Option<u64>
     requires { (length ranks.old ≡ rank_words) × (length (chart_of chart.now).records ≤ 4096) }
     ensures { (result ≡ least_waiting (chart_of chart.now).records (length (chart_of chart.now).records)) × Ranked ranks.new (taken_from (chart_of chart.now).records result) }
 {
@@ -134,16 +124,15 @@ fn onward(chart: &[u64], ranks: &mut [u32]) -> Found
     if ranks[0] >= 2 {
         return again(chart, ranks);
     }
-    let taken = queues::next(&mut ranks[SET..END]);
-    match taken {
-        Taken::Number(p) => Found::At(p % 4096),
-        Taken::Nothing => again(chart, ranks),
+    match queues::next(&mut ranks[SET..END]) {
+        Some(p) => Some(p % 4096),
+        None => again(chart, ranks),
     }
 }
 
 // The first waiting record of least count waits no more. Its number is at hand, so that the chart need not be read
 // for it.
-pub fn take(chart: &[u64], ranks: &mut [u32]) -> Found
+pub fn take(chart: &[u64], ranks: &mut [u32]) -> Option<u64>
     requires { Ranked ranks.old (chart_of chart.now).records × (length (chart_of chart.now).records ≤ 4096) }
     ensures { (result ≡ least_waiting (chart_of chart.now).records (length (chart_of chart.now).records)) × Ranked ranks.new (taken_from (chart_of chart.now).records result) }
 {
@@ -151,12 +140,11 @@ pub fn take(chart: &[u64], ranks: &mut [u32]) -> Found
     if state >= 2 {
         return again(chart, ranks);
     }
-    let taken = queues::take(&mut ranks[SET..END]);
-    if let Taken::Number(p) = taken {
-        return Found::At(p % 4096);
+    if let Some(p) = queues::take(&mut ranks[SET..END]) {
+        return Some(p % 4096);
     }
     if state == 0 {
-        return Found::Nowhere;
+        return None;
     }
     onward(chart, ranks)
 }

@@ -1,4 +1,5 @@
 -- Words that stand for a chart, through one call after another: each makes of the words what it makes of the chart.
+use Rattle.std.specs.Prelude.{Option, Some, None}
 use Prim.Native.Nat.{ℕ, ◌+◌, ◌≤◌, ◌<◌}
 use mathlib.Core.Path.{◌≡◌, sym, ap, ◌∙◌, subst}
 use mathlib.Core.Logic.{◌≢◌}
@@ -12,8 +13,6 @@ use lib.Seq.{get_or-set_same, get_or-set_other, get_or_at}
 use borrow.Author.Tests.{ltb-true}
 use Rattle.agenda.specs.declared.ChartItem.{ChartItem}
 use Rattle.agenda.specs.declared.Record.{Record}
-use Rattle.agenda.specs.declared.Found.{Found}
-use Rattle.agenda.specs.declared.Found.TheVariants.{At, Nowhere}
 use Rattle.agenda.specs.Records.{is_handled}
 use Rattle.agenda.specs.Consequences.{record_in, no_record}
 use Rattle.agenda.specs.Steps.{Chart, improved, handled_now, last_same, least_waiting, handled_count, placed, added}
@@ -75,10 +74,10 @@ module _ (w : List ℕ) (c : Chart) (o : Holds w c) where
       let l : length (c.records ++ (y ∷ [])) ≡ length c.records + 1 = length-append c.records (y ∷ []) in
       record { holds = record { header = o.header; number = omega arith; compact = more_compact c.records y o.compact e }; longer = omega arith }
 
-  grown_placed : (x : Record) → Compact x → (f : Found) → Grown w c (placed (capacity w) x c f)
+  grown_placed : (x : Record) → Compact x → (f : Option ℕ) → Grown w c (placed (capacity w) x c f)
   unfolding placed
-  grown_placed x e Nowhere = cond_by (Grown w c) (ltb (length c.records) (capacity w)) (λ t. appends x (ltb-true _ _ t) e) (λ t. marks 1)
-  grown_placed x e (At j) =
+  grown_placed x e None = cond_by (Grown w c) (ltb (length c.records) (capacity w)) (λ t. appends x (ltb-true _ _ t) e) (λ t. marks 1)
+  grown_placed x e (Some j) =
       cond_by (Grown w c) (is_handled (record_in c.records j) || leb (record_in c.records j).item.count x.item.count) (λ t. stays)
       (λ t. sets j (improved (record_in c.records j) x) (λ l. compact_improved (o.compact j l) e))
 

@@ -1,4 +1,5 @@
 -- A chart's words: records that are read and written, one turn of each loop over them.
+use Rattle.std.specs.Prelude.{Option, Some, None}
 use Prim.Native.Nat.{ℕ, zero, suc, ◌+◌, ◌-◌, ◌*◌, ◌/◌, ◌%◌, ◌≤◌, ◌<◌}
 use mathlib.Core.Path.{◌≡◌, refl, sym, ap, ◌∙◌}
 use mathlib.Core.Logic.{◌≢◌}
@@ -14,8 +15,6 @@ use borrow.Author.Tests.{lt-ltb, le-ltb, le-leb, lt-leb, eq-eqb, ne_eqb}
 use Rattle.hrg.specs.Counts.{flag}
 use Rattle.agenda.specs.declared.ChartItem.{ChartItem}
 use Rattle.agenda.specs.declared.Record.{Record}
-use Rattle.agenda.specs.declared.Found.{Found}
-use Rattle.agenda.specs.declared.Found.TheVariants.{At, Nowhere}
 use Rattle.agenda.specs.Records.{same_chart_item, is_handled}
 use Rattle.agenda.specs.Consequences.{record_in, no_record}
 use Rattle.agenda.specs.Steps.{improved, handled_now, last_same, lesser, least_waiting, handled_count}
@@ -128,90 +127,90 @@ record_in_lem w (suc n) k h = go (λ d. record_in_lem w n k d) (dec_lt k n)
 
 -- ---- the search for an item
 module _ (w : List ℕ) (x : ChartItem) (n i k : ℕ) (h : k < n) (e : i ≡ k + 1) (t : Bool) (s : t ≡ same_chart_item x (record_at w k).item) where
-  find_turn : last_same x (records_at w n) i ≡ cond t (At k) (last_same x (records_at w n) k)
+  find_turn : last_same x (records_at w n) i ≡ cond t (Some k) (last_same x (records_at w n) k)
   unfolding last_same
   find_turn = rw (e, add-one) (rw (record_in_lem w n k h, ← s))
 
-  pub find_hit : t ≡ true → At k ≡ last_same x (records_at w n) i
+  pub find_hit : t ≡ true → Some k ≡ last_same x (records_at w n) i
   find_hit p = sym (find_turn ∙ rw p)
 
   pub find_miss : t ≡ false → last_same x (records_at w n) k ≡ last_same x (records_at w n) i
   find_miss p = sym (find_turn ∙ rw p)
 
-pub find_end : (w : List ℕ) (x : ChartItem) (n i : ℕ) → i ≤ 0 → Nowhere ≡ last_same x (records_at w n) i
+pub find_end : (w : List ℕ) (x : ChartItem) (n i : ℕ) → i ≤ 0 → None ≡ last_same x (records_at w n) i
 unfolding last_same
 find_end w x n i h = rw (let p : i ≡ 0 = omega arith in p)
 
 -- ---- the choice of a step
 -- the one found is among the first n
-pub data Below (n : ℕ) : Found → Type 0 where
-  none : Below n Nowhere
-  one : {j : ℕ} → j < n → Below n (At j)
+pub data Below (n : ℕ) : Option ℕ → Type 0 where
+  none : Below n None
+  one : {j : ℕ} → j < n → Below n (Some j)
 
-cond_below : (n : ℕ) (b : Bool) (f g : Found) → Below n f → Below n g → Below n (cond b f g)
+cond_below : (n : ℕ) (b : Bool) (f g : Option ℕ) → Below n f → Below n g → Below n (cond b f g)
 cond_below n true f g p q = p
 cond_below n false f g p q = q
 
-more : (n : ℕ) (f : Found) → Below n f → Below (suc n) f
-more n Nowhere none = none
-more n (At j) (one h) = one {j = j} (omega arith)
+more : (n : ℕ) (f : Option ℕ) → Below n f → Below (suc n) f
+more n None none = none
+more n (Some j) (one h) = one {j = j} (omega arith)
 
 pub last_below : (x : ChartItem) (rs : List Record) (n : ℕ) → Below n (last_same x rs n)
 unfolding last_same
 last_below x rs zero = none
-last_below x rs (suc n) = cond_below (suc n) (same_chart_item x (record_in rs n).item) (At n) (last_same x rs n) (one {j = n} (omega arith)) (more n (last_same x rs n) (last_below x rs n))
+last_below x rs (suc n) = cond_below (suc n) (same_chart_item x (record_in rs n).item) (Some n) (last_same x rs n) (one {j = n} (omega arith)) (more n (last_same x rs n) (last_below x rs n))
 
-lesser_below : (rs : List Record) (n : ℕ) (f : Found) → Below n f → Below (suc n) (lesser rs n f)
+lesser_below : (rs : List Record) (n : ℕ) (f : Option ℕ) → Below n f → Below (suc n) (lesser rs n f)
 unfolding lesser
-lesser_below rs n Nowhere b = cond_below (suc n) (is_handled (record_in rs n)) Nowhere (At n) none (one {j = n} (omega arith))
-lesser_below rs n (At j) b = cond_below (suc n) (is_handled (record_in rs n) || leb (record_in rs j).item.count (record_in rs n).item.count) (At j) (At n) (more n (At j) b) (one {j = n} (omega arith))
+lesser_below rs n None b = cond_below (suc n) (is_handled (record_in rs n)) None (Some n) none (one {j = n} (omega arith))
+lesser_below rs n (Some j) b = cond_below (suc n) (is_handled (record_in rs n) || leb (record_in rs j).item.count (record_in rs n).item.count) (Some j) (Some n) (more n (Some j) b) (one {j = n} (omega arith))
 
 pub least_below : (rs : List Record) (n : ℕ) → Below n (least_waiting rs n)
 unfolding least_waiting
 least_below rs zero = none
 least_below rs (suc n) = lesser_below rs n (least_waiting rs n) (least_below rs n)
 
-below_place : (n j : ℕ) → Below n (At j) → j < n
+below_place : (n j : ℕ) → Below n (Some j) → j < n
 below_place n j (one h) = h
 
-pub least_place : (rs : List Record) (n j : ℕ) → At j ≡ least_waiting rs n → j < n
+pub least_place : (rs : List Record) (n j : ℕ) → Some j ≡ least_waiting rs n → j < n
 least_place rs n j e = below_place n j (rw e (least_below rs n))
 
-lesser_at_lem : (w : List ℕ) (n i : ℕ) (f : Found) → i < n → Below i f → lesser_at w i f ≡ lesser (records_at w n) i f
+lesser_at_lem : (w : List ℕ) (n i : ℕ) (f : Option ℕ) → i < n → Below i f → lesser_at w i f ≡ lesser (records_at w n) i f
 unfolding lesser lesser_at
-lesser_at_lem w n i Nowhere h b = rw (record_in_lem w n i h)
-lesser_at_lem w n i (At j) h (one l) = rw (record_in_lem w n i h, record_in_lem w n j (omega arith))
+lesser_at_lem w n i None h b = rw (record_in_lem w n i h)
+lesser_at_lem w n i (Some j) h (one l) = rw (record_in_lem w n i h, record_in_lem w n j (omega arith))
 
-pub least_next : (w : List ℕ) (n i : ℕ) (f g : Found) → i < n → f ≡ least_waiting (records_at w n) i → g ≡ lesser_at w i f → g ≡ least_waiting (records_at w n) (i + 1)
+pub least_next : (w : List ℕ) (n i : ℕ) (f g : Option ℕ) → i < n → f ≡ least_waiting (records_at w n) i → g ≡ lesser_at w i f → g ≡ least_waiting (records_at w n) (i + 1)
 unfolding least_waiting
 least_next w n i f g h e p = rw add-one (p ∙ ap (lesser_at w i) e ∙ lesser_at_lem w n i (least_waiting (records_at w n) i) h (least_below (records_at w n) i))
 
-pub least_start : (rs : List Record) → Nowhere ≡ least_waiting rs 0
+pub least_start : (rs : List Record) → None ≡ least_waiting rs 0
 unfolding least_waiting
 least_start rs = refl
 
-pub lesser_handled : (w : List ℕ) (i j : ℕ) → is_handled (record_at w i) ≡ true → At j ≡ lesser_at w i (At j)
+pub lesser_handled : (w : List ℕ) (i j : ℕ) → is_handled (record_at w i) ≡ true → Some j ≡ lesser_at w i (Some j)
 unfolding lesser_at
 lesser_handled w i j h = rw h
 
 module _ (w : List ℕ) (i j : ℕ) (h : is_handled (record_at w i) ≡ false) where
-  pub lesser_stays : (record_at w j).item.count ≤ (record_at w i).item.count → At j ≡ lesser_at w i (At j)
+  pub lesser_stays : (record_at w j).item.count ≤ (record_at w i).item.count → Some j ≡ lesser_at w i (Some j)
   unfolding lesser_at
   lesser_stays l = rw (h, le-leb (record_at w j).item.count (record_at w i).item.count l)
 
-  pub lesser_moves : (record_at w i).item.count < (record_at w j).item.count → At i ≡ lesser_at w i (At j)
+  pub lesser_moves : (record_at w i).item.count < (record_at w j).item.count → Some i ≡ lesser_at w i (Some j)
   unfolding lesser_at
   lesser_moves l = rw (h, lt-leb (record_at w j).item.count (record_at w i).item.count l)
 
 -- no record waits before place i: the one there is handled, or it is the first that waits
-module _ (w : List ℕ) (n i : ℕ) (h : i < n) (e : Nowhere ≡ least_waiting (records_at w n) i) where
-  pub least_none : is_handled (record_at w i) ≡ true → Nowhere ≡ least_waiting (records_at w n) (i + 1)
+module _ (w : List ℕ) (n i : ℕ) (h : i < n) (e : None ≡ least_waiting (records_at w n) i) where
+  pub least_none : is_handled (record_at w i) ≡ true → None ≡ least_waiting (records_at w n) (i + 1)
   unfolding lesser_at
-  least_none p = least_next w n i Nowhere Nowhere h e (rw p)
+  least_none p = least_next w n i None None h e (rw p)
 
-  pub least_one : is_handled (record_at w i) ≡ false → At i ≡ least_waiting (records_at w n) (i + 1)
+  pub least_one : is_handled (record_at w i) ≡ false → Some i ≡ least_waiting (records_at w n) (i + 1)
   unfolding lesser_at
-  least_one p = least_next w n i Nowhere (At i) h e (rw p)
+  least_one p = least_next w n i None (Some i) h e (rw p)
 
 -- ---- handled records
 handled_append : (rs ss : List Record) → handled_count (rs ++ ss) ≡ handled_count rs + handled_count ss
@@ -271,16 +270,16 @@ pub add_marked : (w : List ℕ) (x : Record) (m : ℕ) → m ≡ get_or w 1 0 �
 unfolding added_to
 add_marked w x m e h = rw (ne_eqb (get_or w 1 0) 0 (λ q. h (e ∙ q)))
 
-module _ (w : List ℕ) (x : Record) (m n : ℕ) (f : Found) (me : m ≡ get_or w 1 0) (z : m ≡ 0) (ne : n ≡ item_count w) (fe : f ≡ last_same x.item (records_at w n) n) (v : List ℕ) where
+module _ (w : List ℕ) (x : Record) (m n : ℕ) (f : Option ℕ) (me : m ≡ get_or w 1 0) (z : m ≡ 0) (ne : n ≡ item_count w) (fe : f ≡ last_same x.item (records_at w n) n) (v : List ℕ) where
   add_placed : v ≡ placed_in w x f → v ≡ added_to w x
   unfolding added_to
   add_placed p = rw (eq-eqb (get_or w 1 0) 0 (sym me ∙ z), ← ne, ← fe) p
 
-  pub add_found : (j : ℕ) → f ≡ At j → v ≡ improved_at w j x → v ≡ added_to w x
+  pub add_found : (j : ℕ) → f ≡ Some j → v ≡ improved_at w j x → v ≡ added_to w x
   unfolding placed_in
   add_found j p q = add_placed (rw p q)
 
-  pub add_new : f ≡ Nowhere → v ≡ appended_to w n x → v ≡ added_to w x
+  pub add_new : f ≡ None → v ≡ appended_to w n x → v ≡ added_to w x
   unfolding placed_in
   add_new p q = add_placed (rw (p, ← ne) q)
 

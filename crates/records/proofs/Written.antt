@@ -1,5 +1,6 @@
 -- Records that are saved in a chart's words, and what adding and handling a record make of the chart that the words
 -- stand for.
+use Rattle.std.specs.Prelude.{Option, Some, None}
 use Prim.Native.Nat.{ℕ, zero, suc, ◌+◌, ◌-◌, ◌*◌, ◌/◌, ◌≤◌, ◌<◌, min}
 use mathlib.Core.Path.{◌≡◌, refl, sym, ap, ap₂, ◌∙◌, subst}
 use mathlib.Core.Logic.{◌≢◌}
@@ -13,8 +14,6 @@ use lib.Seq.{get_or-set_same, get_or-set_other, get_or-drop, get_or-append-add, 
 use borrow.Author.Tests.{lt-ltb, ltb-true}
 use Rattle.agenda.specs.declared.ChartItem.{ChartItem}
 use Rattle.agenda.specs.declared.Record.{Record}
-use Rattle.agenda.specs.declared.Found.{Found}
-use Rattle.agenda.specs.declared.Found.TheVariants.{At, Nowhere}
 use Rattle.agenda.specs.Records.{is_handled}
 use Rattle.agenda.specs.Consequences.{record_in, no_record}
 use Rattle.agenda.specs.Steps.{Chart, improved, handled_now, last_same, placed, added}
@@ -67,13 +66,13 @@ pub header_records : (w : List ℕ) (i a k : ℕ) → i < 2 → record_at (set w
 header_records w i a k h = record_by (set w i a) w k (λ m l. get_or-set_other w i (2 + 4 * k + m) a 0 (omega arith))
 
 -- a record that was found among the items lies inside
-at_below : (n j : ℕ) → Below n (At j) → j < n
+at_below : (n j : ℕ) → Below n (Some j) → j < n
 at_below n j (one h) = h
 
-pub found_fits : (w : List ℕ) (x : ChartItem) (n j : ℕ) (f : Found) → n ≡ item_count w → f ≡ last_same x (records_at w n) n → f ≡ At j → j < capacity w
+pub found_fits : (w : List ℕ) (x : ChartItem) (n j : ℕ) (f : Option ℕ) → n ≡ item_count w → f ≡ last_same x (records_at w n) n → f ≡ Some j → j < capacity w
 unfolding item_count
 found_fits w x n j f e p q =
-    let b : j < n = at_below n j (subst (λ (g : Found). Below n g) (sym p ∙ q) (last_below x (records_at w n) n)) in
+    let b : j < n = at_below n j (subst (λ (g : Option ℕ). Below n g) (sym p ∙ q) (last_below x (records_at w n) n)) in
     omega arith
 
 -- ---- words and the chart that they stand for
@@ -259,7 +258,7 @@ cond_both w true a b c d p q = p refl
 cond_both w false a b c d p q = q refl
 
 module _ (w : List ℕ) (n : ℕ) (f : Fits w) (ne : n ≡ get_or w 0 0) (e : n ≡ item_count w) (x : Record) (ex : Compact x) where
-  found_again : (j : ℕ) → j < n → improved_at w j x ≡ written w (placed (capacity w) x (chart_in w n) (At j))
+  found_again : (j : ℕ) → j < n → improved_at w j x ≡ written w (placed (capacity w) x (chart_in w n) (Some j))
   unfolding improved_at placed
   found_again j h =
       subst
@@ -268,7 +267,7 @@ module _ (w : List ℕ) (n : ℕ) (f : Fits w) (ne : n ≡ get_or w 0 0) (e : n 
       (cond_both w (is_handled (record_at w j) || leb (record_at w j).item.count x.item.count) w (saved w j (improved (record_at w j) x)) (chart_in w n) (record { mark = get_or w 1 0; records = set (records_at w n) j (improved (record_at w j) x) })
       (λ t. kept w n f ne) (λ t. saved_written w n f ne j (improved (record_at w j) x) h (compact_improved (record_compact w j) ex)))
 
-  new_one : appended_to w n x ≡ written w (placed (capacity w) x (chart_in w n) Nowhere)
+  new_one : appended_to w n x ≡ written w (placed (capacity w) x (chart_in w n) None)
   unfolding appended_to placed
   new_one =
       subst
@@ -277,10 +276,10 @@ module _ (w : List ℕ) (n : ℕ) (f : Fits w) (ne : n ≡ get_or w 0 0) (e : n 
       (cond_both w (ltb n (capacity w)) (set (saved w n x) 0 (n + 1)) (set w 1 1) (record { mark = get_or w 1 0; records = records_at w n ++ (x ∷ []) }) (record { mark = 1; records = records_at w n })
       (λ t. appended w n f ne x (ltb-true n (capacity w) t) ex) (λ t. marked w n f ne))
 
-  placed_written : (d : Found) → Below n d → placed_in w x d ≡ written w (placed (capacity w) x (chart_in w n) d)
+  placed_written : (d : Option ℕ) → Below n d → placed_in w x d ≡ written w (placed (capacity w) x (chart_in w n) d)
   unfolding placed_in
-  placed_written Nowhere b = ap (λ m. appended_to w m x) (sym e) ∙ new_one
-  placed_written (At j) (one h) = found_again j h
+  placed_written None b = ap (λ m. appended_to w m x) (sym e) ∙ new_one
+  placed_written (Some j) (one h) = found_again j h
 
   added_written : added_to w x ≡ written w (added (capacity w) x (chart_in w n))
   unfolding added_to added

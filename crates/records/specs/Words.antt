@@ -1,12 +1,10 @@
 -- A chart as words: two header words (the number of items, the mark), then four words for each item. Fields that
 -- share a word stand side by side, and the uppermost one has what is left, so that each four words are those of just
 -- one record.
-use Rattle.std.specs.Prelude.{List, [], ◌∷◌, ◌++◌, ℕ, zero, suc, ◌+◌, ◌-◌, ◌*◌, ◌/◌, ◌%◌, ◌≤◌, ◌<◌, min, length, get_or, drop, set, eqb, ltb, leb, ◌≡◌, cond, ◌||◌}
+use Rattle.std.specs.Prelude.{Option, Some, None, List, [], ◌∷◌, ◌++◌, ℕ, zero, suc, ◌+◌, ◌-◌, ◌*◌, ◌/◌, ◌%◌, ◌≤◌, ◌<◌, min, length, get_or, drop, set, eqb, ltb, leb, ◌≡◌, cond, ◌||◌}
 use Rattle.places.specs.Words.{word_of, places_of, Readable}
 use Rattle.agenda.specs.Records.{is_handled}
 use Rattle.agenda.specs.Steps.{Chart, improved, handled_now, last_same, added_all}
-use Rattle.agenda.specs.declared.Found.{Found}
-use Rattle.agenda.specs.declared.Found.TheVariants.{At, Nowhere}
 use Rattle.agenda.specs.declared.ChartItem.{ChartItem}
 use Rattle.agenda.specs.declared.Record.{Record}
 
@@ -69,10 +67,10 @@ records_at w zero = []
 records_at w (suc n) = records_at w n ++ (record_at w n ∷ [])
 
 -- the lesser of the one found so far and the record at place i, if that is not handled
-unfoldable pub lesser_at : List ℕ → ℕ → Found → Found
+unfoldable pub lesser_at : List ℕ → ℕ → Option ℕ → Option ℕ
 unfolding record_at
-lesser_at w i Nowhere = cond (is_handled (record_at w i)) Nowhere (At i)
-lesser_at w i (At j) = cond (is_handled (record_at w i) || leb (record_at w j).item.count (record_at w i).item.count) (At j) (At i)
+lesser_at w i None = cond (is_handled (record_at w i)) None (Some i)
+lesser_at w i (Some j) = cond (is_handled (record_at w i) || leb (record_at w j).item.count (record_at w i).item.count) (Some j) (Some i)
 
 -- the chart that words stand for; no more items than they hold
 unfoldable pub chart_of : List ℕ → Chart
@@ -147,9 +145,9 @@ improved_at w j x = cond (is_handled (record_at w j) || leb (record_at w j).item
 unfoldable pub appended_to : List ℕ → ℕ → Record → List ℕ
 appended_to w n x = cond (ltb n (capacity w)) (set (saved w n x) 0 (n + 1)) (set w 1 1)
 
-unfoldable pub placed_in : List ℕ → Record → Found → List ℕ
-placed_in w x (At j) = improved_at w j x
-placed_in w x Nowhere = appended_to w (item_count w) x
+unfoldable pub placed_in : List ℕ → Record → Option ℕ → List ℕ
+placed_in w x (Some j) = improved_at w j x
+placed_in w x None = appended_to w (item_count w) x
 
 -- w with the record x; words of a marked chart stay as they are
 unfoldable pub added_to : List ℕ → Record → List ℕ

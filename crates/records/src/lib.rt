@@ -3,13 +3,12 @@
 
 #![tactic(auto)]
 
-ghost use Rattle.std.specs.Prelude.{◌≡◌, List, ℕ, ◌≤◌, ◌<◌, ◌+◌, ◌*◌, length, get_or};
+ghost use Rattle.std.specs.Prelude.{Some, ◌≡◌, List, ℕ, ◌≤◌, ◌<◌, ◌+◌, ◌*◌, length, get_or};
 ghost use Rattle.records.specs.Words.{header_words, words_for, cleared, capacity, item_count, word_at, item_from, record_from, record_at, records_at, item_head, Headed, Compact, saved, lesser_at, improved_at, appended_to, added_to, marked_at};
 ghost use Rattle.agenda.specs.Records.{new_record, same_chart_item, is_handled};
-ghost use Rattle.agenda.specs.declared.Found.TheVariants.{At};
 ghost use Rattle.agenda.specs.Steps.{last_same, least_waiting, handled_count};
 
-use agenda::{ChartItem, Found, Record};
+use agenda::{ChartItem, Record};
 
 pub mod telling;
 
@@ -277,18 +276,16 @@ pub fn same(chart: &[u64], j: u64, x: ChartItem) -> bool
 }
 
 // The last of the first n records, which the chart has, that is of the item x.
-pub fn find(chart: &[u64], x: ChartItem, n: u64) -> Found
+pub fn find(chart: &[u64], x: ChartItem, n: u64) -> Option<u64>
     requires { n ≤ capacity chart.now }
     ensures { result ≡ last_same x (records_at chart.now n) n }
 {
-    let mut i = n;
-    while 0 < i {
-        i -= 1;
+    for i in (0..n).rev() {
         if same(chart, i, x) {
-            return Found::At(i);
+            return Some(i);
         }
     }
-    Found::Nowhere
+    None
 }
 
 // ---- the choice of a step
@@ -296,7 +293,7 @@ pub fn find(chart: &[u64], x: ChartItem, n: u64) -> Found
 // count.
 fn lesser_of(chart: &[u64], i: u64, best: u64) -> u64
     requires { (i < capacity chart.now) × (best < capacity chart.now) }
-    ensures { At result ≡ lesser_at chart.now i (At best) }
+    ensures { Some result ≡ lesser_at chart.now i (Some best) }
 {
     if is_handled(chart, i) {
         return best;
@@ -308,32 +305,28 @@ fn lesser_of(chart: &[u64], i: u64, best: u64) -> u64
 }
 
 // The first of least count among the first n records, where the one at place first is the first that waits.
-fn least_from(chart: &[u64], n: u64, first: u64) -> Found
-    requires { (n ≤ capacity chart.now) × (first < n) × (At first ≡ least_waiting (records_at chart.now n) (first + 1)) }
+fn least_from(chart: &[u64], n: u64, first: u64) -> Option<u64>
+    requires { (n ≤ capacity chart.now) × (first < n) × (Some first ≡ least_waiting (records_at chart.now n) (first + 1)) }
     ensures { result ≡ least_waiting (records_at chart.now n) n }
 {
     let mut best = first;
-    let mut i = first + 1;
-    while i < n {
+    for i in first + 1..n {
         best = lesser_of(chart, i, best);
-        i += 1;
     }
-    Found::At(best)
+    Some(best)
 }
 
 // The first of least count among the first n records, which the chart has, of those that wait.
-pub fn least(chart: &[u64], n: u64) -> Found
+pub fn least(chart: &[u64], n: u64) -> Option<u64>
     requires { n ≤ capacity chart.now }
     ensures { result ≡ least_waiting (records_at chart.now n) n }
 {
-    let mut i = 0;
-    while i < n {
+    for i in 0..n {
         if !is_handled(chart, i) {
             return least_from(chart, n, i);
         }
-        i += 1;
     }
-    Found::Nowhere
+    None
 }
 
 // How many of the first n records, which the chart has, are handled.
@@ -342,12 +335,10 @@ pub fn handled_steps(chart: &[u64], n: u64) -> u64
     ensures { result ≡ handled_count (records_at chart.now n) }
 {
     let mut done = 0;
-    let mut i = 0;
-    while i < n {
+    for i in 0..n {
         if is_handled(chart, i) {
             done += 1;
         }
-        i += 1;
     }
     done
 }
@@ -413,8 +404,8 @@ pub fn add(chart: &mut [u64], x: Record)
     let n = item_count(chart);
     let item = x.item;
     match find(chart, item, n) {
-        Found::At(j) => improve(chart, j, x),
-        Found::Nowhere => append(chart, n, x),
+        Some(j) => improve(chart, j, x),
+        None => append(chart, n, x),
     }
 }
 

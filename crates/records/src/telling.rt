@@ -7,7 +7,6 @@ ghost use Rattle.records.specs.Words.{item_count, record_at};
 ghost use Rattle.records.specs.Numbers.{number_in};
 
 use agenda::Record;
-use places::PLACES;
 
 // How many words a chart of 2,048 items has: what the program `derive` lends itself.
 pub const WORDS_FOR_2048: usize = crate::HEADER + crate::WORDS * 2048;
@@ -25,29 +24,12 @@ pub fn number_of(chart: &[u64]) -> u64
     chart[0]
 }
 
-// Eight places, each as a word.
-fn places_of(n: [u8; PLACES]) -> [u64; PLACES]
-    ensures { result ≡ tabulate 8 (λ k. get_or n k 0) }
-{
-    [
-        n[0] as u64,
-        n[1] as u64,
-        n[2] as u64,
-        n[3] as u64,
-        n[4] as u64,
-        n[5] as u64,
-        n[6] as u64,
-        n[7] as u64,
-    ]
-}
-
 // The fields of a record in the order in which they are told.
 fn fields_of(x: Record) -> [u64; FIELDS]
     ensures { result ≡ fields_of x }
 {
     let item = x.item;
-    let places = item.nodes;
-    let nodes = places_of(places);
+    let nodes = places::wide(item.nodes);
     [
         item.kind as u64,
         item.of as u64,
@@ -68,18 +50,6 @@ fn fields_of(x: Record) -> [u64; FIELDS]
     ]
 }
 
-// The words of one slice to the front of another.
-fn copy(from: &[u64], to: &mut [u64])
-    requires { length from.now ≤ length to.old }
-    ensures { to.new ≡ from.now ++ drop (length from.now) to.old }
-{
-    let mut i = 0;
-    while i < from.len() {
-        to[i] = from[i];
-        i += 1;
-    }
-}
-
 // The fields of the item at a place to the front of the lent words: 0; 8 where the chart has no item there, 12 where
 // the words are too few.
 pub fn tell_item(chart: &[u64], place: u64, fields: &mut [u64]) -> u64
@@ -92,6 +62,6 @@ pub fn tell_item(chart: &[u64], place: u64, fields: &mut [u64]) -> u64
         return 12;
     }
     let told = fields_of(crate::load(chart, place));
-    copy(&told, fields);
+    fields[..FIELDS].copy_from_slice(&told);
     0
 }

@@ -1,4 +1,5 @@
 -- Words and index stay ready as records are added and handled.
+use Rattle.std.specs.Prelude.{Option, Some, None}
 use Prim.Native.Nat.{ℕ, ◌≤◌, ◌<◌}
 use mathlib.Core.Path.{◌≡◌, sym, ap, ◌∙◌, subst}
 use mathlib.Core.List.{List, [], ◌∷◌, Memᴰ as In}
@@ -13,8 +14,6 @@ use Rattle.rules.specs.Rules.{Usable}
 use Rattle.rules.specs.Plans.{RunTables}
 use Rattle.agenda.specs.declared.ChartItem.{ChartItem}
 use Rattle.agenda.specs.declared.Record.{Record}
-use Rattle.agenda.specs.declared.Found.{Found}
-use Rattle.agenda.specs.declared.Found.TheVariants.{At, Nowhere}
 use Rattle.agenda.specs.Consequences.{consequences}
 use Rattle.agenda.specs.Steps.{least_waiting}
 use Rattle.agenda.proofs.Growth.{Fresh}
@@ -137,14 +136,14 @@ module _ (g h keys w ix ls : List ℕ) (R : Ready g h keys w ix ls) (new : List 
   abbrev rs : List Record
   rs = (chart_of w).records
 
-  ready_by : (v : List ℕ) (f : Found) → Below (length rs) f → v ≡ marked_by w f → Indexed keys new ls (taken_from rs f) → Ready g h keys v new ls
+  ready_by : (v : List ℕ) (f : Option ℕ) → Below (length rs) f → v ≡ marked_by w f → Indexed keys new ls (taken_from rs f) → Ready g h keys v new ls
   unfolding chart_of
-  ready_by v Nowhere b q I =
+  ready_by v None b q I =
       subst (λ (u : List ℕ). Ready g h keys u new ls) (sym q) (record { fits = R.fits; small = R.small; known = R.known; indexed = I; covered = covered_kept g h ix new rs k R.covered })
-  ready_by v (At j) (one b) q I =
+  ready_by v (Some j) (one b) q I =
       let l : j < item_count w = omega (arith, length_records w (item_count w)) in
       handled_ready g h keys w ix ls R v new ls (handled_beside w v j R.fits l q keys new ls I) (handled_covered w v j R.fits l q g h ix new k R.covered) j l q
 
-  pub taken_ready : (v : List ℕ) (t f : Found) → t ≡ f → t ≡ least_waiting rs (length rs) → v ≡ marked_by w f
+  pub taken_ready : (v : List ℕ) (t f : Option ℕ) → t ≡ f → t ≡ least_waiting rs (length rs) → v ≡ marked_by w f
       → (Indexed keys ix ls rs → Indexed keys new ls (taken_from rs t)) → Ready g h keys v new ls
-  taken_ready v t f e p q i = ready_by v f (subst (Below (length rs)) (sym p ∙ e) (least_below rs (length rs))) q (subst (λ (o : Found). Indexed keys new ls (taken_from rs o)) e (i R.indexed))
+  taken_ready v t f e p q i = ready_by v f (subst (Below (length rs)) (sym p ∙ e) (least_below rs (length rs))) q (subst (λ (o : Option ℕ). Indexed keys new ls (taken_from rs o)) e (i R.indexed))

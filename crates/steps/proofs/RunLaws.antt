@@ -1,4 +1,5 @@
 -- The run on words: each turn is a step of the model, and where none is left the rest changes nothing.
+use Rattle.std.specs.Prelude.{Option, Some, None}
 use Prim.Native.Nat.{ℕ, zero, suc, ◌+◌, ◌-◌, ◌≤◌, ◌<◌}
 use mathlib.Core.Path.{◌≡◌, refl, sym, ap, ◌∙◌, subst}
 use mathlib.Core.Bool.{Bool, true, false, not, cond}
@@ -9,8 +10,6 @@ use lib.ListN.{length, get_or, set, length-set}
 use borrow.Author.Tests.{eq-eqb, ne_eqb, eqb-false}
 use Rattle.hrg.specs.Grammars.{Graph, Grammar}
 use Rattle.hrg.specs.WellFormed.{GrammarOk, GraphOk}
-use Rattle.agenda.specs.declared.Found.{Found}
-use Rattle.agenda.specs.declared.Found.TheVariants.{At, Nowhere}
 use Rattle.agenda.specs.Consequences.{record_in, consequences, leaf_records}
 use Rattle.agenda.specs.Steps.{Chart, added_all, least_waiting, handled_now, handled_at, step_with, step_chart, run_chart, start_chart}
 use Rattle.agenda.proofs.Adding.{cond_by}
@@ -28,53 +27,53 @@ use Rattle.steps.proofs.LeafLoops.{leaves_whole}
 
 -- ---- the record that a step takes
 module _ (w : List ℕ) (m : ℕ) (is : m ≡ get_or w 1 0) where
-  pub next_marked : (m ≡ 0 → ⊥) → Nowhere ≡ next_in (chart_of w)
+  pub next_marked : (m ≡ 0 → ⊥) → None ≡ next_in (chart_of w)
   unfolding next_in chart_of
   next_marked h = rw (ne_eqb (get_or w 1 0) 0 (λ q. h (is ∙ q))) refl
 
-  pub next_taken : (t f : Found) → m ≡ 0 → t ≡ f → t ≡ least_waiting (chart_of w).records (length (chart_of w).records) → f ≡ next_in (chart_of w)
+  pub next_taken : (t f : Option ℕ) → m ≡ 0 → t ≡ f → t ≡ least_waiting (chart_of w).records (length (chart_of w).records) → f ≡ next_in (chart_of w)
   unfolding next_in chart_of
   next_taken t f z e p = rw (eq-eqb (get_or w 1 0) 0 (sym is ∙ z)) (sym e ∙ p)
 
-below_at : {n j : ℕ} → Below n (At j) → j < n
+below_at : {n j : ℕ} → Below n (Some j) → j < n
 below_at (one h) = h
 
 next_below : (c : Chart) → Below (length c.records) (next_in c)
 unfolding next_in
 next_below c = cond_by (Below (length c.records)) (eqb c.mark 0) (λ t. least_below c.records (length c.records)) (λ t. none)
 
-pub next_known : (w : List ℕ) (j : ℕ) (f : Found) → f ≡ At j → f ≡ next_in (chart_of w) → j < item_count w
+pub next_known : (w : List ℕ) (j : ℕ) (f : Option ℕ) → f ≡ Some j → f ≡ next_in (chart_of w) → j < item_count w
 unfolding chart_of
 next_known w j f t q = let l = below_at (subst (Below (length (chart_of w).records)) (sym q ∙ t) (next_below (chart_of w))) in omega (arith, length_records w (item_count w))
 
-nowhere : (f : Found) → not (is_some f) ≡ true → f ≡ Nowhere
-nowhere Nowhere e = refl
-nowhere (At j) e = absurd (let z : ◌≡◌ {A = ℕ} 0 1 = cc in omega arith)
+nowhere : (f : Option ℕ) → not (is_some f) ≡ true → f ≡ None
+nowhere None e = refl
+nowhere (Some j) e = absurd (let z : ◌≡◌ {A = ℕ} 0 1 = cc in omega arith)
 
 -- ---- the record that was taken
-pub step_marked : (w v : List ℕ) (t : Found) (j : ℕ) → t ≡ At j → v ≡ marked_by w t → v ≡ marked_at w j
+pub step_marked : (w v : List ℕ) (t : Option ℕ) (j : ℕ) → t ≡ Some j → v ≡ marked_by w t → v ≡ marked_at w j
 step_marked w v t j e p = p ∙ ap (marked_by w) e
 
 -- a step, with the record it takes or with none
-module _ (G : Grammar) (H : Graph) (w v : List ℕ) (t : Found) (q : t ≡ next_in (chart_of w)) where
+module _ (G : Grammar) (H : Graph) (w v : List ℕ) (t : Option ℕ) (q : t ≡ next_in (chart_of w)) where
   abbrev Stepped : Bool → Type 0
   Stepped b = (b ≡ is_some (next_in (chart_of w))) × (v ≡ written w (step_with G H (capacity w) (chart_of w) (next_in (chart_of w))))
 
-  stepped_by : (f : Found) → t ≡ f → v ≡ written w (step_with G H (capacity w) (chart_of w) f) → Stepped (is_some f)
-  stepped_by f e p = let n = sym e ∙ q in (ap is_some n, p ∙ ap (λ (o : Found). written w (step_with G H (capacity w) (chart_of w) o)) n)
+  stepped_by : (f : Option ℕ) → t ≡ f → v ≡ written w (step_with G H (capacity w) (chart_of w) f) → Stepped (is_some f)
+  stepped_by f e p = let n = sym e ∙ q in (ap is_some n, p ∙ ap (λ (o : Option ℕ). written w (step_with G H (capacity w) (chart_of w) o)) n)
 
-  pub step_some : (j : ℕ) → t ≡ At j → v ≡ written w (handled_at G H (capacity w) j (chart_of w)) → Stepped true
-  step_some j = stepped_by (At j)
+  pub step_some : (j : ℕ) → t ≡ Some j → v ≡ written w (handled_at G H (capacity w) j (chart_of w)) → Stepped true
+  step_some j = stepped_by (Some j)
 
-  pub step_none : Fits w → t ≡ Nowhere → v ≡ marked_by w t → Stepped false
-  step_none o e p = stepped_by Nowhere e (p ∙ ap (marked_by w) e ∙ chart_written w o)
+  pub step_none : Fits w → t ≡ None → v ≡ marked_by w t → Stepped false
+  step_none o e p = stepped_by None e (p ∙ ap (marked_by w) e ∙ chart_written w o)
 
 -- with none it leaves the words as they are, and the next step takes none either
 pub step_idle : (G : Grammar) (H : Graph) (w v : List ℕ) → Fits w → (b : Bool) → not b ≡ true → b ≡ is_some (next_in (chart_of w))
-    → v ≡ written w (step_with G H (capacity w) (chart_of w) (next_in (chart_of w))) → next_in (chart_of v) ≡ Nowhere
+    → v ≡ written w (step_with G H (capacity w) (chart_of w) (next_in (chart_of w))) → next_in (chart_of v) ≡ None
 step_idle G H w v o b e p made =
-    let n : next_in (chart_of w) ≡ Nowhere = nowhere (next_in (chart_of w)) (ap not (sym p) ∙ e) in
-    let same : v ≡ w = made ∙ ap (λ (f : Found). written w (step_with G H (capacity w) (chart_of w) f)) n ∙ sym (chart_written w o) in
+    let n : next_in (chart_of w) ≡ None = nowhere (next_in (chart_of w)) (ap not (sym p) ∙ e) in
+    let same : v ≡ w = made ∙ ap (λ (f : Option ℕ). written w (step_with G H (capacity w) (chart_of w) f)) n ∙ sym (chart_written w o) in
     ap (λ (u : List ℕ). next_in (chart_of u)) same ∙ n
 
 -- ---- start
@@ -116,15 +115,15 @@ module _ (G : Grammar) (H : Graph) where
   unfolding next_in step_chart
   next_again cap d = go (eqb d.mark 0) (least_waiting d.records (length d.records))
     where
-      go : (b : Bool) (f : Found) → cond b (step_with G H cap d f) d ≡ step_with G H cap d (cond b f Nowhere)
+      go : (b : Bool) (f : Option ℕ) → cond b (step_with G H cap d f) d ≡ step_with G H cap d (cond b f None)
       go true f = refl
       go false f = refl
 
-  next_none : (cap k : ℕ) (d : Chart) → Nowhere ≡ next_in d → run_chart G H cap k d ≡ d
+  next_none : (cap k : ℕ) (d : Chart) → None ≡ next_in d → run_chart G H cap k d ≡ d
   unfolding next_in
   next_none cap k d q = go (eqb d.mark 0) refl q
     where
-      go : (b : Bool) → eqb d.mark 0 ≡ b → Nowhere ≡ cond b (least_waiting d.records (length d.records)) Nowhere → run_chart G H cap k d ≡ d
+      go : (b : Bool) → eqb d.mark 0 ≡ b → None ≡ cond b (least_waiting d.records (length d.records)) None → run_chart G H cap k d ≡ d
       go true m e = idle_run G H cap k d (sym e)
       go false m e = marked_run G H cap k d (eqb-false d.mark 0 m)
 
@@ -140,9 +139,9 @@ module _ (G : Grammar) (H : Graph) where
         let rest = grown_all w (consequences G H rs j) (handled_in j d) one.holds (sound_whole whole) in
         record { holds = rest.holds; longer = omega (arith, one.longer, rest.longer) }
 
-    pub step_grown : (d : Chart) → Holds w d → AllKnown G H d.records → (f : Found) → Below (length d.records) f → Grown w d (step_with G H (capacity w) d f)
-    step_grown d o all Nowhere b = record { holds = o; longer = omega arith }
-    step_grown d o all (At j) b = handled_grown d j o all (below_at b)
+    pub step_grown : (d : Chart) → Holds w d → AllKnown G H d.records → (f : Option ℕ) → Below (length d.records) f → Grown w d (step_with G H (capacity w) d f)
+    step_grown d o all None b = record { holds = o; longer = omega arith }
+    step_grown d o all (Some j) b = handled_grown d j o all (below_at b)
 
     again_grown : (d : Chart) → Holds w d → AllKnown G H d.records → Grown w d (again G H (capacity w) d)
     unfolding step_chart
@@ -200,7 +199,7 @@ module _ (G : Grammar) (H : Graph) where
       ran_idle n t u l e a p =
           let none = nowhere (next_in (chart_of v)) (ap not (sym a) ∙ e) in
           let q : n ≡ k + (n - k) = omega arith in
-          p ∙ ap (λ (f : Found). written v (step_with G H (capacity v) (chart_of v) f)) none ∙ sym (chart_written v ran_fits) ∙ r.is
+          p ∙ ap (λ (f : Option ℕ). written v (step_with G H (capacity v) (chart_of v) f)) none ∙ sym (chart_written v ran_fits) ∙ r.is
           ∙ ap (written w) (sym (ap (λ i. run_chart G H (capacity w) i (chart_of w)) q ∙ run_split G H (capacity w) k (n - k) (chart_of w) ∙ next_none (capacity w) (n - k) d (sym none ∙ ap next_in chart_is)))
 
       pub ran_all : (n : ℕ) → k ≡ n → v ≡ written w (run_chart G H (capacity w) n (chart_of w))

@@ -127,10 +127,8 @@ fn add_terminals(
         return;
     }
     let n = layout::graph_edges(h);
-    let mut e: u64 = 0;
-    while e < n {
+    for e in 0..n {
         add_candidate(g, h, plans, keys, graph, chart, lists, index, j, m, e);
-        e += 1;
     }
 }
 

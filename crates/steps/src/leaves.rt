@@ -43,9 +43,7 @@ fn add_rule(g: &[u64], chart: &mut [u64], r: u64)
     requires { (check_grammar g.now ≡ true) × (r < rule_count g.now) × Fits chart.old }
     ensures { chart.new ≡ grown_by chart.old (rule_leaves (grammar_of g.now) r) }
 {
-    let mut p = layout::rule_plan(g, r);
-    while 0 < p {
-        p -= 1;
+    for p in (0..layout::rule_plan(g, r)).rev() {
         add_leaf(g, chart, r, p);
     }
 }
@@ -55,9 +53,7 @@ pub(crate) fn add_leaves(g: &[u64], chart: &mut [u64])
     requires { (check_grammar g.now ≡ true) × Fits chart.old }
     ensures { chart.new ≡ grown_by chart.old (leaf_records (grammar_of g.now)) }
 {
-    let mut r = layout::rule_count(g);
-    while 0 < r {
-        r -= 1;
+    for r in (0..layout::rule_count(g)).rev() {
         add_rule(g, chart, r);
     }
 }

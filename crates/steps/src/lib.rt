@@ -2,8 +2,7 @@
 
 #![tactic(auto)]
 
-ghost use Rattle.std.specs.Prelude.{◌≡◌, true, List, ℕ, ◌≤◌, length};
-ghost use Rattle.agenda.specs.declared.Found.TheVariants.{Nowhere};
+ghost use Rattle.std.specs.Prelude.{None, ◌≡◌, true, List, ℕ, ◌≤◌, length};
 ghost use Rattle.agenda.specs.Steps.{start_chart, step_with, run_chart};
 ghost use Rattle.questions.specs.Checking.{check_grammar};
 ghost use Rattle.questions.specs.Abstract.{grammar_of, graph_of};
@@ -13,7 +12,6 @@ ghost use Rattle.ranking.specs.Ranking.{Ranked};
 ghost use Rattle.index.specs.Index.{index_words, ranks_of};
 ghost use Rattle.steps.specs.Ready.{Tables, Ready, Runnable};
 
-use agenda::Found;
 use index::INDEX_WORDS;
 use joins::graphs::GRAPH_TABLE_WORDS;
 use lists::LIST_WORDS;
@@ -33,20 +31,16 @@ pub fn restart(g: &[u64], chart: &mut [u64])
 }
 
 // The record that the next step takes becomes handled: none where nothing waits or the chart is marked.
-fn take(chart: &mut [u64], index: &mut [u32]) -> Found
+fn take(chart: &mut [u64], index: &mut [u32]) -> Option<u64>
     requires { (length index.old ≡ index_words) × Ranked (ranks_of index.old) (chart_of chart.old).records × (length (chart_of chart.old).records ≤ 4096) }
     ensures { (result ≡ next_in (chart_of chart.old)) × (chart.new ≡ marked_by chart.old result) × ((g h keys ls : List ℕ) → Ready g h keys chart.old index.old ls → Ready g h keys chart.new index.new ls) }
 {
     if records::mark_of(chart) != 0 {
-        return Found::Nowhere;
+        return None;
     }
-    match index::take(chart, index) {
-        Found::Nowhere => Found::Nowhere,
-        Found::At(j) => {
-            records::mark_handled(chart, j);
-            Found::At(j)
-        }
-    }
+    let j = index::take(chart, index)?;
+    records::mark_handled(chart, j);
+    Some(j)
 }
 
 // One step, if one is left: a record is handled, and what it makes with graph edges and handled records is added.
@@ -64,8 +58,8 @@ fn step(
     ensures { (result ≡ is_some (next_in (chart_of chart.old))) × (chart.new ≡ written chart.old (step_with (grammar_of g.now) (graph_of g.now h.now) (capacity chart.old) (chart_of chart.old) (next_in (chart_of chart.old)))) × Ready g.now h.now keys.now chart.new index.new lists.new }
 {
     match take(chart, index) {
-        Found::Nowhere => false,
-        Found::At(j) => {
+        None => false,
+        Some(j) => {
             consequences::add_all(g, h, plans, keys, graph, chart, lists, index, j);
             true
         }
@@ -85,14 +79,12 @@ fn advance_by(
     steps: u64,
 ) -> bool
     requires { Tables g.now h.now plans.now keys.now graph.now × Ready g.now h.now keys.now chart.old index.old lists.old }
-    ensures { (chart.new ≡ written chart.old (run_chart (grammar_of g.now) (graph_of g.now h.now) (capacity chart.old) steps (chart_of chart.old))) × (result ≡ true → next_in (chart_of chart.new) ≡ Nowhere) }
+    ensures { (chart.new ≡ written chart.old (run_chart (grammar_of g.now) (graph_of g.now h.now) (capacity chart.old) steps (chart_of chart.old))) × (result ≡ true → next_in (chart_of chart.new) ≡ None) }
 {
-    let mut i: u64 = 0;
-    while i < steps {
+    for _i in 0..steps {
         if !step(g, h, plans, keys, graph, chart, lists, index) {
             return true;
         }
-        i += 1;
     }
     false
 }
@@ -107,7 +99,7 @@ pub fn advance(
     steps: u64,
 ) -> bool
     requires { Runnable g.now h.now plans.now chart.old }
-    ensures { (chart.new ≡ written chart.old (run_chart (grammar_of g.now) (graph_of g.now h.now) (capacity chart.old) steps (chart_of chart.old))) × (result ≡ true → next_in (chart_of chart.new) ≡ Nowhere) }
+    ensures { (chart.new ≡ written chart.old (run_chart (grammar_of g.now) (graph_of g.now h.now) (capacity chart.old) steps (chart_of chart.old))) × (result ≡ true → next_in (chart_of chart.new) ≡ None) }
 {
     let mut keys = [0u32; KEY_TABLE_WORDS];
     pivots::fill(g, plans, &mut keys);

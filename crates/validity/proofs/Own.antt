@@ -1,5 +1,6 @@
 -- Question 8 never refuses the program's own charts: after a start and any list of runs every record is the image of
 -- an item that names what exists.
+use Rattle.std.specs.Prelude.{Option, Some, None}
 use mathlib.Core.Path.{◌≡◌, refl, sym, ap, ◌∙◌, subst}
 use mathlib.Core.Logic.{inl, inr}
 use mathlib.Core.Bool.{Bool, true, false}
@@ -16,8 +17,6 @@ use Rattle.agenda.specs.Records.{record_of, item_of}
 use Rattle.agenda.specs.Consequences.{record_in, consequences, leaf_records}
 use Rattle.agenda.specs.Steps.{Chart, added_all, least_waiting, handled_now, handled_at, step_with, step_chart, run_chart, start_chart, runs_chart}
 use Rattle.agenda.specs.declared.Record.{Record}
-use Rattle.agenda.specs.declared.Found.{Found}
-use Rattle.agenda.specs.declared.Found.TheVariants.{At, Nowhere}
 use Rattle.agenda.proofs.Consequences.{TerminalRule, terminal_with, Consequence, from_root, from_edge, from_first, from_second, terminal_unary, in_consequence, in_leaf_record}
 use Rattle.agenda.proofs.Adding.{cond_by, AddsAll, Ends, held, full, all_ends, marked_all}
 use Rattle.agenda.proofs.Growth.{SetAt, changed, other, set_at, Fresh, From, all_grew, all_from}
@@ -167,9 +166,9 @@ module _ (G : Grammar) (H : Graph) (ok : GrammarOk G) (good : GraphOk G H) where
     unfolding step_chart handled_at
     step_known c all = go (least_waiting c.records (length c.records)) (chosen c.records (length c.records))
       where
-        go : (f : Found) → Chosen c.records (length c.records) f → AllKnown G H (step_with G H cap c f).records
-        go Nowhere (nothing h) = all
-        go (At j) (waits l w m) =
+        go : (f : Option ℕ) → Chosen c.records (length c.records) f → AllKnown G H (step_with G H cap c f).records
+        go None (nothing h) = all
+        go (Some j) (waits l w m) =
             let rs = handled_in c.records j in
             let now = handled_known G H c.records j l all in
             let b : j < length rs = omega (arith, length-set c.records j (handled_now (record_in c.records j))) in

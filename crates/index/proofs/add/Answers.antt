@@ -26,31 +26,31 @@ pub again-requires : goal.again-requires
 again-requires c =
     let s = c.args in
     let l = found_inside s.chart.now (new_record s.item s.first s.second) _ c.find.ensures
-    _ c.in-At.is in
+    _ c.in-Some.is in
     (c.requires.0.size, l, small s.keys.now s.chart.now s.index.now s.lists.now _ c.requires.0 l)
 
 pub behind-requires : goal.behind-requires
 behind-requires c = (c.requires.0, c.requires.2, rw c.new_record-x.ensures.0 c.requires.3, c.requires.4)
 
-pub returns-in-At : goal.returns-in-At
-returns-in-At c =
+pub returns-in-Some : goal.returns-in-Some
+returns-in-Some c =
     let s = c.args in
     let z : Record = new_record s.item s.first s.second in
     let (new, compact) = c.new_record-x.ensures in
     let again = c.again in
     adds_again s.chart.now z _ c.find.ensures s.keys.now c.requires.1
     (subst Compact new compact) _ c.mark_of.ensures c.if-mark_of-ne0.false _ s.index.now
-    again.new.index s.lists.now _ c.in-At.is
+    again.new.index s.lists.now _ c.in-Some.is
     (rw new at again.ensures.0) (rw new at (again.ensures.1 s.keys.now s.lists.now c.requires.0))
     again.ensures.2
 
-pub returns-in-Nowhere : goal.returns-in-Nowhere
-returns-in-Nowhere c =
+pub returns-in-None : goal.returns-in-None
+returns-in-None c =
     let s = c.args in
     let z : Record = new_record s.item s.first s.second in
     let (new, compact) = c.new_record-x.ensures in
     let behind = c.behind in
     adds_behind s.chart.now z _ c.find.ensures s.keys.now c.requires.1
     (subst Compact new compact) _ c.mark_of.ensures c.if-mark_of-ne0.false _ s.index.now
-    behind.new.index behind.new.lists c.in-Nowhere.is
+    behind.new.index behind.new.lists c.in-None.is
     (rw new at behind.ensures.0) (rw new at behind.ensures.1) (rw new at behind.ensures.2)

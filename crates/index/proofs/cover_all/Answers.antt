@@ -6,7 +6,6 @@ use Rattle.index.proofs.cover_all.Goals as goal
 
 pub loop-j-init : goal.loop-j-init
 loop-j-init c = (
-  omega arith,
   c.requires.0,
   covered_first c.args.g.now
       c.args.h.now
@@ -23,38 +22,31 @@ pub covers-requires : goal.covers-requires
 covers-requires c = c.requires.2
 
 pub bounds-index-12423 : goal.bounds-index-12423
-bounds-index-12423 c = omega (arith, c.loop-j.invariant.1)
+bounds-index-12423 c = omega (arith, c.loop-j.invariant.0)
 
 pub returns-then-not-covers : goal.returns-then-not-covers
 returns-then-not-covers c =
     let l = c.loop-j in (
       covered_doubted c.args.g.now c.args.h.now l.index
-          (chart_of c.args.chart.now).records l.invariant.1,
-      λ keys ls rs I. indexed_doubted l.index 1 keys ls rs (l.invariant.3 keys ls rs I),
+          (chart_of c.args.chart.now).records l.invariant.0,
+      λ keys ls rs I. indexed_doubted l.index 1 keys ls rs (l.invariant.2 keys ls rs I),
     )
-
-pub overflow_add-j : goal.overflow_add-j
-overflow_add-j c = omega (arith, c.loop-j-test.true, c.item_count-n.ensures, c.requires.1)
-
-pub loop-j-smaller : goal.loop-j-smaller
-loop-j-smaller c = omega (arith, c.loop-j-test.true)
 
 pub loop-j-preserved : goal.loop-j-preserved
 loop-j-preserved c =
     let s = c.args in
     let l = c.loop-j in (
-      omega arith,
-      l.invariant.1,
+      l.invariant.0,
       covered_next s.g.now s.h.now s.chart.now l.index l.j
-          _ c.item_at.ensures (c.covers.ensures c.if-not-covers.false) l.invariant.2,
-      l.invariant.3,
+          _ c.item_at.ensures (c.covers.ensures c.if-not-covers.false) l.invariant.1,
+      l.invariant.2,
     )
 
 pub returns : goal.returns
 returns c =
     let l = c.loop-j in (
       covered_all c.args.g.now c.args.h.now c.args.chart.now l.index
-          c.item_count-n.result l.j c.item_count-n.ensures l.invariant.0
-          c.loop-j-test.false l.invariant.2,
-      l.invariant.3,
+          c.item_count-n.result l.j c.item_count-n.ensures l.auto.j-end
+          c.loop-j-test.false l.invariant.1,
+      l.invariant.2,
     )

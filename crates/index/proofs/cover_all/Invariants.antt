@@ -1,7 +1,4 @@
-use Prim.Native.Nat.{ℕ, ◌-◌, ◌≤◌}
-use mathlib.Core.Path.{◌≡◌}
-use lib.ListN.{length}
-use Prim.Native.Nat.{ℕ, ◌-◌, ◌≤◌}
+use Prim.Native.Nat.{ℕ}
 use mathlib.Core.Path.{◌≡◌}
 use mathlib.Core.List.{List}
 use lib.ListN.{length}
@@ -11,9 +8,6 @@ use Rattle.index.specs.Index.{index_words, Indexed, Covered}
 use Rattle.index.proofs.cover_all.Given as goal
 
 abbrev pub invariant-loop-j : goal.invariant-loop-j
-invariant-loop-j l = (l.j ≤ l.n) × (length l.index ≡ index_words) × Covered l.g l.h l.index
+invariant-loop-j l = (length l.index ≡ index_words) × Covered l.g l.h l.index
     (records_at l.chart l.j) × ((keys ls : List ℕ) (rs : List Record) → Indexed keys l.initial.index ls rs → Indexed keys l.index ls
     rs)
-
-abbrev pub decreases-loop-j : goal.decreases-loop-j
-decreases-loop-j l = l.n - l.j

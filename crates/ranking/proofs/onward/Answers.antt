@@ -16,18 +16,18 @@ renew-requires c = (
   few c.args.chart.now c.requires.1,
 )
 
-pub next-taken-requires : goal.next-taken-requires
-next-taken-requires c = c.renew.ensures.levels c.if-ranks-ge2.false
+pub next-requires : goal.next-requires
+next-requires c = c.renew.ensures.levels c.if-ranks-ge2.false
 
-pub again-requires-in-Nothing : goal.again-requires-in-Nothing
-again-requires-in-Nothing c = (
+pub again-requires-in-None : goal.again-requires-in-None
+again-requires-in-None c = (
   nothing_taken (chart_of c.args.chart.now).records c.renew.new.ranks
-      _ _ c.renew.ensures c.if-ranks-ge2.false c.requires.1 c.next-taken.ensures
-      c.in-Nothing.is,
+      _ _ c.renew.ensures c.if-ranks-ge2.false c.requires.1 c.next.ensures
+      c.in-None.is,
   c.requires.1,
 )
 
-pub returns-in-Number : goal.returns-in-Number
-returns-in-Number c = number_taken (chart_of c.args.chart.now).records c.renew.new.ranks
-    _ _ c.renew.ensures c.if-ranks-ge2.false c.requires.1 c.next-taken.ensures
-    _ c.in-Number.is
+pub returns-in-Some : goal.returns-in-Some
+returns-in-Some c = number_taken (chart_of c.args.chart.now).records c.renew.new.ranks
+    _ _ c.renew.ensures c.if-ranks-ge2.false c.requires.1 c.next.ensures
+    _ c.in-Some.is

@@ -3,14 +3,14 @@ use Rattle.records.specs.Words.{chart_of}
 use Rattle.ranking.proofs.LeastLaws.{number_taken, nothing_waits}
 use Rattle.ranking.proofs.take.Goals as goal
 
-pub take-taken-requires : goal.take-taken-requires
-take-taken-requires c = c.requires.0.levels c.if-state-ge2.false
+pub take-requires : goal.take-requires
+take-requires c = c.requires.0.levels c.if-state-ge2.false
 
-pub returns-in-Number : goal.returns-in-Number
-returns-in-Number c = number_taken (chart_of c.args.chart.now).records c.args.ranks.now _ _ c.requires.0
-    c.if-state-ge2.false c.requires.1 c.take-taken.ensures _ c.in-Number.is
+pub returns-in-Some : goal.returns-in-Some
+returns-in-Some c = number_taken (chart_of c.args.chart.now).records c.args.ranks.now _ _ c.requires.0
+    c.if-state-ge2.false c.requires.1 c.take.ensures _ c.in-Some.is
 
 pub returns-then-state-eq0 : goal.returns-then-state-eq0
 returns-then-state-eq0 c = nothing_waits (chart_of c.args.chart.now).records c.args.ranks.now _ _ c.requires.0
-    c.if-state-ge2.false c.requires.1 c.take-taken.ensures c.in_default.is
+    c.if-state-ge2.false c.requires.1 c.take.ensures c.in_default.is
     c.if-state-eq0.true

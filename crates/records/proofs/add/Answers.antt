@@ -14,18 +14,18 @@ find-requires c = omega (arith, count_fits c.args.chart.now, c.item_count-n.ensu
 pub improve-requires : goal.improve-requires
 improve-requires c = found_fits c.args.chart.now c.args.x.item c.item_count-n.result
     _ c.find.result c.item_count-n.ensures c.find.ensures
-    c.in-At.is
+    c.in-Some.is
 
-pub returns-in-At : goal.returns-in-At
-returns-in-At c =
+pub returns-in-Some : goal.returns-in-Some
+returns-in-Some c =
     let s = c.args in
     add_found s.chart.now s.x _ c.item_count-n.result c.find.result
     c.mark_of.ensures c.if-mark_of-ne0.false c.item_count-n.ensures
-    c.find.ensures _ _ c.in-At.is c.improve.ensures
+    c.find.ensures _ _ c.in-Some.is c.improve.ensures
 
-pub returns-in-Nowhere : goal.returns-in-Nowhere
-returns-in-Nowhere c =
+pub returns-in-None : goal.returns-in-None
+returns-in-None c =
     let s = c.args in
     add_new s.chart.now s.x _ c.item_count-n.result c.find.result
     c.mark_of.ensures c.if-mark_of-ne0.false c.item_count-n.ensures
-    c.find.ensures _ c.in-Nowhere.is c.append.ensures
+    c.find.ensures _ c.in-None.is c.append.ensures

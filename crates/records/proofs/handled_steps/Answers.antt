@@ -8,7 +8,7 @@ use Rattle.records.proofs.handled_steps.Goals as goal
 use Rattle.records.proofs.handled_steps.Goals.{then-is_handled, else-is_handled}
 
 pub loop-i-init : goal.loop-i-init
-loop-i-init c = (omega arith, omega arith, handled_start _)
+loop-i-init c = (omega arith, handled_start _)
 
 pub loop-i-preserved : goal.loop-i-preserved
 loop-i-preserved c =
@@ -16,18 +16,16 @@ loop-i-preserved c =
     elim c.if-is_handled.branch [
       | then-is_handled w ↦ (
         omega arith,
-        omega arith,
         w.done-is ∙ handled_more c.args.chart.now l.i l.done
-            (sym c.is_handled.ensures ∙ w.if-is_handled.true) l.invariant.2,
+            (sym c.is_handled.ensures ∙ w.if-is_handled.true) l.invariant.1,
       )
       | else-is_handled w ↦ (
         omega arith,
-        omega arith,
         w.done-is ∙ handled_same c.args.chart.now l.i l.done
-            (sym c.is_handled.ensures ∙ w.if-is_handled.false) l.invariant.2,
+            (sym c.is_handled.ensures ∙ w.if-is_handled.false) l.invariant.1,
       )
     ]
 
 pub returns : goal.returns
-returns c = c.loop-i.invariant.2 ∙ ap (λ (k : ℕ). handled_count
+returns c = c.loop-i.invariant.1 ∙ ap (λ (k : ℕ). handled_count
     (records_at c.args.chart.now k)) (omega arith)

@@ -1,12 +1,8 @@
-use Prim.Native.Nat.{◌-◌, ◌≤◌}
+use Rattle.std.specs.Prelude.{None}
 use mathlib.Core.Path.{◌≡◌}
-use Rattle.agenda.specs.declared.Found.TheVariants.{Nowhere}
 use Rattle.agenda.specs.Steps.{least_waiting}
 use Rattle.records.specs.Words.{records_at}
 use Rattle.records.proofs.least.Given as goal
 
 abbrev pub invariant-loop-i : goal.invariant-loop-i
-invariant-loop-i l = (l.i ≤ l.n) × (Nowhere ≡ least_waiting (records_at l.chart l.n) l.i)
-
-abbrev pub decreases-loop-i : goal.decreases-loop-i
-decreases-loop-i l = l.n - l.i
+invariant-loop-i l = None ≡ least_waiting (records_at l.chart l.n) l.i

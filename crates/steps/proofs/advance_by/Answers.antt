@@ -14,7 +14,6 @@ loop-i-init c =
     let s = c.args in
     let G = grammar_of s.g.now in
     let H = graph_of s.g.now s.h.now in (
-      omega arith,
       refl,
       ran_none G H s.chart.now c.requires.1.fits,
       refl,
@@ -23,25 +22,19 @@ loop-i-init c =
     )
 
 pub step-requires : goal.step-requires
-step-requires c = (c.requires.0, c.loop-i.invariant.4)
+step-requires c = (c.requires.0, c.loop-i.invariant.3)
 
 pub returns-then-not-step : goal.returns-then-not-step
 returns-then-not-step c =
     let s = c.args in
     let G = grammar_of s.g.now in
     let H = graph_of s.g.now s.h.now in (
-      ran_idle G H s.chart.now c.loop-i.i c.loop-i.chart c.loop-i.invariant.2 s.steps
-          c.step.result _ c.loop-i.invariant.0 c.if-not-step.true-raw c.step.ensures.0
+      ran_idle G H s.chart.now c.loop-i._i c.loop-i.chart c.loop-i.invariant.1 s.steps
+          c.step.result _ c.loop-i.auto._i-end c.if-not-step.true-raw c.step.ensures.0
           c.step.ensures.1,
-      λ e. step_idle G H c.loop-i.chart _ c.loop-i.invariant.4.fits
+      λ e. step_idle G H c.loop-i.chart _ c.loop-i.invariant.3.fits
           c.step.result c.if-not-step.true-raw c.step.ensures.0 c.step.ensures.1,
     )
-
-pub overflow_add-i : goal.overflow_add-i
-overflow_add-i c = omega (arith, c.loop-i-test.true, c.ranges.steps)
-
-pub loop-i-smaller : goal.loop-i-smaller
-loop-i-smaller c = omega (arith, c.loop-i-test.true)
 
 pub loop-i-preserved : goal.loop-i-preserved
 loop-i-preserved c =
@@ -49,15 +42,14 @@ loop-i-preserved c =
     let G = grammar_of s.g.now in
     let H = graph_of s.g.now s.h.now in
     let A = c.requires.0.accepted in
-    let R = c.loop-i.invariant.4 in (
-      omega (arith, c.loop-i-test.true),
-      c.step.auto.chart ∙ c.loop-i.invariant.1,
-      ran_step G H s.chart.now c.loop-i.i c.loop-i.chart c.loop-i.invariant.2
+    let R = c.loop-i.invariant.3 in (
+      c.step.auto.chart ∙ c.loop-i.invariant.0,
+      ran_step G H s.chart.now c.loop-i._i c.loop-i.chart c.loop-i.invariant.1
           (checked_grammar_ok s.g.now A.grammar) (graph_ok s.g.now s.h.now A) (c.requires.1.small)
           (known_records G H _ R.fits R.known) _ _ (omega arith) c.step.ensures.1,
-      c.step.auto.index ∙ c.loop-i.invariant.3,
+      c.step.auto.index ∙ c.loop-i.invariant.2,
       c.step.ensures.2,
-      c.step.auto.lists ∙ c.loop-i.invariant.5,
+      c.step.auto.lists ∙ c.loop-i.invariant.4,
     )
 
 pub returns : goal.returns
@@ -65,7 +57,7 @@ returns c =
     let s = c.args in
     let G = grammar_of s.g.now in
     let H = graph_of s.g.now s.h.now in (
-      ran_all G H s.chart.now c.loop-i.i c.loop-i.chart c.loop-i.invariant.2 s.steps
-          (omega (arith, c.loop-i-test.false, c.loop-i.invariant.0)),
+      ran_all G H s.chart.now c.loop-i._i c.loop-i.chart c.loop-i.invariant.1 s.steps
+          (omega (arith, c.loop-i-test.false, c.loop-i.auto._i-end)),
       λ e. absurd (false≢true e),
     )

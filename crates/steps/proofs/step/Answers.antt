@@ -14,27 +14,27 @@ add_all-requires c =
     let s = c.args in
     let p = c.requires in
     let t = c.take in
-    let e = c.in-At.is in
+    let e = c.in-Some.is in
     let l = next_known s.chart.now _ t.result e t.ensures.0 in
     let R = t.ensures.2 s.g.now s.h.now s.keys.now s.lists.now p.1 in
     (p.0, R, handled_now_lem s.chart.now _ _ l (step_marked s.chart.now _ t.result _ e t.ensures.1))
 
-pub returns-in-Nowhere : goal.returns-in-Nowhere
-returns-in-Nowhere c =
+pub returns-in-None : goal.returns-in-None
+returns-in-None c =
     let s = c.args in
     let p = c.requires in
     let t = c.take in
     let G = grammar_of s.g.now in
     let H = graph_of s.g.now s.h.now in
-    let r = step_none G H s.chart.now _ t.result t.ensures.0 p.1.fits c.in-Nowhere.is
+    let r = step_none G H s.chart.now _ t.result t.ensures.0 p.1.fits c.in-None.is
     t.ensures.1 in
     (r.0, r.1, t.ensures.2 s.g.now s.h.now s.keys.now s.lists.now p.1)
 
-pub returns-in-At : goal.returns-in-At
-returns-in-At c =
+pub returns-in-Some : goal.returns-in-Some
+returns-in-Some c =
     let s = c.args in
     let t = c.take in
-    let e = c.in-At.is in
+    let e = c.in-Some.is in
     let l = next_known s.chart.now _ t.result e t.ensures.0 in
     let G = grammar_of s.g.now in
     let H = graph_of s.g.now s.h.now in

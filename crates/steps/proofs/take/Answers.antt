@@ -15,11 +15,12 @@ returns-then-mark_of-ne0 c = (
 pub take-requires : goal.take-requires
 take-requires c = c.requires
 
-pub returns-in-Nowhere : goal.returns-in-Nowhere
-returns-in-Nowhere c =
+pub returns-in_err-j : goal.returns-in_err-j
+returns-in_err-j c =
     let s = c.args in
     let t = c.take in
-    let e = c.in-Nowhere.is in (
+    let e = c.in_err-j.was in
+    rw c.from_residual.ensures (
       next_taken s.chart.now _ c.mark_of.ensures t.result _ c.if-mark_of-ne0.false e
           t.ensures.0,
       refl,
@@ -27,11 +28,11 @@ returns-in-Nowhere c =
           t.new.index t.ensures.2 _ t.result _ e t.ensures.0 refl (t.ensures.1 keys ls),
     )
 
-pub returns-in-At : goal.returns-in-At
-returns-in-At c =
+pub returns : goal.returns
+returns c =
     let s = c.args in
     let t = c.take in
-    let e = c.in-At.is in (
+    let e = c.in_ok-j.was in (
       next_taken s.chart.now _ c.mark_of.ensures t.result _ c.if-mark_of-ne0.false e
           t.ensures.0,
       c.mark_handled.ensures,

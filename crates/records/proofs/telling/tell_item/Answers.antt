@@ -2,7 +2,7 @@
 use native.Mathlib.Omega.{arith}
 use Prim.Native.Nat.{◌<◌}
 use borrow.Author.Rules.{rules}
-use Rattle.agenda.proofs.Telling.{tells_past, tells_short, tells_full}
+use Rattle.agenda.proofs.Telling.{fields_size, tells_past, tells_short, tells_full}
 use Rattle.records.specs.Words.{item_count}
 use Rattle.records.proofs.telling.tell_item.Goals as goal
 
@@ -21,4 +21,4 @@ returns c =
     let there : c.args.place < item_count
     c.args.chart.now = omega arith in
     tells_full _ _ _ _ there c.if-fields-lt-FIELDS.false _ _ _ c.load.ensures c.fields_of-told.ensures
-    c.copy.ensures
+    (rw (c.copy_from_slice.ensures.after, c.fields_of-told.ensures, fields_size _))

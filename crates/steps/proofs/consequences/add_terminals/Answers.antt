@@ -19,11 +19,11 @@ pub returns-then-m-eq0 : goal.returns-then-m-eq0
 returns-then-m-eq0 c = edges_skipped c.requires c.item_at-x.ensures c.candidates-m.ensures c.if-m-eq0.true
 
 pub loop-e-init : goal.loop-e-init
-loop-e-init c = (omega arith, refl, refl, refl, edge_start c.requires)
+loop-e-init c = (refl, refl, refl, edge_start c.requires)
 
 pub add_candidate-requires : goal.add_candidate-requires
 add_candidate-requires c =
-    let E = c.loop-e.invariant.4 in
+    let E = c.loop-e.invariant.3 in
     let p = c.requires in (
       p.0,
       E.ready,
@@ -37,21 +37,14 @@ add_candidate-requires c =
       ),
     )
 
-pub overflow_add-e : goal.overflow_add-e
-overflow_add-e c = omega (arith, c.loop-e-test.true)
-
-pub loop-e-smaller : goal.loop-e-smaller
-loop-e-smaller c = omega (arith, c.loop-e-test.true)
-
 pub loop-e-preserved : goal.loop-e-preserved
 loop-e-preserved c =
     let l = c.loop-e in
     let a = c.add_candidate in (
-      omega (arith, c.loop-e-test.true),
-      a.auto.chart ∙ l.invariant.1,
-      a.auto.lists ∙ l.invariant.2,
-      a.auto.index ∙ l.invariant.3,
-      edge_next c.requires l.invariant.4 (omega (
+      a.auto.chart ∙ l.invariant.0,
+      a.auto.lists ∙ l.invariant.1,
+      a.auto.index ∙ l.invariant.2,
+      edge_next c.requires l.invariant.3 (omega (
         arith,
         c.loop-e-test.true,
         c.graph_edges-n.ensures,
@@ -59,5 +52,5 @@ loop-e-preserved c =
     )
 
 pub returns : goal.returns
-returns c = edge_end c.requires c.loop-e.invariant.4 c.graph_edges-n.ensures
-    c.loop-e.invariant.0 c.loop-e-test.false
+returns c = edge_end c.requires c.loop-e.invariant.3 c.graph_edges-n.ensures
+    c.loop-e.auto.e-end c.loop-e-test.false

@@ -19,16 +19,10 @@ loop-r-init c =
           _ (rule_number s.g.now _ c.rule_count-r.ensures),
     )
 
-pub overflow_sub-r : goal.overflow_sub-r
-overflow_sub-r c = c.loop-r-test.true
-
 pub add_rule-requires : goal.add_rule-requires
 add_rule-requires c =
     let i = c.loop-r.invariant in
     (c.requires.0, omega (arith, i.0, c.loop-r-test.true), i.2.fits)
-
-pub loop-r-smaller : goal.loop-r-smaller
-loop-r-smaller c = omega (arith, c.loop-r-test.true)
 
 pub loop-r-preserved : goal.loop-r-preserved
 loop-r-preserved c =

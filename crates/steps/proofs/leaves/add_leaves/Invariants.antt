@@ -10,6 +10,3 @@ use Rattle.steps.proofs.leaves.add_leaves.Given as goal
 abbrev pub invariant-loop-r : goal.invariant-loop-r
 invariant-loop-r l = (l.r ≤ rule_count l.g) × (length l.chart ≡ length l.initial.chart) × Left l.initial.chart
     (length (grammar_of l.g).rules) (λ q. rule_leaves (grammar_of l.g) q) l.chart l.r
-
-abbrev pub decreases-loop-r : goal.decreases-loop-r
-decreases-loop-r l = l.r

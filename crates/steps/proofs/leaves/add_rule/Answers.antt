@@ -20,9 +20,6 @@ loop-p-init c =
           _ (rule_plan_lem s.g.now s.r _ pre.0 pre.1 c.rule_plan-p.ensures),
     )
 
-pub overflow_sub-p : goal.overflow_sub-p
-overflow_sub-p c = c.loop-p-test.true
-
 pub add_leaf-requires : goal.add_leaf-requires
 add_leaf-requires c =
     let i = c.loop-p.invariant in (
@@ -33,9 +30,6 @@ add_leaf-requires c =
       },
       i.2.fits,
     )
-
-pub loop-p-smaller : goal.loop-p-smaller
-loop-p-smaller c = omega (arith, c.loop-p-test.true)
 
 pub loop-p-preserved : goal.loop-p-preserved
 loop-p-preserved c =
