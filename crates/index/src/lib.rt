@@ -1,7 +1,4 @@
-// The indexes of a chart's records, which live for one run. In the parts of one lent slice: the links of crate
-// `chains`, the set of crate `ranking`, and a word that tells whether some record does not cover its open graph
-// nodes, which whoever joins records looks for then. In a slice of half as long words: the lists of crate `lists` by
-// which records that can be joined find each other.
+// The indexes of a chart's records, which live for one run.
 
 #![tactic(auto)]
 
@@ -23,15 +20,25 @@ ghost use Rattle.index.specs.Index.{index_words, ranks_of, doubt_of, keys_for, I
 
 use agenda::{ChartItem, Record};
 use joins::graphs::GRAPH_TABLE_WORDS;
+use lists::LIST_WORDS;
 use pivots::KEY_TABLE_WORDS;
 use rules::plans::PLAN_TABLE_WORDS;
 
 // How many words there are but for the lists.
-pub const INDEX_WORDS: usize = 12424;
+const INDEX_WORDS: usize = 12424;
 // where the links end and the ranking starts
 const RANKS: usize = 8192;
 // where the ranking ends: the last word, not 0 where some record may not cover its open nodes
 const DOUBT: usize = 12423;
+
+// The words of the indexes: one behind another the links of crate `chains`, the set of crate `ranking`, and a word that
+// tells whether some record does not cover its open graph nodes, which whoever joins records looks for then; and the
+// lists of crate `lists` by which records that can be joined find each other.
+#[derive(Drop)]
+pub struct Index {
+    pub words: [u32; INDEX_WORDS],
+    pub lists: [u16; LIST_WORDS],
+}
 
 // Record n, one more than there are, is of the item x: it comes on the lists of its keys.
 fn list_many(keys: &[u32; KEY_TABLE_WORDS], lists: &mut [u16], n: u64, x: ChartItem)
@@ -87,35 +94,6 @@ fn cover_all(
     }
 }
 
-// The records of a chart, indexed: the words are 0 before, and nothing is on a list.
-pub fn build(
-    g: &[u64],
-    h: &[u64],
-    plans: &[u32; PLAN_TABLE_WORDS],
-    graph: &[u64; GRAPH_TABLE_WORDS],
-    keys: &[u32; KEY_TABLE_WORDS],
-    chart: &[u64],
-    lists: &mut [u16],
-    index: &mut [u32],
-)
-    requires { Empty index.old × Unlisted lists.old × (item_count chart.now ≤ 4096) × RunTables g.now h.now plans.now graph.now }
-    ensures { Indexed keys.now index.new lists.new (chart_of chart.now).records × Covered g.now h.now index.new (chart_of chart.now).records }
-{
-    chains::build(chart, &mut index[0..RANKS]);
-    ranking::build(chart, &mut index[RANKS..DOUBT]);
-    list_all(keys, chart, lists);
-    cover_all(g, h, plans, graph, chart, index);
-}
-
-// The first waiting record of least count waits no more: whoever takes it marks it in the chart. The ranking may be
-// made anew for it.
-pub fn take(chart: &[u64], index: &mut [u32]) -> Option<u64>
-    requires { (length index.old ≡ index_words) × Ranked (ranks_of index.old) (chart_of chart.now).records × (length (chart_of chart.now).records ≤ 4096) }
-    ensures { (result ≡ least_waiting (chart_of chart.now).records (length (chart_of chart.now).records)) × ((keys ls : List ℕ) → Indexed keys index.old ls (chart_of chart.now).records → Indexed keys index.new ls (taken_from (chart_of chart.now).records result)) × DoubtKept index.old index.new }
-{
-    ranking::take(chart, &mut index[RANKS..DOUBT])
-}
-
 // Whether the record at place k makes nothing with what has these edges: it has one of them, or it is not handled.
 pub fn quiet(chart: &[u64], edges: u64, k: u64) -> bool
     requires { (k < item_count chart.now) × (k < 4096) }
@@ -154,51 +132,6 @@ fn skim(ws: &[u16], chart: &[u64], edges: u64, n: u64, from: u64) -> u64
     c
 }
 
-// Each of five cursors goes on over the entries of quiet records of the first n.
-pub fn skimmed(ws: &[u16], chart: &[u64], edges: u64, n: u64, cs: [u64; 5]) -> [u64; 5]
-    requires { (length ws.now ≡ list_words) × (n ≤ item_count chart.now) × (n ≤ 4096) }
-    ensures { SkimsAll (quiet_in chart.now edges) ws.now n cs result }
-{
-    [
-        skim(ws, chart, edges, n, cs[0]),
-        skim(ws, chart, edges, n, cs[1]),
-        skim(ws, chart, edges, n, cs[2]),
-        skim(ws, chart, edges, n, cs[3]),
-        skim(ws, chart, edges, n, cs[4]),
-    ]
-}
-
-// Whether it is sure that each record covers its open nodes.
-pub fn sure(index: &[u32]) -> bool
-    requires { length index.now ≡ index_words }
-    ensures { result ≡ eqb (doubt_of index.now) 0 }
-{
-    index[DOUBT] == 0
-}
-
-// Record n, one more than there are, is x.
-fn enter(
-    keys: &[u32; KEY_TABLE_WORDS],
-    lists: &mut [u16],
-    index: &mut [u32],
-    n: u64,
-    x: Record,
-    h: u64,
-)
-    requires { (length index.old ≡ index_words) × Ready lists.old × (n < 4096) × (h ≡ hash_of x.item) × (h < 4294967296) }
-    ensures { (rs : List Record) → Indexed keys.now index.old lists.old rs → n ≡ length rs → Indexed keys.now index.new lists.new (rs ++ (x ∷ [])) × DoubtKept index.old index.new }
-{
-    let item = x.item;
-    list(keys, lists, n, item);
-    chains::link(&mut index[0..RANKS], n, h);
-    ranking::place(
-        &mut index[RANKS..DOUBT],
-        n,
-        x.handled == 0,
-        item.count as u64,
-    );
-}
-
 // Record j, which waits with the count `old`, has the count of x.
 fn recount(index: &mut [u32], j: u64, old: u64, count: u64)
     requires { (length index.old ≡ index_words) × (j < 4096) }
@@ -225,49 +158,119 @@ fn again(chart: &mut [u64], index: &mut [u32], j: u64, x: Record)
     records::improve(chart, j, x);
 }
 
-// The record x behind the others; where no place is left the chart is marked.
-fn behind(
-    keys: &[u32; KEY_TABLE_WORDS],
-    chart: &mut [u64],
-    lists: &mut [u16],
-    index: &mut [u32],
-    x: Record,
-    h: u64,
-)
-    requires { Indexed keys.now index.old lists.old (chart_of chart.old).records × (capacity chart.old ≤ 4096) × (h ≡ hash_of x.item) × (h < 4294967296) }
-    ensures { (chart.new ≡ appended_to chart.old (item_count chart.old) x) × Indexed keys.now index.new lists.new (placed (capacity chart.old) x (chart_of chart.old) None).records × ((g h : List ℕ) → Covered g h index.old (chart_of chart.old).records → (doubt_of index.old ≡ 0 → Covering g h x.item) → Covered g h index.new (placed (capacity chart.old) x (chart_of chart.old) None).records) }
-{
-    let n = records::item_count(chart);
-    if n < records::capacity_of(chart) {
-        enter(keys, lists, index, n, x, h);
-        records::append(chart, n, x);
-        return;
+impl Index {
+    // The index of no records.
+    pub fn empty() -> Index
+        ensures { Empty result.words × Unlisted result.lists }
+    {
+        Index {
+            words: [0; INDEX_WORDS],
+            lists: [0; LIST_WORDS],
+        }
     }
-    records::append(chart, n, x);
-}
 
-// A new record of an item, made of these partners, in the chart, as `records::add` has it, with the indexes kept. Its
-// hash comes from where the item was made, so that the first link is looked for before the item's words have been
-// stored.
-pub fn add(
-    keys: &[u32; KEY_TABLE_WORDS],
-    chart: &mut [u64],
-    lists: &mut [u16],
-    index: &mut [u32],
-    item: ChartItem,
-    h: u64,
-    first: u64,
-    second: u64,
-)
-    requires { Indexed keys.now index.old lists.old (chart_of chart.old).records × Fits chart.old × (capacity chart.old ≤ 4096) × (h ≡ hash_of item) × (h < 4294967296) × (first < 65536) × (second < 65536) }
-    ensures { Adds keys.now chart.old index.old chart.new index.new lists.new (new_record item first second) }
-{
-    let x = records::new_record(item, first, second);
-    if records::mark_of(chart) != 0 {
-        return;
+    // The records of a chart, indexed: the words are 0 before, and nothing is on a list.
+    pub fn build(
+        &mut self,
+        g: &[u64],
+        h: &[u64],
+        plans: &[u32; PLAN_TABLE_WORDS],
+        graph: &[u64; GRAPH_TABLE_WORDS],
+        keys: &[u32; KEY_TABLE_WORDS],
+        chart: &[u64],
+    )
+        requires { Empty self.old.words × Unlisted self.old.lists × (item_count chart.now ≤ 4096) × RunTables g.now h.now plans.now graph.now }
+        ensures { Indexed keys.now self.new.words self.new.lists (chart_of chart.now).records × Covered g.now h.now self.new.words (chart_of chart.now).records }
+    {
+        chains::build(chart, &mut self.words[0..RANKS]);
+        ranking::build(chart, &mut self.words[RANKS..DOUBT]);
+        list_all(keys, chart, &mut self.lists);
+        cover_all(g, h, plans, graph, chart, &mut self.words);
     }
-    match chains::find(chart, &index[0..RANKS], item, h) {
-        Some(j) => again(chart, index, j, x),
-        None => behind(keys, chart, lists, index, x, h),
+
+    // The first waiting record of least count waits no more: whoever takes it marks it in the chart. The ranking may be
+    // made anew for it.
+    pub fn take(&mut self, chart: &[u64]) -> Option<u64>
+        requires { (length self.old.words ≡ index_words) × Ranked (ranks_of self.old.words) (chart_of chart.now).records × (length (chart_of chart.now).records ≤ 4096) }
+        ensures { (result ≡ least_waiting (chart_of chart.now).records (length (chart_of chart.now).records)) × ((keys ls : List ℕ) → Indexed keys self.old.words ls (chart_of chart.now).records → Indexed keys self.new.words ls (taken_from (chart_of chart.now).records result)) × DoubtKept self.old.words self.new.words × (self.new.lists ≡ self.old.lists) }
+    {
+        ranking::take(chart, &mut self.words[RANKS..DOUBT])
+    }
+
+    // Each of five cursors goes on over the entries of quiet records of the first n.
+    pub fn skimmed(&self, chart: &[u64], edges: u64, n: u64, cs: [u64; 5]) -> [u64; 5]
+        requires { (length self.now.lists ≡ list_words) × (n ≤ item_count chart.now) × (n ≤ 4096) }
+        ensures { SkimsAll (quiet_in chart.now edges) self.now.lists n cs result }
+    {
+        [
+            skim(&self.lists, chart, edges, n, cs[0]),
+            skim(&self.lists, chart, edges, n, cs[1]),
+            skim(&self.lists, chart, edges, n, cs[2]),
+            skim(&self.lists, chart, edges, n, cs[3]),
+            skim(&self.lists, chart, edges, n, cs[4]),
+        ]
+    }
+
+    // Whether it is sure that each record covers its open nodes.
+    pub fn sure(&self) -> bool
+        requires { length self.now.words ≡ index_words }
+        ensures { result ≡ eqb (doubt_of self.now.words) 0 }
+    {
+        self.words[DOUBT] == 0
+    }
+
+    // Record n, one more than there are, is x.
+    fn enter(&mut self, keys: &[u32; KEY_TABLE_WORDS], n: u64, x: Record, h: u64)
+        requires { (length self.old.words ≡ index_words) × Ready self.old.lists × (n < 4096) × (h ≡ hash_of x.item) × (h < 4294967296) }
+        ensures { (rs : List Record) → Indexed keys.now self.old.words self.old.lists rs → n ≡ length rs → Indexed keys.now self.new.words self.new.lists (rs ++ (x ∷ [])) × DoubtKept self.old.words self.new.words }
+    {
+        let item = x.item;
+        list(keys, &mut self.lists, n, item);
+        chains::link(&mut self.words[0..RANKS], n, h);
+        ranking::place(
+            &mut self.words[RANKS..DOUBT],
+            n,
+            x.handled == 0,
+            item.count as u64,
+        );
+    }
+
+    // The record x behind the others; where no place is left the chart is marked.
+    fn behind(&mut self, keys: &[u32; KEY_TABLE_WORDS], chart: &mut [u64], x: Record, h: u64)
+        requires { Indexed keys.now self.old.words self.old.lists (chart_of chart.old).records × (capacity chart.old ≤ 4096) × (h ≡ hash_of x.item) × (h < 4294967296) }
+        ensures { (chart.new ≡ appended_to chart.old (item_count chart.old) x) × Indexed keys.now self.new.words self.new.lists (placed (capacity chart.old) x (chart_of chart.old) None).records × ((g h : List ℕ) → Covered g h self.old.words (chart_of chart.old).records → (doubt_of self.old.words ≡ 0 → Covering g h x.item) → Covered g h self.new.words (placed (capacity chart.old) x (chart_of chart.old) None).records) }
+    {
+        let n = records::item_count(chart);
+        if n < records::capacity_of(chart) {
+            self.enter(keys, n, x, h);
+            records::append(chart, n, x);
+            return;
+        }
+        records::append(chart, n, x);
+    }
+
+    // A new record of an item, made of these partners, in the chart, as `records::add` has it, with the indexes kept. Its
+    // hash comes from where the item was made, so that the first link is looked for before the item's words have been
+    // stored.
+    pub fn add(
+        &mut self,
+        keys: &[u32; KEY_TABLE_WORDS],
+        chart: &mut [u64],
+        item: ChartItem,
+        h: u64,
+        first: u64,
+        second: u64,
+    )
+        requires { Indexed keys.now self.old.words self.old.lists (chart_of chart.old).records × Fits chart.old × (capacity chart.old ≤ 4096) × (h ≡ hash_of item) × (h < 4294967296) × (first < 65536) × (second < 65536) }
+        ensures { Adds keys.now chart.old self.old.words chart.new self.new.words self.new.lists (new_record item first second) }
+    {
+        let x = records::new_record(item, first, second);
+        if records::mark_of(chart) != 0 {
+            return;
+        }
+        match chains::find(chart, &self.words[0..RANKS], item, h) {
+            Some(j) => again(chart, &mut self.words, j, x),
+            None => self.behind(keys, chart, x, h),
+        }
     }
 }

@@ -20,44 +20,30 @@ ghost use Rattle.steps.specs.Partners.{with_record};
 ghost use Rattle.steps.specs.Ready.{Tables, Ready, Handled, Joining, Joined};
 ghost use Rattle.steps.specs.Ways.{Rests};
 
+use crate::lookups::Lookups;
 use agenda::ChartItem;
-use joins::graphs::GRAPH_TABLE_WORDS;
-use pivots::KEY_TABLE_WORDS;
-use rules::plans::PLAN_TABLE_WORDS;
+use index::Index;
 use rules::wants;
 
 // The passive item of a root item, made of the record at place j.
-fn add_root(
-    g: &[u64],
-    h: &[u64],
-    keys: &[u32; KEY_TABLE_WORDS],
-    chart: &mut [u64],
-    lists: &mut [u16],
-    index: &mut [u32],
-    j: u64,
-)
-    requires { Accepted g.now h.now × Ready g.now h.now keys.now chart.old index.old lists.old × Handled chart.old j }
-    ensures { (chart.new ≡ grown_by chart.old (at_root (grammar_of g.now) (item_of (grammar_of g.now) (record_at chart.old j).item) (record_at chart.old j).item.count j)) × Ready g.now h.now keys.now chart.new index.new lists.new }
+fn add_root(t: &Lookups, chart: &mut [u64], index: &mut Index, j: u64)
+    requires { Accepted t.now.g.now t.now.h.now × Ready t.now.g.now t.now.h.now t.now.keys.now chart.old index.old.words index.old.lists × Handled chart.old j }
+    ensures { (chart.new ≡ grown_by chart.old (at_root (grammar_of t.now.g.now) (item_of (grammar_of t.now.g.now) (record_at chart.old j).item) (record_at chart.old j).item.count j)) × Ready t.now.g.now t.now.h.now t.now.keys.now chart.new index.new.words index.new.lists }
 {
-    let made = rules::root(g, records::item_at(chart, j));
+    let made = rules::root(t.g, records::item_at(chart, j));
     if !made.ok {
         return;
     }
     let item = made.item;
     let hash = chains::hash(item);
-    index::add(keys, chart, lists, index, item, hash, j, 0);
+    index.add(t.keys, chart, item, hash, j, 0);
 }
 
 // What the items x first and y second make, made of these partners.
 fn add_joined(
-    g: &[u64],
-    h: &[u64],
-    plans: &[u32; PLAN_TABLE_WORDS],
-    keys: &[u32; KEY_TABLE_WORDS],
-    graph: &[u64; GRAPH_TABLE_WORDS],
+    t: &Lookups,
     chart: &mut [u64],
-    lists: &mut [u16],
-    index: &mut [u32],
+    index: &mut Index,
     sure: bool,
     x: ChartItem,
     y: ChartItem,
@@ -65,96 +51,59 @@ fn add_joined(
     first: u64,
     second: u64,
 )
-    requires { RunTables g.now h.now plans.now graph.now × Usable g.now h.now sure x × Usable g.now h.now sure y × Indexed keys.now index.old lists.old (chart_of chart.old).records × Fits chart.old × (capacity chart.old ≤ 4096) × (first < 65536) × (second < 65536) }
-    ensures { Joined g.now h.now sure (pair_items g.now h.now x y) count first second keys.now chart.old index.old lists.old chart.new index.new lists.new }
+    requires { RunTables t.now.g.now t.now.h.now t.now.plans.now t.now.graph.now × Usable t.now.g.now t.now.h.now sure x × Usable t.now.g.now t.now.h.now sure y × Indexed t.now.keys.now index.old.words index.old.lists (chart_of chart.old).records × Fits chart.old × (capacity chart.old ≤ 4096) × (first < 65536) × (second < 65536) }
+    ensures { Joined t.now.g.now t.now.h.now sure (pair_items t.now.g.now t.now.h.now x y) count first second t.now.keys.now chart.old index.old.words index.old.lists chart.new index.new.words index.new.lists }
 {
-    let made = rules::combined(g, h, plans, graph, x, y, count, sure);
+    let made = rules::combined(t.g, t.h, t.plans, t.graph, x, y, count, sure);
     if !made.ok {
         return;
     }
     let item = made.item;
     let hash = chains::hash(item);
-    index::add(keys, chart, lists, index, item, hash, first, second);
+    index.add(t.keys, chart, item, hash, first, second);
 }
 
 // What it makes with graph edge e, if that is one of the candidates m.
-fn add_candidate(
-    g: &[u64],
-    h: &[u64],
-    plans: &[u32; PLAN_TABLE_WORDS],
-    keys: &[u32; KEY_TABLE_WORDS],
-    graph: &[u64; GRAPH_TABLE_WORDS],
-    chart: &mut [u64],
-    lists: &mut [u16],
-    index: &mut [u32],
-    j: u64,
-    m: u64,
-    e: u64,
-)
-    requires { Tables g.now h.now plans.now keys.now graph.now × Ready g.now h.now keys.now chart.old index.old lists.old × Handled chart.old j × Candidates g.now h.now (record_at chart.old j).item m × (e < graph_edges h.now) }
-    ensures { (chart.new ≡ grown_by chart.old (with_terminal (grammar_of g.now) (graph_of g.now h.now) (item_of (grammar_of g.now) (record_at chart.old j).item) (record_at chart.old j).item.count j e)) × Ready g.now h.now keys.now chart.new index.new lists.new }
+fn add_candidate(t: &Lookups, chart: &mut [u64], index: &mut Index, j: u64, m: u64, e: u64)
+    requires { Tables t.now.g.now t.now.h.now t.now.plans.now t.now.keys.now t.now.graph.now × Ready t.now.g.now t.now.h.now t.now.keys.now chart.old index.old.words index.old.lists × Handled chart.old j × Candidates t.now.g.now t.now.h.now (record_at chart.old j).item m × (e < graph_edges t.now.h.now) }
+    ensures { (chart.new ≡ grown_by chart.old (with_terminal (grammar_of t.now.g.now) (graph_of t.now.g.now t.now.h.now) (item_of (grammar_of t.now.g.now) (record_at chart.old j).item) (record_at chart.old j).item.count j e)) × Ready t.now.g.now t.now.h.now t.now.keys.now chart.new index.new.words index.new.lists }
 {
     if !masks::has(m, e) {
         return;
     }
-    let sure = index::sure(index);
+    let sure = index.sure();
     let x = records::item_at(chart, j);
-    let y = rules::edge_item(g, h, e);
-    add_joined(
-        g, h, plans, keys, graph, chart, lists, index, sure, x, y, x.count, j, e,
-    );
+    let y = rules::edge_item(t.g, t.h, e);
+    add_joined(t, chart, index, sure, x, y, x.count, j, e);
 }
 
 // What it makes with each graph edge: only those of the label that it wants, and that fit its map, are tried.
-fn add_terminals(
-    g: &[u64],
-    h: &[u64],
-    plans: &[u32; PLAN_TABLE_WORDS],
-    keys: &[u32; KEY_TABLE_WORDS],
-    graph: &[u64; GRAPH_TABLE_WORDS],
-    chart: &mut [u64],
-    lists: &mut [u16],
-    index: &mut [u32],
-    j: u64,
-)
-    requires { Tables g.now h.now plans.now keys.now graph.now × Ready g.now h.now keys.now chart.old index.old lists.old × Handled chart.old j }
-    ensures { (chart.new ≡ grown_by chart.old (gather (length (graph_of g.now h.now).edges) (λ e. with_terminal (grammar_of g.now) (graph_of g.now h.now) (item_of (grammar_of g.now) (record_at chart.old j).item) (record_at chart.old j).item.count j e))) × Ready g.now h.now keys.now chart.new index.new lists.new }
+fn add_terminals(t: &Lookups, chart: &mut [u64], index: &mut Index, j: u64)
+    requires { Tables t.now.g.now t.now.h.now t.now.plans.now t.now.keys.now t.now.graph.now × Ready t.now.g.now t.now.h.now t.now.keys.now chart.old index.old.words index.old.lists × Handled chart.old j }
+    ensures { (chart.new ≡ grown_by chart.old (gather (length (graph_of t.now.g.now t.now.h.now).edges) (λ e. with_terminal (grammar_of t.now.g.now) (graph_of t.now.g.now t.now.h.now) (item_of (grammar_of t.now.g.now) (record_at chart.old j).item) (record_at chart.old j).item.count j e))) × Ready t.now.g.now t.now.h.now t.now.keys.now chart.new index.new.words index.new.lists }
 {
     let x = records::item_at(chart, j);
-    let want = wants::want_of(g, plans, x.of as u64, x.plan as u64);
-    let m = rules::candidates(g, h, plans, graph, want, x);
+    let want = wants::want_of(t.g, t.plans, x.of as u64, x.plan as u64);
+    let m = rules::candidates(t.g, t.h, t.plans, t.graph, want, x);
     if m == 0 {
         return;
     }
-    let n = layout::graph_edges(h);
+    let n = layout::graph_edges(t.h);
     for e in 0..n {
-        add_candidate(g, h, plans, keys, graph, chart, lists, index, j, m, e);
+        add_candidate(t, chart, index, j, m, e);
     }
 }
 
 // What the record at place j makes with the one at place k, the former first.
-fn add_pair(
-    g: &[u64],
-    h: &[u64],
-    plans: &[u32; PLAN_TABLE_WORDS],
-    keys: &[u32; KEY_TABLE_WORDS],
-    graph: &[u64; GRAPH_TABLE_WORDS],
-    chart: &mut [u64],
-    lists: &mut [u16],
-    index: &mut [u32],
-    j: u64,
-    k: u64,
-)
-    requires { Tables g.now h.now plans.now keys.now graph.now × Ready g.now h.now keys.now chart.old index.old lists.old × Handled chart.old j × Handled chart.old k }
-    ensures { (chart.new ≡ grown_by chart.old (pair (grammar_of g.now) (graph_of g.now h.now) (record_at chart.old j) j (record_at chart.old k) k)) × Ready g.now h.now keys.now chart.new index.new lists.new }
+fn add_pair(t: &Lookups, chart: &mut [u64], index: &mut Index, j: u64, k: u64)
+    requires { Tables t.now.g.now t.now.h.now t.now.plans.now t.now.keys.now t.now.graph.now × Ready t.now.g.now t.now.h.now t.now.keys.now chart.old index.old.words index.old.lists × Handled chart.old j × Handled chart.old k }
+    ensures { (chart.new ≡ grown_by chart.old (pair (grammar_of t.now.g.now) (graph_of t.now.g.now t.now.h.now) (record_at chart.old j) j (record_at chart.old k) k)) × Ready t.now.g.now t.now.h.now t.now.keys.now chart.new index.new.words index.new.lists }
 {
-    let sure = index::sure(index);
+    let sure = index.sure();
     let x = records::item_at(chart, j);
     let y = records::item_at(chart, k);
     let count = rules::plus(x.count, y.count);
-    add_joined(
-        g, h, plans, keys, graph, chart, lists, index, sure, x, y, count, j, k,
-    );
+    add_joined(t, chart, index, sure, x, y, count, j, k);
 }
 
 // The one of two that comes first.
@@ -170,48 +119,38 @@ fn pick(lead: bool, j: u64, k: u64) -> u64
 // What the record at place j makes with the one at place k, which is handled, where k is not among the first `past`
 // records; how many are past then. It can come only first, where it leads, or only second.
 fn add_met(
-    g: &[u64],
-    h: &[u64],
-    plans: &[u32; PLAN_TABLE_WORDS],
-    keys: &[u32; KEY_TABLE_WORDS],
-    graph: &[u64; GRAPH_TABLE_WORDS],
+    t: &Lookups,
     chart: &mut [u64],
-    lists: &mut [u16],
-    index: &mut [u32],
+    index: &mut Index,
     lead: bool,
     j: u64,
     k: u64,
     past: u64,
 ) -> u64
-    requires { Joining g.now h.now plans.now keys.now graph.now chart.old index.old lists.old lead j × Handled chart.old k }
-    ensures { (chart.new ≡ grown_by chart.old (guard (leb past k) (with_record (grammar_of g.now) (graph_of g.now h.now) (record_at chart.old j) j (record_at chart.old k) k))) × Ready g.now h.now keys.now chart.new index.new lists.new × (result ≡ max past (k + 1)) }
+    requires { Joining t.now.g.now t.now.h.now t.now.plans.now t.now.keys.now t.now.graph.now chart.old index.old.words index.old.lists lead j × Handled chart.old k }
+    ensures { (chart.new ≡ grown_by chart.old (guard (leb past k) (with_record (grammar_of t.now.g.now) (graph_of t.now.g.now t.now.h.now) (record_at chart.old j) j (record_at chart.old k) k))) × Ready t.now.g.now t.now.h.now t.now.keys.now chart.new index.new.words index.new.lists × (result ≡ max past (k + 1)) }
 {
     if k < past {
         return past;
     }
     let first = pick(lead, j, k);
     let second = pick(lead, k, j);
-    add_pair(g, h, plans, keys, graph, chart, lists, index, first, second);
+    add_pair(t, chart, index, first, second);
     k + 1
 }
 
 // The same of any record: one that is not handled makes nothing, as one does that has an edge in common with it.
 fn add_next(
-    g: &[u64],
-    h: &[u64],
-    plans: &[u32; PLAN_TABLE_WORDS],
-    keys: &[u32; KEY_TABLE_WORDS],
-    graph: &[u64; GRAPH_TABLE_WORDS],
+    t: &Lookups,
     chart: &mut [u64],
-    lists: &mut [u16],
-    index: &mut [u32],
+    index: &mut Index,
     lead: bool,
     j: u64,
     k: u64,
     past: u64,
 ) -> u64
-    requires { Joining g.now h.now plans.now keys.now graph.now chart.old index.old lists.old lead j × (k < item_count chart.old) }
-    ensures { (chart.new ≡ grown_by chart.old (guard (leb past k) (with_record (grammar_of g.now) (graph_of g.now h.now) (record_at chart.old j) j (record_at chart.old k) k))) × Ready g.now h.now keys.now chart.new index.new lists.new × (result ≡ max past (k + 1)) }
+    requires { Joining t.now.g.now t.now.h.now t.now.plans.now t.now.keys.now t.now.graph.now chart.old index.old.words index.old.lists lead j × (k < item_count chart.old) }
+    ensures { (chart.new ≡ grown_by chart.old (guard (leb past k) (with_record (grammar_of t.now.g.now) (graph_of t.now.g.now t.now.h.now) (record_at chart.old j) j (record_at chart.old k) k))) × Ready t.now.g.now t.now.h.now t.now.keys.now chart.new index.new.words index.new.lists × (result ≡ max past (k + 1)) }
 {
     if k < past {
         return past;
@@ -219,42 +158,33 @@ fn add_next(
     if index::quiet(chart, records::edges_at(chart, j), k) {
         return k + 1;
     }
-    add_met(
-        g, h, plans, keys, graph, chart, lists, index, lead, j, k, past,
-    )
+    add_met(t, chart, index, lead, j, k, past)
 }
 
 // What the record at place j makes with each of the first n records, where all that it can be joined with have the
 // key `key`. A quiet record is passed by here, without a call for what it does not make.
 fn add_listed(
-    g: &[u64],
-    h: &[u64],
-    plans: &[u32; PLAN_TABLE_WORDS],
-    keys: &[u32; KEY_TABLE_WORDS],
-    graph: &[u64; GRAPH_TABLE_WORDS],
+    t: &Lookups,
     chart: &mut [u64],
-    lists: &mut [u16],
-    index: &mut [u32],
+    index: &mut Index,
     lead: bool,
     j: u64,
     n: u64,
     key: u64,
 )
-    requires { Joining g.now h.now plans.now keys.now graph.now chart.old index.old lists.old lead j × (n ≤ item_count chart.old) × (alone key ≡ query_of keys.now (record_at chart.old j).item) }
-    ensures { (chart.new ≡ grown_by chart.old (gather n (λ k. with_record (grammar_of g.now) (graph_of g.now h.now) (record_at chart.old j) j (record_at chart.old k) k))) × Ready g.now h.now keys.now chart.new index.new lists.new }
+    requires { Joining t.now.g.now t.now.h.now t.now.plans.now t.now.keys.now t.now.graph.now chart.old index.old.words index.old.lists lead j × (n ≤ item_count chart.old) × (alone key ≡ query_of t.now.keys.now (record_at chart.old j).item) }
+    ensures { (chart.new ≡ grown_by chart.old (gather n (λ k. with_record (grammar_of t.now.g.now) (graph_of t.now.g.now t.now.h.now) (record_at chart.old j) j (record_at chart.old k) k))) × Ready t.now.g.now t.now.h.now t.now.keys.now chart.new index.new.words index.new.lists }
 {
     let edges = records::edges_at(chart, j);
     let end = 5 * n;
-    let mut c = lists::first(lists, key);
+    let mut c = lists::first(&index.lists, key);
     let mut past: u64 = 0;
     while (c != 0) & (c <= end) {
         let k = (c - 1) / 5;
         if !index::quiet(chart, edges, k) {
-            past = add_met(
-                g, h, plans, keys, graph, chart, lists, index, lead, j, k, past,
-            );
+            past = add_met(t, chart, index, lead, j, k, past);
         }
-        c = lists::after(lists, c);
+        c = lists::after(&index.lists, c);
     }
 }
 
@@ -266,120 +196,82 @@ struct Cursors {
 }
 
 // Cursors on lists skim over quiet records, most of what is listed.
-fn resting(chart: &[u64], lists: &[u16], edges: u64, n: u64, cs: [u64; 5]) -> Cursors
-    requires { (length lists.now ≡ list_words) × (n ≤ item_count chart.now) × (n ≤ 4096) }
-    ensures { Rests (quiet_in chart.now edges) lists.now n cs result.k result.cs }
+fn resting(chart: &[u64], index: &Index, edges: u64, n: u64, cs: [u64; 5]) -> Cursors
+    requires { (length index.now.lists ≡ list_words) × (n ≤ item_count chart.now) × (n ≤ 4096) }
+    ensures { Rests (quiet_in chart.now edges) index.now.lists n cs result.k result.cs }
 {
-    let es = index::skimmed(lists, chart, edges, n, cs);
+    let es = index.skimmed(chart, edges, n, cs);
     let k = lists::least(es);
     Cursors { k, cs: es }
 }
 
 // The first of the n records that may be a partner.
-fn opening(chart: &[u64], lists: &[u16], edges: u64, n: u64, query: [u64; 5]) -> Cursors
-    requires { (length lists.now ≡ list_words) × (n ≤ item_count chart.now) × (n ≤ 4096) × Within 2048 query }
-    ensures { Rests (quiet_in chart.now edges) lists.now n (starts_of lists.now query) result.k result.cs }
+fn opening(chart: &[u64], index: &Index, edges: u64, n: u64, query: [u64; 5]) -> Cursors
+    requires { (length index.now.lists ≡ list_words) × (n ≤ item_count chart.now) × (n ≤ 4096) × Within 2048 query }
+    ensures { Rests (quiet_in chart.now edges) index.now.lists n (starts_of index.now.lists query) result.k result.cs }
 {
-    let ds = lists::starts(lists, query);
-    resting(chart, lists, edges, n, ds)
+    let ds = lists::starts(&index.lists, query);
+    resting(chart, index, edges, n, ds)
 }
 
 // The next one.
-fn onward(chart: &[u64], lists: &[u16], edges: u64, n: u64, at: Cursors) -> Cursors
-    requires { (length lists.now ≡ list_words) × (n ≤ item_count chart.now) × (n ≤ 4096) × (at.k < n) × Within 20480 at.cs }
-    ensures { Rests (quiet_in chart.now edges) lists.now n (passed_of lists.now at.cs at.k) result.k result.cs }
+fn onward(chart: &[u64], index: &Index, edges: u64, n: u64, at: Cursors) -> Cursors
+    requires { (length index.now.lists ≡ list_words) × (n ≤ item_count chart.now) × (n ≤ 4096) × (at.k < n) × Within 20480 at.cs }
+    ensures { Rests (quiet_in chart.now edges) index.now.lists n (passed_of index.now.lists at.cs at.k) result.k result.cs }
 {
     let k = at.k;
     let cs = at.cs;
-    let ds = lists::passed(lists, cs, k);
-    resting(chart, lists, edges, n, ds)
+    let ds = lists::passed(&index.lists, cs, k);
+    resting(chart, index, edges, n, ds)
 }
 
 // What the record at place j makes with each of the first n records. Only those that its keys let through are tried.
-fn add_many(
-    g: &[u64],
-    h: &[u64],
-    plans: &[u32; PLAN_TABLE_WORDS],
-    keys: &[u32; KEY_TABLE_WORDS],
-    graph: &[u64; GRAPH_TABLE_WORDS],
-    chart: &mut [u64],
-    lists: &mut [u16],
-    index: &mut [u32],
-    lead: bool,
-    j: u64,
-    n: u64,
-)
-    requires { Joining g.now h.now plans.now keys.now graph.now chart.old index.old lists.old lead j × (n ≤ item_count chart.old) }
-    ensures { (chart.new ≡ grown_by chart.old (gather n (λ k. with_record (grammar_of g.now) (graph_of g.now h.now) (record_at chart.old j) j (record_at chart.old k) k))) × Ready g.now h.now keys.now chart.new index.new lists.new }
+fn add_many(t: &Lookups, chart: &mut [u64], index: &mut Index, lead: bool, j: u64, n: u64)
+    requires { Joining t.now.g.now t.now.h.now t.now.plans.now t.now.keys.now t.now.graph.now chart.old index.old.words index.old.lists lead j × (n ≤ item_count chart.old) }
+    ensures { (chart.new ≡ grown_by chart.old (gather n (λ k. with_record (grammar_of t.now.g.now) (graph_of t.now.g.now t.now.h.now) (record_at chart.old j) j (record_at chart.old k) k))) × Ready t.now.g.now t.now.h.now t.now.keys.now chart.new index.new.words index.new.lists }
 {
     let x = records::item_at(chart, j);
     let edges = x.edges;
-    let query = pivots::query(keys, x);
-    let mut at = opening(chart, lists, edges, n, query);
+    let query = pivots::query(t.keys, x);
+    let mut at = opening(chart, index, edges, n, query);
     let mut past: u64 = 0;
     while at.k < n {
-        past = add_next(
-            g, h, plans, keys, graph, chart, lists, index, lead, j, at.k, past,
-        );
-        at = onward(chart, lists, edges, n, at);
+        past = add_next(t, chart, index, lead, j, at.k, past);
+        at = onward(chart, index, edges, n, at);
     }
 }
 
 // The same; most records ask for one key, whose list has a loop of its own.
-fn add_each(
-    g: &[u64],
-    h: &[u64],
-    plans: &[u32; PLAN_TABLE_WORDS],
-    keys: &[u32; KEY_TABLE_WORDS],
-    graph: &[u64; GRAPH_TABLE_WORDS],
-    chart: &mut [u64],
-    lists: &mut [u16],
-    index: &mut [u32],
-    lead: bool,
-    j: u64,
-    n: u64,
-)
-    requires { Joining g.now h.now plans.now keys.now graph.now chart.old index.old lists.old lead j × (n ≤ item_count chart.old) }
-    ensures { (chart.new ≡ grown_by chart.old (gather n (λ k. with_record (grammar_of g.now) (graph_of g.now h.now) (record_at chart.old j) j (record_at chart.old k) k))) × Ready g.now h.now keys.now chart.new index.new lists.new }
+fn add_each(t: &Lookups, chart: &mut [u64], index: &mut Index, lead: bool, j: u64, n: u64)
+    requires { Joining t.now.g.now t.now.h.now t.now.plans.now t.now.keys.now t.now.graph.now chart.old index.old.words index.old.lists lead j × (n ≤ item_count chart.old) }
+    ensures { (chart.new ≡ grown_by chart.old (gather n (λ k. with_record (grammar_of t.now.g.now) (graph_of t.now.g.now t.now.h.now) (record_at chart.old j) j (record_at chart.old k) k))) × Ready t.now.g.now t.now.h.now t.now.keys.now chart.new index.new.words index.new.lists }
 {
-    let asked = pivots::asked(keys, records::item_at(chart, j));
+    let asked = pivots::asked(t.keys, records::item_at(chart, j));
     if asked.single {
-        add_listed(
-            g, h, plans, keys, graph, chart, lists, index, lead, j, n, asked.key,
-        );
+        add_listed(t, chart, index, lead, j, n, asked.key);
         return;
     }
-    add_many(g, h, plans, keys, graph, chart, lists, index, lead, j, n);
+    add_many(t, chart, index, lead, j, n);
 }
 
 // All that the record at place j makes. Its kind and the plan node above it are read once, here, and tell what it is
 // tried with, since with the rest it makes nothing: a passive item only with records, where it comes second; an
 // active one with no plan node above it only with the root rule; any other one with graph edges and records.
-pub(crate) fn add_all(
-    g: &[u64],
-    h: &[u64],
-    plans: &[u32; PLAN_TABLE_WORDS],
-    keys: &[u32; KEY_TABLE_WORDS],
-    graph: &[u64; GRAPH_TABLE_WORDS],
-    chart: &mut [u64],
-    lists: &mut [u16],
-    index: &mut [u32],
-    j: u64,
-)
-    requires { Tables g.now h.now plans.now keys.now graph.now × Ready g.now h.now keys.now chart.old index.old lists.old × Handled chart.old j }
-    ensures { (chart.new ≡ grown_by chart.old (consequences (grammar_of g.now) (graph_of g.now h.now) (chart_of chart.old).records j)) × Ready g.now h.now keys.now chart.new index.new lists.new }
+pub(crate) fn add_all(t: &Lookups, chart: &mut [u64], index: &mut Index, j: u64)
+    requires { Tables t.now.g.now t.now.h.now t.now.plans.now t.now.keys.now t.now.graph.now × Ready t.now.g.now t.now.h.now t.now.keys.now chart.old index.old.words index.old.lists × Handled chart.old j }
+    ensures { (chart.new ≡ grown_by chart.old (consequences (grammar_of t.now.g.now) (graph_of t.now.g.now t.now.h.now) (chart_of chart.old).records j)) × Ready t.now.g.now t.now.h.now t.now.keys.now chart.new index.new.words index.new.lists }
 {
     let n = records::item_count(chart);
     let x = records::item_at(chart, j);
     let mut lead = false;
     if x.kind == 0 {
-        let w = rules::plans::parent_in(g, plans, x.of as u64, x.plan as u64).word;
+        let w = rules::plans::parent_in(t.g, t.plans, x.of as u64, x.plan as u64).word;
         if w % 32 >= 16 {
-            add_root(g, h, keys, chart, lists, index, j);
+            add_root(t, chart, index, j);
             return;
         }
-        add_terminals(g, h, plans, keys, graph, chart, lists, index, j);
+        add_terminals(t, chart, index, j);
         lead = w / 32 % 4 != 3;
     }
-    add_each(g, h, plans, keys, graph, chart, lists, index, lead, j, n);
+    add_each(t, chart, index, lead, j, n);
 }

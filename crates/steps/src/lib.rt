@@ -12,14 +12,15 @@ ghost use Rattle.ranking.specs.Ranking.{Ranked};
 ghost use Rattle.index.specs.Index.{index_words, ranks_of};
 ghost use Rattle.steps.specs.Ready.{Tables, Ready, Runnable};
 
-use index::INDEX_WORDS;
+use index::Index;
 use joins::graphs::GRAPH_TABLE_WORDS;
-use lists::LIST_WORDS;
+use lookups::Lookups;
 use pivots::KEY_TABLE_WORDS;
 use rules::plans::PLAN_TABLE_WORDS;
 
 mod consequences;
 mod leaves;
+mod lookups;
 
 // The chart made anew: only the leaf items are present.
 pub fn restart(g: &[u64], chart: &mut [u64])
@@ -31,58 +32,39 @@ pub fn restart(g: &[u64], chart: &mut [u64])
 }
 
 // The record that the next step takes becomes handled: none where nothing waits or the chart is marked.
-fn take(chart: &mut [u64], index: &mut [u32]) -> Option<u64>
-    requires { (length index.old ≡ index_words) × Ranked (ranks_of index.old) (chart_of chart.old).records × (length (chart_of chart.old).records ≤ 4096) }
-    ensures { (result ≡ next_in (chart_of chart.old)) × (chart.new ≡ marked_by chart.old result) × ((g h keys ls : List ℕ) → Ready g h keys chart.old index.old ls → Ready g h keys chart.new index.new ls) }
+fn take(chart: &mut [u64], index: &mut Index) -> Option<u64>
+    requires { (length index.old.words ≡ index_words) × Ranked (ranks_of index.old.words) (chart_of chart.old).records × (length (chart_of chart.old).records ≤ 4096) }
+    ensures { (result ≡ next_in (chart_of chart.old)) × (chart.new ≡ marked_by chart.old result) × ((g h keys : List ℕ) → Ready g h keys chart.old index.old.words index.old.lists → Ready g h keys chart.new index.new.words index.new.lists) }
 {
     if records::mark_of(chart) != 0 {
         return None;
     }
-    let j = index::take(chart, index)?;
+    let j = index.take(chart)?;
     records::mark_handled(chart, j);
     Some(j)
 }
 
 // One step, if one is left: a record is handled, and what it makes with graph edges and handled records is added.
-fn step(
-    g: &[u64],
-    h: &[u64],
-    plans: &[u32; PLAN_TABLE_WORDS],
-    keys: &[u32; KEY_TABLE_WORDS],
-    graph: &[u64; GRAPH_TABLE_WORDS],
-    chart: &mut [u64],
-    lists: &mut [u16],
-    index: &mut [u32],
-) -> bool
-    requires { Tables g.now h.now plans.now keys.now graph.now × Ready g.now h.now keys.now chart.old index.old lists.old }
-    ensures { (result ≡ is_some (next_in (chart_of chart.old))) × (chart.new ≡ written chart.old (step_with (grammar_of g.now) (graph_of g.now h.now) (capacity chart.old) (chart_of chart.old) (next_in (chart_of chart.old)))) × Ready g.now h.now keys.now chart.new index.new lists.new }
+fn step(t: &Lookups, chart: &mut [u64], index: &mut Index) -> bool
+    requires { Tables t.now.g.now t.now.h.now t.now.plans.now t.now.keys.now t.now.graph.now × Ready t.now.g.now t.now.h.now t.now.keys.now chart.old index.old.words index.old.lists }
+    ensures { (result ≡ is_some (next_in (chart_of chart.old))) × (chart.new ≡ written chart.old (step_with (grammar_of t.now.g.now) (graph_of t.now.g.now t.now.h.now) (capacity chart.old) (chart_of chart.old) (next_in (chart_of chart.old)))) × Ready t.now.g.now t.now.h.now t.now.keys.now chart.new index.new.words index.new.lists }
 {
     match take(chart, index) {
         None => false,
         Some(j) => {
-            consequences::add_all(g, h, plans, keys, graph, chart, lists, index, j);
+            consequences::add_all(t, chart, index, j);
             true
         }
     }
 }
 
 // So many steps, or as many as are left, with an index of the chart's records; true only where none is left.
-fn advance_by(
-    g: &[u64],
-    h: &[u64],
-    plans: &[u32; PLAN_TABLE_WORDS],
-    keys: &[u32; KEY_TABLE_WORDS],
-    graph: &[u64; GRAPH_TABLE_WORDS],
-    chart: &mut [u64],
-    lists: &mut [u16],
-    index: &mut [u32],
-    steps: u64,
-) -> bool
-    requires { Tables g.now h.now plans.now keys.now graph.now × Ready g.now h.now keys.now chart.old index.old lists.old }
-    ensures { (chart.new ≡ written chart.old (run_chart (grammar_of g.now) (graph_of g.now h.now) (capacity chart.old) steps (chart_of chart.old))) × (result ≡ true → next_in (chart_of chart.new) ≡ None) }
+fn advance_by(t: &Lookups, chart: &mut [u64], index: &mut Index, steps: u64) -> bool
+    requires { Tables t.now.g.now t.now.h.now t.now.plans.now t.now.keys.now t.now.graph.now × Ready t.now.g.now t.now.h.now t.now.keys.now chart.old index.old.words index.old.lists }
+    ensures { (chart.new ≡ written chart.old (run_chart (grammar_of t.now.g.now) (graph_of t.now.g.now t.now.h.now) (capacity chart.old) steps (chart_of chart.old))) × (result ≡ true → next_in (chart_of chart.new) ≡ None) }
 {
     for _i in 0..steps {
-        if !step(g, h, plans, keys, graph, chart, lists, index) {
+        if !step(t, chart, index) {
             return true;
         }
     }
@@ -105,10 +87,14 @@ pub fn advance(
     pivots::fill(g, plans, &mut keys);
     let mut graph = [0u64; GRAPH_TABLE_WORDS];
     joins::graphs::fill(g, h, &mut graph);
-    let mut lists = [0u16; LIST_WORDS];
-    let mut index = [0u32; INDEX_WORDS];
-    index::build(g, h, plans, &graph, &keys, chart, &mut lists, &mut index);
-    advance_by(
-        g, h, plans, &keys, &graph, chart, &mut lists, &mut index, steps,
-    )
+    let mut index = Index::empty();
+    index.build(g, h, plans, &graph, &keys, chart);
+    let t = Lookups {
+        g,
+        h,
+        plans,
+        keys: &keys,
+        graph: &graph,
+    };
+    advance_by(&t, chart, &mut index, steps)
 }

@@ -28,8 +28,8 @@ loop-j-preserved c =
     let s = c.args in
     let l = c.loop-j in
     listed_next s.keys.now s.chart.now l.lists _ l.j _ l.invariant
-        (omega (arith, c.loop-j-test.true, c.requires.1, c.item_count-n.ensures))
-        c.item_at.ensures c.list_many.ensures
+    (omega (arith, c.loop-j-test.true, c.requires.1, c.item_count-n.ensures))
+    c.item_at.ensures c.list_many.ensures
 
 pub returns : goal.returns
 returns c =

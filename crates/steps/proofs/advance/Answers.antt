@@ -1,7 +1,5 @@
 -- What the tables give and the index are made, then the steps are done.
-use mathlib.Core.Path.{refl, sym}
-use Rattle.lists.proofs.ListLaws.{unlisted_zeros}
-use Rattle.index.proofs.IndexLaws.{empty_zeros}
+use mathlib.Core.Path.{refl}
 use Rattle.steps.proofs.ReadyLaws.{built_ready, count_small}
 use Rattle.steps.proofs.advance.Goals as goal
 
@@ -18,17 +16,11 @@ fill-requires-2 c = (c.requires.accepted, refl)
 pub build-requires : goal.build-requires
 build-requires c =
     let p = c.requires in (
-      empty_zeros,
-      unlisted_zeros,
+      c.empty-index.ensures.0,
+      c.empty-index.ensures.1,
       count_small _ p.small,
       record { accepted = p.accepted; planned = p.planned; graphed = c.fill-2.ensures },
     )
-
-pub slice_bounds-advance_by-end : goal.slice_bounds-advance_by-end
-slice_bounds-advance_by-end c = sym c.build.auto.lists
-
-pub slice_bounds-advance_by-end-2 : goal.slice_bounds-advance_by-end-2
-slice_bounds-advance_by-end-2 c = sym c.build.auto.index
 
 pub advance_by-requires : goal.advance_by-requires
 advance_by-requires c =

@@ -12,51 +12,47 @@ use Rattle.steps.proofs.advance_by.Goals as goal
 pub loop-i-init : goal.loop-i-init
 loop-i-init c =
     let s = c.args in
-    let G = grammar_of s.g.now in
-    let H = graph_of s.g.now s.h.now in (
+    let G = grammar_of s.t.now.g.now in
+    let H = graph_of s.t.now.g.now s.t.now.h.now in (
       refl,
       ran_none G H s.chart.now c.requires.1.fits,
-      refl,
       c.requires.1,
-      refl,
     )
 
 pub step-requires : goal.step-requires
-step-requires c = (c.requires.0, c.loop-i.invariant.3)
+step-requires c = (c.requires.0, c.loop-i.invariant.2)
 
 pub returns-then-not-step : goal.returns-then-not-step
 returns-then-not-step c =
     let s = c.args in
-    let G = grammar_of s.g.now in
-    let H = graph_of s.g.now s.h.now in (
+    let G = grammar_of s.t.now.g.now in
+    let H = graph_of s.t.now.g.now s.t.now.h.now in (
       ran_idle G H s.chart.now c.loop-i._i c.loop-i.chart c.loop-i.invariant.1 s.steps
           c.step.result _ c.loop-i.auto._i-end c.if-not-step.true-raw c.step.ensures.0
           c.step.ensures.1,
-      λ e. step_idle G H c.loop-i.chart _ c.loop-i.invariant.3.fits
+      λ e. step_idle G H c.loop-i.chart _ c.loop-i.invariant.2.fits
           c.step.result c.if-not-step.true-raw c.step.ensures.0 c.step.ensures.1,
     )
 
 pub loop-i-preserved : goal.loop-i-preserved
 loop-i-preserved c =
     let s = c.args in
-    let G = grammar_of s.g.now in
-    let H = graph_of s.g.now s.h.now in
+    let G = grammar_of s.t.now.g.now in
+    let H = graph_of s.t.now.g.now s.t.now.h.now in
     let A = c.requires.0.accepted in
-    let R = c.loop-i.invariant.3 in (
+    let R = c.loop-i.invariant.2 in (
       c.step.auto.chart ∙ c.loop-i.invariant.0,
       ran_step G H s.chart.now c.loop-i._i c.loop-i.chart c.loop-i.invariant.1
-          (checked_grammar_ok s.g.now A.grammar) (graph_ok s.g.now s.h.now A) (c.requires.1.small)
+          (checked_grammar_ok s.t.now.g.now A.grammar) (graph_ok s.t.now.g.now s.t.now.h.now A) (c.requires.1.small)
           (known_records G H _ R.fits R.known) _ _ (omega arith) c.step.ensures.1,
-      c.step.auto.index ∙ c.loop-i.invariant.2,
       c.step.ensures.2,
-      c.step.auto.lists ∙ c.loop-i.invariant.4,
     )
 
 pub returns : goal.returns
 returns c =
     let s = c.args in
-    let G = grammar_of s.g.now in
-    let H = graph_of s.g.now s.h.now in (
+    let G = grammar_of s.t.now.g.now in
+    let H = graph_of s.t.now.g.now s.t.now.h.now in (
       ran_all G H s.chart.now c.loop-i._i c.loop-i.chart c.loop-i.invariant.1 s.steps
           (omega (arith, c.loop-i-test.false, c.loop-i.auto._i-end)),
       λ e. absurd (false≢true e),

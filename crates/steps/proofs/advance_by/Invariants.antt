@@ -7,5 +7,5 @@ use Rattle.steps.proofs.advance_by.Given as goal
 
 abbrev pub invariant-loop-i : goal.invariant-loop-i
 invariant-loop-i l =
-    (length l.chart ≡ length l.initial.chart) × Ran (grammar_of l.g) (graph_of l.g l.h) l.initial.chart l._i l.chart × (length l.index ≡ length l.initial.index) ×
-    Ready l.g l.h l.keys l.chart l.index l.lists × (length l.lists ≡ length l.initial.lists)
+    (length l.chart ≡ length l.initial.chart) × Ran (grammar_of l.t.g.now) (graph_of l.t.g.now l.t.h.now) l.initial.chart l._i l.chart ×
+    Ready l.t.g.now l.t.h.now l.t.keys.now l.chart l.index.words l.index.lists

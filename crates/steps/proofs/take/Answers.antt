@@ -9,7 +9,7 @@ returns-then-mark_of-ne0 c = (
   next_marked c.args.chart.now _ c.mark_of.ensures
       c.if-mark_of-ne0.true,
   refl,
-  λ g h keys ls R. R,
+  λ g h keys R. R,
 )
 
 pub take-requires : goal.take-requires
@@ -24,8 +24,8 @@ returns-in_err-j c =
       next_taken s.chart.now _ c.mark_of.ensures t.result _ c.if-mark_of-ne0.false e
           t.ensures.0,
       refl,
-      λ g h keys ls R. taken_ready g h keys s.chart.now s.index.now ls R
-          t.new.index t.ensures.2 _ t.result _ e t.ensures.0 refl (t.ensures.1 keys ls),
+      λ g h keys R. rw t.ensures.3 (taken_ready g h keys s.chart.now s.index.now.words s.index.now.lists R
+          t.new.self.words t.ensures.2 _ t.result _ e t.ensures.0 refl (t.ensures.1 keys s.index.now.lists)),
     )
 
 pub returns : goal.returns
@@ -36,6 +36,7 @@ returns c =
       next_taken s.chart.now _ c.mark_of.ensures t.result _ c.if-mark_of-ne0.false e
           t.ensures.0,
       c.mark_handled.ensures,
-      λ g h keys ls R. taken_ready g h keys s.chart.now s.index.now ls R t.new.index t.ensures.2
-          _ t.result _ e t.ensures.0 c.mark_handled.ensures (t.ensures.1 keys ls),
+      λ g h keys R. rw t.ensures.3 (taken_ready g h keys s.chart.now s.index.now.words s.index.now.lists R
+          t.new.self.words t.ensures.2 _ t.result _ e t.ensures.0 c.mark_handled.ensures
+          (t.ensures.1 keys s.index.now.lists)),
     )

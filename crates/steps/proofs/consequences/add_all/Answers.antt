@@ -1,4 +1,6 @@
 -- A record is tried only with what can make something of it (proofs/KindLaws).
+use mathlib.Core.Path.{ap}
+use Rattle.index.specs.declared.Index.{Index}
 use Rattle.records.proofs.WordLaws.{item_inside}
 use Rattle.steps.proofs.KindLaws.{Alone, alone_same, alone_passive, alone_child, all_root, alone_joining, alone_room, alone_all}
 use Rattle.steps.proofs.consequences.add_all.Goals as goal
@@ -17,14 +19,14 @@ returns-then-w-ge16 c = all_root c.requires c.item_at-x.ensures c.if-x-eq0.true
 -- where the ways meet
 met : (c : Joined-x-eq0)
     → let s = c.args in
-    Alone s.g.now s.h.now s.keys.now s.chart.now s.j c.if-x-eq0.chart c.if-x-eq0.index
-    c.if-x-eq0.lists c.if-x-eq0.lead
+    Alone s.t.now.g.now s.t.now.h.now s.t.now.keys.now s.chart.now s.j c.if-x-eq0.chart c.if-x-eq0.index.words
+    c.if-x-eq0.index.lists c.if-x-eq0.lead
 met c =
     let own = c.item_at-x.ensures in
     elim c.if-x-eq0.branch [
-      | then-x-eq0+else-w-ge16 w ↦ alone_same w.chart-is w.index-is w.lists-is w.lead-is
+      | then-x-eq0+else-w-ge16 w ↦ alone_same w.chart-is (ap (λ (x : Index). x.words) w.index-is) (ap (λ (x : Index). x.lists) w.index-is) w.lead-is
           (alone_child c.requires own w.if-x-eq0.true w.parent_in-w.ensures w.if-w-ge16.false w.add_terminals.ensures)
-      | else-x-eq0 w ↦ alone_same w.chart-is w.index-is w.lists-is w.lead-is (alone_passive c.requires own w.if-x-eq0.false)
+      | else-x-eq0 w ↦ alone_same w.chart-is (ap (λ (x : Index). x.words) w.index-is) (ap (λ (x : Index). x.lists) w.index-is) w.lead-is (alone_passive c.requires own w.if-x-eq0.false)
     ]
 
 pub add_each-requires : goal.add_each-requires

@@ -12,5 +12,5 @@ add_listed-requires c = (
   c.requires.0,
   c.requires.1,
   c.asked-asked.ensures c.if-asked.true ∙ ap
-      (query_of c.args.keys.now) c.item_at.ensures,
+      (query_of c.args.t.now.keys.now) c.item_at.ensures,
 )

@@ -6,8 +6,8 @@ use Rattle.steps.proofs.consequences.add_listed.Given as goal
 
 abbrev pub invariant-loop-c : goal.invariant-loop-c
 invariant-loop-c l =
-    (length l.chart ≡ length l.initial.chart) × (length l.lists ≡ length l.initial.lists) × (length l.index ≡ length l.initial.index) × Along l.g l.h l.keys
-    l.initial.chart l.j l.n l.chart l.index l.lists l.c l.past
+    (length l.chart ≡ length l.initial.chart) × Along l.t.g.now l.t.h.now l.t.keys.now
+    l.initial.chart l.j l.n l.chart l.index.words l.index.lists l.c l.past
 
 abbrev pub decreases-loop-c : goal.decreases-loop-c
 decreases-loop-c l = left_all

@@ -20,8 +20,6 @@ opening-at-requires c =
 pub loop-at-init : goal.loop-at-init
 loop-at-init c = (
   refl,
-  refl,
-  refl,
   turning_start c.requires c.item_at-x.ensures c.query-query.ensures
       c.opening-at.ensures,
 )
@@ -29,13 +27,13 @@ loop-at-init c = (
 pub add_next-past-requires : goal.add_next-past-requires
 add_next-past-requires c =
     let p = c.requires in
-    let S = c.loop-at.invariant.3 in
+    let S = c.loop-at.invariant.1 in
     (partners_joining p.0 p.1 S, partners_known p.0 p.1 S c.loop-at-test.true)
 
 pub onward-at-requires : goal.onward-at-requires
 onward-at-requires c =
     let p = c.requires in
-    let S = c.loop-at.invariant.3 in
+    let S = c.loop-at.invariant.1 in
     let a = c.add_next-past.ensures in
     let t = c.loop-at-test.true in (
       a.1.indexed.listed.size,
@@ -48,7 +46,7 @@ onward-at-requires c =
 pub loop-at-smaller : goal.loop-at-smaller
 loop-at-smaller c =
     let a = c.add_next-past.ensures in
-    turning_less c.requires c.item_at-x.ensures c.loop-at.invariant.3 c.loop-at-test.true a.0
+    turning_less c.requires c.item_at-x.ensures c.loop-at.invariant.1 c.loop-at-test.true a.0
     a.1 a.2 c.onward-at.ensures
 
 pub loop-at-preserved : goal.loop-at-preserved
@@ -56,14 +54,12 @@ loop-at-preserved c =
     let a = c.add_next-past in
     let l = c.loop-at in (
       a.auto.chart ∙ l.invariant.0,
-      a.auto.lists ∙ l.invariant.1,
-      a.auto.index ∙ l.invariant.2,
-      turning_next c.requires c.item_at-x.ensures l.invariant.3 c.loop-at-test.true a.ensures.0
+      turning_next c.requires c.item_at-x.ensures l.invariant.1 c.loop-at-test.true a.ensures.0
           a.ensures.1 a.ensures.2 c.onward-at.ensures,
     )
 
 pub returns : goal.returns
 returns c = (
-  partners_end c.requires.0 c.requires.1 c.loop-at.invariant.3 c.loop-at-test.false,
-  c.loop-at.invariant.3.ready,
+  partners_end c.requires.0 c.requires.1 c.loop-at.invariant.1 c.loop-at-test.false,
+  c.loop-at.invariant.1.ready,
 )

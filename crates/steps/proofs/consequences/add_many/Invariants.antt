@@ -6,8 +6,8 @@ use Rattle.steps.proofs.consequences.add_many.Given as goal
 
 abbrev pub invariant-loop-at : goal.invariant-loop-at
 invariant-loop-at l =
-    (length l.chart ≡ length l.initial.chart) × (length l.lists ≡ length l.initial.lists) × (length l.index ≡ length l.initial.index) × Turning l.g l.h
-    l.keys l.initial.chart l.j l.n l.chart l.index l.lists l.at.cs l.at.k l.past
+    (length l.chart ≡ length l.initial.chart) × Turning l.t.g.now l.t.h.now
+    l.t.keys.now l.initial.chart l.j l.n l.chart l.index.words l.index.lists l.at.cs l.at.k l.past
 
 abbrev pub decreases-loop-at : goal.decreases-loop-at
 decreases-loop-at l = left_all l.at.cs

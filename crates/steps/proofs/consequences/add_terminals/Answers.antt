@@ -19,11 +19,11 @@ pub returns-then-m-eq0 : goal.returns-then-m-eq0
 returns-then-m-eq0 c = edges_skipped c.requires c.item_at-x.ensures c.candidates-m.ensures c.if-m-eq0.true
 
 pub loop-e-init : goal.loop-e-init
-loop-e-init c = (refl, refl, refl, edge_start c.requires)
+loop-e-init c = (refl, edge_start c.requires)
 
 pub add_candidate-requires : goal.add_candidate-requires
 add_candidate-requires c =
-    let E = c.loop-e.invariant.3 in
+    let E = c.loop-e.invariant.1 in
     let p = c.requires in (
       p.0,
       E.ready,
@@ -42,9 +42,7 @@ loop-e-preserved c =
     let l = c.loop-e in
     let a = c.add_candidate in (
       a.auto.chart ∙ l.invariant.0,
-      a.auto.lists ∙ l.invariant.1,
-      a.auto.index ∙ l.invariant.2,
-      edge_next c.requires l.invariant.3 (omega (
+      edge_next c.requires l.invariant.1 (omega (
         arith,
         c.loop-e-test.true,
         c.graph_edges-n.ensures,
@@ -52,5 +50,5 @@ loop-e-preserved c =
     )
 
 pub returns : goal.returns
-returns c = edge_end c.requires c.loop-e.invariant.3 c.graph_edges-n.ensures
+returns c = edge_end c.requires c.loop-e.invariant.1 c.graph_edges-n.ensures
     c.loop-e.auto.e-end c.loop-e-test.false

@@ -24,5 +24,5 @@ resting-requires c = (
 pub returns : goal.returns
 returns c =
     let s = c.args in
-    subst (λ (bs : List ℕ). Rests (quiet_in s.chart.now s.edges) s.lists.now s.n bs
+    subst (λ (bs : List ℕ). Rests (quiet_in s.chart.now s.edges) s.index.now.lists s.n bs
     c.resting.result.k c.resting.result.cs) c.passed-ds.ensures c.resting.ensures

@@ -5,7 +5,8 @@ use Rattle.ranking.specs.Ranking.{rank_words}
 use Rattle.index.proofs.IndexLaws.{taken_by}
 use Rattle.index.proofs.CoverLaws.{doubt_put}
 use native.Mathlib.Omega.{arith}
-use Rattle.index.proofs.take.Goals as goal
+use mathlib.Core.Path.{refl}
+use Rattle.index.proofs.Index.take.Goals as goal
 
 pub slice_bounds-take-end : goal.slice_bounds-take-end
 slice_bounds-take-end c = omega (arith, c.requires.0)
@@ -18,8 +19,9 @@ returns c =
     let t = c.take in
     let d = t.auto in (
       t.ensures.0,
-      λ keys ls I. taken_by keys c.args.index.now ls t.new.ranks
+      λ keys ls I. taken_by keys c.args.self.now.words ls t.new.ranks
           (chart_of c.args.chart.now).records _ t.ensures.0 t.ensures.1 I,
-      doubt_put link_words rank_words c.args.index.now t.new.ranks c.requires.0 (omega arith)
+      doubt_put link_words rank_words c.args.self.now.words t.new.ranks c.requires.0 (omega arith)
           (omega arith),
+      refl,
     )

@@ -1,6 +1,6 @@
 -- Each cursor by itself.
 use Rattle.index.proofs.QuietLaws.{skims_five}
-use Rattle.index.proofs.skimmed.Goals as goal
+use Rattle.index.proofs.Index.skimmed.Goals as goal
 
 pub skim-requires : goal.skim-requires
 skim-requires c = c.requires
