@@ -2,3 +2,4 @@
 pub mod Joins
 pub mod Graphs
 pub mod Premises
+pub mod Tables

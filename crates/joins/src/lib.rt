@@ -18,6 +18,7 @@ ghost use Rattle.joins.specs.Premises.{Premises, Combines};
 
 use places::{PLACES, merging};
 
+pub mod accepted;
 pub mod graphs;
 
 // The plan nodes of a rule, at most.
