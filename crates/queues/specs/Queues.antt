@@ -83,6 +83,11 @@ pub record Started (ws : List ℕ) (a n r : ℕ) : Type 0 where
   pub here : r < n → 0 < get_or ws (a + r) 0
   pub none : (i : ℕ) → i < r → get_or ws (a + i) 0 ≡ 0
 
+-- it is word a + r, or none
+abbrev pub FirstOf : List ℕ → ℕ → ℕ → Option ℕ → Type 0
+FirstOf ws a n (Some r) = (r < n) × Started ws a n r
+FirstOf ws a n None = Started ws a n n
+
 -- of the words from word a on, word a + m is the first that is not 0
 pub record Reached (ws : List ℕ) (a m : ℕ) : Type 0 where
   pub here : 0 < get_or ws (a + m) 0

@@ -6,7 +6,7 @@
 #![tactic(auto)]
 
 ghost use Rattle.std.specs.Prelude.{◌≡◌, ◌+◌, ◌≤◌, ◌<◌, length, get_or};
-ghost use Rattle.queues.specs.Queues.{Levels, with_bit, without_bit, with_hint, Inserted, Removed, Left, LeastTaken, Started, Reached, Stepped, Cleared};
+ghost use Rattle.queues.specs.Queues.{Levels, with_bit, without_bit, with_hint, Inserted, Removed, Left, LeastTaken, FirstOf, Reached, Stepped, Cleared};
 
 // where the hint is
 const HINT: usize = 4228;
@@ -74,24 +74,17 @@ pub fn remove(ws: &mut [u32], p: u64)
     lower(ws, b / 32, b % 32);
 }
 
-// The first of the four highest words that is not 0, 4 for none.
-fn start(ws: &[u32]) -> u64
+// The first of the four highest words that is not 0.
+fn start(ws: &[u32]) -> Option<u64>
     requires { length ws.now ≡ 4229 }
-    ensures { Started ws.now 0 4 result }
+    ensures { FirstOf ws.now 0 4 result }
 {
-    if ws[0] != 0 {
-        return 0;
+    for i in 0..4 {
+        if ws[i as usize] != 0 {
+            return Some(i);
+        }
     }
-    if ws[1] != 0 {
-        return 1;
-    }
-    if ws[2] != 0 {
-        return 2;
-    }
-    if ws[3] != 0 {
-        return 3;
-    }
-    4
+    None
 }
 
 // Of the words from word a on, word a + m is the first that is not 0: the first bit of them that is set.
@@ -102,17 +95,13 @@ fn down(ws: &[u32], a: u64, m: u64) -> u64
     32 * m + u32::trailing_zeros(ws[(a + m) as usize]) as u64
 }
 
-// The first of the lowest words that is not 0, 4096 for none: at each level the first word that is not 0 leads to the
-// next.
-fn search(ws: &[u32]) -> u64
+// The first of the lowest words that is not 0: at each level the first word that is not 0 leads to the next.
+fn search(ws: &[u32]) -> Option<u64>
     requires { Levels ws.now }
-    ensures { Started ws.now 132 4096 result }
+    ensures { FirstOf ws.now 132 4096 result }
 {
-    let i = start(ws);
-    if i == 4 {
-        return 4096;
-    }
-    down(ws, 4, down(ws, 0, i))
+    let i = start(ws)?;
+    Some(down(ws, 4, down(ws, 0, i)))
 }
 
 // Word 132 + a is the first of the lowest that is not 0: its first number, the least of the set, leaves it.
@@ -130,10 +119,7 @@ pub fn next(ws: &mut [u32]) -> Option<u64>
     requires { Levels ws.old }
     ensures { LeastTaken ws.old result ws.new }
 {
-    let a = search(ws);
-    if a == 4096 {
-        return None;
-    }
+    let a = search(ws)?;
     ws[HINT] = a as u32;
     Some(leave(ws, a))
 }

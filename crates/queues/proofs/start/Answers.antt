@@ -1,21 +1,17 @@
--- Four tests, in order.
+-- The words before it are 0.
+use Rattle.std.proofs.Common.{arith}
 use Rattle.queues.proofs.LevelLaws.{started_at}
-use native.Mathlib.Omega.{arith}
 use Rattle.queues.proofs.start.Goals as goal
 
-pub returns-then-ws-ne0-2 : goal.returns-then-ws-ne0-2
-returns-then-ws-ne0-2 c = started_at 1 _ (omega arith) (λ h. omega (arith, c.if-ws-ne0-2.true)) (λ h. c.if-ws-ne0.false)
-    (λ h. absurd (omega arith)) (λ h. absurd (omega arith)) (λ h. absurd (omega arith))
-
-pub returns-then-ws-ne0-3 : goal.returns-then-ws-ne0-3
-returns-then-ws-ne0-3 c = started_at 2 _ (omega arith) (λ h. omega (arith, c.if-ws-ne0-3.true))
-    (λ h. c.if-ws-ne0.false) (λ h. c.if-ws-ne0-2.false)
-    (λ h. absurd (omega arith)) (λ h. absurd (omega arith))
-
-pub returns-then-ws-ne0-4 : goal.returns-then-ws-ne0-4
-returns-then-ws-ne0-4 c = started_at 3 _ (omega arith) (λ h. omega (arith, c.if-ws-ne0-4.true)) (λ h. c.if-ws-ne0.false)
-    (λ h. c.if-ws-ne0-2.false) (λ h. c.if-ws-ne0-3.false) (λ h. absurd (omega arith))
+pub returns-then-ws-i-ne0 : goal.returns-then-ws-i-ne0
+returns-then-ws-i-ne0 c = (
+  omega arith,
+  started_at c.loop-i.i _ (omega arith) (λ h. omega (arith, c.if-ws-i-ne0.true)) (c.loop-i.invariant 0)
+      (c.loop-i.invariant 1) (c.loop-i.invariant 2) (c.loop-i.invariant 3),
+)
 
 pub returns : goal.returns
-returns c = started_at 4 _ (omega arith) (λ h. absurd (omega arith)) (λ h. c.if-ws-ne0.false) (λ h. c.if-ws-ne0-2.false)
-    (λ h. c.if-ws-ne0-3.false) (λ h. c.if-ws-ne0-4.false)
+returns c =
+    started_at 4 _ (omega arith) (λ h. absurd (omega arith)) (λ h. c.loop-i.invariant 0 (omega arith))
+    (λ h. c.loop-i.invariant 1 (omega arith)) (λ h. c.loop-i.invariant 2 (omega arith))
+    (λ h. c.loop-i.invariant 3 (omega arith))
