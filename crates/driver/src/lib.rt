@@ -3,7 +3,7 @@
 
 #![tactic(auto)]
 
-ghost use Rattle.std.specs.Prelude.{◌≡◌, [], ◌∷◌, ◌++◌, ◌+◌, ◌≤◌, length, drop};
+ghost use Rattle.std.specs.Prelude.{◌≡◌, [], ◌∷◌, ◌++◌, ◌+◌, ◌≤◌, length};
 ghost use Rattle.std.proofs.lemmas.List.Edits.{sets};
 ghost use Rattle.format.specs.Writing.{line_text};
 ghost use Rattle.charting.specs.Calls.{number_of as chartNumber};
@@ -110,23 +110,12 @@ fn put_refusal(k: u64, out: &mut [u8; 32774]) -> usize
     write_number(out, 0, b'N', k)
 }
 
-fn copy(text: &[u8], out: &mut [u8])
-    requires { length text.now ≤ length out.old }
-    ensures { out.new ≡ text.now ++ drop (length text.now) out.old }
-{
-    let mut i = 0;
-    while i < text.len() {
-        out[i] = text[i];
-        i += 1;
-    }
-}
-
 // The derivation, and the line with the steps behind it.
 fn put_derivation(text: &[u8], steps: u64, out: &mut [u8; 32774]) -> usize
     requires { length text.now ≤ 32768 }
     ensures { Prints (text.now ++ steps_line steps) out.old out.new result }
 {
-    copy(text, out);
+    out[..text.len()].copy_from_slice(text);
     write_number(out, text.len(), b'C', steps)
 }
 

@@ -17,32 +17,20 @@ fn eight_from(line: &[u8], from: usize, count: usize) -> [u64; 8]
     ensures { result ≡ eight (take count (drop from (fields_of line.now))) }
 {
     let mut row = [0u64; 8];
-    let mut i = 0;
-    while i < 8 {
-        if i < count {
-            row[i] = lines::number(line, from + i);
-        }
-        i += 1;
+    for i in 0..count.min(8) {
+        row[i] = lines::number(line, from + i);
     }
     row
 }
 
-// The fields behind the application's number and its rule.
-fn rest_of(line: &[u8]) -> usize
-    ensures { result ≡ length (drop 2 (fields_of line.now)) }
-{
-    let count = lines::field_count(line);
-    if count < 2 { 0 } else { count - 2 }
-}
-
-// As many nodes as the rule has, the rest are parts.
+// Behind the application's number and its rule stand as many nodes as the rule has, the rest are parts.
 fn application_in(grammar: &[u64], line: &[u8]) -> Application
     ensures { result ≡ application_read grammar.now (fields_of line.now) }
 {
     let rule = lines::number(line, 1);
-    let rest = rest_of(line);
+    let rest = lines::field_count(line).saturating_sub(2);
     let nodes = layout::rule_nodes(grammar, rule) as usize;
-    let placed = if nodes < rest { nodes } else { rest };
+    let placed = nodes.min(rest);
     Application {
         rule,
         node_count: placed as u64,
@@ -98,12 +86,10 @@ fn fill_row(rows: &mut [Application], grammar: &[u64], text: &[u8], n: usize)
     requires { n ≤ length rows.old }
     ensures { rows.new ≡ filled_from grammar.now text.now n rows.old }
 {
-    let mut k = 0;
     let mut at = 6;
-    while k < n {
+    for k in 0..n {
         rows[k] = application_at(grammar, text, at);
         at = lines::after_line(text, at);
-        k += 1;
     }
 }
 
