@@ -5,9 +5,9 @@
 ghost use Rattle.std.specs.Prelude.{◌≡◌, ◌-◌, ◌≤◌, length, take, drop};
 ghost use Rattle.format.specs.Fields.{field_count, fields_of};
 ghost use Rattle.writing.specs.Filling.{eight};
-ghost use Rattle.filler.specs.Rows.{application_read, application_at, count_in, Prepared, filled_from, Filling};
+ghost use Rattle.filler.specs.Rows.{application_read, application_at, Prepared, filled_from, Filling};
 
-use writing::{Answer, Application};
+use writing::{Application, WriteError};
 
 // ---- the record of a line
 
@@ -49,33 +49,24 @@ fn application_at(grammar: &[u64], text: &[u8], at: usize) -> Application
 
 // ---- the text
 
-// How many records an answer fills.
-fn count_in(a: Answer) -> usize
-    ensures { result ≡ count_in a }
-{
-    match a {
-        Answer::Written(n) => n as usize,
-        _ => 0,
-    }
-}
-
 // Writes the derivation into a text that holds the longest one, and answers as `fill` does for a row of so many
 // records.
-fn prepare(grammar: &[u64], graph: &[u64], chart: &[u64], room: usize, text: &mut [u8]) -> Answer
+fn prepare(
+    grammar: &[u64],
+    graph: &[u64],
+    chart: &[u64],
+    room: usize,
+    text: &mut [u8],
+) -> Result<u64, WriteError>
     requires { 303110 ≤ length text.old }
     ensures { Prepared grammar.now graph.now chart.now room result text.new }
 {
-    let answer = writer::write(grammar, graph, chart, text);
-    match answer {
-        Answer::Written(_) => {
-            let count = lines::number(lines::next_line(text, 0), 0);
-            if room < count as usize {
-                Answer::NoRoom
-            } else {
-                Answer::Written(count)
-            }
-        }
-        _ => answer,
+    writer::write(grammar, graph, chart, text)?;
+    let count = lines::number(lines::next_line(text, 0), 0);
+    if room < count as usize {
+        Err(WriteError::NoRoom)
+    } else {
+        Ok(count)
     }
 }
 
@@ -95,11 +86,16 @@ fn fill_row(rows: &mut [Application], grammar: &[u64], text: &[u8], n: usize)
 
 // Questions 8 to 12: fills the row with the records of the derivation that `write` writes as text, and leaves the
 // records behind them. Refusals change nothing.
-pub fn fill(grammar: &[u64], graph: &[u64], chart: &[u64], rows: &mut [Application]) -> Answer
+pub fn fill(
+    grammar: &[u64],
+    graph: &[u64],
+    chart: &[u64],
+    rows: &mut [Application],
+) -> Result<u64, WriteError>
     ensures { Filling grammar.now graph.now chart.now rows.old result rows.new }
 {
     let mut text = [0u8; 303110];
     let answer = prepare(grammar, graph, chart, rows.len(), &mut text);
-    fill_row(rows, grammar, &text, count_in(answer));
+    fill_row(rows, grammar, &text, answer.unwrap_or(0) as usize);
     answer
 }

@@ -1,4 +1,5 @@
 -- The replay from the start, what is whole at its end, and the answer.
+use Rattle.std.specs.Prelude.{Some, None, Ok, Err}
 use mathlib.Core.Path.{◌≡◌, refl, sym, ap, ap₂, subst, ◌∙◌}
 use mathlib.Core.Logic.{◌↔◌}
 use mathlib.Core.Bool.{Bool, true, false, true≢false, cond, ◌&&◌}
@@ -27,13 +28,11 @@ use Rattle.joins.proofs.Known.{graph_size, graph_nodes_lem, graph_ok, graph_node
 use Rattle.preorder.specs.Replay.{State, reached, failed, replay_at, whole, calls, replayed, replays}
 use Rattle.derivation.specs.Derivations.{replay_text, DerivationOf}
 use Rattle.derivation.proofs.Derivations.{replay_text_is, replay_bad, replay_rows}
-use Rattle.replayer.specs.declared.Verdict.{Verdict}
-use Rattle.replayer.specs.declared.Verdict.TheVariants.{Unfit, Refused, Passed}
-use Rattle.std.specs.Prelude.{Some, None}
+use Rattle.replayer.specs.Verdicts.{Verdict, number_of, fit_tables, replay_of, Exact}
+use Rattle.replayer.specs.declared.ReplayError.TheVariants.{Unfit, NoDerivation}
 use Rattle.std.proofs.lemmas.Option.{none-some}
 use Rattle.replayer.specs.Fitting.{count_in, with_all}
 use Rattle.replayer.specs.Following.{text_rows, RowsAt, Progress, progress_in, Marks, Reaches, Stands, Applied}
-use Rattle.replayer.specs.Verdicts.{number_of, fit_tables, replay_of, Exact}
 use Rattle.questions.proofs.StoredLaws.{take_tabulate}
 use Rattle.replayer.proofs.MaskTests.{marks_none, marks_append, marks_all}
 use Rattle.replayer.proofs.PlacedRows.{text_count, text_some, text_few, place_start}
@@ -175,7 +174,7 @@ pub tables_accepted : (g h : List ℕ) (a : Bool) → a ≡ check_grammar g → 
 tables_accepted g h a p x b q y = record { grammar = sym p ∙ x; graph = sym q ∙ y }
 
 abbrev answer_by : Bool → Bool → Verdict
-answer_by f t = cond f (cond t Passed Refused) Unfit
+answer_by f t = cond f (cond t (Ok tt) (Err NoDerivation)) (Err Unfit)
 
 unfit_by : (f t : Bool) → (number_of (answer_by f t) ≡ 8) ↔ (f ≡ false)
 unfit_by true true = (λ e. absurd (omega arith), λ e. absurd (true≢false e))
@@ -220,16 +219,16 @@ module _ (g h : List ℕ) where
         let same : answer_by (fit_tables g h) (replay_text (grammar_of g) (graph_of g h) text) ≡ answer_by f t = ap₂ answer_by e q in
         (sym same ∙ sym answer_is, subst (Exact g h text) same exact)
 
-    pub answer_unfit_grammar : check_grammar g ≡ false → (Unfit ≡ replay_of g h text) × Exact g h text Unfit
+    pub answer_unfit_grammar : check_grammar g ≡ false → ((Err Unfit) ≡ replay_of g h text) × Exact g h text (Err Unfit)
     unfolding fit_tables
     answer_unfit_grammar e = answered false _ (rw e) refl
 
-    pub answer_unfit_graph : check_grammar g ≡ true → check_graph g h ≡ false → (Unfit ≡ replay_of g h text) × Exact g h text Unfit
+    pub answer_unfit_graph : check_grammar g ≡ true → check_graph g h ≡ false → ((Err Unfit) ≡ replay_of g h text) × Exact g h text (Err Unfit)
     unfolding fit_tables
     answer_unfit_graph e q = answered false _ (rw (e, q)) refl
 
-    pub answer_refused : Accepted g h → replay_text (grammar_of g) (graph_of g h) text ≡ false → (Refused ≡ replay_of g h text) × Exact g h text Refused
+    pub answer_refused : Accepted g h → replay_text (grammar_of g) (graph_of g h) text ≡ false → ((Err NoDerivation) ≡ replay_of g h text) × Exact g h text (Err NoDerivation)
     answer_refused a q = answered true false (accepted_fit a) q
 
-    pub answer_passed : Accepted g h → replay_text (grammar_of g) (graph_of g h) text ≡ true → (Passed ≡ replay_of g h text) × Exact g h text Passed
+    pub answer_passed : Accepted g h → replay_text (grammar_of g) (graph_of g h) text ≡ true → ((Ok tt) ≡ replay_of g h text) × Exact g h text (Ok tt)
     answer_passed a q = answered true true (accepted_fit a) q

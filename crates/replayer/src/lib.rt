@@ -19,12 +19,11 @@ ghost use Rattle.replayer.specs.Verdicts.{replay_of, Exact};
 
 mod fitting;
 
-// What a replay answers: the tables are refused (8), the file is no derivation of the graph (13), or it is one.
-#[derive(Clone, Copy)]
-pub enum Verdict {
+// Why a file does not pass: the tables are refused (8), or it is no derivation of the graph (13).
+#[derive(Clone, Copy, Debug, PartialEq, Eq)]
+pub enum ReplayError {
     Unfit,
-    Refused,
-    Passed,
+    NoDerivation,
 }
 
 // What a row says of an edge of its rule: it has no such edge, a graph edge, or an application for a symbol by its
@@ -211,18 +210,18 @@ pub fn passes(grammar: &[u64], graph: &[u64], text: &[u8]) -> bool
 }
 
 // Questions 8 and 13.
-pub fn replay(grammar: &[u64], graph: &[u64], text: &[u8]) -> Verdict
+pub fn replay(grammar: &[u64], graph: &[u64], text: &[u8]) -> Result<(), ReplayError>
     ensures { (result ≡ replay_of grammar.now graph.now text.now) × Exact grammar.now graph.now text.now result }
 {
     if !tables::checking::check_grammar(grammar) {
-        return Verdict::Unfit;
+        return Err(ReplayError::Unfit);
     }
     if !tables::checking::check_graph(grammar, graph) {
-        return Verdict::Unfit;
+        return Err(ReplayError::Unfit);
     }
     if passes(grammar, graph, text) {
-        Verdict::Passed
+        Ok(())
     } else {
-        Verdict::Refused
+        Err(ReplayError::NoDerivation)
     }
 }

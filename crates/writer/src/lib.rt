@@ -18,9 +18,8 @@ ghost use Rattle.writing.specs.Demand.{WriteChoices};
 ghost use Rattle.writer.specs.Delivering.{Leaves, delivered};
 
 use agenda::{ChartItem, Found};
-use charting::Outcome;
 use places::{NONE, PLACES};
-use writing::Answer;
+use writing::WriteError;
 
 // ---- question 11
 // The graph's external nodes in eight places, 64 where there is none.
@@ -66,18 +65,18 @@ fn find_goal(grammar: &[u64], graph: &[u64], chart: &[u64]) -> Found
 // ---- question 12
 // Writes a text that is a derivation of the graph, if the output holds it. It is replayed first: the chart's partners
 // are not trusted.
-fn deliver(grammar: &[u64], graph: &[u64], text: &[u8], out: &mut [u8]) -> Answer
+fn deliver(grammar: &[u64], graph: &[u64], text: &[u8], out: &mut [u8]) -> Result<u64, WriteError>
     requires { Accepted grammar.now graph.now }
     ensures { Leaves (delivered (grammar_of grammar.now) (graph_of grammar.now graph.now) text.now out.old) result out.new }
 {
     if !replayer::passes(grammar, graph, text) {
-        return Answer::Unfit;
+        return Err(WriteError::Unfit);
     }
     if out.len() < text.len() {
-        return Answer::NoRoom;
+        return Err(WriteError::NoRoom);
     }
     out[..text.len()].copy_from_slice(text);
-    Answer::Written(text.len() as u64)
+    Ok(text.len() as u64)
 }
 
 // The derivation of the passive item at place j, whose n applications are listed: there are more places for the sizes
@@ -90,7 +89,7 @@ fn write_listed<const SIZES: usize, const BYTES: usize>(
     list: &[u64],
     n: usize,
     out: &mut [u8],
-) -> Answer
+) -> Result<u64, WriteError>
     requires { Accepted grammar.now graph.now × ListedIn 4096 (listing (λ k. record_at chart.now k) (grammar_of grammar.now) 4096 (j ∷ [])) list.now n × (n ≤ length list.now) × (n < SIZES) × (SIZES ≤ 4104) × (74 * n + 6 ≤ BYTES) × (BYTES ≤ 303110) }
     ensures { Leaves (write_spelt (grammar_of grammar.now) (graph_of grammar.now graph.now) out.old (tree_at (λ k. record_at chart.now k) (grammar_of grammar.now) (graph_of grammar.now graph.now) 4096 j)) result out.new }
 {
@@ -102,7 +101,13 @@ fn write_listed<const SIZES: usize, const BYTES: usize>(
 }
 
 // The same of at most 4,096 applications, which are not listed yet.
-fn write_long(grammar: &[u64], graph: &[u64], chart: &[u64], j: u64, out: &mut [u8]) -> Answer
+fn write_long(
+    grammar: &[u64],
+    graph: &[u64],
+    chart: &[u64],
+    j: u64,
+    out: &mut [u8],
+) -> Result<u64, WriteError>
     requires { Accepted grammar.now graph.now }
     ensures { Leaves (write_spelt (grammar_of grammar.now) (graph_of grammar.now graph.now) out.old (tree_at (λ k. record_at chart.now k) (grammar_of grammar.now) (graph_of grammar.now graph.now) 4096 j)) result out.new }
 {
@@ -113,7 +118,13 @@ fn write_long(grammar: &[u64], graph: &[u64], chart: &[u64], j: u64, out: &mut [
 
 // The same of more than a short list holds. It is called at two places, so that the compiler does not put it in line
 // there: the pages of its long buffers would then be touched at every writing, the refused ones too.
-fn write_many(grammar: &[u64], graph: &[u64], chart: &[u64], j: u64, out: &mut [u8]) -> Answer
+fn write_many(
+    grammar: &[u64],
+    graph: &[u64],
+    chart: &[u64],
+    j: u64,
+    out: &mut [u8],
+) -> Result<u64, WriteError>
     requires { Accepted grammar.now graph.now }
     ensures { Leaves (write_spelt (grammar_of grammar.now) (graph_of grammar.now graph.now) out.old (tree_at (λ k. record_at chart.now k) (grammar_of grammar.now) (graph_of grammar.now graph.now) 4096 j)) result out.new }
 {
@@ -127,7 +138,13 @@ fn write_many(grammar: &[u64], graph: &[u64], chart: &[u64], j: u64, out: &mut [
 
 // The derivation of the passive item at place j. Most are short: a long buffer takes longer to clear than those take
 // to write.
-fn write_item(grammar: &[u64], graph: &[u64], chart: &[u64], j: u64, out: &mut [u8]) -> Answer
+fn write_item(
+    grammar: &[u64],
+    graph: &[u64],
+    chart: &[u64],
+    j: u64,
+    out: &mut [u8],
+) -> Result<u64, WriteError>
     requires { Accepted grammar.now graph.now }
     ensures { Leaves (write_spelt (grammar_of grammar.now) (graph_of grammar.now graph.now) out.old (tree_at (λ k. record_at chart.now k) (grammar_of grammar.now) (graph_of grammar.now graph.now) 4096 j)) result out.new }
 {
@@ -146,25 +163,31 @@ fn write_item(grammar: &[u64], graph: &[u64], chart: &[u64], j: u64, out: &mut [
 }
 
 // Questions 11 and 12.
-fn write_goal(grammar: &[u64], graph: &[u64], chart: &[u64], out: &mut [u8]) -> Answer
+fn write_goal(
+    grammar: &[u64],
+    graph: &[u64],
+    chart: &[u64],
+    out: &mut [u8],
+) -> Result<u64, WriteError>
     requires { Accepted grammar.now graph.now × (known_chart (grammar_of grammar.now) (graph_of grammar.now graph.now) chart.now ≡ true) }
     ensures { Leaves (write_goal (grammar_of grammar.now) (graph_of grammar.now graph.now) (λ k. record_at chart.now k) out.old (goal_in (grammar_of grammar.now) (graph_of grammar.now graph.now) (chart_of chart.now).records)) result out.new }
 {
     match find_goal(grammar, graph, chart) {
-        Found::Nowhere => Answer::Underivable,
+        Found::Nowhere => Err(WriteError::Underivable),
         Found::At(j) => write_item(grammar, graph, chart, j, out),
     }
 }
 
 // Questions 8 to 12: writes the derivation of the chart's goal, and leaves what lies behind it. Refusals change
 // nothing.
-pub fn write(grammar: &[u64], graph: &[u64], chart: &[u64], out: &mut [u8]) -> Answer
+pub fn write(
+    grammar: &[u64],
+    graph: &[u64],
+    chart: &[u64],
+    out: &mut [u8],
+) -> Result<u64, WriteError>
     ensures { (result ≡ (write_of grammar.now graph.now chart.now out.old).answer) × (out.new ≡ (write_of grammar.now graph.now chart.now out.old).out) × WriteChoices grammar.now graph.now chart.now out.old result out.new }
 {
-    match chart::standing(grammar, graph, chart) {
-        Outcome::Unfit => Answer::Unfit,
-        Outcome::TooSmall => Answer::TooSmall,
-        Outcome::Unfinished(k) => Answer::Unfinished(k),
-        Outcome::Done(_) => write_goal(grammar, graph, chart, out),
-    }
+    chart::standing(grammar, graph, chart)?;
+    write_goal(grammar, graph, chart, out)
 }
