@@ -1,5 +1,5 @@
 -- Start and run, call by call: a law for each way through the functions.
-use Rattle.std.specs.Prelude.{Ok, Err}
+use Rattle.std.specs.Prelude.{None, Ok, Err}
 use Prim.Native.Nat.{ℕ, ◌+◌, ◌≤◌}
 use mathlib.Core.Path.{◌≡◌, refl, sym, ap, ◌∙◌, subst}
 use mathlib.Core.Bool.{Bool, true, false, ◌&&◌, cond}
@@ -8,7 +8,6 @@ use native.Mathlib.Omega.{arith}
 use lib.ListN.{length, get_or}
 use borrow.Author.Tests.{eq-eqb, ne_eqb}
 use Rattle.agenda.specs.declared.Record.{Record}
-use Rattle.agenda.specs.declared.Found.TheVariants.{Nowhere}
 use Rattle.agenda.specs.Steps.{least_waiting, handled_count, run_chart, start_chart, sum_of}
 use Rattle.questions.specs.Checking.{check_grammar, check_graph}
 use Rattle.questions.specs.Abstract.{grammar_of, graph_of}
@@ -125,11 +124,11 @@ module _ (w : List ℕ) (m : ℕ) (mark : m ≡ get_or w 1 0) where
         outcome_by (Err (Unfinished d)) (ap (λ k. Err (Unfinished k)) steps ∙ ap (when_waiting (handled_count rs)) (sym at))
 
   -- where no step is left all are handled
-  pub outcome_idle : (n : ℕ) → m ≡ 0 → n ≡ item_count w → next_in (chart_of w) ≡ Nowhere → Ok n ≡ answer_of (chart_of w)
+  pub outcome_idle : (n : ℕ) → m ≡ 0 → n ≡ item_count w → next_in (chart_of w) ≡ None → Ok n ≡ answer_of (chart_of w)
   unfolding next_in chart_of
   outcome_idle n clear number idle =
       let rs = records_at w (item_count w) in
-      let least : least_waiting rs (length rs) ≡ Nowhere = ap (λ (b : Bool). cond b (least_waiting rs (length rs)) Nowhere) (sym (eq-eqb (get_or w 1 0) 0 (sym mark ∙ clear))) ∙ idle in
+      let least : least_waiting rs (length rs) ≡ None = ap (λ (b : Bool). cond b (least_waiting rs (length rs)) None) (sym (eq-eqb (get_or w 1 0) 0 (sym mark ∙ clear))) ∙ idle in
       let all : handled_count rs ≡ n = idle_counted rs least ∙ length_records w (item_count w) ∙ sym number in
       ap Ok (sym all) ∙ outcome_done n (handled_count rs) clear number refl all
 

@@ -2,8 +2,7 @@
 
 #![tactic(auto)]
 
-ghost use Rattle.std.specs.Prelude.{◌≡◌, true};
-ghost use Rattle.agenda.specs.declared.Found.TheVariants.{Nowhere};
+ghost use Rattle.std.specs.Prelude.{None, ◌≡◌, true};
 ghost use Rattle.agenda.specs.Steps.{handled_count};
 ghost use Rattle.records.specs.Words.{item_count, records_at, chart_of};
 ghost use Rattle.steps.specs.Runs.{next_in};
@@ -57,7 +56,7 @@ fn outcome_of(chart: &[u64], done: u64) -> Result<u64, Unready>
 
 // The same, where `all` only if no step is left: then the records need not be counted.
 fn outcome_after(chart: &[u64], all: bool) -> Result<u64, Unready>
-    requires { all ≡ true → next_in (chart_of chart.now) ≡ Nowhere }
+    requires { all ≡ true → next_in (chart_of chart.now) ≡ None }
     ensures { result ≡ answer_of (chart_of chart.now) }
 {
     let n = records::item_count(chart);

@@ -1,6 +1,6 @@
 -- What the answers say: 9 of a marked chart, 10 where something waits, done where nothing does; the steps are the
 -- handled records.
-use Rattle.std.specs.Prelude.{Ok, Err}
+use Rattle.std.specs.Prelude.{Option, Some, None, Ok, Err}
 use mathlib.Core.Path.{◌≡◌, refl, sym, ap, ◌∙◌}
 use mathlib.Core.Logic.{◌≢◌}
 use mathlib.Core.Bool.{Bool, cond}
@@ -9,33 +9,31 @@ use native.Mathlib.Omega.{arith}
 use lib.ListN.{length}
 use lib.Dec.{eqb}
 use borrow.Author.Tests.{eq-eqb, ne_eqb, eqb-true, eqb-false}
-use Rattle.agenda.specs.declared.Found.{Found}
-use Rattle.agenda.specs.declared.Found.TheVariants.{At, Nowhere}
 use Rattle.agenda.specs.Steps.{Chart, least_waiting, handled_count}
 use Rattle.agenda.proofs.Adding.{cond_by}
 use Rattle.charting.specs.Calls.{number_of, steps_of, when_waiting, answer_of, start_answer, Outcome}
 use Rattle.charting.specs.declared.Unready.TheVariants.{TooSmall}
 
 -- ---- by what waits
-waiting_steps : (k : ℕ) (f : Found) → steps_of (when_waiting k f) ≡ k
-waiting_steps k Nowhere = refl
-waiting_steps k (At j) = refl
+waiting_steps : (k : ℕ) (f : Option ℕ) → steps_of (when_waiting k f) ≡ k
+waiting_steps k None = refl
+waiting_steps k (Some j) = refl
 
-waiting_done : (k : ℕ) (f : Found) → number_of (when_waiting k f) ≡ 0 → f ≡ Nowhere
-waiting_done k Nowhere e = refl
-waiting_done k (At j) e = absurd (omega arith)
+waiting_done : (k : ℕ) (f : Option ℕ) → number_of (when_waiting k f) ≡ 0 → f ≡ None
+waiting_done k None e = refl
+waiting_done k (Some j) e = absurd (omega arith)
 
-waiting_ten : (k : ℕ) (f : Found) → number_of (when_waiting k f) ≡ 10 → f ≢ Nowhere
-waiting_ten k Nowhere e q = absurd (omega arith)
-waiting_ten k (At j) e q = let z : ◌≡◌ {A = ℕ} 0 1 = cc in omega arith
+waiting_ten : (k : ℕ) (f : Option ℕ) → number_of (when_waiting k f) ≡ 10 → f ≢ None
+waiting_ten k None e q = absurd (omega arith)
+waiting_ten k (Some j) e q = let z : ◌≡◌ {A = ℕ} 0 1 = cc in omega arith
 
-waiting_numbers : (k : ℕ) (f : Found) (n : ℕ) → n ≢ 0 → n ≢ 10 → number_of (when_waiting k f) ≢ n
-waiting_numbers k Nowhere n a b e = a (sym e)
-waiting_numbers k (At j) n a b e = b (sym e)
+waiting_numbers : (k : ℕ) (f : Option ℕ) (n : ℕ) → n ≢ 0 → n ≢ 10 → number_of (when_waiting k f) ≢ n
+waiting_numbers k None n a b e = a (sym e)
+waiting_numbers k (Some j) n a b e = b (sym e)
 
 -- ---- a run's answer
 module _ (c : Chart) where
-  abbrev next : Found
+  abbrev next : Option ℕ
   next = least_waiting c.records (length c.records)
 
   abbrev waiting : Outcome
@@ -68,11 +66,11 @@ module _ (c : Chart) where
   pub answer_steps : c.mark ≡ 0 → steps_of (answer_of c) ≡ handled_count c.records
   answer_steps m = ap steps_of (answer_waiting m) ∙ waiting_steps (handled_count c.records) next
 
-  pub answer_done : number_of (answer_of c) ≡ 0 → (c.mark ≡ 0) × (next ≡ Nowhere)
-  answer_done = answer_by_is (λ a. number_of a ≡ 0 → (c.mark ≡ 0) × (next ≡ Nowhere)) (λ m e. (m, waiting_done (handled_count c.records) next e)) (λ m e. absurd (omega arith))
+  pub answer_done : number_of (answer_of c) ≡ 0 → (c.mark ≡ 0) × (next ≡ None)
+  answer_done = answer_by_is (λ a. number_of a ≡ 0 → (c.mark ≡ 0) × (next ≡ None)) (λ m e. (m, waiting_done (handled_count c.records) next e)) (λ m e. absurd (omega arith))
 
-  pub answer_ten : number_of (answer_of c) ≡ 10 → (c.mark ≡ 0) × (next ≢ Nowhere)
-  answer_ten = answer_by_is (λ a. number_of a ≡ 10 → (c.mark ≡ 0) × (next ≢ Nowhere)) (λ m e. (m, waiting_ten (handled_count c.records) next e)) (λ m e. absurd (omega arith))
+  pub answer_ten : number_of (answer_of c) ≡ 10 → (c.mark ≡ 0) × (next ≢ None)
+  answer_ten = answer_by_is (λ a. number_of a ≡ 10 → (c.mark ≡ 0) × (next ≢ None)) (λ m e. (m, waiting_ten (handled_count c.records) next e)) (λ m e. absurd (omega arith))
 
 -- ---- a start's answer
 module _ (c : Chart) where

@@ -1,6 +1,6 @@
 -- The run part of demand 3, over what start and run leave: every start that passes question 8, and every list of runs
 -- after it.
-use Rattle.std.specs.Prelude.{Ok, Err}
+use Rattle.std.specs.Prelude.{Option, Ok, Err}
 use mathlib.Core.Path.{◌≡◌, refl, sym, ap, ◌∙◌, subst}
 use mathlib.Core.Bool.{true}
 use mathlib.Core.List.{List, [], ◌∷◌, ◌++◌}
@@ -9,7 +9,6 @@ use lib.ListN.{length}
 use Rattle.hrg.specs.Items.{Item, closure}
 use Rattle.hrg.specs.Agenda.{Closure}
 use Rattle.hrg.specs.WellFormed.{GrammarOk, GraphOk}
-use Rattle.agenda.specs.declared.Found.{Found}
 use Rattle.agenda.specs.Steps.{Chart, run_chart, runs_chart, start_chart, handled_count, sum_of}
 use Rattle.agenda.proofs.Runs.{runs_last, sum_last, start_none}
 use Rattle.agenda.proofs.RunFacts.{runs_correct, marked_small, full_run, waiting_more, done_size, steps_most, start_waits}
@@ -143,6 +142,6 @@ module _ (g h w : List ℕ) (e : fit g h w ≡ true) where
       let m : c.mark ≡ 0 = start_answer_done c (ap number_of (sym (start_answer_is g h w e) ∙ s)) in
       let (j, f) = start_waits (grammar_of g) (graph_of g h) ok good (capacity w) most m in
       let a : answer_of c ≡ Err (Unfinished 0) =
-      answer_waiting c m ∙ ap (λ (q : Found). when_waiting (handled_count c.records) q) f ∙ ap (λ k. Err (Unfinished k)) (start_none (grammar_of g) (graph_of g h) (capacity w)) in
+      answer_waiting c m ∙ ap (λ (q : Option ℕ). when_waiting (handled_count c.records) q) f ∙ ap (λ k. Err (Unfinished k)) (start_none (grammar_of g) (graph_of g h) (capacity w)) in
       run_zero g h (start_of g h w).words (start_fit g h w e)
       ∙ ap (λ (o : Outcome). record { answer = o; words = (start_of g h w).words }) (ap answer_of (start_chart_is g h w e) ∙ a)

@@ -1,4 +1,5 @@
 -- A record waits exactly where not all of them are handled.
+use Rattle.std.specs.Prelude.{Option, Some, None}
 use mathlib.Core.Path.{◌≡◌, refl, ap}
 use mathlib.Core.Bool.{Bool, true, false}
 use mathlib.Core.List.{List, [], ◌∷◌}
@@ -10,8 +11,6 @@ use Rattle.agenda.specs.Records.{is_handled}
 use Rattle.agenda.specs.Consequences.{record_in}
 use Rattle.agenda.specs.Steps.{least_waiting, handled_count}
 use Rattle.agenda.specs.declared.Record.{Record}
-use Rattle.agenda.specs.declared.Found.{Found}
-use Rattle.agenda.specs.declared.Found.TheVariants.{At, Nowhere}
 use Rattle.agenda.proofs.Growth.{count_le}
 use Rattle.agenda.proofs.Choice.{Chosen, waits, nothing, chosen}
 
@@ -39,27 +38,27 @@ less_counted (x ∷ rs) (suc k) l e = go (is_handled x) (less_counted rs k (omeg
     go false h = omega arith
 
 module _ (rs : List Record) where
-  pub none_waits : handled_count rs ≡ length rs → least_waiting rs (length rs) ≡ Nowhere
+  pub none_waits : handled_count rs ≡ length rs → least_waiting rs (length rs) ≡ None
   none_waits e = go (least_waiting rs (length rs)) (chosen rs (length rs))
     where
-      go : (f : Found) → Chosen rs (length rs) f → f ≡ Nowhere
-      go Nowhere (nothing h) = refl
-      go (At j) (waits l w h) = absurd (omega (arith, less_counted rs j l w))
+      go : (f : Option ℕ) → Chosen rs (length rs) f → f ≡ None
+      go None (nothing h) = refl
+      go (Some j) (waits l w h) = absurd (omega (arith, less_counted rs j l w))
 
-  pub some_waits : (handled_count rs ≡ length rs → ⊥) → (j : ℕ) × (least_waiting rs (length rs) ≡ At j)
+  pub some_waits : (handled_count rs ≡ length rs → ⊥) → (j : ℕ) × (least_waiting rs (length rs) ≡ Some j)
   some_waits n = go (least_waiting rs (length rs)) (chosen rs (length rs))
     where
-      go : (f : Found) → Chosen rs (length rs) f → (j : ℕ) × (f ≡ At j)
-      go Nowhere (nothing h) = absurd (n (all_counted rs h))
-      go (At j) (waits l w h) = (j, refl)
+      go : (f : Option ℕ) → Chosen rs (length rs) f → (j : ℕ) × (f ≡ Some j)
+      go None (nothing h) = absurd (n (all_counted rs h))
+      go (Some j) (waits l w h) = (j, refl)
 
-  pub idle_counted : least_waiting rs (length rs) ≡ Nowhere → handled_count rs ≡ length rs
+  pub idle_counted : least_waiting rs (length rs) ≡ None → handled_count rs ≡ length rs
   idle_counted e = go (least_waiting rs (length rs)) (chosen rs (length rs)) e
     where
-      some : Found → ℕ
-      some Nowhere = 0
-      some (At j) = 1
+      some : Option ℕ → ℕ
+      some None = 0
+      some (Some j) = 1
 
-      go : (f : Found) → Chosen rs (length rs) f → f ≡ Nowhere → handled_count rs ≡ length rs
-      go Nowhere (nothing h) n = all_counted rs h
-      go (At j) (waits l w h) n = absurd (omega (arith, ap some n))
+      go : (f : Option ℕ) → Chosen rs (length rs) f → f ≡ None → handled_count rs ≡ length rs
+      go None (nothing h) n = all_counted rs h
+      go (Some j) (waits l w h) n = absurd (omega (arith, ap some n))

@@ -1,7 +1,5 @@
 -- What start and run answer and leave in the lent words, for every input, and a list of runs after a start.
-use Rattle.std.specs.Prelude.{Bool, ◌&&◌, cond, List, [], ◌∷◌, ℕ, length, eqb, Result, Ok, Err}
-use Rattle.agenda.specs.declared.Found.{Found}
-use Rattle.agenda.specs.declared.Found.TheVariants.{At, Nowhere}
+use Rattle.std.specs.Prelude.{Option, Some, None, Bool, ◌&&◌, cond, List, [], ◌∷◌, ℕ, length, eqb, Result, Ok, Err}
 use Rattle.agenda.specs.Steps.{Chart, least_waiting, run_chart, start_chart, handled_count}
 use Rattle.questions.specs.Checking.{check_grammar, check_graph}
 use Rattle.questions.specs.Abstract.{grammar_of, graph_of}
@@ -42,9 +40,9 @@ unfolding fit
 fit_chart g h w = fit g h w && known_chart (grammar_of g) (graph_of g h) w
 
 -- questions 9 and 10, by what stands in the chart: its mark, and whether something waits
-abbrev pub when_waiting : ℕ → Found → Outcome
-when_waiting k Nowhere = Ok k
-when_waiting k (At j) = Err (Unfinished k)
+abbrev pub when_waiting : ℕ → Option ℕ → Outcome
+when_waiting k None = Ok k
+when_waiting k (Some j) = Err (Unfinished k)
 
 unfoldable pub answer_of : Chart → Outcome
 unfolding least_waiting handled_count

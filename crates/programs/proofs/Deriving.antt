@@ -1,5 +1,5 @@
 -- `derive` on tables that pass question 8: each of its answers means what 01 says.
-use Rattle.std.specs.Prelude.{Ok, Err}
+use Rattle.std.specs.Prelude.{None, Ok, Err}
 use mathlib.Core.Path.{◌≡◌, refl, sym, ap, ◌∙◌, subst}
 use mathlib.Core.Bool.{Bool, true, false, cond}
 use mathlib.Core.List.{List, [], ◌∷◌, ◌++◌}
@@ -15,7 +15,6 @@ use Rattle.hrg.specs.Agenda.{Closure}
 use Rattle.hrg.proofs.ClosureAgenda.{closure_finite}
 use Rattle.agenda.specs.Consequences.{record_in}
 use Rattle.agenda.specs.Steps.{Chart, least_waiting, start_chart, runs_chart, sum_of}
-use Rattle.agenda.specs.declared.Found.TheVariants.{Nowhere}
 use Rattle.questions.specs.Abstract.{grammar_of, graph_of}
 use Rattle.records.specs.Words.{capacity, item_count, record_at, chart_of}
 use Rattle.records.proofs.WordLaws.{length_records, record_in_lem}
@@ -68,7 +67,7 @@ module _ (g h w : List ℕ) (e : fit g h w ≡ true) (k : ℕ) where
         ∙ sym (ap (λ (d : Called). d.answer) (run_is g h (start_of g h w).words k (start_fit g h w e)))
         ∙ ran
 
-    done : (c.mark ≡ 0) × (least_waiting c.records (length c.records) ≡ Nowhere)
+    done : (c.mark ≡ 0) × (least_waiting c.records (length c.records) ≡ None)
     done = answer_done c (ap number_of answers)
 
     searches : (out : List ℕ) → write_of g h v out ≡ write_goal G H (λ j. record_at v j) out (goal_in G H c.records)

@@ -1,5 +1,5 @@
 -- A law for each way through the functions that deliver a text.
-use Rattle.std.specs.Prelude.{Ok, Err}
+use Rattle.std.specs.Prelude.{Option, Some, None, Ok, Err}
 use mathlib.Core.Path.{◌≡◌, refl, sym, ap, ◌∙◌, subst}
 use mathlib.Core.Bool.{Bool, true, false, cond}
 use mathlib.Core.List.{List, [], ◌∷◌, ◌++◌}
@@ -11,8 +11,6 @@ use lib.Seq.{take_all}
 use borrow.Author.Tests.{le-leb, lt-leb}
 use Rattle.hrg.specs.Grammars.{Graph, Grammar}
 use Rattle.agenda.specs.declared.Record.{Record}
-use Rattle.agenda.specs.declared.Found.{Found}
-use Rattle.agenda.specs.declared.Found.TheVariants.{At, Nowhere}
 use Rattle.scripts.specs.Scripts.{rows_text}
 use Rattle.scripts.proofs.ScriptReading.{script_missing_at}
 use Rattle.preorder.specs.Rows.{size, rows_of}
@@ -105,12 +103,12 @@ module _ (look : ℕ → Record) (G : Grammar) (H : Graph) (j : ℕ) where
       subst (λ (x : Wrote). Leaves x a now) (ap (λ (t : List ℕ). delivered G H t out) e ∙ spelt_text out) l
 
 -- ---- the goal
-pub goal_missing : (G : Grammar) (H : Graph) (look : ℕ → Record) (out : List ℕ) (f : Found) → Nowhere ≡ f → Leaves (write_goal G H look out f) (Err Underivable) out
-goal_missing G H look out f e = subst (λ (x : Found). Leaves (write_goal G H look out x) (Err Underivable) out) e (record { answer = refl; bytes = refl })
+pub goal_missing : (G : Grammar) (H : Graph) (look : ℕ → Record) (out : List ℕ) (f : Option ℕ) → None ≡ f → Leaves (write_goal G H look out f) (Err Underivable) out
+goal_missing G H look out f e = subst (λ (x : Option ℕ). Leaves (write_goal G H look out x) (Err Underivable) out) e (record { answer = refl; bytes = refl })
 
-pub goal_found : (G : Grammar) (H : Graph) (look : ℕ → Record) (out now : List ℕ) (a : Answer) (f : Found) (j : ℕ) → At j ≡ f → Leaves (write_spelt G H out (tree_at look G H 4096 j)) a now
+pub goal_found : (G : Grammar) (H : Graph) (look : ℕ → Record) (out now : List ℕ) (a : Answer) (f : Option ℕ) (j : ℕ) → Some j ≡ f → Leaves (write_spelt G H out (tree_at look G H 4096 j)) a now
     → Leaves (write_goal G H look out f) a now
-goal_found G H look out now a f j e l = subst (λ (x : Found). Leaves (write_goal G H look out x) a now) e l
+goal_found G H look out now a f j e l = subst (λ (x : Option ℕ). Leaves (write_goal G H look out x) a now) e l
 
 -- ---- the whole writing
 module _ (g h w out : List ℕ) (o : Outcome) (stands : o ≡ standing_of g h w) where

@@ -1,4 +1,5 @@
 -- The record of the goal, and the search for it.
+use Rattle.std.specs.Prelude.{Option}
 use mathlib.Core.Path.{◌≡◌, refl, sym, ap, ◌∙◌}
 use mathlib.Core.List.{List}
 use mathlib.Core.Bool.{Bool, true, false}
@@ -19,7 +20,6 @@ use Rattle.agenda.specs.Steps.{with_count, last_same}
 use Rattle.agenda.specs.declared.ChartItem.{ChartItem}
 use Rattle.agenda.specs.declared.Record.{Record}
 use Rattle.agenda.proofs.Records.{Fitting, item_of_lem, to_test, bare_item_of, same_bare, bare_same}
-use Rattle.agenda.specs.declared.Found.{Found}
 use Rattle.questions.specs.Layout.{rank_at, start_symbol, graph_edges, graph_external}
 use Rattle.questions.specs.Abstract.{grammar_of, graph_of}
 use Rattle.questions.proofs.WellFormedLists.{length_build}
@@ -112,7 +112,7 @@ module _ (g h : List ℕ) (a : Accepted g h) where
       let good = checked_graph_ok g h a.grammar a.graph in
       (good.side.externals.ranked, omega (arith, (ok.symbol (grammar_of g).start ok.start_known).upper))
 
-  pub found_goal : (w : List ℕ) (n : ℕ) (x : ChartItem) (f : Found) → known_chart (grammar_of g) (graph_of g h) w ≡ true → n ≡ item_count w
+  pub found_goal : (w : List ℕ) (n : ℕ) (x : ChartItem) (f : Option ℕ) → known_chart (grammar_of g) (graph_of g h) w ≡ true → n ≡ item_count w
       → x ≡ chart_item (goal (grammar_of g) (graph_of g h)) 0 → f ≡ last_same x (records_at w n) n → f ≡ goal_in (grammar_of g) (graph_of g h) (chart_of w).records
   unfolding goal_in chart_of
   found_goal w n x f known p q e =

@@ -17,7 +17,7 @@ ghost use Rattle.writing.specs.Writing.{write_spelt, goal_in, write_goal, write_
 ghost use Rattle.writing.specs.Demand.{WriteChoices};
 ghost use Rattle.writer.specs.Delivering.{Leaves, delivered};
 
-use agenda::{ChartItem, Found};
+use agenda::ChartItem;
 use places::{NONE, PLACES};
 use writing::WriteError;
 
@@ -53,7 +53,7 @@ fn goal_item(grammar: &[u64], graph: &[u64]) -> ChartItem
 
 // The place of the goal among the items of a chart that passed question 8: there a record is the image of its item,
 // so that the words tell.
-fn find_goal(grammar: &[u64], graph: &[u64], chart: &[u64]) -> Found
+fn find_goal(grammar: &[u64], graph: &[u64], chart: &[u64]) -> Option<u64>
     requires { Accepted grammar.now graph.now × (known_chart (grammar_of grammar.now) (graph_of grammar.now graph.now) chart.now ≡ true) }
     ensures { result ≡ goal_in (grammar_of grammar.now) (graph_of grammar.now graph.now) (chart_of chart.now).records }
 {
@@ -173,8 +173,8 @@ fn write_goal(
     ensures { Leaves (write_goal (grammar_of grammar.now) (graph_of grammar.now graph.now) (λ k. record_at chart.now k) out.old (goal_in (grammar_of grammar.now) (graph_of grammar.now graph.now) (chart_of chart.now).records)) result out.new }
 {
     match find_goal(grammar, graph, chart) {
-        Found::Nowhere => Err(WriteError::Underivable),
-        Found::At(j) => write_item(grammar, graph, chart, j, out),
+        None => Err(WriteError::Underivable),
+        Some(j) => write_item(grammar, graph, chart, j, out),
     }
 }
 

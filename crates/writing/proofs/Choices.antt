@@ -1,6 +1,6 @@
 -- What holds of the derivation that a writing chose: it derives the graph, whatever the chart, and is a fewest one on
 -- a chart untouched since a start.
-use Rattle.std.specs.Prelude.{Ok, Err}
+use Rattle.std.specs.Prelude.{Option, Some, None, Ok, Err}
 use mathlib.Core.Path.{◌≡◌, refl, sym, ap, ◌∙◌, subst}
 use mathlib.Core.Logic.{◌≢◌, ◌⊎◌, inl, inr}
 use mathlib.Core.List.{List, ◌++◌}
@@ -12,8 +12,6 @@ use lib.Seq.{take_at, drop_at}
 use Rattle.hrg.specs.Trees.{Tree}
 use Rattle.agenda.specs.Steps.{least_waiting}
 use Rattle.agenda.specs.declared.Record.{Record}
-use Rattle.agenda.specs.declared.Found.{Found}
-use Rattle.agenda.specs.declared.Found.TheVariants.{At, Nowhere}
 use Rattle.agenda.proofs.Choice.{Chosen, waits, nothing, chosen}
 use Rattle.questions.specs.Abstract.{grammar_of, graph_of}
 use Rattle.records.specs.Words.{capacity, chart_of}
@@ -32,9 +30,9 @@ use Rattle.writing.proofs.Demand.{demand_3}
 left_or_none : (rs : List Record) → SomeLeft rs ⊎ AllHandled rs
 left_or_none rs = go (least_waiting rs (length rs)) (chosen rs (length rs))
   where
-    go : (f : Found) → Chosen rs (length rs) f → SomeLeft rs ⊎ AllHandled rs
-    go Nowhere (nothing h) = inr h
-    go (At j) (waits l w h) = inl (record { at = j; known = l; waits = w })
+    go : (f : Option ℕ) → Chosen rs (length rs) f → SomeLeft rs ⊎ AllHandled rs
+    go None (nothing h) = inr h
+    go (Some j) (waits l w h) = inl (record { at = j; known = l; waits = w })
 
 module _ (g h w out : List ℕ) where
   module _ (n : ℕ) (e : (write_of g h w out).answer ≡ Ok n) where

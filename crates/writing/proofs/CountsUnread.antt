@@ -1,5 +1,5 @@
 -- The writer reads no count: charts that differ in counts alone get the same answer and the same bytes.
-use Rattle.std.specs.Prelude.{Err}
+use Rattle.std.specs.Prelude.{Option, Some, None, Err}
 use mathlib.Core.Path.{◌≡◌, refl, sym, ap, ap₂, ◌∙◌, fun_ext}
 use mathlib.Core.Bool.{Bool, true, false, ◌&&◌, cond}
 use mathlib.Core.List.{List, [], ◌∷◌, ◌++◌}
@@ -16,8 +16,6 @@ use Rattle.agenda.specs.Records.{item_of, is_handled}
 use Rattle.agenda.specs.Consequences.{record_in}
 use Rattle.agenda.specs.Steps.{least_waiting, handled_count}
 use Rattle.agenda.specs.declared.Record.{Record}
-use Rattle.agenda.specs.declared.Found.{Found}
-use Rattle.agenda.specs.declared.Found.TheVariants.{At, Nowhere}
 use Rattle.agenda.proofs.Choice.{Chosen, waits, nothing, chosen}
 use Rattle.questions.specs.Abstract.{grammar_of, graph_of}
 use Rattle.joins.proofs.MapLaws.{every_same}
@@ -93,11 +91,11 @@ waiting_same k rs ss n same = go (least_waiting rs n) (chosen rs n) (least_waiti
     apart : true ≡ false → ⊥
     apart z = let y : ◌≡◌ {A = ℕ} 0 1 = cc in omega (arith, y)
 
-    go : (f : Found) → Chosen rs n f → (e : Found) → Chosen ss n e → when_waiting k f ≡ when_waiting k e
-    go Nowhere (nothing all) Nowhere (nothing every) = refl
-    go (At i) (waits l w m) (At j) (waits l₁ w₁ m₁) = refl
-    go Nowhere (nothing all) (At j) (waits l w m) = absurd (apart (sym (all j l) ∙ same j l ∙ w))
-    go (At i) (waits l w m) Nowhere (nothing every) = absurd (apart (sym (every i l) ∙ sym (same i l) ∙ w))
+    go : (f : Option ℕ) → Chosen rs n f → (e : Option ℕ) → Chosen ss n e → when_waiting k f ≡ when_waiting k e
+    go None (nothing all) None (nothing every) = refl
+    go (Some i) (waits l w m) (Some j) (waits l₁ w₁ m₁) = refl
+    go None (nothing all) (Some j) (waits l w m) = absurd (apart (sym (all j l) ∙ same j l ∙ w))
+    go (Some i) (waits l w m) None (nothing every) = absurd (apart (sym (every i l) ∙ sym (same i l) ∙ w))
 
 last_same_lem : (G : Grammar) (i : Item) (rs ss : List Record) (n : ℕ)
     → ((j : ℕ) → j < n → same_item (item_of G (record_in rs j).item) i ≡ same_item (item_of G (record_in ss j).item) i) → last_of G i rs n ≡ last_of G i ss n
@@ -182,6 +180,6 @@ module _ (w v : List ℕ) (s : SameButCounts w v) where
         ap₂ (λ (o : Outcome) (x : Wrote). write_by o out x) same_standing
         (go (goal_in G H (chart_of w).records) ∙ ap (write_goal G H (λ j. record_at v j) out) same_goal)
       where
-        go : (f : Found) → write_goal (grammar_of g) (graph_of g h) (λ j. record_at w j) out f ≡ write_goal (grammar_of g) (graph_of g h) (λ j. record_at v j) out f
-        go Nowhere = refl
-        go (At j) = ap (write_spelt (grammar_of g) (graph_of g h) out) (same_tree j)
+        go : (f : Option ℕ) → write_goal (grammar_of g) (graph_of g h) (λ j. record_at w j) out f ≡ write_goal (grammar_of g) (graph_of g h) (λ j. record_at v j) out f
+        go None = refl
+        go (Some j) = ap (write_spelt (grammar_of g) (graph_of g h) out) (same_tree j)

@@ -1,5 +1,5 @@
 -- Demand 3: one theorem over any list of calls after a start that passes question 8.
-use Rattle.std.specs.Prelude.{Ok, Err}
+use Rattle.std.specs.Prelude.{Option, Some, None, Ok, Err}
 use mathlib.Core.Path.{◌≡◌, refl, sym, ap, ◌∙◌, subst}
 use mathlib.Core.Logic.{◌≢◌, ◌↔◌}
 use mathlib.Core.Bool.{true, false}
@@ -15,8 +15,6 @@ use Rattle.hrg.proofs.ClosureAgenda.{closure_finite}
 use Rattle.agenda.specs.Consequences.{record_in}
 use Rattle.agenda.specs.Steps.{Chart, least_waiting, start_chart, runs_chart, handled_count, sum_of}
 use Rattle.agenda.specs.declared.Record.{Record}
-use Rattle.agenda.specs.declared.Found.{Found}
-use Rattle.agenda.specs.declared.Found.TheVariants.{At, Nowhere}
 use Rattle.agenda.proofs.Choice.{Chosen, waits, nothing, chosen}
 use Rattle.agenda.proofs.RunFacts.{runs_correct, marked_small, done_size}
 use Rattle.questions.specs.Abstract.{grammar_of, graph_of}
@@ -61,23 +59,23 @@ given_sum (write out ∷ cs) = given_sum cs
 given_sum (fill former ∷ cs) = given_sum cs
 
 -- ---- what is left
-pub nothing_left : (rs : List Record) → AllHandled rs → least_waiting rs (length rs) ≡ Nowhere
+pub nothing_left : (rs : List Record) → AllHandled rs → least_waiting rs (length rs) ≡ None
 nothing_left rs all = go (least_waiting rs (length rs)) (chosen rs (length rs))
   where
-    go : (f : Found) → Chosen rs (length rs) f → f ≡ Nowhere
-    go Nowhere (nothing h) = refl
-    go (At j) (waits l w h) = let z : true ≡ false = sym (all j l) ∙ w in absurd (let y : ◌≡◌ {A = ℕ} 0 1 = cc in omega (arith, y))
+    go : (f : Option ℕ) → Chosen rs (length rs) f → f ≡ None
+    go None (nothing h) = refl
+    go (Some j) (waits l w h) = let z : true ≡ false = sym (all j l) ∙ w in absurd (let y : ◌≡◌ {A = ℕ} 0 1 = cc in omega (arith, y))
 
 pub record Waits (rs : List Record) : Type 0 where
   pub at : ℕ
-  pub found : least_waiting rs (length rs) ≡ At at
+  pub found : least_waiting rs (length rs) ≡ Some at
 
 pub some_left : (rs : List Record) → SomeLeft rs → Waits rs
 some_left rs s = go (least_waiting rs (length rs)) refl (chosen rs (length rs))
   where
-    go : (f : Found) → least_waiting rs (length rs) ≡ f → Chosen rs (length rs) f → Waits rs
-    go Nowhere e (nothing h) = let z : true ≡ false = sym (h s.at s.known) ∙ s.waits in absurd (let y : ◌≡◌ {A = ℕ} 0 1 = cc in omega (arith, y))
-    go (At j) e (waits l w h) = record { at = j; found = e }
+    go : (f : Option ℕ) → least_waiting rs (length rs) ≡ f → Chosen rs (length rs) f → Waits rs
+    go None e (nothing h) = let z : true ≡ false = sym (h s.at s.known) ∙ s.waits in absurd (let y : ◌≡◌ {A = ℕ} 0 1 = cc in omega (arith, y))
+    go (Some j) e (waits l w h) = record { at = j; found = e }
 
 -- ---- from a start on, with the runs ks
 module _ (g h w : List ℕ) (e : fit g h w ≡ true) (ks : List ℕ) where

@@ -1,5 +1,5 @@
 -- A row of records is filled with the same derivation whose text is written: on any words, for any row.
-use Rattle.std.specs.Prelude.{Ok, Err}
+use Rattle.std.specs.Prelude.{Option, Some, None, Ok, Err}
 use mathlib.Core.Path.{◌≡◌, refl, ap, ◌∙◌, subst}
 use mathlib.Core.Logic.{◌≢◌}
 use mathlib.Core.Bool.{Bool, true, false, cond}
@@ -14,8 +14,6 @@ use Rattle.hrg.specs.Trees.{Tree, Parts, apply, end, edge, tree, images, FitsRul
 use Rattle.hrg.specs.WellFormed.{GrammarOk, GraphOk}
 use Rattle.hrg.proofs.Degrees.{T_test}
 use Rattle.agenda.specs.declared.Record.{Record}
-use Rattle.agenda.specs.declared.Found.{Found}
-use Rattle.agenda.specs.declared.Found.TheVariants.{At, Nowhere}
 use Rattle.questions.specs.Abstract.{grammar_of, graph_of}
 use Rattle.records.specs.Words.{record_at, chart_of}
 use Rattle.charting.specs.Calls.{fit, standing_of, Outcome}
@@ -44,9 +42,9 @@ module _ (G : Grammar) (H : Graph) (out : List ℕ) where
       go true = refl
       go false = refl
 
-  write_goal_is : (look : ℕ → Record) (f : Found) → write_goal G H look out f ≡ write_by (chosen_goal G H look f) out
-  write_goal_is look Nowhere = refl
-  write_goal_is look (At j) = write_spelt_is (tree_at look G H 4096 j)
+  write_goal_is : (look : ℕ → Record) (f : Option ℕ) → write_goal G H look out f ≡ write_by (chosen_goal G H look f) out
+  write_goal_is look None = refl
+  write_goal_is look (Some j) = write_spelt_is (tree_at look G H 4096 j)
 
   write_standing : (o : Outcome) (x : Wrote) (c : Choice) → x ≡ write_by c out → writeStanding o out x ≡ write_by (chosen_by o c) out
   write_standing (Err UnfitChart) x c e = refl

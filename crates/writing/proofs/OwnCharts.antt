@@ -1,6 +1,6 @@
 -- A writing on the program's own charts: with nothing left it writes a tree with the fewest applications, or says
 -- that there is none.
-use Rattle.std.specs.Prelude.{Err}
+use Rattle.std.specs.Prelude.{Option, Some, None, Err}
 use mathlib.Core.Path.{◌≡◌, refl, ap, ◌∙◌, subst}
 use mathlib.Core.Bool.{Bool, true, false, cond}
 use mathlib.Core.List.{List}
@@ -24,8 +24,6 @@ use Rattle.agenda.specs.Consequences.{record_in}
 use Rattle.agenda.specs.Steps.{Chart, least_waiting, start_chart, runs_chart}
 use Rattle.agenda.specs.RunFacts.{Handled}
 use Rattle.agenda.specs.declared.Record.{Record}
-use Rattle.agenda.specs.declared.Found.{Found}
-use Rattle.agenda.specs.declared.Found.TheVariants.{At, Nowhere}
 use Rattle.agenda.proofs.Records.{to_test}
 use Rattle.agenda.proofs.Growth.{count_le}
 use Rattle.agenda.proofs.Adding.{apart, cond_by}
@@ -47,9 +45,9 @@ test_true true x = refl
 test_true false x = absurd x
 
 -- ---- the search for an item
-pub data SearchOf (G : Grammar) (i : Item) (rs : List Record) (n : ℕ) : Found → Type 0 where
-  found_of : {k : ℕ} → k < n → item_of G (record_in rs k).item ≡ i → SearchOf G i rs n (At k)
-  missing_of : ((k : ℕ) → k < n → item_of G (record_in rs k).item ≡ i → ⊥) → SearchOf G i rs n Nowhere
+pub data SearchOf (G : Grammar) (i : Item) (rs : List Record) (n : ℕ) : Option ℕ → Type 0 where
+  found_of : {k : ℕ} → k < n → item_of G (record_in rs k).item ≡ i → SearchOf G i rs n (Some k)
+  missing_of : ((k : ℕ) → k < n → item_of G (record_in rs k).item ≡ i → ⊥) → SearchOf G i rs n None
 
 pub searched_of : (G : Grammar) (i : Item) (rs : List Record) (n : ℕ) → SearchOf G i rs n (last_of G i rs n)
 unfolding last_of
@@ -66,12 +64,12 @@ searched_of G i rs (suc n) =
         let item : item_of G (record_in rs n).item ≡ i = subst (λ (m : ℕ). item_of G (record_in rs m).item ≡ i) q e in
         absurd (apart (ap (λ (a : Item). same_item a i) item ∙ test_true _ (same_refl i)) f)
 
-    before : same_item (item_of G (record_in rs n).item) i ≡ false → (f : Found) → SearchOf G i rs n f → SearchOf G i rs (suc n) f
-    before e (At k) (found_of l s) = found_of {k = k} (omega arith) s
-    before e Nowhere (missing_of g) = missing_of (λ k l s. g k (last k l e s (dec_lt k n)) s)
+    before : same_item (item_of G (record_in rs n).item) i ≡ false → (f : Option ℕ) → SearchOf G i rs n f → SearchOf G i rs (suc n) f
+    before e (Some k) (found_of l s) = found_of {k = k} (omega arith) s
+    before e None (missing_of g) = missing_of (λ k l s. g k (last k l e s (dec_lt k n)) s)
 
 module _ (G : Grammar) (H : Graph) (ok : GrammarOk G) (hok : GraphOk G H) (cap : ℕ) (most : cap ≤ 4096) (ks : List ℕ) (c : Chart) (is : c ≡ runs_chart G H cap ks (start_chart G cap))
-    (fits : c.mark ≡ 0) (done : least_waiting c.records (length c.records) ≡ Nowhere)
+    (fits : c.mark ≡ 0) (done : least_waiting c.records (length c.records) ≡ None)
     (look : ℕ → Record) (same : (j : ℕ) → j < length c.records → look j ≡ record_in c.records j) where
   abbrev rs : List Record
   rs = c.records
@@ -136,14 +134,14 @@ module _ (G : Grammar) (H : Graph) (ok : GrammarOk G) (hok : GraphOk G H) (cap :
 
   -- ---- the goal is looked for
   -- What a writing does with what the search found: no tree, or one with the fewest applications.
-  pub data Writes (f : Found) : Type 0 where
-    no_tree : ((t : Tree) → Generates G H t → ⊥) → f ≡ Nowhere → Writes f
+  pub data Writes (f : Option ℕ) : Type 0 where
+    no_tree : ((t : Tree) → Generates G H t → ⊥) → f ≡ None → Writes f
     a_tree : (t : Tree) → FewestTree G H t → ((out : List ℕ) → WritesTree t out (write_goal G H look out f)) → size t ≤ 4096 → chosen_goal G H look f ≡ chooses (derivation_text t) → Writes f
 
   pub goal_writes : Writes (goal_in G H c.records)
   unfolding goal_in
   goal_writes = go (last_of G (goal G H) c.records (length c.records)) (searched_of G (goal G H) c.records (length c.records))
     where
-      go : (f : Found) → SearchOf G (goal G H) c.records (length c.records) f → Writes f
-      go Nowhere (missing_of none) = no_tree (λ u g. not_missing u g none) refl
-      go (At j) (found_of l item) = a_tree (found_tree j l item).0 (fewest j l item) (found_writes j l item) (small j l item) (chosen_found j l item)
+      go : (f : Option ℕ) → SearchOf G (goal G H) c.records (length c.records) f → Writes f
+      go None (missing_of none) = no_tree (λ u g. not_missing u g none) refl
+      go (Some j) (found_of l item) = a_tree (found_tree j l item).0 (fewest j l item) (found_writes j l item) (small j l item) (chosen_found j l item)

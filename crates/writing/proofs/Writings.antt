@@ -1,6 +1,6 @@
 -- One writing, on any words: a refusal changes nothing, and what is written is the text of a tree that generates the
 -- graph.
-use Rattle.std.specs.Prelude.{Ok, Err}
+use Rattle.std.specs.Prelude.{Option, Some, None, Ok, Err}
 use mathlib.Core.Path.{◌≡◌, refl, sym, ap, ◌∙◌, subst}
 use mathlib.Core.Logic.{◌≢◌}
 use mathlib.Core.Bool.{Bool, true, false, cond}
@@ -15,8 +15,6 @@ use Rattle.hrg.specs.Grammars.{Graph, Grammar}
 use Rattle.hrg.specs.Trees.{Tree}
 use Rattle.hrg.proofs.Degrees.{and_true as both}
 use Rattle.agenda.specs.declared.Record.{Record}
-use Rattle.agenda.specs.declared.Found.{Found}
-use Rattle.agenda.specs.declared.Found.TheVariants.{At, Nowhere}
 use Rattle.questions.specs.Abstract.{grammar_of, graph_of}
 use Rattle.records.specs.Words.{record_at, chart_of}
 use Rattle.charting.specs.Calls.{fit_chart, standing_of, Outcome}
@@ -80,9 +78,9 @@ module _ (G : Grammar) (H : Graph) (out : List ℕ) where
       go true e = way_text t e
       go false e = refusing (Err Unfit) (λ z. omega (arith, z))
 
-  way_goal : (look : ℕ → Record) (f : Found) → Way G H out (write_goal G H look out f)
-  way_goal look Nowhere = refusing (Err Underivable) (λ z. omega (arith, z))
-  way_goal look (At j) = way_spelt (tree_at look G H 4096 j)
+  way_goal : (look : ℕ → Record) (f : Option ℕ) → Way G H out (write_goal G H look out f)
+  way_goal look None = refusing (Err Underivable) (λ z. omega (arith, z))
+  way_goal look (Some j) = way_spelt (tree_at look G H 4096 j)
 
   way_by : (o : Outcome) (x : Wrote) → Way G H out x → Way G H out (write_by o out x)
   way_by (Err UnfitChart) x y = refusing (Err Unfit) (λ z. omega (arith, z))

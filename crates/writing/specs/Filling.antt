@@ -1,11 +1,9 @@
 -- A lent row of application records instead of the text (01, 'Derivation file'): the records of a tree, and what
 -- `fill` answers and leaves, for every input.
-use Rattle.std.specs.Prelude.{cond, List, [], ◌∷◌, ◌++◌, map, ℕ, ◌+◌, length, take, drop, get_or, replicate, leb, Ok, Err}
+use Rattle.std.specs.Prelude.{Option, Some, None, cond, List, [], ◌∷◌, ◌++◌, map, ℕ, ◌+◌, length, take, drop, get_or, replicate, leb, Ok, Err}
 use Rattle.hrg.specs.Grammars.{Graph, Grammar, right_of}
 use Rattle.hrg.specs.Trees.{Tree, Parts, apply, end, edge, tree}
 use Rattle.agenda.specs.declared.Record.{Record}
-use Rattle.agenda.specs.declared.Found.{Found}
-use Rattle.agenda.specs.declared.Found.TheVariants.{At, Nowhere}
 use Rattle.questions.specs.Abstract.{grammar_of, graph_of}
 use Rattle.records.specs.Words.{record_at, chart_of}
 use Rattle.charting.specs.Calls.{standing_of, Outcome}
@@ -85,9 +83,9 @@ abbrev pub chosen_spelt : Grammar → Graph → Spelt → Choice
 chosen_spelt G H nothing = refuses (Err Unfit)
 chosen_spelt G H (spelt t) = cond (derives G H t) (chooses (derivation_text t)) (refuses (Err Unfit))
 
-abbrev pub chosen_goal : Grammar → Graph → (ℕ → Record) → Found → Choice
-chosen_goal G H look Nowhere = refuses (Err Underivable)
-chosen_goal G H look (At j) = chosen_spelt G H (tree_at look G H 4096 j)
+abbrev pub chosen_goal : Grammar → Graph → (ℕ → Record) → Option ℕ → Choice
+chosen_goal G H look None = refuses (Err Underivable)
+chosen_goal G H look (Some j) = chosen_spelt G H (tree_at look G H 4096 j)
 
 abbrev pub chosen_by : Outcome → Choice → Choice
 chosen_by (Err UnfitChart) c = refuses (Err Unfit)

@@ -1,6 +1,6 @@
 -- What the writer answers and leaves in the lent output, for every input (01, questions 8 to 12 and 'Besides 8 ..').
 -- The chart is lent to be read only.
-use Rattle.std.specs.Prelude.{Bool, cond, ◌&&◌, List, ◌++◌, ℕ, zero, suc, length, drop, leb, Result, Ok, Err}
+use Rattle.std.specs.Prelude.{Option, Some, None, Bool, cond, ◌&&◌, List, ◌++◌, ℕ, zero, suc, length, drop, leb, Result, Ok, Err}
 use Rattle.hrg.specs.Grammars.{Graph, Grammar}
 use Rattle.hrg.specs.Trees.{Tree}
 use Rattle.hrg.specs.Items.{Item, goal}
@@ -8,8 +8,6 @@ use Rattle.hrg.specs.ClosureRun.{same_item}
 use Rattle.agenda.specs.Records.{item_of}
 use Rattle.agenda.specs.Consequences.{record_in}
 use Rattle.agenda.specs.declared.Record.{Record}
-use Rattle.agenda.specs.declared.Found.{Found}
-use Rattle.agenda.specs.declared.Found.TheVariants.{At, Nowhere}
 use Rattle.questions.specs.Abstract.{grammar_of, graph_of}
 use Rattle.records.specs.Words.{record_at, chart_of}
 use Rattle.charting.specs.Calls.{standing_of, Outcome}
@@ -59,21 +57,21 @@ write_spelt G H out nothing = refused (Err Unfit) out
 write_spelt G H out (spelt t) = cond (derives G H t) (write_text (derivation_text t) out) (refused (Err Unfit) out)
 
 -- the last of the first n records that is of item i
-unfoldable pub last_of : Grammar → Item → List Record → ℕ → Found
+unfoldable pub last_of : Grammar → Item → List Record → ℕ → Option ℕ
 unfolding same_item item_of
-last_of G i rs zero = Nowhere
-last_of G i rs (suc n) = cond (same_item (item_of G (record_in rs n).item) i) (At n) (last_of G i rs n)
+last_of G i rs zero = None
+last_of G i rs (suc n) = cond (same_item (item_of G (record_in rs n).item) i) (Some n) (last_of G i rs n)
 
 -- the goal among the records, as an item: the last one
-unfoldable pub goal_in : Grammar → Graph → List Record → Found
+unfoldable pub goal_in : Grammar → Graph → List Record → Option ℕ
 unfolding last_of
 goal_in G H rs = last_of G (goal G H) rs (length rs)
 
 -- 'Is the goal in the closure?', by what stands in the chart; then the derivation that the goal's partners spell,
 -- whatever the output's length
-abbrev pub write_goal : Grammar → Graph → (ℕ → Record) → List ℕ → Found → Wrote
-write_goal G H look out Nowhere = refused (Err Underivable) out
-write_goal G H look out (At j) = write_spelt G H out (tree_at look G H 4096 j)
+abbrev pub write_goal : Grammar → Graph → (ℕ → Record) → List ℕ → Option ℕ → Wrote
+write_goal G H look out None = refused (Err Underivable) out
+write_goal G H look out (Some j) = write_spelt G H out (tree_at look G H 4096 j)
 
 -- 8, 9 and 10 as a run of no steps
 abbrev pub error_of : Unready → WriteError

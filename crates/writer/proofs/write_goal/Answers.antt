@@ -5,8 +5,8 @@ use Rattle.writer.proofs.write_goal.Goals as goal
 pub write_item-requires : goal.write_item-requires
 write_item-requires c = c.requires.0
 
-pub returns-in-Nowhere : goal.returns-in-Nowhere
-returns-in-Nowhere c = goal_missing _ _ _ _ _ ((cc) ∙ c.find_goal.ensures)
+pub returns-in-None : goal.returns-in-None
+returns-in-None c = goal_missing _ _ _ _ _ ((cc) ∙ c.find_goal.ensures)
 
-pub returns-in-At : goal.returns-in-At
-returns-in-At c = goal_found _ _ _ _ _ _ _ _ ((cc) ∙ c.find_goal.ensures) c.write_item.ensures
+pub returns-in-Some : goal.returns-in-Some
+returns-in-Some c = goal_found _ _ _ _ _ _ _ _ ((cc) ∙ c.find_goal.ensures) c.write_item.ensures
