@@ -9,16 +9,13 @@ use Rattle.records.specs.Words.{words_for}
 use Rattle.questions.specs.Reading.{Outcome as Reading}
 use Rattle.questions.specs.declared.Answer.{Answer as ReadingAnswer}
 use Rattle.readers.specs.Readers.{Gives}
-use Rattle.charting.specs.Calls.{number_of as chart_number, start_of, run_of}
+use Rattle.charting.specs.Calls.{number_of as chart_number, start_of, run_of, Outcome}
 use Rattle.charting.specs.Facts.{StartChoices, RunChoices}
-use Rattle.charting.specs.declared.Outcome.{Outcome}
-use Rattle.writing.specs.Writing.{number_of as writing_number, write_of}
+use Rattle.writing.specs.Writing.{number_of as writing_number, write_of, Answer}
 use Rattle.writing.specs.Filling.{fill_of}
 use Rattle.writing.specs.Demand.{WriteChoices, FillChoices}
-use Rattle.writing.specs.declared.Answer.{Answer}
 use Rattle.writing.specs.declared.Application.{Application}
-use Rattle.replayer.specs.Verdicts.{number_of as verdict_number, replay_of, Exact}
-use Rattle.replayer.specs.declared.Verdict.{Verdict}
+use Rattle.replayer.specs.Verdicts.{number_of as verdict_number, replay_of, Exact, Verdict}
 use Rattle.programs.specs.Files.{FileGives, numbered, reading_number}
 use Rattle.capi.specs.Crossing.{steps_told, bytes_told, Started, Ran, Written, FilledRow, Replayed}
 

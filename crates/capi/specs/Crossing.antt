@@ -1,33 +1,31 @@
 -- What crosses to C: 01's number of an answer, every lent word and byte, and what holds of the program's own choices,
 -- as in the contracts beneath.
-use Rattle.std.specs.Prelude.{◌≡◌, List, ℕ}
-use Rattle.charting.specs.Calls.{number_of as chart_number, start_of, run_of}
+use Rattle.std.specs.Prelude.{◌≡◌, List, ℕ, Ok, Err}
+use Rattle.charting.specs.Calls.{number_of as chart_number, start_of, run_of, Outcome}
 use Rattle.charting.specs.Facts.{StartChoices, RunChoices}
-use Rattle.charting.specs.declared.Outcome.{Outcome}
-use Rattle.charting.specs.declared.Outcome.TheVariants.{Unfit as UnfitChart, TooSmall as TooSmallChart, Unfinished as UnfinishedChart, Done}
-use Rattle.writing.specs.Writing.{number_of as writing_number, write_of}
+use Rattle.charting.specs.declared.Unready.TheVariants.{Unfit as UnfitChart, TooSmall as TooSmallChart, Unfinished as UnfinishedChart}
+use Rattle.writing.specs.Writing.{number_of as writing_number, write_of, Answer}
 use Rattle.writing.specs.Filling.{fill_of}
 use Rattle.writing.specs.Demand.{WriteChoices, FillChoices}
-use Rattle.writing.specs.declared.Answer.{Answer}
-use Rattle.writing.specs.declared.Answer.TheVariants.{Unfit, TooSmall, Unfinished, Underivable, NoRoom, Written as WrittenAnswer}
+use Rattle.writing.specs.declared.WriteError.TheVariants.{Unfit, TooSmall, Unfinished, Underivable, NoRoom}
 use Rattle.writing.specs.declared.Application.{Application}
 use Rattle.replayer.specs.Verdicts.{number_of as verdict_number, replay_of, Exact}
 
 -- the lent word after an outcome: the steps that it reports, else what stood there
 abbrev pub steps_told : Outcome → ℕ → ℕ
-steps_told UnfitChart former = former
-steps_told TooSmallChart former = former
-steps_told (UnfinishedChart k) former = k
-steps_told (Done k) former = k
+steps_told (Err UnfitChart) former = former
+steps_told (Err TooSmallChart) former = former
+steps_told (Err (UnfinishedChart k)) former = k
+steps_told (Ok k) former = k
 
 -- the lent word after a writing: its bytes, or its records, or the steps done where items wait
 abbrev pub bytes_told : Answer → ℕ → ℕ
-bytes_told Unfit former = former
-bytes_told TooSmall former = former
-bytes_told (Unfinished k) former = k
-bytes_told Underivable former = former
-bytes_told NoRoom former = former
-bytes_told (WrittenAnswer n) former = n
+bytes_told (Err Unfit) former = former
+bytes_told (Err TooSmall) former = former
+bytes_told (Err (Unfinished k)) former = k
+bytes_told (Err Underivable) former = former
+bytes_told (Err NoRoom) former = former
+bytes_told (Ok n) former = n
 
 pub record Started (g h w : List ℕ) (number : ℕ) (now : List ℕ) : Type 0 where
   pub answers : number ≡ chart_number (start_of g h w).answer

@@ -17,8 +17,7 @@ ghost use Rattle.replayer.specs.Verdicts.{number_of as verdictNumber, replay_of,
 ghost use Rattle.programs.specs.Files.{FileGives, numbered};
 ghost use Rattle.capi.specs.Crossing.{steps_told, bytes_told, Started, Ran, Written, FilledRow, Replayed};
 
-use charting::Outcome;
-use writing::{Answer, Application};
+use writing::{Application, WriteError};
 
 // ---- how many words to lend
 
@@ -75,22 +74,15 @@ pub extern "C" fn bobbinmarl_start(grammar: &[u64], graph: &[u64], chart: &mut [
     driver::chart_number(chart::start(grammar, graph, chart))
 }
 
-// The number of an outcome; the steps that it reports go into the lent word, which else stays.
-fn tell_steps(o: Outcome, done: &mut u64) -> u64
-    ensures { (result ≡ chartNumber o) × (done.new ≡ steps_told o done.old) }
+// The number of an answer; the steps done, or the bytes or records written, go into the lent word, which else stays.
+fn tell(a: Result<u64, WriteError>, told: &mut u64) -> u64
+    ensures { (result ≡ writing_number a) × (told.new ≡ bytes_told a told.old) }
 {
-    match o {
-        Outcome::Unfit => 8,
-        Outcome::TooSmall => 9,
-        Outcome::Unfinished(k) => {
-            *done = k;
-            10
-        }
-        Outcome::Done(k) => {
-            *done = k;
-            0
-        }
+    match a {
+        Ok(k) | Err(WriteError::Unfinished(k)) => *told = k,
+        Err(_) => {}
     }
+    driver::writing_number(a)
 }
 
 #[unsafe(no_mangle)]
@@ -104,7 +96,7 @@ pub extern "C" fn bobbinmarl_run(
     ensures { Ran grammar.now graph.now chart.old steps done.old result chart.new done.new }
 {
     let outcome = chart::run(grammar, graph, chart, steps);
-    tell_steps(outcome, done)
+    tell(outcome.map_err(WriteError::from), done)
 }
 
 // ---- the chart's items
@@ -126,27 +118,6 @@ pub extern "C" fn bobbinmarl_item(chart: &[u64], place: u64, fields: &mut [u64])
 
 // ---- the writer
 
-// The number of an answer; the bytes or records written, or the steps done where items wait, go into the lent word,
-// which else stays.
-fn tell_bytes(a: Answer, told: &mut u64) -> u64
-    ensures { (result ≡ writing_number a) × (told.new ≡ bytes_told a told.old) }
-{
-    match a {
-        Answer::Unfit => 8,
-        Answer::TooSmall => 9,
-        Answer::Unfinished(k) => {
-            *told = k;
-            10
-        }
-        Answer::Underivable => 11,
-        Answer::NoRoom => 12,
-        Answer::Written(n) => {
-            *told = n;
-            0
-        }
-    }
-}
-
 #[unsafe(no_mangle)]
 pub extern "C" fn bobbinmarl_write(
     grammar: &[u64],
@@ -158,7 +129,7 @@ pub extern "C" fn bobbinmarl_write(
     ensures { Written grammar.now graph.now chart.now out.old told.old result out.new told.new }
 {
     let answer = writer::write(grammar, graph, chart, out);
-    tell_bytes(answer, told)
+    tell(answer, told)
 }
 
 // The second form of the answer: a row of records.
@@ -173,7 +144,7 @@ pub extern "C" fn bobbinmarl_fill(
     ensures { FilledRow grammar.now graph.now chart.now rows.old told.old result rows.new told.new }
 {
     let answer = filler::fill(grammar, graph, chart, rows);
-    tell_bytes(answer, told)
+    tell(answer, told)
 }
 
 // ---- the replay

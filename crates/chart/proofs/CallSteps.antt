@@ -1,5 +1,5 @@
 -- Start and run, call by call: a law for each way through the functions.
-use Rattle.std.specs.Prelude.{None}
+use Rattle.std.specs.Prelude.{None, Ok, Err}
 use Prim.Native.Nat.{ℕ, ◌+◌, ◌≤◌}
 use mathlib.Core.Path.{◌≡◌, refl, sym, ap, ◌∙◌, subst}
 use mathlib.Core.Bool.{Bool, true, false, ◌&&◌, cond}
@@ -18,10 +18,9 @@ use Rattle.validity.specs.Checking.{holds, known_chart}
 use Rattle.rules.specs.Plans.{PlanTable}
 use Rattle.steps.specs.Runs.{next_in}
 use Rattle.steps.specs.Ready.{Runnable}
-use Rattle.charting.specs.Calls.{Called, fit, fit_chart, when_waiting, answer_of, start_answer, start_of, run_of, runs_of, standing_of}
+use Rattle.charting.specs.Calls.{Called, fit, fit_chart, when_waiting, answer_of, start_answer, start_of, run_of, runs_of, standing_of, Outcome}
 use Rattle.charting.specs.Facts.{RunRight, StartChoices, RunChoices}
-use Rattle.charting.specs.declared.Outcome.{Outcome}
-use Rattle.charting.specs.declared.Outcome.TheVariants.{Unfit, TooSmall, Unfinished, Done}
+use Rattle.charting.specs.declared.Unready.TheVariants.{Unfit, TooSmall, Unfinished}
 use Rattle.hrg.proofs.Degrees.{and_true as both}
 use Rattle.validity.proofs.KnownCharts.{holds_header, holds_most, known_fits}
 use Rattle.charting.proofs.Waiting.{none_waits, some_waits, idle_counted}
@@ -70,7 +69,7 @@ module _ (g h w : List ℕ) (b : Bool) (is : b ≡ fit g h w) where
   abbrev Started : Outcome → List ℕ → Type 0
   Started a v = (a ≡ (start_of g h w).answer) × (v ≡ (start_of g h w).words) × StartChoices g h w a
 
-  pub start_refuses : b ≡ false → Started Unfit w
+  pub start_refuses : b ≡ false → Started (Err Unfit) w
   start_refuses n =
       let q = start_not g h w (sym is ∙ n) in
       (sym (ap (λ (c : Called). c.answer) q), sym (ap (λ (c : Called). c.words) q), record { small = λ e. absurd (omega arith) })
@@ -86,20 +85,20 @@ module _ (g h w : List ℕ) (b : Bool) (is : b ≡ fit g h w) where
         let p : a ≡ (start_of g h w).answer = e ∙ sym (ap (λ (c : Called). c.answer) q) in
         (p, made ∙ sym (ap (λ (c : Called). c.words) q), right p)
 
-    pub start_small : (m ≡ 0 → ⊥) → Started TooSmall v
+    pub start_small : (m ≡ 0 → ⊥) → Started (Err TooSmall) v
     unfolding start_answer
     start_small n =
-        start_by_is TooSmall (ap (λ (t : Bool). cond t (Done 0) TooSmall) (sym (ne_eqb _ 0 (λ z. n (sym marked ∙ z)))))
+        start_by_is (Err TooSmall) (ap (λ (t : Bool). cond t (Ok 0) (Err TooSmall)) (sym (ne_eqb _ 0 (λ z. n (sym marked ∙ z)))))
         (λ p. record { small = λ e. start_right g h w (sym is ∙ y) (sym p) })
 
-    pub start_done : m ≡ 0 → Started (Done 0) v
+    pub start_done : m ≡ 0 → Started (Ok 0) v
     unfolding start_answer
     start_done z =
-        start_by_is (Done 0) (ap (λ (t : Bool). cond t (Done 0) TooSmall) (sym (eq-eqb _ 0 (marked ∙ z)))) (λ p. record { small = λ e. absurd (omega arith) })
+        start_by_is (Ok 0) (ap (λ (t : Bool). cond t (Ok 0) (Err TooSmall)) (sym (eq-eqb _ 0 (marked ∙ z)))) (λ p. record { small = λ e. absurd (omega arith) })
 
 -- ---- questions 9 and 10
 module _ (w : List ℕ) (m : ℕ) (mark : m ≡ get_or w 1 0) where
-  pub outcome_small : (m ≡ 0 → ⊥) → TooSmall ≡ answer_of (chart_of w)
+  pub outcome_small : (m ≡ 0 → ⊥) → Err TooSmall ≡ answer_of (chart_of w)
   unfolding answer_of chart_of
   outcome_small n = rw (ne_eqb (get_or w 1 0) 0 (λ z. n (mark ∙ z))) refl
 
@@ -114,24 +113,24 @@ module _ (w : List ℕ) (m : ℕ) (mark : m ≡ get_or w 1 0) where
     unfolding answer_of chart_of
     outcome_by a e = rw (eq-eqb (get_or w 1 0) 0 (sym mark ∙ clear)) e
 
-    pub outcome_done : d ≡ n → Done d ≡ answer_of (chart_of w)
+    pub outcome_done : d ≡ n → Ok d ≡ answer_of (chart_of w)
     outcome_done e =
-        outcome_by (Done d)
-        (ap Done steps ∙ ap (when_waiting (handled_count rs)) (sym (none_waits rs (sym steps ∙ e ∙ sym length_here))))
+        outcome_by (Ok d)
+        (ap Ok steps ∙ ap (when_waiting (handled_count rs)) (sym (none_waits rs (sym steps ∙ e ∙ sym length_here))))
 
-    pub outcome_waits : (d ≡ n → ⊥) → Unfinished d ≡ answer_of (chart_of w)
+    pub outcome_waits : (d ≡ n → ⊥) → Err (Unfinished d) ≡ answer_of (chart_of w)
     outcome_waits f =
         let (j, at) = some_waits rs (λ e. f (steps ∙ e ∙ length_here)) in
-        outcome_by (Unfinished d) (ap Unfinished steps ∙ ap (when_waiting (handled_count rs)) (sym at))
+        outcome_by (Err (Unfinished d)) (ap (λ k. Err (Unfinished k)) steps ∙ ap (when_waiting (handled_count rs)) (sym at))
 
   -- where no step is left all are handled
-  pub outcome_idle : (n : ℕ) → m ≡ 0 → n ≡ item_count w → next_in (chart_of w) ≡ None → Done n ≡ answer_of (chart_of w)
+  pub outcome_idle : (n : ℕ) → m ≡ 0 → n ≡ item_count w → next_in (chart_of w) ≡ None → Ok n ≡ answer_of (chart_of w)
   unfolding next_in chart_of
   outcome_idle n clear number idle =
       let rs = records_at w (item_count w) in
       let least : least_waiting rs (length rs) ≡ None = ap (λ (b : Bool). cond b (least_waiting rs (length rs)) None) (sym (eq-eqb (get_or w 1 0) 0 (sym mark ∙ clear))) ∙ idle in
       let all : handled_count rs ≡ n = idle_counted rs least ∙ length_records w (item_count w) ∙ sym number in
-      ap Done (sym all) ∙ outcome_done n (handled_count rs) clear number refl all
+      ap Ok (sym all) ∙ outcome_done n (handled_count rs) clear number refl all
 
 -- ---- run
 not_by : (g h w : List ℕ) → fit g h w ≡ false → fit_chart g h w ≡ false
@@ -165,15 +164,15 @@ module _ (g h w : List ℕ) (k : ℕ) where
   whole : (a : Outcome) (v : List ℕ) → a ≡ (run_of g h w k).answer → v ≡ (run_of g h w k).words → Ran a v
   whole a v p q = (p, q, choices a v p q)
 
-  unfit : fit_chart g h w ≡ false → Ran Unfit w
-  unfit n = let q = run_not g h w k n in whole Unfit w (sym (ap (λ (c : Called). c.answer) q)) (sym (ap (λ (c : Called). c.words) q))
+  unfit : fit_chart g h w ≡ false → Ran (Err Unfit) w
+  unfit n = let q = run_not g h w k n in whole (Err Unfit) w (sym (ap (λ (c : Called). c.answer) q)) (sym (ap (λ (c : Called). c.words) q))
 
   module _ (b : Bool) (is : b ≡ fit g h w) where
-    pub run_refuses : b ≡ false → Ran Unfit w
+    pub run_refuses : b ≡ false → Ran (Err Unfit) w
     run_refuses n = unfit (not_by g h w (sym is ∙ n))
 
     module _ (y : b ≡ true) (c : Bool) (known : c ≡ known_chart (grammar_of g) (graph_of g h) w) where
-      pub run_unknown : c ≡ false → Ran Unfit w
+      pub run_unknown : c ≡ false → Ran (Err Unfit) w
       run_unknown n = unfit (unknown_by g h w (sym known ∙ n) (sym is ∙ y))
 
       pub run_ran : (a : Outcome) (v : List ℕ) → c ≡ true → v ≡ written w (run_chart (grammar_of g) (graph_of g h) (capacity w) k (chart_of w)) → a ≡ answer_of (chart_of v) → Ran a v
@@ -185,15 +184,15 @@ module _ (g h w : List ℕ) (k : ℕ) where
 
 -- ---- standing
 module _ (g h w : List ℕ) (b : Bool) (is : b ≡ fit g h w) where
-  unfit_standing : fit_chart g h w ≡ false → Unfit ≡ standing_of g h w
+  unfit_standing : fit_chart g h w ≡ false → Err Unfit ≡ standing_of g h w
   unfolding standing_of
   unfit_standing n = rw n
 
-  pub standing_refuses : b ≡ false → Unfit ≡ standing_of g h w
+  pub standing_refuses : b ≡ false → Err Unfit ≡ standing_of g h w
   standing_refuses n = unfit_standing (not_by g h w (sym is ∙ n))
 
   module _ (y : b ≡ true) (c : Bool) (known : c ≡ known_chart (grammar_of g) (graph_of g h) w) where
-    pub standing_unknown : c ≡ false → Unfit ≡ standing_of g h w
+    pub standing_unknown : c ≡ false → Err Unfit ≡ standing_of g h w
     standing_unknown n = unfit_standing (unknown_by g h w (sym known ∙ n) (sym is ∙ y))
 
     pub standing_is : (a : Outcome) → c ≡ true → a ≡ answer_of (chart_of w) → a ≡ standing_of g h w

@@ -9,7 +9,7 @@ ghost use Rattle.steps.specs.Runs.{next_in};
 ghost use Rattle.charting.specs.Calls.{fit, answer_of, start_of, run_of, standing_of};
 ghost use Rattle.charting.specs.Facts.{StartChoices, RunChoices};
 
-use charting::Outcome;
+use charting::Unready;
 use rules::plans::PLAN_TABLE_WORDS;
 
 // Question 8 before a start: does the chart hold 1 to 4,096 items, and could texts have filled the tables?
@@ -26,36 +26,36 @@ fn is_fit(grammar: &[u64], graph: &[u64], chart: &[u64]) -> bool
 }
 
 // Makes the leaf items present, and nothing else. Of the chart it looks only at the size.
-pub fn start(grammar: &[u64], graph: &[u64], chart: &mut [u64]) -> Outcome
+pub fn start(grammar: &[u64], graph: &[u64], chart: &mut [u64]) -> Result<u64, Unready>
     ensures { (result ≡ (start_of grammar.now graph.now chart.old).answer) × (chart.new ≡ (start_of grammar.now graph.now chart.old).words) × StartChoices grammar.now graph.now chart.old result }
 {
     if !is_fit(grammar, graph, chart) {
-        return Outcome::Unfit;
+        return Err(Unready::Unfit);
     }
     steps::restart(grammar, chart);
     if records::mark_of(chart) != 0 {
-        return Outcome::TooSmall;
+        return Err(Unready::TooSmall);
     }
-    Outcome::Done(0)
+    Ok(0)
 }
 
 // Questions 9 and 10, by what stands in the chart, of which `done` items are handled: items wait where these are not
 // all.
-fn outcome_of(chart: &[u64], done: u64) -> Outcome
+fn outcome_of(chart: &[u64], done: u64) -> Result<u64, Unready>
     requires { done ≡ handled_count (records_at chart.now (item_count chart.now)) }
     ensures { result ≡ answer_of (chart_of chart.now) }
 {
     if records::mark_of(chart) != 0 {
-        return Outcome::TooSmall;
+        return Err(Unready::TooSmall);
     }
     if done == records::item_count(chart) {
-        return Outcome::Done(done);
+        return Ok(done);
     }
-    Outcome::Unfinished(done)
+    Err(Unready::Unfinished(done))
 }
 
 // The same, where `all` only if no step is left: then the records need not be counted.
-fn outcome_after(chart: &[u64], all: bool) -> Outcome
+fn outcome_after(chart: &[u64], all: bool) -> Result<u64, Unready>
     requires { all ≡ true → next_in (chart_of chart.now) ≡ None }
     ensures { result ≡ answer_of (chart_of chart.now) }
 {
@@ -64,38 +64,38 @@ fn outcome_after(chart: &[u64], all: bool) -> Outcome
         return outcome_of(chart, records::handled_steps(chart, n));
     }
     if records::mark_of(chart) != 0 {
-        return Outcome::TooSmall;
+        return Err(Unready::TooSmall);
     }
-    Outcome::Done(n)
+    Ok(n)
 }
 
 // How the chart stands: what a run of no steps says.
-pub fn standing(grammar: &[u64], graph: &[u64], chart: &[u64]) -> Outcome
+pub fn standing(grammar: &[u64], graph: &[u64], chart: &[u64]) -> Result<u64, Unready>
     ensures { result ≡ standing_of grammar.now graph.now chart.now }
 {
     if !is_fit(grammar, graph, chart) {
-        return Outcome::Unfit;
+        return Err(Unready::Unfit);
     }
     let mut plans = [0u32; PLAN_TABLE_WORDS];
     rules::plans::fill(grammar, &mut plans);
     let tested = validator::known(grammar, graph, &plans, chart);
     if !tested.known {
-        return Outcome::Unfit;
+        return Err(Unready::Unfit);
     }
     outcome_of(chart, tested.handled)
 }
 
 // Does the steps given, or as many as are left.
-pub fn run(grammar: &[u64], graph: &[u64], chart: &mut [u64], steps: u64) -> Outcome
+pub fn run(grammar: &[u64], graph: &[u64], chart: &mut [u64], steps: u64) -> Result<u64, Unready>
     ensures { (result ≡ (run_of grammar.now graph.now chart.old steps).answer) × (chart.new ≡ (run_of grammar.now graph.now chart.old steps).words) × RunChoices grammar.now graph.now chart.old steps result chart.new }
 {
     if !is_fit(grammar, graph, chart) {
-        return Outcome::Unfit;
+        return Err(Unready::Unfit);
     }
     let mut plans = [0u32; PLAN_TABLE_WORDS];
     rules::plans::fill(grammar, &mut plans);
     if !validator::known(grammar, graph, &plans, chart).known {
-        return Outcome::Unfit;
+        return Err(Unready::Unfit);
     }
     let all = steps::advance(grammar, graph, &plans, chart, steps);
     outcome_after(chart, all)

@@ -1,6 +1,6 @@
 -- What the answers say: 9 of a marked chart, 10 where something waits, done where nothing does; the steps are the
 -- handled records.
-use Rattle.std.specs.Prelude.{Option, Some, None}
+use Rattle.std.specs.Prelude.{Option, Some, None, Ok, Err}
 use mathlib.Core.Path.{◌≡◌, refl, sym, ap, ◌∙◌}
 use mathlib.Core.Logic.{◌≢◌}
 use mathlib.Core.Bool.{Bool, cond}
@@ -11,9 +11,8 @@ use lib.Dec.{eqb}
 use borrow.Author.Tests.{eq-eqb, ne_eqb, eqb-true, eqb-false}
 use Rattle.agenda.specs.Steps.{Chart, least_waiting, handled_count}
 use Rattle.agenda.proofs.Adding.{cond_by}
-use Rattle.charting.specs.Calls.{number_of, steps_of, when_waiting, answer_of, start_answer}
-use Rattle.charting.specs.declared.Outcome.{Outcome}
-use Rattle.charting.specs.declared.Outcome.TheVariants.{TooSmall, Done}
+use Rattle.charting.specs.Calls.{number_of, steps_of, when_waiting, answer_of, start_answer, Outcome}
+use Rattle.charting.specs.declared.Unready.TheVariants.{TooSmall}
 
 -- ---- by what waits
 waiting_steps : (k : ℕ) (f : Option ℕ) → steps_of (when_waiting k f) ≡ k
@@ -40,18 +39,18 @@ module _ (c : Chart) where
   abbrev waiting : Outcome
   waiting = when_waiting (handled_count c.records) next
 
-  pub answer_marked : c.mark ≢ 0 → answer_of c ≡ TooSmall
+  pub answer_marked : c.mark ≢ 0 → answer_of c ≡ Err TooSmall
   unfolding answer_of
-  answer_marked m = ap (λ (b : Bool). cond b waiting TooSmall) (ne_eqb c.mark 0 m)
+  answer_marked m = ap (λ (b : Bool). cond b waiting (Err TooSmall)) (ne_eqb c.mark 0 m)
 
   pub answer_waiting : c.mark ≡ 0 → answer_of c ≡ waiting
   unfolding answer_of
-  answer_waiting m = ap (λ (b : Bool). cond b waiting TooSmall) (eq-eqb c.mark 0 m)
+  answer_waiting m = ap (λ (b : Bool). cond b waiting (Err TooSmall)) (eq-eqb c.mark 0 m)
 
   -- what holds of each answer
-  answer_by_is : (P : Outcome → Type 0) → (c.mark ≡ 0 → P waiting) → (c.mark ≢ 0 → P TooSmall) → P (answer_of c)
+  answer_by_is : (P : Outcome → Type 0) → (c.mark ≡ 0 → P waiting) → (c.mark ≢ 0 → P (Err TooSmall)) → P (answer_of c)
   unfolding answer_of
-  answer_by_is P f g = cond_by P (eqb c.mark 0) {x = waiting} {y = TooSmall} (λ t. f (eqb-true c.mark 0 t)) (λ t. g (eqb-false c.mark 0 t))
+  answer_by_is P f g = cond_by P (eqb c.mark 0) {x = waiting} {y = Err TooSmall} (λ t. f (eqb-true c.mark 0 t)) (λ t. g (eqb-false c.mark 0 t))
 
   -- never 8
   pub answer_fit : number_of (answer_of c) ≢ 8
@@ -75,9 +74,9 @@ module _ (c : Chart) where
 
 -- ---- a start's answer
 module _ (c : Chart) where
-  start_by_is : (P : Outcome → Type 0) → (c.mark ≡ 0 → P (Done 0)) → (c.mark ≢ 0 → P TooSmall) → P (start_answer c)
+  start_by_is : (P : Outcome → Type 0) → (c.mark ≡ 0 → P (Ok 0)) → (c.mark ≢ 0 → P (Err TooSmall)) → P (start_answer c)
   unfolding start_answer
-  start_by_is P f g = cond_by P (eqb c.mark 0) {x = Done 0} {y = TooSmall} (λ t. f (eqb-true c.mark 0 t)) (λ t. g (eqb-false c.mark 0 t))
+  start_by_is P f g = cond_by P (eqb c.mark 0) {x = Ok 0} {y = Err TooSmall} (λ t. f (eqb-true c.mark 0 t)) (λ t. g (eqb-false c.mark 0 t))
 
   pub start_answer_fit : number_of (start_answer c) ≢ 8
   start_answer_fit = start_by_is (λ a. number_of a ≢ 8) (λ m e. omega arith) (λ m e. omega arith)

@@ -1,4 +1,5 @@
 -- One call of start or run, on any words: when it is refused, what it leaves, and that splitting a run changes nothing.
+use Rattle.std.specs.Prelude.{Err}
 use mathlib.Core.Path.{◌≡◌, refl, sym, ap, ◌∙◌, subst}
 use mathlib.Core.Logic.{◌≢◌, ◌↔◌}
 use mathlib.Core.Bool.{Bool, true, false, ◌&&◌, cond}
@@ -22,9 +23,8 @@ use Rattle.records.proofs.Rewritten.{Grown}
 use Rattle.records.proofs.Grown.{holds_own}
 use Rattle.steps.proofs.RunLaws.{run_grown, start_holds}
 use Rattle.validity.specs.Checking.{holds, known_chart}
-use Rattle.charting.specs.Calls.{number_of, Called, fit, fit_chart, answer_of, start_answer, refused, start_of, run_of, standing_of}
-use Rattle.charting.specs.declared.Outcome.{Outcome}
-use Rattle.charting.specs.declared.Outcome.TheVariants.{Unfit, TooSmall}
+use Rattle.charting.specs.Calls.{number_of, Called, fit, fit_chart, answer_of, start_answer, refused, start_of, run_of, standing_of, Outcome}
+use Rattle.charting.specs.declared.Unready.TheVariants.{Unfit, TooSmall}
 use Rattle.validity.proofs.KnownCharts.{holds_header, holds_most, known_fits, known_records, written_known}
 use Rattle.validity.proofs.Own.{run_known}
 use Rattle.charting.proofs.Answers.{answer_marked, answer_fit, start_answer_fit}
@@ -149,7 +149,7 @@ module _ (g h w : List ℕ) (e : fit_chart g h w ≡ true) where
   run_zero = unchanged 0 (run_none (grammar_of g) (graph_of g h) (capacity w) (chart_of w))
 
   -- after 9 every later run says 9 and changes nothing
-  pub run_marked : (k : ℕ) → get_or w 1 0 ≢ 0 → run_of g h w k ≡ record { answer = TooSmall; words = w }
+  pub run_marked : (k : ℕ) → get_or w 1 0 ≢ 0 → run_of g h w k ≡ record { answer = Err TooSmall; words = w }
   run_marked k m =
       let n : (chart_of w).mark ≢ 0 = λ q. m (sym (chart_mark w) ∙ q) in
       unchanged k (marked_run (grammar_of g) (graph_of g h) (capacity w) k (chart_of w) n)
@@ -231,6 +231,6 @@ pub standing_run : (g h w : List ℕ) → standing_of g h w ≡ (run_of g h w 0)
 unfolding standing_of run_of run_chart
 standing_run g h w = go (fit_chart g h w)
   where
-    go : (b : Bool) → cond b (answer_of (chart_of w)) Unfit ≡ (cond b (record { answer = answer_of (chart_of w); words = written w (chart_of w) }) (refused w)).answer
+    go : (b : Bool) → cond b (answer_of (chart_of w)) (Err Unfit) ≡ (cond b (record { answer = answer_of (chart_of w); words = written w (chart_of w) }) (refused w)).answer
     go true = refl
     go false = refl

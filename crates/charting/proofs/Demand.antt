@@ -1,6 +1,6 @@
 -- The run part of demand 3, over what start and run leave: every start that passes question 8, and every list of runs
 -- after it.
-use Rattle.std.specs.Prelude.{Option}
+use Rattle.std.specs.Prelude.{Option, Ok, Err}
 use mathlib.Core.Path.{◌≡◌, refl, sym, ap, ◌∙◌, subst}
 use mathlib.Core.Bool.{true}
 use mathlib.Core.List.{List, [], ◌∷◌, ◌++◌}
@@ -15,11 +15,10 @@ use Rattle.agenda.proofs.RunFacts.{runs_correct, marked_small, full_run, waiting
 use Rattle.questions.specs.Abstract.{grammar_of, graph_of}
 use Rattle.records.specs.Words.{capacity, chart_of, written}
 use Rattle.records.proofs.Written.{chart_of_written, capacity_written}
-use Rattle.charting.specs.Calls.{number_of, Called, fit, fit_chart, when_waiting, answer_of, start_answer, start_of, run_of, runs_of}
+use Rattle.charting.specs.Calls.{number_of, Called, fit, fit_chart, when_waiting, answer_of, start_answer, start_of, run_of, runs_of, Outcome}
 use Rattle.validity.specs.Checking.{known_chart}
 use Rattle.charting.specs.Facts.{RunRight}
-use Rattle.charting.specs.declared.Outcome.{Outcome}
-use Rattle.charting.specs.declared.Outcome.TheVariants.{TooSmall, Unfinished, Done}
+use Rattle.charting.specs.declared.Unready.TheVariants.{TooSmall, Unfinished}
 use Rattle.validity.proofs.Own.{start_known}
 use Rattle.validity.proofs.KnownCharts.{written_known}
 use Rattle.charting.proofs.Answers.{answer_waiting, answer_fit, answer_nine, answer_other, answer_steps, answer_done, answer_ten, start_answer_nine, start_answer_done}
@@ -132,17 +131,17 @@ module _ (g h w : List ℕ) (e : fit g h w ≡ true) where
       (subst (λ (o : Outcome). RunRight (grammar_of g) (graph_of g h) (capacity w) (sum_of ks + k) o c) a right)
 
   -- a start says 9 only if the closure has more items than the chart holds
-  pub start_right : (start_of g h w).answer ≡ TooSmall → (is : List Item) → Closure (closure (grammar_of g) (graph_of g h)) is → capacity w < length is
+  pub start_right : (start_of g h w).answer ≡ Err TooSmall → (is : List Item) → Closure (closure (grammar_of g) (graph_of g h)) is → capacity w < length is
   unfolding runs_chart
   start_right s = marked_small (grammar_of g) (graph_of g h) ok good (capacity w) most [] (after_start g w) refl (start_answer_nine (after_start g w) (ap number_of (sym (start_answer_is g h w e) ∙ s)))
 
   -- 0 steps on a fresh chart say 10 and change nothing
-  pub fresh_waits : (start_of g h w).answer ≡ Done 0 → run_of g h (start_of g h w).words 0 ≡ record { answer = Unfinished 0; words = (start_of g h w).words }
+  pub fresh_waits : (start_of g h w).answer ≡ Ok 0 → run_of g h (start_of g h w).words 0 ≡ record { answer = Err (Unfinished 0); words = (start_of g h w).words }
   fresh_waits s =
       let c = after_start g w in
       let m : c.mark ≡ 0 = start_answer_done c (ap number_of (sym (start_answer_is g h w e) ∙ s)) in
       let (j, f) = start_waits (grammar_of g) (graph_of g h) ok good (capacity w) most m in
-      let a : answer_of c ≡ Unfinished 0 =
-      answer_waiting c m ∙ ap (λ (q : Option ℕ). when_waiting (handled_count c.records) q) f ∙ ap Unfinished (start_none (grammar_of g) (graph_of g h) (capacity w)) in
+      let a : answer_of c ≡ Err (Unfinished 0) =
+      answer_waiting c m ∙ ap (λ (q : Option ℕ). when_waiting (handled_count c.records) q) f ∙ ap (λ k. Err (Unfinished k)) (start_none (grammar_of g) (graph_of g h) (capacity w)) in
       run_zero g h (start_of g h w).words (start_fit g h w e)
       ∙ ap (λ (o : Outcome). record { answer = o; words = (start_of g h w).words }) (ap answer_of (start_chart_is g h w e) ∙ a)

@@ -1,25 +1,29 @@
 -- What start and run answer and leave in the lent words, for every input, and a list of runs after a start.
-use Rattle.std.specs.Prelude.{Option, Some, None, Bool, ◌&&◌, cond, List, [], ◌∷◌, ℕ, length, eqb}
+use Rattle.std.specs.Prelude.{Option, Some, None, Bool, ◌&&◌, cond, List, [], ◌∷◌, ℕ, length, eqb, Result, Ok, Err}
 use Rattle.agenda.specs.Steps.{Chart, least_waiting, run_chart, start_chart, handled_count}
 use Rattle.questions.specs.Checking.{check_grammar, check_graph}
 use Rattle.questions.specs.Abstract.{grammar_of, graph_of}
 use Rattle.records.specs.Words.{capacity, chart_of, written}
 use Rattle.validity.specs.Checking.{holds, known_chart}
-use Rattle.charting.specs.declared.Outcome.{Outcome}
-use Rattle.charting.specs.declared.Outcome.TheVariants.{Unfit, TooSmall, Unfinished, Done}
+use Rattle.charting.specs.declared.Unready.{Unready}
+use Rattle.charting.specs.declared.Unready.TheVariants.{Unfit, TooSmall, Unfinished}
+
+-- what start and run answer: so many steps are done and nothing is left, or why it is not said
+abbrev pub Outcome : Type 0
+Outcome = Result ℕ Unready
 
 -- 01's number of each answer, 0 where all is done, and the steps done since start that it reports
 abbrev pub number_of : Outcome → ℕ
-number_of Unfit = 8
-number_of TooSmall = 9
-number_of (Unfinished k) = 10
-number_of (Done k) = 0
+number_of (Err Unfit) = 8
+number_of (Err TooSmall) = 9
+number_of (Err (Unfinished k)) = 10
+number_of (Ok k) = 0
 
 abbrev pub steps_of : Outcome → ℕ
-steps_of Unfit = 0
-steps_of TooSmall = 0
-steps_of (Unfinished k) = k
-steps_of (Done k) = k
+steps_of (Err Unfit) = 0
+steps_of (Err TooSmall) = 0
+steps_of (Err (Unfinished k)) = k
+steps_of (Ok k) = k
 
 -- an answer, and the words of the chart after it
 pub record Called : Type 0 where
@@ -37,20 +41,20 @@ fit_chart g h w = fit g h w && known_chart (grammar_of g) (graph_of g h) w
 
 -- questions 9 and 10, by what stands in the chart: its mark, and whether something waits
 abbrev pub when_waiting : ℕ → Option ℕ → Outcome
-when_waiting k None = Done k
-when_waiting k (Some j) = Unfinished k
+when_waiting k None = Ok k
+when_waiting k (Some j) = Err (Unfinished k)
 
 unfoldable pub answer_of : Chart → Outcome
 unfolding least_waiting handled_count
-answer_of c = cond (eqb c.mark 0) (when_waiting (handled_count c.records) (least_waiting c.records (length c.records))) TooSmall
+answer_of c = cond (eqb c.mark 0) (when_waiting (handled_count c.records) (least_waiting c.records (length c.records))) (Err TooSmall)
 
 -- a start says 9 or done, and has done no step
 unfoldable pub start_answer : Chart → Outcome
-start_answer c = cond (eqb c.mark 0) (Done 0) TooSmall
+start_answer c = cond (eqb c.mark 0) (Ok 0) (Err TooSmall)
 
 -- a refusal 8 changes nothing
 abbrev pub refused : List ℕ → Called
-refused w = record { answer = Unfit; words = w }
+refused w = record { answer = Err Unfit; words = w }
 
 unfoldable pub start_of : List ℕ → List ℕ → List ℕ → Called
 unfolding fit start_answer
@@ -65,7 +69,7 @@ run_of g h w k =
 -- how a chart stands: what a run of no steps says
 unfoldable pub standing_of : List ℕ → List ℕ → List ℕ → Outcome
 unfolding fit_chart answer_of
-standing_of g h w = cond (fit_chart g h w) (answer_of (chart_of w)) Unfit
+standing_of g h w = cond (fit_chart g h w) (answer_of (chart_of w)) (Err Unfit)
 
 -- a list of runs, each on the words as the last call left them
 unfoldable pub runs_of : List ℕ → List ℕ → List ℕ → List ℕ → List ℕ

@@ -8,8 +8,7 @@ use Rattle.agenda.specs.Steps.{Chart, handled_count, sum_of}
 use Rattle.agenda.specs.RunFacts.{ChartCorrect}
 use Rattle.questions.specs.Abstract.{grammar_of, graph_of}
 use Rattle.records.specs.Words.{capacity, chart_of}
-use Rattle.charting.specs.Calls.{number_of, steps_of, fit, start_of, runs_of}
-use Rattle.charting.specs.declared.Outcome.{Outcome}
+use Rattle.charting.specs.Calls.{number_of, steps_of, fit, start_of, runs_of, Outcome}
 
 -- The answer a and the chart c that the last of several runs gave, which were given k steps in all from a start on,
 -- on a chart that holds cap items. The order among equal counts and the layout are the program's choice: this holds

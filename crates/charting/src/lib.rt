@@ -2,12 +2,11 @@
 
 #![tactic(auto)]
 
-// What start and run answer: the tables or the chart are refused (8), the chart does not hold the closure (9), items
-// wait after the steps done since start (10), or all are handled after so many steps.
-#[derive(Clone, Copy)]
-pub enum Outcome {
+// Why start and run do not answer that all items are handled: the tables or the chart are refused (8), the chart does
+// not hold the closure (9), or items wait after the steps done since start (10).
+#[derive(Clone, Copy, Debug, PartialEq, Eq)]
+pub enum Unready {
     Unfit,
     TooSmall,
     Unfinished(u64),
-    Done(u64),
 }

@@ -8,11 +8,9 @@ use std::rt::Files;
 // Reads the graph beside a grammar's text. A file that cannot be read is no text: nothing is printed.
 fn derive_with<R: Files + Print + Eprint>(rt: &R, grammar: &[u8]) {
     let mut text = [0u8; 32769];
-    let got = files::read_file(rt, b"graph.txt", &mut text);
-    if got < 0 {
+    let Some(n) = files::read_file(rt, b"graph.txt", &mut text) else {
         return;
-    }
-    let n = files::count(got, &text);
+    };
     let mut out = [0u8; 32774];
     let count = driver::derive(grammar, &text[..n], &mut out);
     files::print(rt, &out[..count]);
@@ -20,10 +18,8 @@ fn derive_with<R: Files + Print + Eprint>(rt: &R, grammar: &[u8]) {
 
 fn main(rt: HostRuntime) {
     let mut text = [0u8; 32769];
-    let got = files::read_file(&rt, b"grammar.txt", &mut text);
-    if got < 0 {
+    let Some(n) = files::read_file(&rt, b"grammar.txt", &mut text) else {
         return;
-    }
-    let n = files::count(got, &text);
+    };
     derive_with(&rt, &text[..n]);
 }

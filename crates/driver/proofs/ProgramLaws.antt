@@ -1,4 +1,5 @@
 -- Laws of the two programs' definitions: one for each way that they can go.
+use Rattle.std.specs.Prelude.{Ok, Err}
 use mathlib.Core.Path.{◌≡◌, refl, sym, ap, ◌∙◌}
 use mathlib.Core.List.{List, [], ◌∷◌, ◌++◌}
 use Prim.Native.Nat.{ℕ, ◌≤◌, ◌<◌}
@@ -6,20 +7,15 @@ use native.Mathlib.Omega.{arith}
 use lib.ListN.{length, take, replicate, length-replicate}
 use lib.Seq.{length-take-le}
 use borrow.Author.Tests.{eq-eqb, ne_eqb}
-use denote.Enum.Declared.{tag_of}
-use types.Run.{OneOf, miss}
 use Rattle.questions.specs.Layout.{grammar_words, graph_words}
-use Rattle.charting.specs.Calls.{number_of as chart_number, start_of, run_of}
-use Rattle.charting.specs.declared.Outcome.{Outcome}
-use Rattle.charting.specs.contracts.Outcome.{the_type as outcome_type}
-use Rattle.charting.specs.declared.Outcome.TheVariants.{Unfit as UnfitChart, TooSmall as TooSmallChart, Unfinished as UnfinishedChart, Done}
-use Rattle.writing.specs.Writing.{number_of as writing_number, write_of}
+use Rattle.charting.specs.Calls.{number_of as chart_number, start_of, run_of, Outcome}
+use Rattle.charting.specs.declared.Unready.{Unready}
+use Rattle.charting.specs.declared.Unready.TheVariants.{Unfit as UnfitChart, TooSmall as TooSmallChart, Unfinished as UnfinishedChart}
+use Rattle.writing.specs.Writing.{number_of as writing_number, write_of, Answer}
 use Rattle.writing.specs.Demand.{WriteChoices}
-use Rattle.writing.specs.declared.Answer.{Answer}
-use Rattle.writing.specs.contracts.Answer.{the_type as answer_type}
-use Rattle.writing.specs.declared.Answer.TheVariants.{Unfit, TooSmall, Unfinished, Underivable, NoRoom, Written}
-use Rattle.replayer.specs.Verdicts.{number_of as verdict_number, replay_of}
-use Rattle.replayer.specs.declared.Verdict.{Verdict}
+use Rattle.writing.specs.declared.WriteError.{WriteError}
+use Rattle.writing.specs.declared.WriteError.TheVariants.{Unfit, TooSmall, Unfinished, Underivable, NoRoom}
+use Rattle.replayer.specs.Verdicts.{number_of as verdict_number, replay_of, Verdict}
 use Rattle.programs.specs.Files.{file_bytes, files_of, FilesGive}
 use Rattle.programs.specs.Programs.{Derived, refused, derived, derived_text, refusal_line, steps_line, items, chart_words, output_bytes, when_written, write_chart, when_ran, derive_tables, derive_files, replay_tables, replay_files, Prints}
 use Rattle.programs.proofs.Limits.{derivation_oversize, derivation_within}
@@ -31,42 +27,40 @@ prints_as : (d e : Derived) (former now : List ℕ) (r : ℕ) → d ≡ e → Pr
 prints_as d e former now r q p = rw q p
 
 -- ---- the writing
-not_written : (a : Answer) (out : List ℕ) (steps : ℕ) → OneOf (0 ∷ 1 ∷ 2 ∷ 3 ∷ 4 ∷ []) (tag_of answer_type a) → when_written a out steps ≡ refused (writing_number a)
-not_written Unfit out steps h = refl
-not_written TooSmall out steps h = refl
-not_written (Unfinished k) out steps h = refl
-not_written Underivable out steps h = refl
-not_written NoRoom out steps h = refl
-not_written (Written n) out steps h = absurd (miss (0 ∷ 1 ∷ 2 ∷ 3 ∷ 4 ∷ []) 5 tt h)
+not_written : (e : WriteError) (out : List ℕ) (steps : ℕ) → when_written (Err e) out steps ≡ refused (writing_number (Err e))
+not_written Unfit out steps = refl
+not_written TooSmall out steps = refl
+not_written (Unfinished k) out steps = refl
+not_written Underivable out steps = refl
+not_written NoRoom out steps = refl
 
 -- the bytes written are a part of the output
-pub written_fits : (g h w out : List ℕ) (a : Answer) (n : ℕ) → WriteChoices g h w (cleared output_bytes) a out → length out ≡ length (cleared output_bytes) → a ≡ Written n
+pub written_fits : (g h w out : List ℕ) (a : Answer) (n : ℕ) → WriteChoices g h w (cleared output_bytes) a out → length out ≡ length (cleared output_bytes) → a ≡ Ok n
     → (n ≤ length out) × (n ≡ length (take n out)) × (length (take n out) ≤ output_bytes)
 written_fits g h w out a n choices l q =
     let within : n ≤ length out = omega (arith, (choices.behind n q).0) in
     let size : length (take n out) ≡ n = length-take-le n out within in (within, sym size, omega (arith, length-replicate {A = ℕ} output_bytes 0))
 
 module _ (g h w : List ℕ) (steps : ℕ) (a : Answer) (e : a ≡ (write_of g h w (cleared output_bytes)).answer) (former now : List ℕ) (r : ℕ) where
-  pub prints_derived : (out : List ℕ) (n : ℕ) → out ≡ (write_of g h w (cleared output_bytes)).out → a ≡ Written n
+  pub prints_derived : (out : List ℕ) (n : ℕ) → out ≡ (write_of g h w (cleared output_bytes)).out → a ≡ Ok n
       → Prints (take n out ++ steps_line steps) former now r → Prints (derived_text (write_chart g h w steps)) former now r
   unfolding write_chart
   prints_derived out n o q p =
       prints_as _ (derived (take n out) steps) former now r
       (ap (λ x. when_written x (write_of g h w (cleared output_bytes)).out steps) (sym e ∙ q) ∙ ap (λ x. derived (take n x) steps) (sym o)) p
 
-  pub prints_unwritten : (k : ℕ) → OneOf (0 ∷ 1 ∷ 2 ∷ 3 ∷ 4 ∷ []) (tag_of answer_type a) → k ≡ writing_number a
+  pub prints_unwritten : (k : ℕ) (b : WriteError) → a ≡ Err b → k ≡ writing_number a
       → Prints (refusal_line k) former now r → Prints (derived_text (write_chart g h w steps)) former now r
   unfolding write_chart
-  prints_unwritten k h' q p =
+  prints_unwritten k b f q p =
       prints_as _ (refused k) former now r
-      (ap (λ x. when_written x (write_of g h w (cleared output_bytes)).out steps) (sym e) ∙ not_written a _ steps h' ∙ ap refused (sym q)) p
+      (ap (λ x. when_written x (write_of g h w (cleared output_bytes)).out steps) (sym e ∙ f) ∙ not_written b _ steps ∙ ap refused (sym (q ∙ ap writing_number f))) p
 
 -- ---- the chart
-not_done : (o : Outcome) (next : ℕ → Derived) → OneOf (0 ∷ 1 ∷ 2 ∷ []) (tag_of outcome_type o) → when_ran o next ≡ refused (chart_number o)
-not_done UnfitChart next h = refl
-not_done TooSmallChart next h = refl
-not_done (UnfinishedChart k) next h = refl
-not_done (Done k) next h = absurd (miss (0 ∷ 1 ∷ 2 ∷ []) 3 tt h)
+not_done : (u : Unready) (next : ℕ → Derived) → when_ran (Err u) next ≡ refused (chart_number (Err u))
+not_done UnfitChart next = refl
+not_done TooSmallChart next = refl
+not_done (UnfinishedChart k) next = refl
 
 -- a start that answered o with the number k and left v
 module _ (g h : List ℕ) (o : Outcome) (k : ℕ) (e : o ≡ (start_of g h (cleared chart_words)).answer) (z : k ≡ chart_number o) (former now : List ℕ) (r : ℕ) where
@@ -82,11 +76,13 @@ module _ (g h : List ℕ) (o : Outcome) (k : ℕ) (e : o ≡ (start_of g h (clea
     unfolding derive_tables
     ran = rw (← number, eq-eqb k 0 started, ← left, ← f)
 
-    pub prints_unrun : (j : ℕ) → OneOf (0 ∷ 1 ∷ 2 ∷ []) (tag_of outcome_type a) → j ≡ chart_number a → Prints (refusal_line j) former now r
+    pub prints_unrun : (j : ℕ) (u : Unready) → a ≡ Err u → j ≡ chart_number a → Prints (refusal_line j) former now r
         → Prints (derived_text (derive_tables g h)) former now r
-    prints_unrun j h' q p = prints_as _ (refused j) former now r (ran ∙ not_done a _ h' ∙ ap refused (sym q)) p
+    prints_unrun j u d q p =
+        prints_as _ (refused j) former now r
+        (ran ∙ ap (λ x. when_ran x (λ n. write_chart g h (run_of g h v items).words n)) d ∙ not_done u _ ∙ ap refused (sym (q ∙ ap chart_number d))) p
 
-    pub prints_run : (w : List ℕ) (steps : ℕ) → w ≡ (run_of g h v items).words → a ≡ Done steps → Prints (derived_text (write_chart g h w steps)) former now r
+    pub prints_run : (w : List ℕ) (steps : ℕ) → w ≡ (run_of g h v items).words → a ≡ Ok steps → Prints (derived_text (write_chart g h w steps)) former now r
         → Prints (derived_text (derive_tables g h)) former now r
     prints_run w steps q d p =
         prints_as _ (write_chart g h w steps) former now r

@@ -3,7 +3,7 @@
 
 #![tactic(auto)]
 
-ghost use Rattle.std.specs.Prelude.{◌≡◌, [], ◌∷◌, ◌++◌, ◌+◌, ◌≤◌, length, drop};
+ghost use Rattle.std.specs.Prelude.{◌≡◌, [], ◌∷◌, ◌++◌, ◌+◌, ◌≤◌, length};
 ghost use Rattle.std.proofs.lemmas.List.Edits.{sets};
 ghost use Rattle.format.specs.Writing.{line_text};
 ghost use Rattle.charting.specs.Calls.{number_of as chartNumber};
@@ -12,9 +12,10 @@ ghost use Rattle.replayer.specs.Verdicts.{number_of as verdictNumber};
 ghost use Rattle.programs.specs.Files.{reading_number, grammar_file, graph_file, files_of, FileGives, FilesGive};
 ghost use Rattle.programs.specs.Programs.{refusal_line, steps_line, Prints, derived_text, write_chart, derive_tables, derive_files, replay_tables, replay_files};
 
-use charting::Outcome;
+use charting::Unready;
 use questions::Answer;
-use replayer::Verdict;
+use replayer::ReplayError;
+use writing::WriteError;
 
 // ---- 01's number of each answer, 0 where it is no refusal
 
@@ -27,37 +28,32 @@ pub fn reading_number(a: Answer) -> u64
     }
 }
 
-pub fn chart_number(o: Outcome) -> u64
+pub fn chart_number(o: Result<u64, Unready>) -> u64
     ensures { result ≡ chartNumber o }
 {
-    match o {
-        Outcome::Unfit => 8,
-        Outcome::TooSmall => 9,
-        Outcome::Unfinished(_) => 10,
-        Outcome::Done(_) => 0,
-    }
+    writing_number(o.map_err(WriteError::from))
 }
 
-fn writing_number(a: writing::Answer) -> u64
+pub fn writing_number(a: Result<u64, WriteError>) -> u64
     ensures { result ≡ writingNumber a }
 {
     match a {
-        writing::Answer::Unfit => 8,
-        writing::Answer::TooSmall => 9,
-        writing::Answer::Unfinished(_) => 10,
-        writing::Answer::Underivable => 11,
-        writing::Answer::NoRoom => 12,
-        writing::Answer::Written(_) => 0,
+        Ok(_) => 0,
+        Err(WriteError::Unfit) => 8,
+        Err(WriteError::TooSmall) => 9,
+        Err(WriteError::Unfinished(_)) => 10,
+        Err(WriteError::Underivable) => 11,
+        Err(WriteError::NoRoom) => 12,
     }
 }
 
-pub fn verdict_number(v: Verdict) -> u64
+pub fn verdict_number(v: Result<(), ReplayError>) -> u64
     ensures { result ≡ verdictNumber v }
 {
     match v {
-        Verdict::Unfit => 8,
-        Verdict::Refused => 13,
-        Verdict::Passed => 0,
+        Ok(()) => 0,
+        Err(ReplayError::Unfit) => 8,
+        Err(ReplayError::NoDerivation) => 13,
     }
 }
 
@@ -110,23 +106,12 @@ fn put_refusal(k: u64, out: &mut [u8; 32774]) -> usize
     write_number(out, 0, b'N', k)
 }
 
-fn copy(text: &[u8], out: &mut [u8])
-    requires { length text.now ≤ length out.old }
-    ensures { out.new ≡ text.now ++ drop (length text.now) out.old }
-{
-    let mut i = 0;
-    while i < text.len() {
-        out[i] = text[i];
-        i += 1;
-    }
-}
-
 // The derivation, and the line with the steps behind it.
 fn put_derivation(text: &[u8], steps: u64, out: &mut [u8; 32774]) -> usize
     requires { length text.now ≤ 32768 }
     ensures { Prints (text.now ++ steps_line steps) out.old out.new result }
 {
-    copy(text, out);
+    out[..text.len()].copy_from_slice(text);
     write_number(out, text.len(), b'C', steps)
 }
 
@@ -145,8 +130,8 @@ fn write_chart(
     let mut text = [0u8; 32768];
     let answer = writer::write(grammar, graph, chart, &mut text);
     match answer {
-        writing::Answer::Written(n) => put_derivation(&text[..n as usize], steps, out),
-        _ => put_refusal(writing_number(answer), out),
+        Ok(n) => put_derivation(&text[..n as usize], steps, out),
+        Err(_) => put_refusal(writing_number(answer), out),
     }
 }
 
@@ -161,8 +146,8 @@ fn derive_tables(grammar: &[u64], graph: &[u64], out: &mut [u8; 32774]) -> usize
     }
     let outcome = chart::run(grammar, graph, &mut chart, 2048);
     match outcome {
-        Outcome::Done(steps) => write_chart(grammar, graph, &chart, steps, out),
-        _ => put_refusal(chart_number(outcome), out),
+        Ok(steps) => write_chart(grammar, graph, &chart, steps, out),
+        Err(_) => put_refusal(chart_number(outcome), out),
     }
 }
 

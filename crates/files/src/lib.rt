@@ -3,8 +3,8 @@
 
 #![tactic(auto)]
 
-ghost use Rattle.std.specs.Prelude.{IfOk};
-ghost use Rattle.files.specs.Counts.{IsPrefixLen, Moved};
+ghost use Rattle.std.specs.Prelude.{IfOk, IfSome};
+ghost use Rattle.files.specs.Counts.{IsPrefixLen};
 
 use std::fmt::Display;
 use std::io::{ErrorKind, Read};
@@ -39,58 +39,51 @@ fn is_at_end<F: Read>(file: &mut F) -> bool {
 }
 
 // Reads a file that is open. One of more bytes than a text holds needs no end: it is refused by its length.
-fn read_open<F: Read>(rt: &impl Eprint, file: &mut F, path: &[u8], text: &mut [u8; 32769]) -> isize
-    ensures { Moved 32769 result }
+fn read_open<F: Read>(
+    rt: &impl Eprint,
+    file: &mut F,
+    path: &[u8],
+    text: &mut [u8; 32769],
+) -> Option<usize>
+    ensures { IfSome result (λ n. IsPrefixLen n text.new) }
 {
     match read_full(file, text) {
         Ok(n) => {
-            if n < 32769 {
-                if !is_at_end(file) {
-                    fail(rt, path, "its end cannot be read");
-                    return -1;
-                }
+            if n < text.len() && !is_at_end(file) {
+                fail(rt, path, "its end cannot be read");
+                return None;
             }
-            n as isize
+            Some(n)
         }
         Err(e) => {
             fail(rt, path, e);
-            -1
+            None
         }
     }
 }
 
 // Reads a file's first bytes, one more than 32,768 at most, and answers how many. A missing file is empty. One that
-// is there and cannot be read is told on standard error, and answered -1. So is a path that is no UTF-8, under which
-// the library opens nothing.
-pub fn read_file<R: Files + Eprint>(rt: &R, path: &[u8], text: &mut [u8; 32769]) -> isize
-    ensures { Moved 32769 result }
+// is there and cannot be read is told on standard error, and answered `None`. So is a path that is no UTF-8, under
+// which the library opens nothing.
+pub fn read_file<R: Files + Eprint>(rt: &R, path: &[u8], text: &mut [u8; 32769]) -> Option<usize>
+    ensures { IfSome result (λ n. IsPrefixLen n text.new) }
 {
     match str::from_utf8(path) {
         Ok(name) => match fs::open(rt, name) {
             Ok(mut file) => read_open(rt, &mut file, path, text),
             Err(e) => {
                 if e.kind() == ErrorKind::NotFound {
-                    return 0;
+                    return Some(0);
                 }
                 fail(rt, path, e);
-                -1
+                None
             }
         },
         Err(e) => {
             fail(rt, path, e);
-            -1
+            None
         }
     }
-}
-
-// How many bytes of the text were read.
-pub fn count(got: isize, text: &[u8; 32769]) -> usize
-    ensures { IsPrefixLen result text.now }
-{
-    if got < 0 {
-        return 0;
-    }
-    text.len().min(got as usize)
 }
 
 // Writes the bytes to standard output, and answers how many: all, or 0 where not all were taken, which is told on

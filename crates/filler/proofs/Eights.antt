@@ -50,10 +50,6 @@ eight_next l i h b =
     eight_short (p ++ (x ∷ [])) (omega arith) ∙ ap (λ (n : ℕ). (p ++ (x ∷ [])) ++ replicate n 0) rest ∙ append_snoc p x (replicate m 0) in
     ap (λ (z : List ℕ). set z i x) before ∙ set_at p 0 (replicate m 0) x i size ∙ sym after ∙ ap eight (sym next)
 
--- behind the last number a place stays
-eight_past : (l : List ℕ) (i : ℕ) → length l ≤ i → eight (take i l) ≡ eight (take (i + 1) l)
-eight_past l i h = ap eight (take_all i l h ∙ sym (take_all (i + 1) l (omega arith)))
-
 -- more than eight numbers
 eight_all : (l : List ℕ) → eight (take 8 l) ≡ eight l
 unfolding eight
@@ -82,24 +78,19 @@ module _ (line : List ℕ) (from count : ℕ) (inside : count ≤ field_count li
       let value : x ≡ get_or (numbers_of line from count) i 0 = n ∙ sym (number_at i h) in
       rw (e, value) (eight_next (numbers_of line from count) i (omega (arith, numbers_length)) b)
 
-  pub place_kept : (row : List ℕ) (i : ℕ) → row ≡ eight (take i (numbers_of line from count)) → count ≤ i → row ≡ eight (take (i + 1) (numbers_of line from count))
-  place_kept row i e h = e ∙ eight_past (numbers_of line from count) i (omega (arith, numbers_length))
-
-  pub places_done : (row : List ℕ) (i : ℕ) → row ≡ eight (take i (numbers_of line from count)) → i ≤ 8 → 8 ≤ i → row ≡ eight (numbers_of line from count)
-  places_done row i e l m =
-      let end : i ≡ 8 = omega arith in
-      e ∙ ap (λ (n : ℕ). eight (take n (numbers_of line from count))) end ∙ eight_all (numbers_of line from count)
+  pub places_done : (row : List ℕ) (i : ℕ) → row ≡ eight (take i (numbers_of line from count)) → i ≡ min count 8 → row ≡ eight (numbers_of line from count)
+  places_done row i e l = e ∙ go (dec_le count 8)
+    where
+      go : Dec (count ≤ 8) → eight (take i (numbers_of line from count)) ≡ eight (numbers_of line from count)
+      go (yes h) = ap eight (take_all i (numbers_of line from count) (omega (arith, numbers_length)))
+      go (no h) =
+          let end : i ≡ 8 = omega arith in
+          ap (λ (n : ℕ). eight (take n (numbers_of line from count))) end ∙ eight_all (numbers_of line from count)
 
 -- ---- behind the number and the rule
 module _ (line : List ℕ) where
-  pub rest_none : (n : ℕ) → n ≡ field_count line → n < 2 → 0 ≡ length (drop 2 (fields_of line))
-  rest_none n e h = omega (arith, length-drop 2 (fields_of line), fields_length line)
-
-  pub rest_some : (n : ℕ) → n ≡ field_count line → 2 ≤ n → n - 2 ≡ length (drop 2 (fields_of line))
-  rest_some n e h = omega (arith, length-drop 2 (fields_of line), fields_length line)
-
-  pub rest_inside : (rest : ℕ) → rest ≡ length (drop 2 (fields_of line)) → rest ≡ field_count line - 2
-  rest_inside rest e = omega (arith, length-drop 2 (fields_of line), fields_length line)
+  pub rest_is : (rest : ℕ) → rest ≡ field_count line - 2 → rest ≡ length (drop 2 (fields_of line))
+  rest_is rest e = omega (arith, length-drop 2 (fields_of line), fields_length line)
 
 -- a line has fewer fields than bytes
 pub fields_few : (line : List ℕ) → field_count line ≤ length line

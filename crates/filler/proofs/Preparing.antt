@@ -1,5 +1,6 @@
 -- The text that is prepared: the writer's, with an answer for a row of so many records.
-use mathlib.Core.Path.{◌≡◌, refl, sym, ap, ◌∙◌}
+use Rattle.std.specs.Prelude.{Ok, Err}
+use mathlib.Core.Path.{◌≡◌, refl, sym, ap, ◌∙◌, subst}
 use mathlib.Core.Logic.{◌≢◌}
 use mathlib.Core.List.{List, ◌++◌}
 use Prim.Native.Nat.{ℕ, ◌≤◌, ◌<◌}
@@ -11,16 +12,16 @@ use Rattle.format.specs.Lines.{line_of}
 use Rattle.format.specs.Fields.{number_of as field_number}
 use Rattle.questions.specs.Abstract.{grammar_of}
 use Rattle.scripts.specs.Scripts.{rows_text}
-use Rattle.writing.specs.Writing.{number_of, Wrote, write_of}
+use Rattle.writing.specs.Writing.{number_of, Wrote, write_of, Answer}
 use Rattle.writing.specs.Filling.{records_in, Choice, refuses, chooses, chosen_of, write_by}
-use Rattle.writing.specs.declared.Answer.{Answer}
-use Rattle.writing.specs.declared.Answer.TheVariants.{NoRoom, Written}
+use Rattle.writing.specs.declared.WriteError.{WriteError}
+use Rattle.writing.specs.declared.WriteError.TheVariants.{NoRoom}
 use Rattle.writing.proofs.Writings.{holding, text_held}
 use Rattle.writing.proofs.Filling.{write_chosen, refusal_number}
 use Rattle.filler.specs.Rows.{application_read, count_in, answer_by, Prepared}
 use Rattle.filler.proofs.TextLines.{count_said, text_most}
 use Rattle.filler.proofs.ChosenRows.{chosen_rows}
-use Rattle.filler.proofs.Answers.{refused_none}
+use Rattle.filler.proofs.Answers.{refused_none, error_some}
 
 module _ (g h w out now : List ℕ) (room : ℕ) (a : Answer) (long : 303110 ≤ length out) (answers : a ≡ (write_of g h w out).answer) (leaves : now ≡ (write_of g h w out).out) where
   wrote_by : (c : Choice) → chosen_of g h w ≡ c → write_of g h w out ≡ write_by c out
@@ -36,14 +37,18 @@ module _ (g h w out now : List ℕ) (room : ℕ) (a : Answer) (long : 303110 ≤
   refused_answer : (b : Answer) → chosen_of g h w ≡ refuses b → a ≡ b
   refused_answer b e = answers ∙ ap (λ (x : Wrote). x.answer) (wrote_by (refuses b) e)
 
-  pub prepared_refused : number_of a ≢ 0 → Prepared g h w room a now
-  prepared_refused k =
-      record {
+  pub prepared_refused : (e : WriteError) → a ≡ Err e → Prepared g h w room (Err e) now
+  prepared_refused e is =
+      subst (λ (b : Answer). Prepared g h w room b now) is
+      (record {
         answers = go (chosen_of g h w) refl;
         holds = λ t e. absurd (chosen_not t e);
         fits = omega (arith, refused_none a k);
-      }
+      })
     where
+      k : number_of a ≢ 0
+      k z = error_some e (sym (ap number_of is) ∙ z)
+
       chosen_not : (t : List ℕ) → chosen_of g h w ≡ chooses t → ⊥
       chosen_not t e = k (ap number_of (answers ∙ ap (λ (x : Wrote). x.answer) (wrote_text t e)))
 
@@ -77,10 +82,10 @@ module _ (g h w out now : List ℕ) (room : ℕ) (a : Answer) (long : 303110 ≤
         go (refuses d) e = absurd (refuses_not d e)
         go (chooses t) e = is t (counts t e) ∙ ap (λ (c : Choice). answer_by (grammar_of g) c room) (sym e)
 
-    pub prepared_short : room < count → Prepared g h w room NoRoom now
+    pub prepared_short : room < count → Prepared g h w room (Err NoRoom) now
     prepared_short l =
-        by_count NoRoom (λ t e. rw (← e, lt-leb count room l)) (omega arith)
+        by_count (Err NoRoom) (λ t e. rw (← e, lt-leb count room l)) (omega arith)
 
-    pub prepared_held : count ≤ room → Prepared g h w room (Written count) now
+    pub prepared_held : count ≤ room → Prepared g h w room (Ok count) now
     prepared_held l =
-        by_count (Written count) (λ t e. rw (← e, le-leb count room l)) l
+        by_count (Ok count) (λ t e. rw (← e, le-leb count room l)) l

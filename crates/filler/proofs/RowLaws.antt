@@ -1,4 +1,5 @@
 -- A row that is filled line by line from the prepared text is the one that the writer's choice fills.
+use Rattle.std.specs.Prelude.{Ok, Err}
 use mathlib.Core.Path.{◌≡◌, refl, sym, ap, ◌∙◌, subst}
 use mathlib.Core.Bool.{Bool, true, false}
 use mathlib.Core.List.{List, [], ◌∷◌, ◌++◌, map, map-append}
@@ -14,8 +15,8 @@ use Rattle.scripts.specs.Scripts.{rows_text, WritableLines}
 use Rattle.questions.specs.Abstract.{grammar_of}
 use Rattle.writing.specs.Filling.{records_in, Choice, refuses, chooses, chosen_of, Filled, fill_of}
 use Rattle.writing.specs.Demand.{FillChoices}
-use Rattle.writing.specs.declared.Answer.{Answer}
-use Rattle.writing.specs.declared.Answer.TheVariants.{NoRoom, Written}
+use Rattle.writing.specs.Writing.{Answer}
+use Rattle.writing.specs.declared.WriteError.TheVariants.{NoRoom}
 use Rattle.writing.specs.declared.Application.{Application}
 use Rattle.writing.proofs.Filling.{records_held, records_short, fill_refuses, fill_chooses, refusal_number}
 use Rattle.writing.proofs.Choices.{fill_choices}
@@ -97,10 +98,10 @@ module _ (g h w : List ℕ) (former now : List Application) (a : Answer) (text :
     right_chosen : (b : Bool) → leb (length xs) (length former) ≡ b → Right (fill_of g h w former)
     right_chosen true l =
         let room = leb-true (length xs) (length former) l in
-        let z : a ≡ Written (length xs) = answered (chooses t) e ∙ rw l in
+        let z : a ≡ Ok (length xs) = answered (chooses t) e ∙ rw l in
         subst Right (sym (fill_chooses g h w former t e ∙ records_held xs former room)) (z, q ∙ ap (λ (a : Answer). filled_from g text (count_in a) former) z ∙ all_filled room)
     right_chosen false l =
-        let z : a ≡ NoRoom = answered (chooses t) e ∙ rw l in
+        let z : a ≡ (Err NoRoom) = answered (chooses t) e ∙ rw l in
         subst Right (sym (fill_chooses g h w former t e ∙ records_short xs former (omega (arith, leb-false (length xs) (length former) l)))) (z, nothing_filled (ap count_in z))
 
   right_refused : (b : Answer) → chosen_of g h w ≡ refuses b → Right (fill_of g h w former)

@@ -1,5 +1,5 @@
 -- How a row is filled: from the lines of the text that the writer writes, one record for each.
-use Rattle.std.specs.Prelude.{◌≡◌, cond, List, ℕ, zero, suc, ◌≤◌, length, take, drop, get_or, set, leb}
+use Rattle.std.specs.Prelude.{◌≡◌, cond, List, ℕ, zero, suc, ◌≤◌, length, take, drop, get_or, set, leb, Ok, Err}
 use Rattle.format.specs.Lines.{line_of, after_line}
 use Rattle.format.specs.Fields.{fields_of}
 use Rattle.hrg.specs.Grammars.{Grammar}
@@ -7,8 +7,8 @@ use Rattle.questions.specs.Layout.{rule_nodes}
 use Rattle.questions.specs.Abstract.{grammar_of}
 use Rattle.writing.specs.Filling.{application_of, records_in, Choice, refuses, chooses, chosen_of, fill_of}
 use Rattle.writing.specs.Demand.{FillChoices}
-use Rattle.writing.specs.declared.Answer.{Answer}
-use Rattle.writing.specs.declared.Answer.TheVariants.{Unfit, TooSmall, Unfinished, Underivable, NoRoom, Written}
+use Rattle.writing.specs.Writing.{Answer}
+use Rattle.writing.specs.declared.WriteError.TheVariants.{NoRoom}
 use Rattle.writing.specs.declared.Application.{Application}
 
 -- ---- one record
@@ -39,17 +39,13 @@ filled_from g text (suc n) former = set (filled_from g text n former) n (applica
 
 -- ---- the text
 abbrev pub count_in : Answer → ℕ
-count_in Unfit = 0
-count_in TooSmall = 0
-count_in (Unfinished k) = 0
-count_in Underivable = 0
-count_in NoRoom = 0
-count_in (Written n) = n
+count_in (Ok n) = n
+count_in (Err e) = 0
 
 -- what `fill` answers for a row of so many records
 abbrev pub answer_by : Grammar → Choice → ℕ → Answer
 answer_by G (refuses a) room = a
-answer_by G (chooses text) room = cond (leb (length (records_in G text)) room) (Written (length (records_in G text))) NoRoom
+answer_by G (chooses text) room = cond (leb (length (records_in G text)) room) (Ok (length (records_in G text))) (Err NoRoom)
 
 -- The answer, with the derivation at the front of the text.
 pub record Prepared (g h w : List ℕ) (room : ℕ) (a : Answer) (text : List ℕ) : Type 0 where

@@ -5,9 +5,9 @@
 ghost use Rattle.std.specs.Prelude.{◌≡◌, ◌-◌, ◌≤◌, length, take, drop};
 ghost use Rattle.format.specs.Fields.{field_count, fields_of};
 ghost use Rattle.writing.specs.Filling.{eight};
-ghost use Rattle.filler.specs.Rows.{application_read, application_at, count_in, Prepared, filled_from, Filling};
+ghost use Rattle.filler.specs.Rows.{application_read, application_at, Prepared, filled_from, Filling};
 
-use writing::{Answer, Application};
+use writing::{Application, WriteError};
 
 // ---- the record of a line
 
@@ -17,32 +17,20 @@ fn eight_from(line: &[u8], from: usize, count: usize) -> [u64; 8]
     ensures { result ≡ eight (take count (drop from (fields_of line.now))) }
 {
     let mut row = [0u64; 8];
-    let mut i = 0;
-    while i < 8 {
-        if i < count {
-            row[i] = lines::number(line, from + i);
-        }
-        i += 1;
+    for i in 0..count.min(8) {
+        row[i] = lines::number(line, from + i);
     }
     row
 }
 
-// The fields behind the application's number and its rule.
-fn rest_of(line: &[u8]) -> usize
-    ensures { result ≡ length (drop 2 (fields_of line.now)) }
-{
-    let count = lines::field_count(line);
-    if count < 2 { 0 } else { count - 2 }
-}
-
-// As many nodes as the rule has, the rest are parts.
+// Behind the application's number and its rule stand as many nodes as the rule has, the rest are parts.
 fn application_in(grammar: &[u64], line: &[u8]) -> Application
     ensures { result ≡ application_read grammar.now (fields_of line.now) }
 {
     let rule = lines::number(line, 1);
-    let rest = rest_of(line);
+    let rest = lines::field_count(line).saturating_sub(2);
     let nodes = layout::rule_nodes(grammar, rule) as usize;
-    let placed = if nodes < rest { nodes } else { rest };
+    let placed = nodes.min(rest);
     Application {
         rule,
         node_count: placed as u64,
@@ -61,33 +49,24 @@ fn application_at(grammar: &[u64], text: &[u8], at: usize) -> Application
 
 // ---- the text
 
-// How many records an answer fills.
-fn count_in(a: Answer) -> usize
-    ensures { result ≡ count_in a }
-{
-    match a {
-        Answer::Written(n) => n as usize,
-        _ => 0,
-    }
-}
-
 // Writes the derivation into a text that holds the longest one, and answers as `fill` does for a row of so many
 // records.
-fn prepare(grammar: &[u64], graph: &[u64], chart: &[u64], room: usize, text: &mut [u8]) -> Answer
+fn prepare(
+    grammar: &[u64],
+    graph: &[u64],
+    chart: &[u64],
+    room: usize,
+    text: &mut [u8],
+) -> Result<u64, WriteError>
     requires { 303110 ≤ length text.old }
     ensures { Prepared grammar.now graph.now chart.now room result text.new }
 {
-    let answer = writer::write(grammar, graph, chart, text);
-    match answer {
-        Answer::Written(_) => {
-            let count = lines::number(lines::next_line(text, 0), 0);
-            if room < count as usize {
-                Answer::NoRoom
-            } else {
-                Answer::Written(count)
-            }
-        }
-        _ => answer,
+    writer::write(grammar, graph, chart, text)?;
+    let count = lines::number(lines::next_line(text, 0), 0);
+    if room < count as usize {
+        Err(WriteError::NoRoom)
+    } else {
+        Ok(count)
     }
 }
 
@@ -98,22 +77,25 @@ fn fill_row(rows: &mut [Application], grammar: &[u64], text: &[u8], n: usize)
     requires { n ≤ length rows.old }
     ensures { rows.new ≡ filled_from grammar.now text.now n rows.old }
 {
-    let mut k = 0;
     let mut at = 6;
-    while k < n {
+    for k in 0..n {
         rows[k] = application_at(grammar, text, at);
         at = lines::after_line(text, at);
-        k += 1;
     }
 }
 
 // Questions 8 to 12: fills the row with the records of the derivation that `write` writes as text, and leaves the
 // records behind them. Refusals change nothing.
-pub fn fill(grammar: &[u64], graph: &[u64], chart: &[u64], rows: &mut [Application]) -> Answer
+pub fn fill(
+    grammar: &[u64],
+    graph: &[u64],
+    chart: &[u64],
+    rows: &mut [Application],
+) -> Result<u64, WriteError>
     ensures { Filling grammar.now graph.now chart.now rows.old result rows.new }
 {
     let mut text = [0u8; 303110];
     let answer = prepare(grammar, graph, chart, rows.len(), &mut text);
-    fill_row(rows, grammar, &text, count_in(answer));
+    fill_row(rows, grammar, &text, answer.unwrap_or(0) as usize);
     answer
 }

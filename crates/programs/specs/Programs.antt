@@ -1,14 +1,12 @@
 -- What `derive` and `replay` print, for every text of their files (01, the paragraph on the two programs).
-use Rattle.std.specs.Prelude.{◌≡◌, cond, List, [], ◌∷◌, ◌++◌, ℕ, length, take, drop, replicate, eqb, leb}
+use Rattle.std.specs.Prelude.{◌≡◌, cond, List, [], ◌∷◌, ◌++◌, ℕ, length, take, drop, replicate, eqb, leb, Ok, Err}
 use Rattle.records.specs.Words.{words_for}
 use Rattle.format.specs.Writing.{line_text}
 use Rattle.questions.specs.Layout.{grammar_words, graph_words}
-use Rattle.charting.specs.Calls.{number_of as chart_number, start_of, run_of}
-use Rattle.charting.specs.declared.Outcome.{Outcome}
-use Rattle.charting.specs.declared.Outcome.TheVariants.{Unfit as UnfitChart, TooSmall as TooSmallChart, Unfinished as UnfinishedChart, Done}
-use Rattle.writing.specs.Writing.{write_of}
-use Rattle.writing.specs.declared.Answer.{Answer}
-use Rattle.writing.specs.declared.Answer.TheVariants.{Unfit, TooSmall, Unfinished, Underivable, NoRoom, Written}
+use Rattle.charting.specs.Calls.{number_of as chart_number, start_of, run_of, Outcome}
+use Rattle.charting.specs.declared.Unready.TheVariants.{Unfit as UnfitChart, TooSmall as TooSmallChart, Unfinished as UnfinishedChart}
+use Rattle.writing.specs.Writing.{write_of, Answer}
+use Rattle.writing.specs.declared.WriteError.TheVariants.{Unfit, TooSmall, Unfinished, Underivable, NoRoom}
 use Rattle.replayer.specs.Verdicts.{number_of as verdict_number, replay_of}
 use Rattle.programs.specs.Files.{file_bytes, files_of}
 
@@ -42,22 +40,22 @@ abbrev pub output_bytes : ℕ
 output_bytes = 32768
 
 abbrev pub when_written : Answer → List ℕ → ℕ → Derived
-when_written Unfit out steps = refused 8
-when_written TooSmall out steps = refused 9
-when_written (Unfinished k) out steps = refused 10
-when_written Underivable out steps = refused 11
-when_written NoRoom out steps = refused 12
-when_written (Written n) out steps = derived (take n out) steps
+when_written (Err Unfit) out steps = refused 8
+when_written (Err TooSmall) out steps = refused 9
+when_written (Err (Unfinished k)) out steps = refused 10
+when_written (Err Underivable) out steps = refused 11
+when_written (Err NoRoom) out steps = refused 12
+when_written (Ok n) out steps = derived (take n out) steps
 
 unfoldable pub write_chart : List ℕ → List ℕ → List ℕ → ℕ → Derived
 unfolding write_of
 write_chart g h w steps = let x = write_of g h w (replicate output_bytes 0) in when_written x.answer x.out steps
 
 abbrev pub when_ran : Outcome → (ℕ → Derived) → Derived
-when_ran UnfitChart next = refused 8
-when_ran TooSmallChart next = refused 9
-when_ran (UnfinishedChart k) next = refused 10
-when_ran (Done k) next = next k
+when_ran (Err UnfitChart) next = refused 8
+when_ran (Err TooSmallChart) next = refused 9
+when_ran (Err (UnfinishedChart k)) next = refused 10
+when_ran (Ok k) next = next k
 
 -- a start on a cleared chart, a run of as many steps as it holds items, and the writing
 unfoldable pub derive_tables : List ℕ → List ℕ → Derived

@@ -18,8 +18,7 @@ use Rattle.hrg.specs.Trees.{images}
 use Rattle.preorder.specs.Replay.{State, reached, failed, check, by_kind, rule_in, place_in, fields_in, new_nodes, row_test, edge_test, part_test, replay_at, replay_edges}
 use Rattle.preorder.proofs.Sound.{stays_failed}
 use Rattle.replayer.specs.declared.Part.TheVariants.{End, GraphEdge, Application}
-use Rattle.replayer.specs.declared.Taken.{Taken}
-use Rattle.replayer.specs.declared.Taken.TheVariants.{Not, With}
+use Rattle.std.specs.Prelude.{Option, Some, None}
 use Rattle.replayer.specs.Fitting.{with_all, taken_if, row_passes, edge_passes, SizedRow}
 use Rattle.replayer.specs.Following.{text_rows, RowsAt, Progress, progress_in, Marks, Reaches, Stands, left_at, left_from, Applied, Followed, part_of}
 use Rattle.replayer.proofs.MaskTests.{held, marks_snoc, marks_append, row_test_lem, edge_test_lem, edge_known, row_sized, ruled, new_inside}
@@ -34,11 +33,11 @@ stands_as : (H : Graph) (q : Progress) (x y : State) → x ≡ y → Stands H q 
 stands_as H q x y e s = subst (Stands H q) (sym e) s
 
 -- what was answered of a row
-of_not : (b : Bool) (m : ℕ) → taken_if b m ≡ Not → b ≡ false
+of_not : (b : Bool) (m : ℕ) → taken_if b m ≡ None → b ≡ false
 of_not true m e = absurd (let z : ◌≡◌ {A = ℕ} 0 1 = cc in omega arith)
 of_not false m e = refl
 
-of_with : (b : Bool) (m k : ℕ) → taken_if b m ≡ With k → (b ≡ true) × (k ≡ m)
+of_with : (b : Bool) (m k : ℕ) → taken_if b m ≡ Some k → (b ≡ true) × (k ≡ m)
 of_with true m k e = (refl, cc)
 of_with false m k e = absurd (let z : ◌≡◌ {A = ℕ} 0 1 = cc in omega arith)
 
@@ -159,14 +158,14 @@ module _ (G : Grammar) (H : Graph) (text : List ℕ) (s : ℕ) (L : List ℕ) (p
     tested : {es : List ℕ} (vs : List ℕ) → Reaches H p p.next es vs → row_test G H p.next s L vs row ≡ passes
     tested vs w = sym (row_test_lem G H p.next s L p.nodes vs row (held w.used_nodes))
 
-    module _ (t : Taken) (a : t ≡ taken_if passes (with_all p.nodes new)) where
-      pub applied_refused : (q : Progress) → t ≡ Not → q.ok ≡ false → Applied G H text s L p q
+    module _ (t : Option ℕ) (a : t ≡ taken_if passes (with_all p.nodes new)) where
+      pub applied_refused : (q : Progress) → t ≡ None → q.ok ≡ false → Applied G H text s L p q
       applied_refused q c d =
           let no = of_not passes _ (sym a ∙ c) in
           applied_failed q d
           (λ k es vs w. at_refused G H (text_rows text) k s L p.next es vs row row_known row_here (tested vs w ∙ no))
 
-      module _ (m : ℕ) (c : t ≡ With m) where
+      module _ (m : ℕ) (c : t ≡ Some m) where
         passed : passes ≡ true
         passed = (of_with passes _ m (sym a ∙ c)).0
 

@@ -25,17 +25,17 @@ use Rattle.joins.specs.Joins.{Accepted}
 use Rattle.joins.proofs.Known.{rule_ok, right_nodes, nodes_few}
 use Rattle.preorder.specs.Replay.{rule_in, place_in, new_nodes}
 use Rattle.preorder.proofs.Used.{Holds, holds_new}
-use Rattle.replayer.specs.declared.Taken.TheVariants.{Not, With}
+use Rattle.std.specs.Prelude.{Some, None}
 use Rattle.replayer.specs.Fitting.{node_in, new_in, with_all, taken_if, SizedRow}
 use Rattle.replayer.proofs.MaskTests.{held, marks_none, marks_append, mask_next}
 use Rattle.replayer.proofs.RowPlaces.{externals_are, external_known, rule_known, node_there, place_at_lem, place_small}
 
 -- ---- what is answered of a row
-pub taken_not : (b : Bool) (m : ℕ) → false ≡ b → Not ≡ taken_if b m
+pub taken_not : (b : Bool) (m : ℕ) → false ≡ b → None ≡ taken_if b m
 taken_not b m e = ap (λ b. taken_if b m) e
 
-pub taken_with : (b : Bool) (k m : ℕ) → true ≡ b → k ≡ m → With k ≡ taken_if b m
-taken_with b k m e q = ap With q ∙ ap (λ b. taken_if b m) e
+pub taken_with : (b : Bool) (k m : ℕ) → true ≡ b → k ≡ m → Some k ≡ taken_if b m
+taken_with b k m e q = ap Some q ∙ ap (λ b. taken_if b m) e
 
 -- ---- the external nodes of a rule as a mask
 module _ (g : List ℕ) (r : ℕ) (checked : check_grammar g ≡ true) (known : r < rule_count g) where

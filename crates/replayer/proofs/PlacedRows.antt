@@ -14,17 +14,21 @@ use Rattle.scripts.specs.Scripts.{Script, bad, rows, with_row, has_letter, opens
 use Rattle.scripts.proofs.Canonical.{bad_no_rows, rows_same, rows_text_lem}
 use Rattle.scripts.proofs.ScriptTests.{has_lettered}
 use Rattle.scripts.proofs.ScriptReading.{line_at, row_at_is, row_refused_at, row_missing_at, line_behind_at, script_opened_at, script_refused_at, script_missing_at, row_read, row_refused}
+use Rattle.std.specs.Prelude.{Some}
+use Rattle.std.proofs.lemmas.Option.{none-some, same_Some}
 use Rattle.replayer.specs.Fitting.{count_in}
 use Rattle.replayer.specs.Following.{rows_of_script, text_rows, RowsAt}
 
 -- ---- the rows of a text
-pub text_count : (text : List ℕ) → count_in (rows_in text) ≡ length (text_rows text)
+pub text_count : (text : List ℕ) (n : ℕ) → Some n ≡ count_in (rows_in text) → (n ≡ length (text_rows text)) × (0 < n)
 unfolding text_rows
-text_count text = go (rows_in text)
+text_count text n c = go (rows_in text) refl c
   where
-    go : (s : Script) → count_in s ≡ length (rows_of_script s)
-    go bad = refl
-    go (rows rs) = refl
+    go : (s : Script) → rows_in text ≡ s → Some n ≡ count_in s → (n ≡ length (rows_of_script s)) × (0 < n)
+    go bad e c = absurd (none-some n (sym c))
+    go (rows rs) e c =
+        let k : n ≡ length rs = same_Some n (length rs) c in
+        (k, omega (arith, (rows_text_lem text rs e).1.some))
 
 -- a text with a row is one of rows, at most 4,096 of them
 pub text_some : (text : List ℕ) → 0 < length (text_rows text) → rows_in text ≡ rows (text_rows text)

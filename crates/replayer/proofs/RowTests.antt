@@ -20,8 +20,7 @@ use Rattle.questions.proofs.WellFormedAccepted.{rules_length}
 use Rattle.joins.specs.Joins.{Accepted}
 use Rattle.joins.proofs.Known.{right_nodes, right_edges, nodes_few, edges_few, graph_nodes_lem}
 use Rattle.preorder.specs.Replay.{number_in, rule_in, place_in, new_nodes}
-use Rattle.replayer.specs.declared.Taken.{Taken}
-use Rattle.replayer.specs.declared.Taken.TheVariants.{Not}
+use Rattle.std.specs.Prelude.{Option, None}
 use Rattle.replayer.specs.Fitting.{node_in, new_in, with_all, taken_if, row_passes, SizedRow}
 use Rattle.replayer.specs.RowParts.{head_passes}
 use Rattle.replayer.proofs.NodeTests.{PassedTo, passed_all, each_tabulated, same_tabulated, take_tabulated}
@@ -181,13 +180,13 @@ module _ (g h row : List ℕ) (n s used : ℕ) (listed : List ℕ) (accepted : A
   abbrev passes : Bool
   passes = row_passes G H n s (take (rank_of G s) listed) used row
 
-  abbrev whole : Taken
+  abbrev whole : Option ℕ
   whole = taken_if passes (with_all used (new_nodes Q row))
 
   parts : passes ≡ (head_passes G n s row && each (place_in Q row) (λ v. ltb v H.nodes) && same_list (images (place_in Q row) Q.externals) (take (rank_of G s) listed) && new_in used (new_nodes Q row))
   parts = row_parts G H n s (take (rank_of G s) listed) used row
 
-  pub row_head : b ≡ false → Not ≡ whole
+  pub row_head : b ≡ false → None ≡ whole
   row_head h = taken_not passes _ (rw (parts, ← headed, h))
 
   module _ (y : b ≡ true) where
@@ -219,7 +218,7 @@ module _ (g h row : List ℕ) (n s used : ℕ) (listed : List ℕ) (accepted : A
             ∙ sym (ap (λ (l : List ℕ). each l (λ v. ltb v H.nodes)) (ap (λ m. take m (drop 2 row)) row_nodes ∙ places_are row count row_few.1)
             ∙ each_tabulated count (λ x. node_in row x) (λ v. ltb v H.nodes))
 
-        pub row_places : p ≡ false → Not ≡ whole
+        pub row_places : p ≡ false → None ≡ whole
         row_places z = taken_not passes _ (rw (parts, passed, ← places_test, z))
 
         module _ (z : p ≡ true) where
@@ -234,8 +233,8 @@ module _ (g h row : List ℕ) (n s used : ℕ) (listed : List ℕ) (accepted : A
             fit_test : e ≡ same_list (images (place_in Q row) Q.externals) (take (rank_of G s) listed)
             fit_test = fit ∙ ap (λ s. same_list (images (place_in Q row) Q.externals) (take (rank_of G s) listed)) (head_lhs G n s row passed)
 
-            pub row_externals : e ≡ false → Not ≡ whole
+            pub row_externals : e ≡ false → None ≡ whole
             row_externals f = taken_not passes _ (rw (parts, passed, ← places_test, z, ← fit_test, f))
 
-            pub row_inner : e ≡ true → (t : Taken) → t ≡ taken_if (new_in used (new_nodes Q row)) (with_all used (new_nodes Q row)) → t ≡ whole
+            pub row_inner : e ≡ true → (t : Option ℕ) → t ≡ taken_if (new_in used (new_nodes Q row)) (with_all used (new_nodes Q row)) → t ≡ whole
             row_inner f t new = rw (parts, passed, ← places_test, z, ← fit_test, f) new

@@ -1,4 +1,5 @@
 -- The replay from the start, what is whole at its end, and the answer.
+use Rattle.std.specs.Prelude.{Some, None, Ok, Err}
 use mathlib.Core.Path.{◌≡◌, refl, sym, ap, ap₂, subst, ◌∙◌}
 use mathlib.Core.Logic.{◌↔◌}
 use mathlib.Core.Bool.{Bool, true, false, true≢false, cond, ◌&&◌}
@@ -27,11 +28,11 @@ use Rattle.joins.proofs.Known.{graph_size, graph_nodes_lem, graph_ok, graph_node
 use Rattle.preorder.specs.Replay.{State, reached, failed, replay_at, whole, calls, replayed, replays}
 use Rattle.derivation.specs.Derivations.{replay_text, DerivationOf}
 use Rattle.derivation.proofs.Derivations.{replay_text_is, replay_bad, replay_rows}
-use Rattle.replayer.specs.declared.Verdict.{Verdict}
-use Rattle.replayer.specs.declared.Verdict.TheVariants.{Unfit, Refused, Passed}
+use Rattle.replayer.specs.Verdicts.{Verdict, number_of, fit_tables, replay_of, Exact}
+use Rattle.replayer.specs.declared.ReplayError.TheVariants.{Unfit, NoDerivation}
+use Rattle.std.proofs.lemmas.Option.{none-some}
 use Rattle.replayer.specs.Fitting.{count_in, with_all}
 use Rattle.replayer.specs.Following.{text_rows, RowsAt, Progress, progress_in, Marks, Reaches, Stands, Applied}
-use Rattle.replayer.specs.Verdicts.{number_of, fit_tables, replay_of, Exact}
 use Rattle.questions.proofs.StoredLaws.{take_tabulate}
 use Rattle.replayer.proofs.MaskTests.{marks_none, marks_append, marks_all}
 use Rattle.replayer.proofs.PlacedRows.{text_count, text_some, text_few, place_start}
@@ -122,11 +123,11 @@ module _ (st : List ℕ) (none : st ≡ replicate 4 0) (place m : ℕ) where
   start_progress = ap (λ (l : List ℕ). progress_in true (set (set l 1 place) 3 m)) none
 
 -- the first row
-pub start_rows : (text : List ℕ) → 0 < count_in (rows_in text) → (place : ℕ) → place ≡ after_line text 0
+pub start_rows : (text : List ℕ) → 0 < length (text_rows text) → (place : ℕ) → place ≡ after_line text 0
     → (p : Progress) (m : ℕ) → p ≡ record { ok = true; next = 0; at = place; edges = 0; nodes = m }
     → RowsAt text p.next p.at
 start_rows text some place e p m d =
-    let first = place_start text (omega (arith, text_count text)) in
+    let first = place_start text some in
     subst (λ (p : Progress). RowsAt text p.next p.at) (sym d)
     (subst (λ (y : ℕ). RowsAt text 0 y) (sym e) first)
 
@@ -138,17 +139,13 @@ whole_stands H R p failed f = rw f
 whole_stands H R p (reached n es vs) k = rw (k.passing, k.row) (ap₂ (λ (a b : Bool). eqb n (length R) && a && b) (marks_all k.used_edges) (marks_all k.used_nodes))
 
 module _ (G : Grammar) (H : Graph) (text : List ℕ) where
-  few_refused : (rs : List (List ℕ)) → length rs ≡ 0 → replays G H rs ≡ false
-  unfolding replays
-  few_refused rs e = rw e
-
   -- a text without rows is refused
-  pub none_refused : count_in (rows_in text) ≡ 0 → replay_text G H text ≡ false
+  pub none_refused : None ≡ count_in (rows_in text) → replay_text G H text ≡ false
   none_refused c = go (rows_in text) refl
     where
       go : (s : Script) → rows_in text ≡ s → replay_text G H text ≡ false
       go bad q = replay_bad G H text q
-      go (rows rs) q = replay_rows G H text rs q ∙ few_refused rs (sym (ap count_in q) ∙ c)
+      go (rows rs) q = absurd (none-some (length rs) (c ∙ ap count_in q))
 
   -- a text with rows is passed where the replay of its rows is whole
   pub whole_passes : 0 < length (text_rows text) → replay_text G H text ≡ whole H (text_rows text) (replayed G H (text_rows text))
@@ -157,13 +154,14 @@ module _ (G : Grammar) (H : Graph) (text : List ℕ) where
       replay_rows G H text (text_rows text) (text_some text some)
       ∙ rw (le-leb 1 (length (text_rows text)) some, le-leb (length (text_rows text)) 4096 (text_few text))
 
-module _ (g h text : List ℕ) (n : ℕ) (c : n ≡ count_in (rows_in text)) (some : n ≡ 0 → ⊥) (ok : Bool) (st : List ℕ)
+module _ (g h text : List ℕ) (n : ℕ) (c : Some n ≡ count_in (rows_in text)) (ok : Bool) (st : List ℕ)
     (k : Stands (graph_of g h) (progress_in ok st) (replayed (grammar_of g) (graph_of g h) (text_rows text))) where
   answer_by_is : replay_text (grammar_of g) (graph_of g h) text ≡ (ok && eqb (get_or st 0 0) n && eqb (get_or st 2 0) (full (graph_edges h)) && eqb (get_or st 3 0) (full (graph_nodes h)))
   answer_by_is =
-      whole_passes (grammar_of g) (graph_of g h) text (omega (arith, c ∙ text_count text))
+      let counted = text_count text n c in
+      whole_passes (grammar_of g) (graph_of g h) text (omega arith)
       ∙ whole_stands (graph_of g h) (text_rows text) (progress_in ok st) _ k
-      ∙ rw (sym (text_count text) ∙ sym c, graph_size g h, graph_nodes_lem g h)
+      ∙ rw (sym counted.0, graph_size g h, graph_nodes_lem g h)
 
   pub failed_answer : ok ≡ false → replay_text (grammar_of g) (graph_of g h) text ≡ false
   failed_answer f = answer_by_is ∙ rw f
@@ -176,7 +174,7 @@ pub tables_accepted : (g h : List ℕ) (a : Bool) → a ≡ check_grammar g → 
 tables_accepted g h a p x b q y = record { grammar = sym p ∙ x; graph = sym q ∙ y }
 
 abbrev answer_by : Bool → Bool → Verdict
-answer_by f t = cond f (cond t Passed Refused) Unfit
+answer_by f t = cond f (cond t (Ok tt) (Err NoDerivation)) (Err Unfit)
 
 unfit_by : (f t : Bool) → (number_of (answer_by f t) ≡ 8) ↔ (f ≡ false)
 unfit_by true true = (λ e. absurd (omega arith), λ e. absurd (true≢false e))
@@ -221,16 +219,16 @@ module _ (g h : List ℕ) where
         let same : answer_by (fit_tables g h) (replay_text (grammar_of g) (graph_of g h) text) ≡ answer_by f t = ap₂ answer_by e q in
         (sym same ∙ sym answer_is, subst (Exact g h text) same exact)
 
-    pub answer_unfit_grammar : check_grammar g ≡ false → (Unfit ≡ replay_of g h text) × Exact g h text Unfit
+    pub answer_unfit_grammar : check_grammar g ≡ false → ((Err Unfit) ≡ replay_of g h text) × Exact g h text (Err Unfit)
     unfolding fit_tables
     answer_unfit_grammar e = answered false _ (rw e) refl
 
-    pub answer_unfit_graph : check_grammar g ≡ true → check_graph g h ≡ false → (Unfit ≡ replay_of g h text) × Exact g h text Unfit
+    pub answer_unfit_graph : check_grammar g ≡ true → check_graph g h ≡ false → ((Err Unfit) ≡ replay_of g h text) × Exact g h text (Err Unfit)
     unfolding fit_tables
     answer_unfit_graph e q = answered false _ (rw (e, q)) refl
 
-    pub answer_refused : Accepted g h → replay_text (grammar_of g) (graph_of g h) text ≡ false → (Refused ≡ replay_of g h text) × Exact g h text Refused
+    pub answer_refused : Accepted g h → replay_text (grammar_of g) (graph_of g h) text ≡ false → ((Err NoDerivation) ≡ replay_of g h text) × Exact g h text (Err NoDerivation)
     answer_refused a q = answered true false (accepted_fit a) q
 
-    pub answer_passed : Accepted g h → replay_text (grammar_of g) (graph_of g h) text ≡ true → (Passed ≡ replay_of g h text) × Exact g h text Passed
+    pub answer_passed : Accepted g h → replay_text (grammar_of g) (graph_of g h) text ≡ true → ((Ok tt) ≡ replay_of g h text) × Exact g h text (Ok tt)
     answer_passed a q = answered true true (accepted_fit a) q

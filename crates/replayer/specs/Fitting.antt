@@ -1,6 +1,6 @@
 -- The tests of a replay (crate `preorder`, Replay) with masks for the lists of used numbers, as the functions make
 -- them.
-use Rattle.std.specs.Prelude.{◌≡◌, Bool, true, false, not, ◌&&◌, List, [], ◌∷◌, ℕ, ◌+◌, length, get_or, eqb, ltb}
+use Rattle.std.specs.Prelude.{◌≡◌, Bool, true, false, not, ◌&&◌, Option, Some, None, List, [], ◌∷◌, ℕ, ◌+◌, length, get_or, eqb, ltb}
 use Rattle.masks.specs.Masks.{member, ◌∪◌, single}
 use Rattle.hrg.specs.Counts.{tabulate}
 use Rattle.hrg.specs.Grammars.{Graph, Grammar, lhs_of, right_of, edge_at}
@@ -9,13 +9,11 @@ use Rattle.hrg.specs.WellFormedTest.{each}
 use Rattle.hrg.specs.ClosureRun.{same_list}
 use Rattle.scripts.specs.Scripts.{Script, bad, rows}
 use Rattle.preorder.specs.Replay.{number_in, rule_in, place_in, new_nodes}
-use Rattle.replayer.specs.declared.Taken.{Taken}
-use Rattle.replayer.specs.declared.Taken.TheVariants.{Not, With}
 
--- how many rows a text has, 0 where it has none
-abbrev pub count_in : Script → ℕ
-count_in bad = 0
-count_in (rows rs) = length rs
+-- how many rows a text has, where it has some
+abbrev pub count_in : Script → Option ℕ
+count_in bad = None
+count_in (rows rs) = Some (length rs)
 
 -- the graph node on which a row places rule node x
 abbrev pub node_in : List ℕ → ℕ → ℕ
@@ -37,9 +35,9 @@ with_all m [] = m
 with_all m (v ∷ vs) = with_all (m ∪ single v) vs
 
 -- what is answered of a row that passes or not, with the nodes that are then used
-abbrev pub taken_if : Bool → ℕ → Taken
-taken_if true m = With m
-taken_if false m = Not
+abbrev pub taken_if : Bool → ℕ → Option ℕ
+taken_if true m = Some m
+taken_if false m = None
 
 -- the row may stand as number n for an edge s on the nodes L, where the nodes of the mask are used
 unfoldable pub row_passes : Grammar → Graph → ℕ → ℕ → List ℕ → ℕ → List ℕ → Bool

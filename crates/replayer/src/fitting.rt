@@ -15,93 +15,55 @@ ghost use Rattle.questions.specs.Abstract.{grammar_of, graph_of};
 ghost use Rattle.joins.specs.Joins.{Accepted};
 ghost use Rattle.preorder.specs.Replay.{rule_in, place_in, new_nodes};
 ghost use Rattle.replayer.specs.Fitting.{count_in, node_in, four_of, new_in, with_all, taken_if, row_passes, edge_passes, SizedRow};
-ghost use Rattle.replayer.specs.RowParts.{line_from, letter_in, said_count, head_passes};
-
-use crate::Taken;
-use format::Letter;
+ghost use Rattle.replayer.specs.RowParts.{line_from, said_count, head_passes};
 
 // ---- the lines of a derivation file
-// The letter of the line that was found at `from`, where that is an ended one of the shape.
-fn letter_at(text: &[u8], from: usize, line: &[u8]) -> Letter
+// Whether the line that was found at `from` is an ended one of the shape with this letter.
+fn has_letter(text: &[u8], from: usize, line: &[u8], letter: u8) -> bool
     requires { (from ≤ length text.now) × (line.now ≡ line_of (drop from text.now)) }
-    ensures { result ≡ letter_in (line_from text.now from) }
+    ensures { result ≡ has_letter letter (line_from text.now from) }
 {
-    if !lines::ends(text, from, line) {
-        return Letter::Other;
-    }
-    if !lines::shape(line) {
-        return Letter::Other;
-    }
-    lines::letter_kind(line)
+    lines::ends(text, from, line) && lines::shape(line) && line[0] == letter
 }
 
-// Whether the line that was found at `from` is one that says how many applications follow.
-fn is_count(text: &[u8], from: usize, line: &[u8]) -> bool
-    requires { (from ≤ length text.now) × (line.now ≡ line_of (drop from text.now)) }
-    ensures { result ≡ has_letter 68 (line_from text.now from) }
-{
-    let letter = letter_at(text, from, line);
-    match letter {
-        Letter::D => true,
-        _ => false,
-    }
-}
-
-// Whether the line that was found at `from` is the row of an application.
-fn is_row(text: &[u8], from: usize, line: &[u8]) -> bool
-    requires { (from ≤ length text.now) × (line.now ≡ line_of (drop from text.now)) }
-    ensures { result ≡ has_letter 65 (line_from text.now from) }
-{
-    let letter = letter_at(text, from, line);
-    match letter {
-        Letter::A => true,
-        _ => false,
-    }
-}
-
-// How many applications the first line says, 0 where it does not open the file.
-fn said_count(text: &[u8]) -> u64
+// How many applications the first line says, where it opens the file.
+fn said_count(text: &[u8]) -> Option<u64>
     ensures { result ≡ said_count text.now }
 {
     let line = lines::next_line(text, 0);
-    if !is_count(text, 0, line) {
-        return 0;
+    if !has_letter(text, 0, line, b'D') {
+        return None;
     }
     if lines::field_count(line) != 1 {
-        return 0;
+        return None;
     }
     let n = lines::number(line, 0);
     if n < 1 {
-        return 0;
+        return None;
     }
     if 4096 < n {
-        return 0;
+        return None;
     }
-    n
+    Some(n)
 }
 
-// How many applications a derivation file has by its lines; 0 where it is not of the shape.
-pub(crate) fn row_count(text: &[u8]) -> u64
+// How many applications a derivation file has by its lines, where it is of the shape.
+pub(crate) fn row_count(text: &[u8]) -> Option<u64>
     ensures { result ≡ count_in (rows_in text.now) }
 {
-    let n = said_count(text);
-    if n == 0 {
-        return 0;
-    }
+    let n = said_count(text)?;
     let mut at = lines::after_line(text, 0);
-    let mut k: u64 = 0;
-    while k < n {
+    for _k in 0..n {
         let line = lines::next_line(text, at);
-        if !is_row(text, at, line) {
-            return 0;
+        if !has_letter(text, at, line, b'A') {
+            return None;
         }
         at = lines::behind(text, at, line);
-        k += 1;
     }
     if at < text.len() {
-        return 0;
+        return None;
     }
-    n
+    Some(n)
 }
 
 // ---- the row of an application
@@ -134,12 +96,10 @@ fn places_known(row: &[u64], count: u64, nodes: u64) -> bool
     requires { (count ≤ 8) × (2 + count ≤ length row.now) }
     ensures { result ≡ every count (λ x. ltb (node_in row.now x) nodes) }
 {
-    let mut x: u64 = 0;
-    while x < count {
+    for x in 0..count {
         if nodes <= row[(2 + x) as usize] {
             return false;
         }
-        x += 1;
     }
     true
 }
@@ -151,13 +111,11 @@ fn externals_fit(grammar: &[u64], graph: &[u64], row: &[u64], listed: &[u64; 4])
 {
     let r = row[1];
     let rank = layout::rank_at(grammar, layout::rule_symbol(grammar, r));
-    let mut k: u64 = 0;
-    while k < rank {
+    for k in 0..rank {
         let x = layout::rule_external(grammar, r, k);
         if row[(2 + x) as usize] != listed[k as usize] {
             return false;
         }
-        k += 1;
     }
     true
 }
@@ -169,10 +127,8 @@ fn external_mask(grammar: &[u64], r: u64) -> u64
 {
     let rank = layout::rank_at(grammar, layout::rule_symbol(grammar, r));
     let mut mask: u64 = 0;
-    let mut k: u64 = 0;
-    while k < rank {
+    for k in 0..rank {
         mask = masks::with(mask, layout::rule_external(grammar, r, k));
-        k += 1;
     }
     mask
 }
@@ -189,7 +145,7 @@ fn inner_node(row: &[u64], outer: u64, x: u64) -> u64
 }
 
 // The used nodes and those inside the application, where these are new.
-fn with_inner(grammar: &[u64], graph: &[u64], row: &[u64], used: u64) -> Taken
+fn with_inner(grammar: &[u64], graph: &[u64], row: &[u64], used: u64) -> Option<u64>
     requires { Accepted grammar.now graph.now × SizedRow (grammar_of grammar.now) (graph_of grammar.now graph.now) row.now }
     ensures { result ≡ taken_if (new_in used (new_nodes (right_of (grammar_of grammar.now) (rule_in row.now)) row.now)) (with_all used (new_nodes (right_of (grammar_of grammar.now) (rule_in row.now)) row.now)) }
 {
@@ -197,16 +153,14 @@ fn with_inner(grammar: &[u64], graph: &[u64], row: &[u64], used: u64) -> Taken
     let outer = external_mask(grammar, r);
     let n = layout::rule_nodes(grammar, r);
     let mut nodes = used;
-    let mut x: u64 = 0;
-    while x < n {
+    for x in 0..n {
         let v = inner_node(row, outer, x);
         if masks::has(nodes, v) {
-            return Taken::Not;
+            return None;
         }
         nodes = masks::with(nodes, v);
-        x += 1;
     }
-    Taken::With(nodes)
+    Some(nodes)
 }
 
 // Whether the row may stand as application n for an edge s on the listed nodes, where some nodes are used.
@@ -218,19 +172,19 @@ pub(crate) fn taken(
     s: u64,
     listed: &[u64; 4],
     used: u64,
-) -> Taken
+) -> Option<u64>
     requires { Accepted grammar.now graph.now × (length listed.now ≡ 4) }
     ensures { result ≡ taken_if (row_passes (grammar_of grammar.now) (graph_of grammar.now graph.now) n s (take (rank_of (grammar_of grammar.now) s) listed.now) used row.now) (with_all used (new_nodes (right_of (grammar_of grammar.now) (rule_in row.now)) row.now)) }
 {
     if !head_passes(grammar, row, n, s) {
-        return Taken::Not;
+        return None;
     }
     let count = layout::rule_nodes(grammar, row[1]);
     if !places_known(row, count, layout::graph_nodes(graph)) {
-        return Taken::Not;
+        return None;
     }
     if !externals_fit(grammar, graph, row, listed) {
-        return Taken::Not;
+        return None;
     }
     with_inner(grammar, graph, row, used)
 }
@@ -243,11 +197,9 @@ pub(crate) fn list_nodes(grammar: &[u64], graph: &[u64], row: &[u64], i: u64, no
 {
     let r = row[1];
     let rank = layout::rank_at(grammar, layout::edge_label(grammar, r, i));
-    let mut k: u64 = 0;
-    while k < rank {
+    for k in 0..rank {
         let x = layout::edge_node(grammar, r, i, k);
         nodes[k as usize] = row[(2 + x) as usize];
-        k += 1;
     }
 }
 
@@ -258,13 +210,11 @@ fn nodes_fit(grammar: &[u64], graph: &[u64], row: &[u64], i: u64, g: u64) -> boo
 {
     let r = row[1];
     let rank = layout::rank_at(grammar, layout::edge_label(grammar, r, i));
-    let mut k: u64 = 0;
-    while k < rank {
+    for k in 0..rank {
         let x = layout::edge_node(grammar, r, i, k);
         if layout::graph_node(graph, g, k) != row[(2 + x) as usize] {
             return false;
         }
-        k += 1;
     }
     true
 }

@@ -5,7 +5,6 @@
 ghost use Rattle.std.specs.Prelude.{◌≡◌, true, ◌&&◌, ℕ, ◌+◌, ◌≤◌, ◌<◌, length, get_or, set, take, drop, replicate, eqb};
 ghost use Rattle.masks.specs.Masks.{◌∪◌, single, full};
 ghost use Rattle.format.specs.Lines.{line_of, after_line};
-ghost use Rattle.scripts.specs.Scripts.{rows_in};
 ghost use Rattle.hrg.specs.Counts.{tabulate};
 ghost use Rattle.hrg.specs.Grammars.{rank_of};
 ghost use Rattle.questions.specs.Layout.{graph_nodes, graph_edges, graph_external};
@@ -14,25 +13,17 @@ ghost use Rattle.questions.specs.Abstract.{grammar_of, graph_of};
 ghost use Rattle.joins.specs.Joins.{Accepted};
 ghost use Rattle.preorder.specs.Replay.{replayed};
 ghost use Rattle.derivation.specs.Derivations.{replay_text};
-ghost use Rattle.replayer.specs.Fitting.{count_in, with_all, SizedRow};
+ghost use Rattle.replayer.specs.Fitting.{with_all, SizedRow};
 ghost use Rattle.replayer.specs.Following.{text_rows, RowsAt, progress_in, Stands, Applied, Followed, RuledRow, part_of};
 ghost use Rattle.replayer.specs.Verdicts.{replay_of, Exact};
 
 mod fitting;
 
-// What a replay answers: the tables are refused (8), the file is no derivation of the graph (13), or it is one.
-#[derive(Clone, Copy)]
-pub enum Verdict {
+// Why a file does not pass: the tables are refused (8), or it is no derivation of the graph (13).
+#[derive(Clone, Copy, Debug, PartialEq, Eq)]
+pub enum ReplayError {
     Unfit,
-    Refused,
-    Passed,
-}
-
-// What the tests of a row answer: it is not taken, or it is, and then these graph nodes are used.
-#[derive(Clone, Copy)]
-enum Taken {
-    Not,
-    With(u64),
+    NoDerivation,
 }
 
 // What a row says of an edge of its rule: it has no such edge, a graph edge, or an application for a symbol by its
@@ -111,8 +102,8 @@ fn application(
     let row = &fields[..count];
     let taken = fitting::taken(grammar, graph, row, st[0], s, listed, st[3]);
     match taken {
-        Taken::Not => false,
-        Taken::With(nodes) => {
+        None => false,
+        Some(nodes) => {
             open_row(text, line, nodes, st);
             edge_list(grammar, graph, text, row, 0, st)
         }
@@ -175,17 +166,15 @@ fn mask_of(listed: [u64; 4], n: u64) -> u64
     ensures { result ≡ with_all 0 (take n listed) }
 {
     let mut mask: u64 = 0;
-    let mut k: u64 = 0;
-    while k < n {
+    for k in 0..n {
         mask = masks::with(mask, listed[k as usize]);
-        k += 1;
     }
     mask
 }
 
 // The replay of the rows of the text, from one edge with the start symbol on the external nodes.
 fn from_start(grammar: &[u64], graph: &[u64], text: &[u8], st: &mut [u64]) -> bool
-    requires { Accepted grammar.now graph.now × (0 < count_in (rows_in text.now)) × (st.old ≡ replicate 4 0) }
+    requires { Accepted grammar.now graph.now × (0 < length (text_rows text.now)) × (st.old ≡ replicate 4 0) }
     ensures { Stands (graph_of grammar.now graph.now) (progress_in result st.new) (replayed (grammar_of grammar.now) (graph_of grammar.now graph.now) (text_rows text.now)) }
 {
     let s = layout::start_symbol(grammar);
@@ -210,10 +199,9 @@ pub fn passes(grammar: &[u64], graph: &[u64], text: &[u8]) -> bool
     requires { Accepted grammar.now graph.now }
     ensures { result ≡ replay_text (grammar_of grammar.now) (graph_of grammar.now graph.now) text.now }
 {
-    let n = fitting::row_count(text);
-    if n == 0 {
+    let Some(n) = fitting::row_count(text) else {
         return false;
-    }
+    };
     let mut st = [0u64; 4];
     if !from_start(grammar, graph, text, &mut st) {
         return false;
@@ -222,18 +210,18 @@ pub fn passes(grammar: &[u64], graph: &[u64], text: &[u8]) -> bool
 }
 
 // Questions 8 and 13.
-pub fn replay(grammar: &[u64], graph: &[u64], text: &[u8]) -> Verdict
+pub fn replay(grammar: &[u64], graph: &[u64], text: &[u8]) -> Result<(), ReplayError>
     ensures { (result ≡ replay_of grammar.now graph.now text.now) × Exact grammar.now graph.now text.now result }
 {
     if !tables::checking::check_grammar(grammar) {
-        return Verdict::Unfit;
+        return Err(ReplayError::Unfit);
     }
     if !tables::checking::check_graph(grammar, graph) {
-        return Verdict::Unfit;
+        return Err(ReplayError::Unfit);
     }
     if passes(grammar, graph, text) {
-        Verdict::Passed
+        Ok(())
     } else {
-        Verdict::Refused
+        Err(ReplayError::NoDerivation)
     }
 }

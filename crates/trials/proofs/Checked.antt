@@ -1,5 +1,6 @@
 -- What the calls answer where question 8 of the tables is known to hold: by the grammar and the graph that the tables
 -- stand for. Computing it anew at each call, over some 1,700 words, is what an example costs.
+use Rattle.std.specs.Prelude.{Err}
 use mathlib.Core.Path.{◌≡◌, refl, ap, ◌∙◌}
 use mathlib.Core.Bool.{true, ◌&&◌, cond}
 use mathlib.Core.List.{List, [], ◌∷◌}
@@ -16,9 +17,8 @@ use Rattle.questions.specs.declared.Answer.TheVariants.{Done}
 use Rattle.agenda.specs.Steps.{run_chart, start_chart}
 use Rattle.records.specs.Words.{words_for, capacity, record_at, chart_of, written}
 use Rattle.validity.specs.Checking.{holds, known_chart}
-use Rattle.charting.specs.Calls.{Called, number_of, steps_of, refused, fit, fit_chart, answer_of, start_answer, start_of, run_of, standing_of, runs_of}
-use Rattle.charting.specs.declared.Outcome.{Outcome as Standing}
-use Rattle.charting.specs.declared.Outcome.TheVariants.{Unfit}
+use Rattle.charting.specs.Calls.{Called, number_of, steps_of, refused, fit, fit_chart, answer_of, start_answer, start_of, run_of, standing_of, runs_of, Outcome as Standing}
+use Rattle.charting.specs.declared.Unready.TheVariants.{Unfit}
 use Rattle.writing.specs.Writing.{Wrote, number_of as writing_number, write_by, write_goal, goal_in, write_of}
 use Rattle.trials.specs.Trials.{Trial, Told, reading_number, written_bytes, answers, told}
 
@@ -40,7 +40,7 @@ answers_by G H w [] = []
 answers_by G H w (k ∷ ks) = let r = run_by G H w k in (number_of r.answer ∷ steps_of r.answer ∷ []) ∷ answers_by G H r.words ks
 
 unfoldable pub standing_by : Grammar → Graph → List ℕ → Standing
-standing_by G H w = cond ((holds w && true) && known_chart G H w) (answer_of (chart_of w)) Unfit
+standing_by G H w = cond ((holds w && true) && known_chart G H w) (answer_of (chart_of w)) (Err Unfit)
 
 unfoldable pub writing_by : Grammar → Graph → List ℕ → List ℕ → Wrote
 writing_by G H w out = write_by (standing_by G H w) out (write_goal G H (λ j. record_at w j) out (goal_in G H (chart_of w).records))

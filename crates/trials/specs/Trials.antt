@@ -1,6 +1,6 @@
 -- A trial: texts are read, a chart is started and run, and a derivation is written. What it tells is given by the
 -- definitions that the functions' contracts cite.
-use Rattle.std.specs.Prelude.{Bool, List, [], ◌∷◌, ℕ, take, replicate}
+use Rattle.std.specs.Prelude.{Bool, List, [], ◌∷◌, ℕ, take, replicate, Ok, Err}
 use Rattle.records.specs.Words.{words_for}
 use Rattle.hrg.specs.ClosureRun.{same_list}
 use Rattle.questions.specs.Layout.{grammar_words, graph_words}
@@ -9,9 +9,8 @@ use Rattle.questions.specs.Checking.{read_graph}
 use Rattle.questions.specs.declared.Answer.{Answer}
 use Rattle.questions.specs.declared.Answer.TheVariants.{Done, Refused}
 use Rattle.charting.specs.Calls.{number_of, steps_of, start_of, run_of, runs_of}
-use Rattle.writing.specs.Writing.{number_of as writing_number, write_of}
-use Rattle.writing.specs.declared.Answer.{Answer as Writing}
-use Rattle.writing.specs.declared.Answer.TheVariants.{Unfit, TooSmall, Unfinished, Underivable, NoRoom, Written}
+use Rattle.writing.specs.Writing.{number_of as writing_number, write_of, Answer as Writing}
+use Rattle.writing.specs.declared.WriteError.TheVariants.{Unfit, TooSmall, Unfinished, Underivable, NoRoom}
 
 pub record Trial : Type 0 where
   pub grammar : List ℕ
@@ -37,12 +36,12 @@ reading_number Done = 0
 reading_number (Refused k) = k
 
 abbrev pub written_bytes : Writing → ℕ
-written_bytes Unfit = 0
-written_bytes TooSmall = 0
-written_bytes (Unfinished k) = 0
-written_bytes Underivable = 0
-written_bytes NoRoom = 0
-written_bytes (Written n) = n
+written_bytes (Err Unfit) = 0
+written_bytes (Err TooSmall) = 0
+written_bytes (Err (Unfinished k)) = 0
+written_bytes (Err Underivable) = 0
+written_bytes (Err NoRoom) = 0
+written_bytes (Ok n) = n
 
 unfoldable pub answers : List ℕ → List ℕ → List ℕ → List ℕ → List (List ℕ)
 answers g h w [] = []

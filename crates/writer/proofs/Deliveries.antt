@@ -1,5 +1,5 @@
 -- A law for each way through the functions that deliver a text.
-use Rattle.std.specs.Prelude.{Option, Some, None}
+use Rattle.std.specs.Prelude.{Option, Some, None, Ok, Err}
 use mathlib.Core.Path.{◌≡◌, refl, sym, ap, ◌∙◌, subst}
 use mathlib.Core.Bool.{Bool, true, false, cond}
 use mathlib.Core.List.{List, [], ◌∷◌, ◌++◌}
@@ -22,17 +22,16 @@ use Rattle.extraction.proofs.Listings.{listing_none, listing_tree, listing_large
 use Rattle.extraction.proofs.ListedRows.{rows_listed}
 use Rattle.questions.specs.Abstract.{grammar_of, graph_of}
 use Rattle.records.specs.Words.{record_at, chart_of}
-use Rattle.charting.specs.Calls.{fit, fit_chart, standing_of}
-use Rattle.charting.specs.declared.Outcome.{Outcome}
-use Rattle.charting.specs.declared.Outcome.TheVariants.{Unfit as UnfitChart, TooSmall as TooSmallChart, Unfinished as UnfinishedChart, Done}
+use Rattle.charting.specs.Calls.{fit, fit_chart, standing_of, Outcome}
+use Rattle.charting.specs.declared.Unready.{Unready}
+use Rattle.charting.specs.declared.Unready.TheVariants.{Unfit as UnfitChart, TooSmall as TooSmallChart, Unfinished as UnfinishedChart}
 use Rattle.validity.specs.Checking.{known_chart}
 use Rattle.charting.proofs.Calls.{chart_fit, chart_known}
 use Rattle.chart.proofs.CallSteps.{fit_accepted}
 use Rattle.joins.specs.Joins.{Accepted}
-use Rattle.writing.specs.Writing.{Wrote, refused, write_text, derives, write_spelt, goal_in, write_goal, write_by, write_of}
+use Rattle.writing.specs.Writing.{Wrote, refused, write_text, derives, write_spelt, goal_in, write_goal, write_by, write_of, Answer, error_of}
 use Rattle.writing.specs.Demand.{WriteChoices}
-use Rattle.writing.specs.declared.Answer.{Answer}
-use Rattle.writing.specs.declared.Answer.TheVariants.{Unfit, TooSmall, Unfinished, Underivable, NoRoom, Written}
+use Rattle.writing.specs.declared.WriteError.TheVariants.{Unfit, Underivable, NoRoom}
 use Rattle.writing.proofs.Writings.{text_held, text_short, write_by_is}
 use Rattle.writing.proofs.Choices.{write_choices}
 use Rattle.extractor.specs.Lists.{ListedIn}
@@ -54,20 +53,20 @@ all_none k = ap (λ (n : ℕ). replicate {A = ℕ} n 0) (sym (length-replicate {
 
 -- ---- a text is delivered
 module _ (G : Grammar) (H : Graph) (text out : List ℕ) (b : Bool) (is : b ≡ replay_text G H text) where
-  by_replay : (c : Bool) → b ≡ c → delivered G H text out ≡ cond c (write_text text out) (refused Unfit out)
+  by_replay : (c : Bool) → b ≡ c → delivered G H text out ≡ cond c (write_text text out) (refused (Err Unfit) out)
   unfolding delivered
-  by_replay c e = ap (λ (t : Bool). cond t (write_text text out) (refused Unfit out)) (sym is ∙ e)
+  by_replay c e = ap (λ (t : Bool). cond t (write_text text out) (refused (Err Unfit) out)) (sym is ∙ e)
 
-  pub deliver_refused : b ≡ false → Leaves (delivered G H text out) Unfit out
-  deliver_refused e = leaves (delivered G H text out) (refused Unfit out) (by_replay false e)
+  pub deliver_refused : b ≡ false → Leaves (delivered G H text out) (Err Unfit) out
+  deliver_refused e = leaves (delivered G H text out) (refused (Err Unfit) out) (by_replay false e)
 
-  pub deliver_short : b ≡ true → length out < length text → Leaves (delivered G H text out) NoRoom out
-  deliver_short e l = leaves (delivered G H text out) (refused NoRoom out) (by_replay true e ∙ text_short text out l)
+  pub deliver_short : b ≡ true → length out < length text → Leaves (delivered G H text out) (Err NoRoom) out
+  deliver_short e l = leaves (delivered G H text out) (refused (Err NoRoom) out) (by_replay true e ∙ text_short text out l)
 
-  pub deliver_written : (now : List ℕ) → b ≡ true → length text ≤ length out → now ≡ text ++ drop (length text) out → Leaves (delivered G H text out) (Written (length text)) now
+  pub deliver_written : (now : List ℕ) → b ≡ true → length text ≤ length out → now ≡ text ++ drop (length text) out → Leaves (delivered G H text out) (Ok (length text)) now
   deliver_written now e l q =
-      subst (λ (x : List ℕ). Leaves (delivered G H text out) (Written (length text)) x) (sym q)
-      (leaves (delivered G H text out) (record { answer = Written (length text); out = text ++ drop (length text) out }) (by_replay true e ∙ text_held text out l))
+      subst (λ (x : List ℕ). Leaves (delivered G H text out) (Ok (length text)) x) (sym q)
+      (leaves (delivered G H text out) (record { answer = Ok (length text); out = text ++ drop (length text) out }) (by_replay true e ∙ text_held text out l))
 
 -- the part of a buffer from `start` to its end
 pub part_delivered : (G : Grammar) (H : Graph) (buffer out now : List ℕ) (a : Answer) (start n : ℕ) → length buffer ≤ start + n → Leaves (delivered G H (take n (drop start buffer)) out) a now
@@ -77,15 +76,15 @@ part_delivered G H buffer out now a start n l x =
 
 -- ---- the text of the tree that partners spell
 module _ (look : ℕ → Record) (G : Grammar) (H : Graph) (j : ℕ) where
-  no_text : (out : List ℕ) → delivered G H [] out ≡ refused Unfit out
+  no_text : (out : List ℕ) → delivered G H [] out ≡ refused (Err Unfit) out
   unfolding delivered
-  no_text out = ap (λ (t : Bool). cond t (write_text [] out) (refused Unfit out)) (replay_bad G H [] (script_missing_at [] (omega arith)))
+  no_text out = ap (λ (t : Bool). cond t (write_text [] out) (refused (Err Unfit) out)) (replay_bad G H [] (script_missing_at [] (omega arith)))
 
   pub spelt_text : (out : List ℕ) → delivered G H (text_at look G H j) out ≡ write_spelt G H out (tree_at look G H 4096 j)
   unfolding text_at derives delivered derivation_text
   spelt_text out = go (tree_at look G H 4096 j) refl
     where
-      none : listing look G 4096 (j ∷ []) ≡ endless → delivered G H (text_at look G H j) out ≡ refused Unfit out
+      none : listing look G 4096 (j ∷ []) ≡ endless → delivered G H (text_at look G H j) out ≡ refused (Err Unfit) out
       none e = ap (λ (l : Listing). delivered G H (text_by look G H l) out) e ∙ no_text out
 
       go : (s : Spelt) → tree_at look G H 4096 j ≡ s → delivered G H (text_at look G H j) out ≡ write_spelt G H out s
@@ -104,8 +103,8 @@ module _ (look : ℕ → Record) (G : Grammar) (H : Graph) (j : ℕ) where
       subst (λ (x : Wrote). Leaves x a now) (ap (λ (t : List ℕ). delivered G H t out) e ∙ spelt_text out) l
 
 -- ---- the goal
-pub goal_missing : (G : Grammar) (H : Graph) (look : ℕ → Record) (out : List ℕ) (f : Option ℕ) → None ≡ f → Leaves (write_goal G H look out f) Underivable out
-goal_missing G H look out f e = subst (λ (x : Option ℕ). Leaves (write_goal G H look out x) Underivable out) e (record { answer = refl; bytes = refl })
+pub goal_missing : (G : Grammar) (H : Graph) (look : ℕ → Record) (out : List ℕ) (f : Option ℕ) → None ≡ f → Leaves (write_goal G H look out f) (Err Underivable) out
+goal_missing G H look out f e = subst (λ (x : Option ℕ). Leaves (write_goal G H look out x) (Err Underivable) out) e (record { answer = refl; bytes = refl })
 
 pub goal_found : (G : Grammar) (H : Graph) (look : ℕ → Record) (out now : List ℕ) (a : Answer) (f : Option ℕ) (j : ℕ) → Some j ≡ f → Leaves (write_spelt G H out (tree_at look G H 4096 j)) a now
     → Leaves (write_goal G H look out f) a now
@@ -126,32 +125,31 @@ module _ (g h w out : List ℕ) (o : Outcome) (stands : o ≡ standing_of g h w)
       let q : now ≡ (write_of g h w out).out = l.bytes ∙ ap (λ (x : Wrote). x.out) (sym e) in
       (p, q, subst (λ (b : Answer). WriteChoices g h w out b now) (sym p) (subst (λ (x : List ℕ). WriteChoices g h w out (write_of g h w out).answer x) (sym q) (write_choices g h w out)))
 
-  pub written_unfit : o ≡ UnfitChart → WroteAs Unfit out
-  written_unfit e = written_by Unfit out (subst (λ (p : Outcome). Leaves (write_by p out found) Unfit out) (sym e) (record { answer = refl; bytes = refl }))
+  unready : (u : Unready) → Leaves (write_by (Err u) out found) (Err (error_of u)) out
+  unready UnfitChart = record { answer = refl; bytes = refl }
+  unready TooSmallChart = record { answer = refl; bytes = refl }
+  unready (UnfinishedChart k) = record { answer = refl; bytes = refl }
 
-  pub written_small : o ≡ TooSmallChart → WroteAs TooSmall out
-  written_small e = written_by TooSmall out (subst (λ (p : Outcome). Leaves (write_by p out found) TooSmall out) (sym e) (record { answer = refl; bytes = refl }))
+  pub written_unready : (u : Unready) → o ≡ Err u → WroteAs (Err (error_of u)) out
+  written_unready u e = written_by (Err (error_of u)) out (subst (λ (p : Outcome). Leaves (write_by p out found) (Err (error_of u)) out) (sym e) (unready u))
 
-  pub written_unfinished : (k : ℕ) → o ≡ UnfinishedChart k → WroteAs (Unfinished k) out
-  written_unfinished k e = written_by (Unfinished k) out (subst (λ (p : Outcome). Leaves (write_by p out found) (Unfinished k) out) (sym e) (record { answer = refl; bytes = refl }))
-
-  pub written_done : (k : ℕ) (a : Answer) (now : List ℕ) → o ≡ Done k → Leaves found a now → WroteAs a now
+  pub written_done : (k : ℕ) (a : Answer) (now : List ℕ) → o ≡ Ok k → Leaves found a now → WroteAs a now
   written_done k a now e l = written_by a now (subst (λ (p : Outcome). Leaves (write_by p out found) a now) (sym e) l)
 
   -- a chart with nothing left has passed question 8
-  done_fits : (k : ℕ) → o ≡ Done k → fit_chart g h w ≡ true
+  done_fits : (k : ℕ) → o ≡ Ok k → fit_chart g h w ≡ true
   unfolding standing_of
   done_fits k e = go (fit_chart g h w) refl (sym stands ∙ e)
     where
-      go : (b : Bool) → fit_chart g h w ≡ b → standing_of g h w ≡ Done k → b ≡ true
+      go : (b : Bool) → fit_chart g h w ≡ b → standing_of g h w ≡ Ok k → b ≡ true
       go true f q = refl
       go false f q = absurd (never (sym (rw f) ∙ q))
         where
-          never : UnfitChart ≡ Done k → ⊥
+          never : (Err UnfitChart) ≡ Ok k → ⊥
           never z = let y : ◌≡◌ {A = ℕ} 0 1 = cc in omega (arith, y)
 
-  pub done_known : (k : ℕ) → o ≡ Done k → known_chart (grammar_of g) (graph_of g h) w ≡ true
+  pub done_known : (k : ℕ) → o ≡ Ok k → known_chart (grammar_of g) (graph_of g h) w ≡ true
   done_known k e = chart_known g h w (done_fits k e)
 
-  pub done_accepted : (k : ℕ) → o ≡ Done k → Accepted g h
+  pub done_accepted : (k : ℕ) → o ≡ Ok k → Accepted g h
   done_accepted k e = fit_accepted g h w (fit g h w) refl (chart_fit g h w (done_fits k e))

@@ -2,7 +2,7 @@
 
 #![tactic(auto)]
 
-ghost use Rattle.std.specs.Prelude.{◌≡◌, true, [], ◌∷◌, ◌++◌, ◌≤◌, length, drop};
+ghost use Rattle.std.specs.Prelude.{◌≡◌, true, [], ◌∷◌, ◌+◌, ◌*◌, ◌≤◌, ◌<◌, length};
 ghost use Rattle.hrg.specs.Trees.{padded};
 ghost use Rattle.hrg.specs.Items.{goal};
 ghost use Rattle.agenda.specs.Records.{chart_item};
@@ -18,9 +18,8 @@ ghost use Rattle.writing.specs.Demand.{WriteChoices};
 ghost use Rattle.writer.specs.Delivering.{Leaves, delivered};
 
 use agenda::ChartItem;
-use charting::Outcome;
 use places::{NONE, PLACES};
-use writing::Answer;
+use writing::WriteError;
 
 // ---- question 11
 // The graph's external nodes in eight places, 64 where there is none.
@@ -30,10 +29,8 @@ fn external_nodes(grammar: &[u64], graph: &[u64]) -> [u8; PLACES]
 {
     let rank = layout::rank_at(grammar, layout::start_symbol(grammar));
     let mut l = NONE;
-    let mut k: u64 = 0;
-    while k < rank {
+    for k in 0..rank {
         l = places::with_node(l, k, layout::graph_external(graph, k));
-        k += 1;
     }
     places::nodes_of(l)
 }
@@ -66,50 +63,25 @@ fn find_goal(grammar: &[u64], graph: &[u64], chart: &[u64]) -> Option<u64>
 }
 
 // ---- question 12
-fn copy(text: &[u8], out: &mut [u8])
-    requires { length text.now ≤ length out.old }
-    ensures { out.new ≡ text.now ++ drop (length text.now) out.old }
-{
-    let mut i = 0;
-    while i < text.len() {
-        out[i] = text[i];
-        i += 1;
-    }
-}
-
 // Writes a text that is a derivation of the graph, if the output holds it. It is replayed first: the chart's partners
 // are not trusted.
-fn deliver(grammar: &[u64], graph: &[u64], text: &[u8], out: &mut [u8]) -> Answer
+fn deliver(grammar: &[u64], graph: &[u64], text: &[u8], out: &mut [u8]) -> Result<u64, WriteError>
     requires { Accepted grammar.now graph.now }
     ensures { Leaves (delivered (grammar_of grammar.now) (graph_of grammar.now graph.now) text.now out.old) result out.new }
 {
     if !replayer::passes(grammar, graph, text) {
-        return Answer::Unfit;
+        return Err(WriteError::Unfit);
     }
     if out.len() < text.len() {
-        return Answer::NoRoom;
+        return Err(WriteError::NoRoom);
     }
-    copy(text, out);
-    Answer::Written(text.len() as u64)
+    out[..text.len()].copy_from_slice(text);
+    Ok(text.len() as u64)
 }
 
-// The same for the text from `start` to the end of a buffer.
-fn deliver_from(
-    grammar: &[u64],
-    graph: &[u64],
-    buffer: &[u8],
-    start: usize,
-    out: &mut [u8],
-) -> Answer
-    requires { Accepted grammar.now graph.now × (start ≤ length buffer.now) }
-    ensures { Leaves (delivered (grammar_of grammar.now) (graph_of grammar.now graph.now) (drop start buffer.now) out.old) result out.new }
-{
-    deliver(grammar, graph, &buffer[start..buffer.len()], out)
-}
-
-// The derivation of the passive item at place j, whose n applications are listed: at most 40 of them, so that a
-// buffer of some lines of 74 bytes behind the first one of six holds them.
-fn write_brief(
+// The derivation of the passive item at place j, whose n applications are listed: there are more places for the sizes
+// of their trees than applications, and the buffer holds a line of 74 bytes for each behind the first line of six.
+fn write_listed<const SIZES: usize, const BYTES: usize>(
     grammar: &[u64],
     graph: &[u64],
     chart: &[u64],
@@ -117,70 +89,42 @@ fn write_brief(
     list: &[u64],
     n: usize,
     out: &mut [u8],
-) -> Answer
-    requires { Accepted grammar.now graph.now × ListedIn 4096 (listing (λ k. record_at chart.now k) (grammar_of grammar.now) 4096 (j ∷ [])) list.now n × (n ≤ length list.now) × (n ≤ 40) }
+) -> Result<u64, WriteError>
+    requires { Accepted grammar.now graph.now × ListedIn 4096 (listing (λ k. record_at chart.now k) (grammar_of grammar.now) 4096 (j ∷ [])) list.now n × (n ≤ length list.now) × (n < SIZES) × (SIZES ≤ 4104) × (74 * n + 6 ≤ BYTES) × (BYTES ≤ 303110) }
     ensures { Leaves (write_spelt (grammar_of grammar.now) (graph_of grammar.now graph.now) out.old (tree_at (λ k. record_at chart.now k) (grammar_of grammar.now) (graph_of grammar.now graph.now) 4096 j)) result out.new }
 {
-    let mut sizes = [0u64; 48];
-    let mut buffer = [0u8; 2966];
+    let mut sizes = [0u64; SIZES];
+    let mut buffer = [0u8; BYTES];
     let start = extractor::extract(grammar, graph, chart, j, list, n, &mut sizes, &mut buffer);
-    deliver_from(grammar, graph, &buffer, start, out)
-}
-
-// The same of at most 256.
-fn write_short(
-    grammar: &[u64],
-    graph: &[u64],
-    chart: &[u64],
-    j: u64,
-    list: &[u64],
-    n: usize,
-    out: &mut [u8],
-) -> Answer
-    requires { Accepted grammar.now graph.now × ListedIn 4096 (listing (λ k. record_at chart.now k) (grammar_of grammar.now) 4096 (j ∷ [])) list.now n × (n ≤ length list.now) × (n ≤ 256) }
-    ensures { Leaves (write_spelt (grammar_of grammar.now) (graph_of grammar.now graph.now) out.old (tree_at (λ k. record_at chart.now k) (grammar_of grammar.now) (graph_of grammar.now graph.now) 4096 j)) result out.new }
-{
-    let mut sizes = [0u64; 264];
-    let mut buffer = [0u8; 18950];
-    let start = extractor::extract(grammar, graph, chart, j, list, n, &mut sizes, &mut buffer);
-    deliver_from(grammar, graph, &buffer, start, out)
-}
-
-// The same of at most 1,024.
-fn write_middle(
-    grammar: &[u64],
-    graph: &[u64],
-    chart: &[u64],
-    j: u64,
-    list: &[u64],
-    n: usize,
-    out: &mut [u8],
-) -> Answer
-    requires { Accepted grammar.now graph.now × ListedIn 4096 (listing (λ k. record_at chart.now k) (grammar_of grammar.now) 4096 (j ∷ [])) list.now n × (n ≤ length list.now) × (n ≤ 1024) }
-    ensures { Leaves (write_spelt (grammar_of grammar.now) (graph_of grammar.now graph.now) out.old (tree_at (λ k. record_at chart.now k) (grammar_of grammar.now) (graph_of grammar.now graph.now) 4096 j)) result out.new }
-{
-    let mut sizes = [0u64; 1032];
-    let mut buffer = [0u8; 75782];
-    let start = extractor::extract(grammar, graph, chart, j, list, n, &mut sizes, &mut buffer);
-    deliver_from(grammar, graph, &buffer, start, out)
+    let text = &buffer[..];
+    deliver(grammar, graph, &text[start..], out)
 }
 
 // The same of at most 4,096 applications, which are not listed yet.
-fn write_long(grammar: &[u64], graph: &[u64], chart: &[u64], j: u64, out: &mut [u8]) -> Answer
+fn write_long(
+    grammar: &[u64],
+    graph: &[u64],
+    chart: &[u64],
+    j: u64,
+    out: &mut [u8],
+) -> Result<u64, WriteError>
     requires { Accepted grammar.now graph.now }
     ensures { Leaves (write_spelt (grammar_of grammar.now) (graph_of grammar.now graph.now) out.old (tree_at (λ k. record_at chart.now k) (grammar_of grammar.now) (graph_of grammar.now graph.now) 4096 j)) result out.new }
 {
     let mut list = [0u64; 4104];
     let n = extractor::listing::list_applications(grammar, chart, j, &mut list);
-    let mut sizes = [0u64; 4104];
-    let mut buffer = [0u8; 303110];
-    let start = extractor::extract(grammar, graph, chart, j, &list, n, &mut sizes, &mut buffer);
-    deliver_from(grammar, graph, &buffer, start, out)
+    write_listed::<4104, 303110>(grammar, graph, chart, j, &list, n, out)
 }
 
 // The same of more than a short list holds. It is called at two places, so that the compiler does not put it in line
 // there: the pages of its long buffers would then be touched at every writing, the refused ones too.
-fn write_many(grammar: &[u64], graph: &[u64], chart: &[u64], j: u64, out: &mut [u8]) -> Answer
+fn write_many(
+    grammar: &[u64],
+    graph: &[u64],
+    chart: &[u64],
+    j: u64,
+    out: &mut [u8],
+) -> Result<u64, WriteError>
     requires { Accepted grammar.now graph.now }
     ensures { Leaves (write_spelt (grammar_of grammar.now) (graph_of grammar.now graph.now) out.old (tree_at (λ k. record_at chart.now k) (grammar_of grammar.now) (graph_of grammar.now graph.now) 4096 j)) result out.new }
 {
@@ -189,12 +133,18 @@ fn write_many(grammar: &[u64], graph: &[u64], chart: &[u64], j: u64, out: &mut [
     if n == 0 {
         return write_long(grammar, graph, chart, j, out);
     }
-    write_middle(grammar, graph, chart, j, &list, n, out)
+    write_listed::<1032, 75782>(grammar, graph, chart, j, &list, n, out)
 }
 
 // The derivation of the passive item at place j. Most are short: a long buffer takes longer to clear than those take
 // to write.
-fn write_item(grammar: &[u64], graph: &[u64], chart: &[u64], j: u64, out: &mut [u8]) -> Answer
+fn write_item(
+    grammar: &[u64],
+    graph: &[u64],
+    chart: &[u64],
+    j: u64,
+    out: &mut [u8],
+) -> Result<u64, WriteError>
     requires { Accepted grammar.now graph.now }
     ensures { Leaves (write_spelt (grammar_of grammar.now) (graph_of grammar.now graph.now) out.old (tree_at (λ k. record_at chart.now k) (grammar_of grammar.now) (graph_of grammar.now graph.now) 4096 j)) result out.new }
 {
@@ -204,34 +154,40 @@ fn write_item(grammar: &[u64], graph: &[u64], chart: &[u64], j: u64, out: &mut [
         return write_many(grammar, graph, chart, j, out);
     }
     if n <= 40 {
-        return write_brief(grammar, graph, chart, j, &list, n, out);
+        return write_listed::<48, 2966>(grammar, graph, chart, j, &list, n, out);
     }
     if n <= 256 {
-        return write_short(grammar, graph, chart, j, &list, n, out);
+        return write_listed::<264, 18950>(grammar, graph, chart, j, &list, n, out);
     }
     write_many(grammar, graph, chart, j, out)
 }
 
 // Questions 11 and 12.
-fn write_goal(grammar: &[u64], graph: &[u64], chart: &[u64], out: &mut [u8]) -> Answer
+fn write_goal(
+    grammar: &[u64],
+    graph: &[u64],
+    chart: &[u64],
+    out: &mut [u8],
+) -> Result<u64, WriteError>
     requires { Accepted grammar.now graph.now × (known_chart (grammar_of grammar.now) (graph_of grammar.now graph.now) chart.now ≡ true) }
     ensures { Leaves (write_goal (grammar_of grammar.now) (graph_of grammar.now graph.now) (λ k. record_at chart.now k) out.old (goal_in (grammar_of grammar.now) (graph_of grammar.now graph.now) (chart_of chart.now).records)) result out.new }
 {
     match find_goal(grammar, graph, chart) {
-        None => Answer::Underivable,
+        None => Err(WriteError::Underivable),
         Some(j) => write_item(grammar, graph, chart, j, out),
     }
 }
 
 // Questions 8 to 12: writes the derivation of the chart's goal, and leaves what lies behind it. Refusals change
 // nothing.
-pub fn write(grammar: &[u64], graph: &[u64], chart: &[u64], out: &mut [u8]) -> Answer
+pub fn write(
+    grammar: &[u64],
+    graph: &[u64],
+    chart: &[u64],
+    out: &mut [u8],
+) -> Result<u64, WriteError>
     ensures { (result ≡ (write_of grammar.now graph.now chart.now out.old).answer) × (out.new ≡ (write_of grammar.now graph.now chart.now out.old).out) × WriteChoices grammar.now graph.now chart.now out.old result out.new }
 {
-    match chart::standing(grammar, graph, chart) {
-        Outcome::Unfit => Answer::Unfit,
-        Outcome::TooSmall => Answer::TooSmall,
-        Outcome::Unfinished(k) => Answer::Unfinished(k),
-        Outcome::Done(_) => write_goal(grammar, graph, chart, out),
-    }
+    chart::standing(grammar, graph, chart)?;
+    write_goal(grammar, graph, chart, out)
 }

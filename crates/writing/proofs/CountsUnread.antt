@@ -1,5 +1,5 @@
 -- The writer reads no count: charts that differ in counts alone get the same answer and the same bytes.
-use Rattle.std.specs.Prelude.{Option, Some, None}
+use Rattle.std.specs.Prelude.{Option, Some, None, Err}
 use mathlib.Core.Path.{◌≡◌, refl, sym, ap, ap₂, ◌∙◌, fun_ext}
 use mathlib.Core.Bool.{Bool, true, false, ◌&&◌, cond}
 use mathlib.Core.List.{List, [], ◌∷◌, ◌++◌}
@@ -24,9 +24,8 @@ use Rattle.records.specs.Words.{capacity, item_count, record_at, records_at, cha
 use Rattle.records.proofs.WordLaws.{length_records, record_in_lem, same_capacity as capacity_by}
 use Rattle.validity.specs.Checking.{known_record, known_chart}
 use Rattle.validity.proofs.AnyNumber.{counted, count_free}
-use Rattle.charting.specs.Calls.{fit_chart, when_waiting, answer_of, standing_of}
-use Rattle.charting.specs.declared.Outcome.{Outcome}
-use Rattle.charting.specs.declared.Outcome.TheVariants.{TooSmall}
+use Rattle.charting.specs.Calls.{fit_chart, when_waiting, answer_of, standing_of, Outcome}
+use Rattle.charting.specs.declared.Unready.TheVariants.{TooSmall}
 use Rattle.charting.proofs.Calls.{fit_same}
 use Rattle.extraction.specs.Extraction.{partners_via, partners_within, rule_at, partners_at, nodes_by, part_nodes, placed_by, place_at, Spelt, parts_by, applied, tree_at}
 use Rattle.writing.specs.Writing.{Wrote, write_spelt, last_of, goal_in, write_goal, write_by, write_of}
@@ -139,7 +138,7 @@ module _ (w v : List ℕ) (s : SameButCounts w v) where
   same_answer =
       let n = item_count v in
       rw (s.mark, same_count, length_records w n, length_records v n, same_handled n)
-      (ap (λ (o : Outcome). cond (eqb (get_or v 1 0) 0) o TooSmall) (waiting_same (handled_count (records_at v n)) (records_at w n) (records_at v n) n (by_place (λ x. is_handled x) (λ x. refl) n)))
+      (ap (λ (o : Outcome). cond (eqb (get_or v 1 0) 0) o (Err TooSmall)) (waiting_same (handled_count (records_at v n)) (records_at w n) (records_at v n) n (by_place (λ x. is_handled x) (λ x. refl) n)))
 
   module _ (g h : List ℕ) where
     same_known : known_chart (grammar_of g) (graph_of g h) w ≡ known_chart (grammar_of g) (graph_of g h) v

@@ -1,5 +1,5 @@
 -- Demand 3: one theorem over any list of calls after a start that passes question 8.
-use Rattle.std.specs.Prelude.{Option, Some, None}
+use Rattle.std.specs.Prelude.{Option, Some, None, Ok, Err}
 use mathlib.Core.Path.{◌≡◌, refl, sym, ap, ◌∙◌, subst}
 use mathlib.Core.Logic.{◌≢◌, ◌↔◌}
 use mathlib.Core.Bool.{true, false}
@@ -21,7 +21,7 @@ use Rattle.questions.specs.Abstract.{grammar_of, graph_of}
 use Rattle.records.specs.Words.{capacity, item_count, record_at, chart_of}
 use Rattle.records.proofs.WordLaws.{length_records, record_in_lem}
 use Rattle.charting.specs.Calls.{fit, when_waiting, answer_of, start_of, run_of, runs_of, standing_of}
-use Rattle.charting.specs.declared.Outcome.TheVariants.{TooSmall as TooSmallChart, Unfinished as UnfinishedChart, Done}
+use Rattle.charting.specs.declared.Unready.TheVariants.{TooSmall as TooSmallChart, Unfinished as UnfinishedChart}
 use Rattle.charting.proofs.Answers.{answer_marked, answer_waiting}
 use Rattle.charting.proofs.Calls.{fit_grammar, fit_graph, fit_most}
 use Rattle.charting.proofs.Demand.{runs_known, runs_chart_lem}
@@ -31,7 +31,7 @@ use Rattle.writing.specs.Writing.{number_of, Wrote, refused, goal_in, write_goal
 use Rattle.writing.specs.Filling.{records_of, chooses, chosen_goal, chosen_of, Filled, unfilled, fill_of}
 use Rattle.writing.specs.Demand.{Call, run, write, fill, after_calls, steps_given, AllHandled, SomeLeft, FewestTree, WritesTree, FillsTree, CallsRight}
 use Rattle.writing.specs.declared.Application.{Application}
-use Rattle.writing.specs.declared.Answer.TheVariants.{TooSmall, Unfinished, Underivable, Written}
+use Rattle.writing.specs.declared.WriteError.TheVariants.{TooSmall, Unfinished, Underivable}
 use Rattle.writing.proofs.Writings.{write_by_is}
 use Rattle.writing.proofs.Filling.{records_held, records_short, records_size, chosen_by_is, fill_refuses, chosen_records}
 use Rattle.writing.proofs.OwnCharts.{Writes, no_tree, a_tree, goal_writes}
@@ -112,40 +112,40 @@ module _ (g h w : List ℕ) (e : fit g h w ≡ true) (ks : List ℕ) where
   look_same j l = sym (record_in_lem v (item_count v) j (omega (arith, l, length_records v (item_count v))))
 
   module _ (fits : c.mark ≡ 0) (all : AllHandled c.records) where
-    stands_done : standing_of g h v ≡ Done (handled_count c.records)
+    stands_done : standing_of g h v ≡ Ok (handled_count c.records)
     stands_done = stands ∙ answer_waiting c fits ∙ ap (when_waiting (handled_count c.records)) (nothing_left c.records all)
 
     -- the search for the goal decides
     searches : (out : List ℕ) → write_of g h v out ≡ write_goal G H (λ j. record_at v j) out (goal_in G H c.records)
-    searches out = write_by_is g h v out (Done (handled_count c.records)) stands_done
+    searches out = write_by_is g h v out (Ok (handled_count c.records)) stands_done
 
     outcome : Writes G H ok good (capacity w) most ks c is fits (nothing_left c.records all) (λ j. record_at v j) look_same (goal_in G H c.records)
     outcome = goal_writes G H ok good (capacity w) most ks c is fits (nothing_left c.records all) (λ j. record_at v j) look_same
 
     -- a tree that is written is no refusal
-    not_refused : (t : Tree) (out : List ℕ) (x : Wrote) → WritesTree t out x → x ≡ refused Underivable out → ⊥
+    not_refused : (t : Tree) (out : List ℕ) (x : Wrote) → WritesTree t out x → x ≡ refused (Err Underivable) out → ⊥
     not_refused t out x wr q = go (dec_le (length (derivation_text t)) (length out))
       where
         go : Dec (length (derivation_text t) ≤ length out) → ⊥
         go (yes l) = let z : ◌≡◌ {A = ℕ} 0 11 = ap (λ (y : Wrote). number_of y.answer) (sym (wr.held l) ∙ q) in omega (arith, z)
         go (no n) = let z : ◌≡◌ {A = ℕ} 12 11 = ap (λ (y : Wrote). number_of y.answer) (sym (wr.short (omega arith)) ∙ q) in omega (arith, z)
 
-    pub write_underivable : (out : List ℕ) → (write_of g h v out ≡ refused Underivable out) ↔ ((t : Tree) → Generates G H t → ⊥)
+    pub write_underivable : (out : List ℕ) → (write_of g h v out ≡ refused (Err Underivable) out) ↔ ((t : Tree) → Generates G H t → ⊥)
     write_underivable out = (λ q. left outcome q, λ none. right outcome none)
       where
-        left : Writes G H ok good (capacity w) most ks c is fits (nothing_left c.records all) (λ j. record_at v j) look_same (goal_in G H c.records) → write_of g h v out ≡ refused Underivable out
+        left : Writes G H ok good (capacity w) most ks c is fits (nothing_left c.records all) (λ j. record_at v j) look_same (goal_in G H c.records) → write_of g h v out ≡ refused (Err Underivable) out
             → (t : Tree) → Generates G H t → ⊥
         left (no_tree none f) q = none
         left (a_tree t few wr l ch) q = absurd (not_refused t out _ (wr out) (sym (searches out) ∙ q))
 
         right : Writes G H ok good (capacity w) most ks c is fits (nothing_left c.records all) (λ j. record_at v j) look_same (goal_in G H c.records) → ((t : Tree) → Generates G H t → ⊥)
-            → write_of g h v out ≡ refused Underivable out
+            → write_of g h v out ≡ refused (Err Underivable) out
         right (no_tree none f) n = searches out ∙ ap (write_goal G H (λ j. record_at v j) out) f
         right (a_tree t few wr l ch) n = absurd (n t few.generates)
 
     -- the same of a row
     chosen_is : chosen_of g h v ≡ chosen_goal G H (λ j. record_at v j) (goal_in G H c.records)
-    chosen_is = chosen_by_is g h v (Done (handled_count c.records)) stands_done
+    chosen_is = chosen_by_is g h v (Ok (handled_count c.records)) stands_done
 
     tree_fills : (t : Tree) → Generates G H t → size t ≤ 4096 → chosen_goal G H (λ j. record_at v j) (goal_in G H c.records) ≡ chooses (derivation_text t)
         → (former : List Application) → FillsTree t former (fill_of g h v former)
@@ -154,11 +154,11 @@ module _ (g h w : List ℕ) (e : fit g h w ≡ true) (ks : List ℕ) where
         let q = chosen_records g h v t gen l (chosen_is ∙ ch) former in
         let n = records_size 0 t in
         record {
-          held = λ k. q ∙ records_held (records_of t) former (omega (arith, n, k)) ∙ ap (λ (m : ℕ). record { answer = Written m; rows = records_of t ++ drop m former }) n;
+          held = λ k. q ∙ records_held (records_of t) former (omega (arith, n, k)) ∙ ap (λ (m : ℕ). record { answer = Ok m; rows = records_of t ++ drop m former }) n;
           short = λ k. q ∙ records_short (records_of t) former (omega (arith, n, k));
         }
 
-    row_not_refused : (t : Tree) (former : List Application) (x : Filled) → FillsTree t former x → x ≡ unfilled Underivable former → ⊥
+    row_not_refused : (t : Tree) (former : List Application) (x : Filled) → FillsTree t former x → x ≡ unfilled (Err Underivable) former → ⊥
     row_not_refused t former x fl q = go (dec_le (size t) (length former))
       where
         go : Dec (size t ≤ length former) → ⊥
@@ -168,15 +168,15 @@ module _ (g h w : List ℕ) (e : fit g h w ≡ true) (ks : List ℕ) where
     abbrev Outcomes : Type 0
     Outcomes = Writes G H ok good (capacity w) most ks c is fits (nothing_left c.records all) (λ j. record_at v j) look_same (goal_in G H c.records)
 
-    pub fill_underivable : (former : List Application) → (fill_of g h v former ≡ unfilled Underivable former) ↔ ((t : Tree) → Generates G H t → ⊥)
+    pub fill_underivable : (former : List Application) → (fill_of g h v former ≡ unfilled (Err Underivable) former) ↔ ((t : Tree) → Generates G H t → ⊥)
     fill_underivable former = (λ q. left outcome q, λ none. right outcome none)
       where
-        left : Outcomes → fill_of g h v former ≡ unfilled Underivable former → (t : Tree) → Generates G H t → ⊥
+        left : Outcomes → fill_of g h v former ≡ unfilled (Err Underivable) former → (t : Tree) → Generates G H t → ⊥
         left (no_tree none f) q = none
         left (a_tree t few wr l ch) q = absurd (row_not_refused t former _ (tree_fills t few.generates l ch former) q)
 
-        right : Outcomes → ((t : Tree) → Generates G H t → ⊥) → fill_of g h v former ≡ unfilled Underivable former
-        right (no_tree none f) n = fill_refuses g h v former Underivable (chosen_is ∙ ap (chosen_goal G H (λ j. record_at v j)) f)
+        right : Outcomes → ((t : Tree) → Generates G H t → ⊥) → fill_of g h v former ≡ unfilled (Err Underivable) former
+        right (no_tree none f) n = fill_refuses g h v former (Err Underivable) (chosen_is ∙ ap (chosen_goal G H (λ j. record_at v j)) f)
         right (a_tree t few wr l ch) n = absurd (n t few.generates)
 
     -- one tree, as text and as records
@@ -188,10 +188,10 @@ module _ (g h w : List ℕ) (e : fit g h w ≡ true) (ks : List ℕ) where
         go (no_tree none f) = absurd (none u gen)
         go (a_tree t few wr l ch) = (t, few, λ out. subst (λ (x : Wrote). WritesTree t out x) (sym (searches out)) (wr out), tree_fills t few.generates l ch)
 
-  stands_small : c.mark ≢ 0 → standing_of g h v ≡ TooSmallChart
+  stands_small : c.mark ≢ 0 → standing_of g h v ≡ Err TooSmallChart
   stands_small m = stands ∙ answer_marked c m
 
-  stands_waiting : c.mark ≡ 0 → SomeLeft c.records → standing_of g h v ≡ UnfinishedChart (handled_count c.records)
+  stands_waiting : c.mark ≡ 0 → SomeLeft c.records → standing_of g h v ≡ Err (UnfinishedChart (handled_count c.records))
   stands_waiting m s = stands ∙ answer_waiting c m ∙ ap (when_waiting (handled_count c.records)) (some_left c.records s).found
 
   runs_calls : CallsRight g h (capacity w) (sum_of ks) (runs_of g h (start_of g h w).words ks)
@@ -207,10 +207,10 @@ module _ (g h w : List ℕ) (e : fit g h w ≡ true) (ks : List ℕ) where
         underivable = write_underivable;
         underivable_row = fill_underivable;
         writes = write_fewest;
-        nine = λ m out. write_by_is g h v out TooSmallChart (stands_small m);
-        nine_row = λ m former. fill_refuses g h v former TooSmall (chosen_by_is g h v TooSmallChart (stands_small m));
-        ten = λ m s out. write_by_is g h v out (UnfinishedChart (handled_count c.records)) (stands_waiting m s);
-        ten_row = λ m s former. fill_refuses g h v former (Unfinished (handled_count c.records)) (chosen_by_is g h v (UnfinishedChart (handled_count c.records)) (stands_waiting m s));
+        nine = λ m out. write_by_is g h v out (Err TooSmallChart) (stands_small m);
+        nine_row = λ m former. fill_refuses g h v former (Err TooSmall) (chosen_by_is g h v (Err TooSmallChart) (stands_small m));
+        ten = λ m s out. write_by_is g h v out (Err (UnfinishedChart (handled_count c.records))) (stands_waiting m s);
+        ten_row = λ m s former. fill_refuses g h v former (Err (Unfinished (handled_count c.records))) (chosen_by_is g h v (Err (UnfinishedChart (handled_count c.records))) (stands_waiting m s));
       }
 
 -- Demand 3: after a start that passes question 8 and any list of runs and writings, as text or as records.

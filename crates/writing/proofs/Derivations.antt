@@ -1,5 +1,6 @@
 -- Demand 2 of what the writer writes, in the request's words: membership is edge replacement, a written derivation
 -- replays to exactly the graph, and untouched since the start it has the fewest applications.
+use Rattle.std.specs.Prelude.{Ok, Err}
 use mathlib.Core.Path.{◌≡◌, refl, ap}
 use mathlib.Core.Logic.{◌↔◌}
 use mathlib.Core.Bool.{true}
@@ -21,7 +22,7 @@ use Rattle.derivation.specs.Derivations.{derivation_text, replay_text, ReplayedF
 use Rattle.derivation.proofs.Derivations.{replay_text_is, replay_member}
 use Rattle.writing.specs.Writing.{number_of, refused, write_of}
 use Rattle.writing.specs.Demand.{Call, after_calls, AllHandled}
-use Rattle.writing.specs.declared.Answer.TheVariants.{Underivable, Written}
+use Rattle.writing.specs.declared.WriteError.TheVariants.{Underivable}
 use Rattle.writing.proofs.Writings.{written_fit, written_derivation}
 use Rattle.writing.proofs.Demand.{demand_3}
 use Rattle.writing.proofs.Choices.{write_choices}
@@ -30,7 +31,7 @@ use Rattle.writing.proofs.Choices.{write_choices}
 -- start edge to the graph.
 pub refused_member : (g h w : List ℕ) → fit g h w ≡ true → (cs : List Call) → (chart_of (after_calls g h (start_of g h w).words cs)).mark ≡ 0
     → AllHandled (chart_of (after_calls g h (start_of g h w).words cs)).records → (out : List ℕ)
-    → (write_of g h (after_calls g h (start_of g h w).words cs) out ≡ refused Underivable out) ↔ ((n : ℕ) → Member (grammar_of g) (graph_of g h) n → ⊥)
+    → (write_of g h (after_calls g h (start_of g h w).words cs) out ≡ refused (Err Underivable) out) ↔ ((n : ℕ) → Member (grammar_of g) (graph_of g h) n → ⊥)
 refused_member g h w e cs m all out =
     let by = (demand_3 g h w e cs).underivable m all out in
     let member = member_generated (grammar_of g) (graph_of g h) (fit_grammar g h w e) (fit_graph g h w e) in (
@@ -38,7 +39,7 @@ refused_member g h w e cs m all out =
       λ none. by.1 (λ t generates. none (applications (grammar_of g) t) ((member (applications (grammar_of g) t)).1 (t, generates, refl))),
     )
 
-module _ (g h w out : List ℕ) (n : ℕ) (e : (write_of g h w out).answer ≡ Written n) where
+module _ (g h w out : List ℕ) (n : ℕ) (e : (write_of g h w out).answer ≡ Ok n) where
   -- the bytes that are written
   abbrev text : List ℕ
   text = take n (write_of g h w out).out

@@ -1,5 +1,5 @@
 -- A row of records is filled with the same derivation whose text is written: on any words, for any row.
-use Rattle.std.specs.Prelude.{Option, Some, None}
+use Rattle.std.specs.Prelude.{Option, Some, None, Ok, Err}
 use mathlib.Core.Path.{◌≡◌, refl, ap, ◌∙◌, subst}
 use mathlib.Core.Logic.{◌≢◌}
 use mathlib.Core.Bool.{Bool, true, false, cond}
@@ -16,9 +16,8 @@ use Rattle.hrg.proofs.Degrees.{T_test}
 use Rattle.agenda.specs.declared.Record.{Record}
 use Rattle.questions.specs.Abstract.{grammar_of, graph_of}
 use Rattle.records.specs.Words.{record_at, chart_of}
-use Rattle.charting.specs.Calls.{fit, standing_of}
-use Rattle.charting.specs.declared.Outcome.{Outcome}
-use Rattle.charting.specs.declared.Outcome.TheVariants.{Unfit as UnfitChart, TooSmall as TooSmallChart, Unfinished as UnfinishedChart, Done}
+use Rattle.charting.specs.Calls.{fit, standing_of, Outcome}
+use Rattle.charting.specs.declared.Unready.TheVariants.{Unfit as UnfitChart, TooSmall as TooSmallChart, Unfinished as UnfinishedChart}
 use Rattle.charting.proofs.Calls.{chart_fit, fit_grammar, fit_graph}
 use Rattle.scripts.specs.Scripts.{rows_text}
 use Rattle.preorder.specs.Rows.{size, size_in, part_numbers, tree_rows, part_rows, rows_of}
@@ -26,12 +25,11 @@ use Rattle.derivation.specs.Derivations.{derivation_text, replay_text, Derivatio
 use Rattle.derivation.proofs.WritableTrees.{numbers_length}
 use Rattle.derivation.proofs.Derivations.{derivation_rows, derivation_passes, derivation_length}
 use Rattle.extraction.specs.Extraction.{Spelt, nothing, spelt, tree_at}
-use Rattle.writing.specs.Writing.{number_of, Wrote, refused, write_text, derives, write_spelt, goal_in, write_goal, write_by as writeStanding, write_of}
+use Rattle.writing.specs.Writing.{number_of, Wrote, refused, write_text, derives, write_spelt, goal_in, write_goal, write_by as writeStanding, write_of, Answer}
 use Rattle.writing.specs.Filling.{eight, application_of, tree_records, part_records, records_of, row_of, rows_for, records_text, application_in, records_by, records_in, Choice, refuses, chooses, chosen_spelt, chosen_goal, chosen_by, chosen_of, write_by, unfilled, fill_records, fill_by, fill_of}
 use Rattle.writing.specs.Demand.{RecordsOf}
 use Rattle.writing.specs.declared.Application.{Application}
-use Rattle.writing.specs.declared.Answer.{Answer}
-use Rattle.writing.specs.declared.Answer.TheVariants.{Unfit, NoRoom, Written}
+use Rattle.writing.specs.declared.WriteError.TheVariants.{Unfit, NoRoom}
 use Rattle.writing.proofs.Writings.{Way, refusing, writing, holding, text_held, write_way, written_fit, written_derivation}
 
 -- ---- the writer goes by the choice
@@ -40,7 +38,7 @@ module _ (G : Grammar) (H : Graph) (out : List ℕ) where
   write_spelt_is nothing = refl
   write_spelt_is (spelt t) = go (derives G H t)
     where
-      go : (b : Bool) → cond b (write_text (derivation_text t) out) (refused Unfit out) ≡ write_by (cond b (chooses (derivation_text t)) (refuses Unfit)) out
+      go : (b : Bool) → cond b (write_text (derivation_text t) out) (refused (Err Unfit) out) ≡ write_by (cond b (chooses (derivation_text t)) (refuses (Err Unfit))) out
       go true = refl
       go false = refl
 
@@ -49,10 +47,10 @@ module _ (G : Grammar) (H : Graph) (out : List ℕ) where
   write_goal_is look (Some j) = write_spelt_is (tree_at look G H 4096 j)
 
   write_standing : (o : Outcome) (x : Wrote) (c : Choice) → x ≡ write_by c out → writeStanding o out x ≡ write_by (chosen_by o c) out
-  write_standing UnfitChart x c e = refl
-  write_standing TooSmallChart x c e = refl
-  write_standing (UnfinishedChart k) x c e = refl
-  write_standing (Done k) x c e = e
+  write_standing (Err UnfitChart) x c e = refl
+  write_standing (Err TooSmallChart) x c e = refl
+  write_standing (Err (UnfinishedChart k)) x c e = refl
+  write_standing (Ok k) x c e = e
 
 pub write_chosen : (g h w out : List ℕ) → write_of g h w out ≡ write_by (chosen_of g h w) out
 unfolding write_of chosen_of
@@ -63,11 +61,11 @@ write_chosen g h w out =
     write_standing G H out (standing_of g h w) _ (chosen_goal G H (λ j. record_at w j) f) (write_goal_is G H out (λ j. record_at w j) f)
 
 -- ---- the row that is lent
-pub records_held : (xs former : List Application) → length xs ≤ length former → fill_records xs former ≡ record { answer = Written (length xs); rows = xs ++ drop (length xs) former }
+pub records_held : (xs former : List Application) → length xs ≤ length former → fill_records xs former ≡ record { answer = Ok (length xs); rows = xs ++ drop (length xs) former }
 unfolding fill_records
 records_held xs former l = rw (le-leb (length xs) (length former) l)
 
-pub records_short : (xs former : List Application) → length former < length xs → fill_records xs former ≡ unfilled NoRoom former
+pub records_short : (xs former : List Application) → length former < length xs → fill_records xs former ≡ unfilled (Err NoRoom) former
 unfolding fill_records
 records_short xs former l = rw (lt-leb (length xs) (length former) l)
 

@@ -1,6 +1,6 @@
 -- A writing on the program's own charts: with nothing left it writes a tree with the fewest applications, or says
 -- that there is none.
-use Rattle.std.specs.Prelude.{Option, Some, None}
+use Rattle.std.specs.Prelude.{Option, Some, None, Err}
 use mathlib.Core.Path.{◌≡◌, refl, ap, ◌∙◌, subst}
 use mathlib.Core.Bool.{Bool, true, false, cond}
 use mathlib.Core.List.{List}
@@ -37,7 +37,7 @@ use Rattle.extraction.proofs.SpelledTrees.{chart_goal_tree}
 use Rattle.writing.specs.Writing.{refused, write_text, derives, write_spelt, last_of, goal_in, write_goal}
 use Rattle.writing.specs.Filling.{refuses, chooses, chosen_spelt, chosen_goal}
 use Rattle.writing.specs.Demand.{FewestTree, WritesTree}
-use Rattle.writing.specs.declared.Answer.TheVariants.{Unfit}
+use Rattle.writing.specs.declared.WriteError.TheVariants.{Unfit}
 use Rattle.writing.proofs.Writings.{text_held, text_short}
 
 test_true : (b : Bool) → T b → b ≡ true
@@ -119,11 +119,11 @@ module _ (G : Grammar) (H : Graph) (ok : GrammarOk G) (hok : GraphOk G H) (cap :
 
     writes_found : (out : List ℕ) → write_spelt G H out (tree_at look G H 4096 j) ≡ write_text (derivation_text found_tree.0) out
     writes_found out =
-        ap (write_spelt G H out) (found_tree.4 4096 small) ∙ ap (λ (b : Bool). cond b (write_text (derivation_text found_tree.0) out) (refused Unfit out)) derives_found
+        ap (write_spelt G H out) (found_tree.4 4096 small) ∙ ap (λ (b : Bool). cond b (write_text (derivation_text found_tree.0) out) (refused (Err Unfit) out)) derives_found
 
     chosen_found : chosen_spelt G H (tree_at look G H 4096 j) ≡ chooses (derivation_text found_tree.0)
     chosen_found =
-        ap (chosen_spelt G H) (found_tree.4 4096 small) ∙ ap (λ (b : Bool). cond b (chooses (derivation_text found_tree.0)) (refuses Unfit)) derives_found
+        ap (chosen_spelt G H) (found_tree.4 4096 small) ∙ ap (λ (b : Bool). cond b (chooses (derivation_text found_tree.0)) (refuses (Err Unfit))) derives_found
 
     found_writes : (out : List ℕ) → WritesTree found_tree.0 out (write_spelt G H out (tree_at look G H 4096 j))
     found_writes out =

@@ -1,6 +1,6 @@
 -- One writing, on any words: a refusal changes nothing, and what is written is the text of a tree that generates the
 -- graph.
-use Rattle.std.specs.Prelude.{Option, Some, None}
+use Rattle.std.specs.Prelude.{Option, Some, None, Ok, Err}
 use mathlib.Core.Path.{◌≡◌, refl, sym, ap, ◌∙◌, subst}
 use mathlib.Core.Logic.{◌≢◌}
 use mathlib.Core.Bool.{Bool, true, false, cond}
@@ -17,21 +17,19 @@ use Rattle.hrg.proofs.Degrees.{and_true as both}
 use Rattle.agenda.specs.declared.Record.{Record}
 use Rattle.questions.specs.Abstract.{grammar_of, graph_of}
 use Rattle.records.specs.Words.{record_at, chart_of}
-use Rattle.charting.specs.Calls.{fit_chart, standing_of}
-use Rattle.charting.specs.declared.Outcome.{Outcome}
-use Rattle.charting.specs.declared.Outcome.TheVariants.{Unfit as UnfitChart, TooSmall as TooSmallChart, Unfinished as UnfinishedChart, Done}
+use Rattle.charting.specs.Calls.{fit_chart, standing_of, Outcome}
+use Rattle.charting.specs.declared.Unready.TheVariants.{Unfit as UnfitChart, TooSmall as TooSmallChart, Unfinished as UnfinishedChart}
 use Rattle.charting.proofs.Calls.{chart_fit, fit_grammar, fit_graph}
 use Rattle.preorder.specs.Rows.{size}
 use Rattle.derivation.specs.Derivations.{derivation_text, replay_text, DerivationOf}
 use Rattle.derivation.proofs.Derivations.{replay_text_is}
 use Rattle.extraction.specs.Extraction.{Spelt, nothing, spelt, tree_at}
-use Rattle.writing.specs.Writing.{number_of, Wrote, refused, write_text, derives, write_spelt, goal_in, write_goal, write_by, write_of}
-use Rattle.writing.specs.declared.Answer.{Answer}
-use Rattle.writing.specs.declared.Answer.TheVariants.{Unfit, TooSmall, Unfinished, Underivable, NoRoom, Written}
+use Rattle.writing.specs.Writing.{number_of, Wrote, refused, write_text, derives, write_spelt, goal_in, write_goal, write_by, write_of, Answer}
+use Rattle.writing.specs.declared.WriteError.TheVariants.{Unfit, TooSmall, Unfinished, Underivable, NoRoom}
 
 -- the output with a text in it
 abbrev pub holding : List ℕ → List ℕ → Wrote
-holding text out = record { answer = Written (length text); out = text ++ drop (length text) out }
+holding text out = record { answer = Ok (length text); out = text ++ drop (length text) out }
 
 -- ---- question 12
 pub text_held : (text out : List ℕ) → length text ≤ length out → write_text text out ≡ holding text out
@@ -45,7 +43,7 @@ text_held text out l = rw (le_leb l)
         go true e = refl
         go false e = absurd (omega (arith, l, leb-false (length text) (length out) e))
 
-pub text_short : (text out : List ℕ) → length out < length text → write_text text out ≡ refused NoRoom out
+pub text_short : (text out : List ℕ) → length out < length text → write_text text out ≡ refused (Err NoRoom) out
 unfolding write_text
 text_short text out l = rw (lt_leb l)
   where
@@ -70,25 +68,25 @@ module _ (G : Grammar) (H : Graph) (out : List ℕ) where
           let l = leb-true (length (derivation_text t)) (length out) e in
           subst (λ (x : Wrote). Way G H out x) (sym (text_held (derivation_text t) out l)) (writing t d l)
       go false e =
-          subst (λ (x : Wrote). Way G H out x) (sym (text_short (derivation_text t) out (omega (arith, leb-false (length (derivation_text t)) (length out) e)))) (refusing NoRoom (λ z. omega (arith, z)))
+          subst (λ (x : Wrote). Way G H out x) (sym (text_short (derivation_text t) out (omega (arith, leb-false (length (derivation_text t)) (length out) e)))) (refusing (Err NoRoom) (λ z. omega (arith, z)))
 
   way_spelt : (s : Spelt) → Way G H out (write_spelt G H out s)
-  way_spelt nothing = refusing Unfit (λ z. omega (arith, z))
+  way_spelt nothing = refusing (Err Unfit) (λ z. omega (arith, z))
   way_spelt (spelt t) = go (derives G H t) refl
     where
-      go : (b : Bool) → derives G H t ≡ b → Way G H out (cond b (write_text (derivation_text t) out) (refused Unfit out))
+      go : (b : Bool) → derives G H t ≡ b → Way G H out (cond b (write_text (derivation_text t) out) (refused (Err Unfit) out))
       go true e = way_text t e
-      go false e = refusing Unfit (λ z. omega (arith, z))
+      go false e = refusing (Err Unfit) (λ z. omega (arith, z))
 
   way_goal : (look : ℕ → Record) (f : Option ℕ) → Way G H out (write_goal G H look out f)
-  way_goal look None = refusing Underivable (λ z. omega (arith, z))
+  way_goal look None = refusing (Err Underivable) (λ z. omega (arith, z))
   way_goal look (Some j) = way_spelt (tree_at look G H 4096 j)
 
   way_by : (o : Outcome) (x : Wrote) → Way G H out x → Way G H out (write_by o out x)
-  way_by UnfitChart x y = refusing Unfit (λ z. omega (arith, z))
-  way_by TooSmallChart x y = refusing TooSmall (λ z. omega (arith, z))
-  way_by (UnfinishedChart k) x y = refusing (Unfinished k) (λ z. omega (arith, z))
-  way_by (Done k) x y = y
+  way_by (Err UnfitChart) x y = refusing (Err Unfit) (λ z. omega (arith, z))
+  way_by (Err TooSmallChart) x y = refusing (Err TooSmall) (λ z. omega (arith, z))
+  way_by (Err (UnfinishedChart k)) x y = refusing (Err (Unfinished k)) (λ z. omega (arith, z))
+  way_by (Ok k) x y = y
 
 module _ (g h w out : List ℕ) where
   abbrev G : Grammar
@@ -118,9 +116,9 @@ module _ (g h w out : List ℕ) where
       go _ (writing t d l) q = absurd (q refl)
 
   -- 8 comes first
-  pub write_unfit : fit_chart g h w ≡ false → write_of g h w out ≡ refused Unfit out
+  pub write_unfit : fit_chart g h w ≡ false → write_of g h w out ≡ refused (Err Unfit) out
   unfolding standing_of
-  write_unfit n = write_by_is UnfitChart (rw n)
+  write_unfit n = write_by_is (Err UnfitChart) (rw n)
 
   -- something is written only where the tables and the chart pass question 8
   pub written_fit : number_of (write_of g h w out).answer ≡ 0 → fit_chart g h w ≡ true
@@ -138,10 +136,10 @@ module _ (g h w out : List ℕ) where
     pub inside : n ≤ length out
     pub behind : drop n now ≡ drop n out
 
-  pub written_tree : (n : ℕ) → (write_of g h w out).answer ≡ Written n → WrittenTree n (write_of g h w out).out
+  pub written_tree : (n : ℕ) → (write_of g h w out).answer ≡ Ok n → WrittenTree n (write_of g h w out).out
   written_tree n e = go (write_of g h w out) write_way e
     where
-      go : (x : Wrote) → Way (grammar_of g) (graph_of g h) out x → x.answer ≡ Written n → WrittenTree n x.out
+      go : (x : Wrote) → Way (grammar_of g) (graph_of g h) out x → x.answer ≡ Ok n → WrittenTree n x.out
       go _ (refusing a k) q = absurd (k (ap number_of q))
       go _ (writing t d l) q =
           let same : length (derivation_text t) ≡ n = (cc) in
@@ -153,7 +151,7 @@ module _ (g h w out : List ℕ) where
             behind = drop_at (derivation_text t) (drop (length (derivation_text t)) out) n same ∙ ap (λ (k : ℕ). drop k out) same;
           }
 
-  pub written_derivation : (n : ℕ) → (write_of g h w out).answer ≡ Written n → DerivationOf (grammar_of g) (graph_of g h) (take n (write_of g h w out).out)
+  pub written_derivation : (n : ℕ) → (write_of g h w out).answer ≡ Ok n → DerivationOf (grammar_of g) (graph_of g h) (take n (write_of g h w out).out)
   unfolding derives
   written_derivation n e =
       let t = written_tree n e in

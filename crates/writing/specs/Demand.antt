@@ -1,6 +1,6 @@
 -- Demand 3 over any list of calls: a start that passes question 8, then runs of whatever steps and writings, refused
 -- ones included, each on the chart as the last call left it. Trees are defined without items or plans.
-use Rattle.std.specs.Prelude.{◌≡◌, ◌↔◌, true, false, List, [], ◌∷◌, ◌++◌, ℕ, ◌+◌, ◌≤◌, ◌<◌, min, length, take, drop}
+use Rattle.std.specs.Prelude.{◌≡◌, ◌↔◌, true, false, List, [], ◌∷◌, ◌++◌, ℕ, ◌+◌, ◌≤◌, ◌<◌, min, length, take, drop, Ok, Err}
 use Rattle.hrg.specs.Grammars.{Graph, Grammar}
 use Rattle.hrg.specs.Trees.{Tree, applications, Generates}
 use Rattle.hrg.specs.Items.{Item, closure}
@@ -15,11 +15,10 @@ use Rattle.records.specs.Words.{chart_of}
 use Rattle.charting.specs.Calls.{fit, start_of, run_of}
 use Rattle.preorder.specs.Rows.{size}
 use Rattle.derivation.specs.Derivations.{derivation_text, replay_text, DerivationOf}
-use Rattle.writing.specs.Writing.{Wrote, refused, write_of}
+use Rattle.writing.specs.Writing.{Wrote, refused, write_of, Answer}
 use Rattle.writing.specs.Filling.{records_of, records_text, Filled, unfilled, fill_of}
 use Rattle.writing.specs.declared.Application.{Application}
-use Rattle.writing.specs.declared.Answer.{Answer}
-use Rattle.writing.specs.declared.Answer.TheVariants.{TooSmall, Unfinished, Underivable, NoRoom, Written}
+use Rattle.writing.specs.declared.WriteError.TheVariants.{TooSmall, Unfinished, Underivable, NoRoom}
 
 -- a run of so many steps, or a writing: as text with an output of these bytes, or as records with a row of these
 pub data Call : Type 0 where
@@ -66,13 +65,13 @@ pub record FewestTree (G : Grammar) (H : Graph) (t : Tree) : Type 0 where
 -- A writing writes the tree's text where the output holds it, and says 12 where not.
 pub record WritesTree (t : Tree) (out : List ℕ) (wrote : Wrote) : Type 0 where
   pub held : length (derivation_text t) ≤ length out
-      → wrote ≡ record { answer = Written (length (derivation_text t)); out = derivation_text t ++ drop (length (derivation_text t)) out }
-  pub short : length out < length (derivation_text t) → wrote ≡ refused NoRoom out
+      → wrote ≡ record { answer = Ok (length (derivation_text t)); out = derivation_text t ++ drop (length (derivation_text t)) out }
+  pub short : length out < length (derivation_text t) → wrote ≡ refused (Err NoRoom) out
 
 -- The same as records: they are the tree's where the row holds them, and it says 12 where not.
 pub record FillsTree (t : Tree) (former : List Application) (filled : Filled) : Type 0 where
-  pub held : size t ≤ length former → filled ≡ record { answer = Written (size t); rows = records_of t ++ drop (size t) former }
-  pub short : length former < size t → filled ≡ unfilled NoRoom former
+  pub held : size t ≤ length former → filled ≡ record { answer = Ok (size t); rows = records_of t ++ drop (size t) former }
+  pub short : length former < size t → filled ≡ unfilled (Err NoRoom) former
 
 -- The records are those of a tree that generates the graph, and turned into text they are its text, which replays.
 pub record RecordsOf (G : Grammar) (H : Graph) (xs : List Application) : Type 0 where
@@ -99,34 +98,34 @@ pub record CallsRight (g h : List ℕ) (cap k : ℕ) (v : List ℕ) : Type 0 whe
   pub done : (chart_of v).mark ≡ 0 → AllHandled (chart_of v).records → handled_count (chart_of v).records ≡ size
   -- 'and a writing refuses the graph as underivable exactly when no derivation tree generates it'
   pub underivable : (chart_of v).mark ≡ 0 → AllHandled (chart_of v).records → (out : List ℕ)
-      → (write_of g h v out ≡ refused Underivable out) ↔ ((t : Tree) → Generates (grammar_of g) (graph_of g h) t → ⊥)
+      → (write_of g h v out ≡ refused (Err Underivable) out) ↔ ((t : Tree) → Generates (grammar_of g) (graph_of g h) t → ⊥)
   pub underivable_row : (chart_of v).mark ≡ 0 → AllHandled (chart_of v).records → (former : List Application)
-      → (fill_of g h v former ≡ unfilled Underivable former) ↔ ((t : Tree) → Generates (grammar_of g) (graph_of g h) t → ⊥)
+      → (fill_of g h v former ≡ unfilled (Err Underivable) former) ↔ ((t : Tree) → Generates (grammar_of g) (graph_of g h) t → ⊥)
   -- 'and else writes one with the fewest applications, in document 01's derivation lines or records, if the output
   -- holds it'; which one does not hang on the output, and is the same for both
   pub writes : (chart_of v).mark ≡ 0 → AllHandled (chart_of v).records → (u : Tree) → Generates (grammar_of g) (graph_of g h) u
       → (t : Tree) × FewestTree (grammar_of g) (graph_of g h) t × ((out : List ℕ) → WritesTree t out (write_of g h v out)) × ((former : List Application) → FillsTree t former (fill_of g h v former))
   -- before that, a writing says 9 or 10
-  pub nine : ((chart_of v).mark ≡ 0 → ⊥) → (out : List ℕ) → write_of g h v out ≡ refused TooSmall out
-  pub nine_row : ((chart_of v).mark ≡ 0 → ⊥) → (former : List Application) → fill_of g h v former ≡ unfilled TooSmall former
-  pub ten : (chart_of v).mark ≡ 0 → SomeLeft (chart_of v).records → (out : List ℕ) → write_of g h v out ≡ refused (Unfinished (handled_count (chart_of v).records)) out
-  pub ten_row : (chart_of v).mark ≡ 0 → SomeLeft (chart_of v).records → (former : List Application) → fill_of g h v former ≡ unfilled (Unfinished (handled_count (chart_of v).records)) former
+  pub nine : ((chart_of v).mark ≡ 0 → ⊥) → (out : List ℕ) → write_of g h v out ≡ refused (Err TooSmall) out
+  pub nine_row : ((chart_of v).mark ≡ 0 → ⊥) → (former : List Application) → fill_of g h v former ≡ unfilled (Err TooSmall) former
+  pub ten : (chart_of v).mark ≡ 0 → SomeLeft (chart_of v).records → (out : List ℕ) → write_of g h v out ≡ refused (Err (Unfinished (handled_count (chart_of v).records))) out
+  pub ten_row : (chart_of v).mark ≡ 0 → SomeLeft (chart_of v).records → (former : List Application) → fill_of g h v former ≡ unfilled (Err (Unfinished (handled_count (chart_of v).records))) former
 
 -- A writing on the words w that answered a and left `now` in the output: what holds of the derivation that it chose.
 pub record WriteChoices (g h w out : List ℕ) (a : Answer) (now : List ℕ) : Type 0 where
   -- whatever the chart: what is written is the text of a tree that generates the graph, and what lies behind it stays
-  pub derivation : (n : ℕ) → a ≡ Written n → DerivationOf (grammar_of g) (graph_of g h) (take n now)
-  pub behind : (n : ℕ) → a ≡ Written n → (n ≤ length out) × (drop n now ≡ drop n out)
+  pub derivation : (n : ℕ) → a ≡ Ok n → DerivationOf (grammar_of g) (graph_of g h) (take n now)
+  pub behind : (n : ℕ) → a ≡ Ok n → (n ≤ length out) × (drop n now ≡ drop n out)
   -- untouched since a start: it has the fewest applications
-  pub fewest : (former : List ℕ) (cs : List Call) → fit g h former ≡ true → w ≡ after_calls g h (start_of g h former).words cs → (n : ℕ) → a ≡ Written n
+  pub fewest : (former : List ℕ) (cs : List Call) → fit g h former ≡ true → w ≡ after_calls g h (start_of g h former).words cs → (n : ℕ) → a ≡ Ok n
       → (t : Tree) × FewestTree (grammar_of g) (graph_of g h) t × (take n now ≡ derivation_text t)
 
 -- A filling on the words w that answered a and left `now` in the row: what holds of the derivation that it chose.
 pub record FillChoices (g h w : List ℕ) (former : List Application) (a : Answer) (now : List Application) : Type 0 where
   -- whatever the chart: the records are those of a tree that generates the graph, and turned into text they are its
   -- text; those behind them stay
-  pub derivation : (n : ℕ) → a ≡ Written n → RecordsOf (grammar_of g) (graph_of g h) (take n now)
-  pub behind : (n : ℕ) → a ≡ Written n → (n ≤ length former) × (drop n now ≡ drop n former)
+  pub derivation : (n : ℕ) → a ≡ Ok n → RecordsOf (grammar_of g) (graph_of g h) (take n now)
+  pub behind : (n : ℕ) → a ≡ Ok n → (n ≤ length former) × (drop n now ≡ drop n former)
   -- untouched since a start: it has the fewest applications
-  pub fewest : (beginning : List ℕ) (cs : List Call) → fit g h beginning ≡ true → w ≡ after_calls g h (start_of g h beginning).words cs → (n : ℕ) → a ≡ Written n
+  pub fewest : (beginning : List ℕ) (cs : List Call) → fit g h beginning ≡ true → w ≡ after_calls g h (start_of g h beginning).words cs → (n : ℕ) → a ≡ Ok n
       → (t : Tree) × FewestTree (grammar_of g) (graph_of g h) t × (take n now ≡ records_of t)

@@ -1,21 +1,19 @@
 -- A lent row of application records instead of the text (01, 'Derivation file'): the records of a tree, and what
 -- `fill` answers and leaves, for every input.
-use Rattle.std.specs.Prelude.{Option, Some, None, cond, List, [], ◌∷◌, ◌++◌, map, ℕ, ◌+◌, length, take, drop, get_or, replicate, leb}
+use Rattle.std.specs.Prelude.{Option, Some, None, cond, List, [], ◌∷◌, ◌++◌, map, ℕ, ◌+◌, length, take, drop, get_or, replicate, leb, Ok, Err}
 use Rattle.hrg.specs.Grammars.{Graph, Grammar, right_of}
 use Rattle.hrg.specs.Trees.{Tree, Parts, apply, end, edge, tree}
 use Rattle.agenda.specs.declared.Record.{Record}
 use Rattle.questions.specs.Abstract.{grammar_of, graph_of}
 use Rattle.records.specs.Words.{record_at, chart_of}
-use Rattle.charting.specs.Calls.{standing_of}
-use Rattle.charting.specs.declared.Outcome.{Outcome}
-use Rattle.charting.specs.declared.Outcome.TheVariants.{Unfit as UnfitChart, TooSmall as TooSmallChart, Unfinished as UnfinishedChart, Done}
+use Rattle.charting.specs.Calls.{standing_of, Outcome}
+use Rattle.charting.specs.declared.Unready.TheVariants.{Unfit as UnfitChart, TooSmall as TooSmallChart, Unfinished as UnfinishedChart}
 use Rattle.scripts.specs.Scripts.{Script, bad, rows, rows_text, rows_in}
 use Rattle.preorder.specs.Rows.{size, part_numbers}
 use Rattle.derivation.specs.Derivations.{derivation_text}
 use Rattle.extraction.specs.Extraction.{Spelt, nothing, spelt, tree_at}
-use Rattle.writing.specs.Writing.{Wrote, refused, write_text, derives, goal_in}
-use Rattle.writing.specs.declared.Answer.{Answer}
-use Rattle.writing.specs.declared.Answer.TheVariants.{Unfit, TooSmall, Unfinished, Underivable, NoRoom, Written}
+use Rattle.writing.specs.Writing.{Wrote, refused, write_text, derives, goal_in, Answer}
+use Rattle.writing.specs.declared.WriteError.TheVariants.{Unfit, TooSmall, Unfinished, Underivable, NoRoom}
 use Rattle.writing.specs.declared.Application.{Application}
 
 -- ---- the records of a tree
@@ -82,18 +80,18 @@ pub data Choice : Type 0 where
   chooses : List ℕ → Choice
 
 abbrev pub chosen_spelt : Grammar → Graph → Spelt → Choice
-chosen_spelt G H nothing = refuses Unfit
-chosen_spelt G H (spelt t) = cond (derives G H t) (chooses (derivation_text t)) (refuses Unfit)
+chosen_spelt G H nothing = refuses (Err Unfit)
+chosen_spelt G H (spelt t) = cond (derives G H t) (chooses (derivation_text t)) (refuses (Err Unfit))
 
 abbrev pub chosen_goal : Grammar → Graph → (ℕ → Record) → Option ℕ → Choice
-chosen_goal G H look None = refuses Underivable
+chosen_goal G H look None = refuses (Err Underivable)
 chosen_goal G H look (Some j) = chosen_spelt G H (tree_at look G H 4096 j)
 
 abbrev pub chosen_by : Outcome → Choice → Choice
-chosen_by UnfitChart c = refuses Unfit
-chosen_by TooSmallChart c = refuses TooSmall
-chosen_by (UnfinishedChart k) c = refuses (Unfinished k)
-chosen_by (Done k) c = c
+chosen_by (Err UnfitChart) c = refuses (Err Unfit)
+chosen_by (Err TooSmallChart) c = refuses (Err TooSmall)
+chosen_by (Err (UnfinishedChart k)) c = refuses (Err (Unfinished k))
+chosen_by (Ok k) c = c
 
 unfoldable pub chosen_of : List ℕ → List ℕ → List ℕ → Choice
 unfolding standing_of goal_in tree_at
@@ -108,7 +106,7 @@ write_by (refuses a) out = refused a out
 write_by (chooses text) out = write_text text out
 
 -- ---- fill
--- an answer, and the row after it; `Written` says how many records are filled
+-- an answer, and the row after it; `Ok` says how many records are filled
 pub record Filled : Type 0 where
   pub answer : Answer
   pub rows : List Application
@@ -120,7 +118,7 @@ unfilled a former = record { answer = a; rows = former }
 -- 'Does the lent output hold the derivation?' Records past the last one stay.
 unfoldable pub fill_records : List Application → List Application → Filled
 fill_records xs former =
-    cond (leb (length xs) (length former)) (record { answer = Written (length xs); rows = xs ++ drop (length xs) former }) (unfilled NoRoom former)
+    cond (leb (length xs) (length former)) (record { answer = Ok (length xs); rows = xs ++ drop (length xs) former }) (unfilled (Err NoRoom) former)
 
 abbrev pub fill_by : Grammar → Choice → List Application → Filled
 fill_by G (refuses a) former = unfilled a former

@@ -1,6 +1,6 @@
 -- What the writer answers and leaves in the lent output, for every input (01, questions 8 to 12 and 'Besides 8 ..').
 -- The chart is lent to be read only.
-use Rattle.std.specs.Prelude.{Option, Some, None, Bool, cond, ◌&&◌, List, ◌++◌, ℕ, zero, suc, length, drop, leb}
+use Rattle.std.specs.Prelude.{Option, Some, None, Bool, cond, ◌&&◌, List, ◌++◌, ℕ, zero, suc, length, drop, leb, Result, Ok, Err}
 use Rattle.hrg.specs.Grammars.{Graph, Grammar}
 use Rattle.hrg.specs.Trees.{Tree}
 use Rattle.hrg.specs.Items.{Item, goal}
@@ -10,23 +10,27 @@ use Rattle.agenda.specs.Consequences.{record_in}
 use Rattle.agenda.specs.declared.Record.{Record}
 use Rattle.questions.specs.Abstract.{grammar_of, graph_of}
 use Rattle.records.specs.Words.{record_at, chart_of}
-use Rattle.charting.specs.Calls.{standing_of}
-use Rattle.charting.specs.declared.Outcome.{Outcome}
-use Rattle.charting.specs.declared.Outcome.TheVariants.{Unfit as UnfitChart, TooSmall as TooSmallChart, Unfinished as UnfinishedChart, Done}
+use Rattle.charting.specs.Calls.{standing_of, Outcome}
+use Rattle.charting.specs.declared.Unready.{Unready}
+use Rattle.charting.specs.declared.Unready.TheVariants.{Unfit as UnfitChart, TooSmall as TooSmallChart, Unfinished as UnfinishedChart}
 use Rattle.preorder.specs.Rows.{size}
 use Rattle.derivation.specs.Derivations.{derivation_text, replay_text}
 use Rattle.extraction.specs.Extraction.{Spelt, nothing, spelt, tree_at}
-use Rattle.writing.specs.declared.Answer.{Answer}
-use Rattle.writing.specs.declared.Answer.TheVariants.{Unfit, TooSmall, Unfinished, Underivable, NoRoom, Written}
+use Rattle.writing.specs.declared.WriteError.{WriteError}
+use Rattle.writing.specs.declared.WriteError.TheVariants.{Unfit, TooSmall, Unfinished, Underivable, NoRoom}
+
+-- what the writer answers: so many bytes or records are written, or why none are
+abbrev pub Answer : Type 0
+Answer = Result ℕ WriteError
 
 -- 01's number of each answer, 0 where a derivation is written
 abbrev pub number_of : Answer → ℕ
-number_of Unfit = 8
-number_of TooSmall = 9
-number_of (Unfinished k) = 10
-number_of Underivable = 11
-number_of NoRoom = 12
-number_of (Written n) = 0
+number_of (Err Unfit) = 8
+number_of (Err TooSmall) = 9
+number_of (Err (Unfinished k)) = 10
+number_of (Err Underivable) = 11
+number_of (Err NoRoom) = 12
+number_of (Ok n) = 0
 
 -- an answer, and the bytes of the output after it
 pub record Wrote : Type 0 where
@@ -40,7 +44,7 @@ refused a out = record { answer = a; out = out }
 -- 'Does the lent output hold the derivation?' What lies behind the text stays.
 unfoldable pub write_text : List ℕ → List ℕ → Wrote
 write_text text out =
-    cond (leb (length text) (length out)) (record { answer = Written (length text); out = text ++ drop (length text) out }) (refused NoRoom out)
+    cond (leb (length text) (length out)) (record { answer = Ok (length text); out = text ++ drop (length text) out }) (refused (Err NoRoom) out)
 
 -- The tree has at most 4,096 applications, and its text is that of a derivation of the graph.
 unfoldable pub derives : Grammar → Graph → Tree → Bool
@@ -49,8 +53,8 @@ derives G H t = leb (size t) 4096 && replay_text G H (derivation_text t)
 
 -- 'says 8 after 11 where a touched chart leads it to no derivation of the graph'
 abbrev pub write_spelt : Grammar → Graph → List ℕ → Spelt → Wrote
-write_spelt G H out nothing = refused Unfit out
-write_spelt G H out (spelt t) = cond (derives G H t) (write_text (derivation_text t) out) (refused Unfit out)
+write_spelt G H out nothing = refused (Err Unfit) out
+write_spelt G H out (spelt t) = cond (derives G H t) (write_text (derivation_text t) out) (refused (Err Unfit) out)
 
 -- the last of the first n records that is of item i
 unfoldable pub last_of : Grammar → Item → List Record → ℕ → Option ℕ
@@ -66,15 +70,20 @@ goal_in G H rs = last_of G (goal G H) rs (length rs)
 -- 'Is the goal in the closure?', by what stands in the chart; then the derivation that the goal's partners spell,
 -- whatever the output's length
 abbrev pub write_goal : Grammar → Graph → (ℕ → Record) → List ℕ → Option ℕ → Wrote
-write_goal G H look out None = refused Underivable out
+write_goal G H look out None = refused (Err Underivable) out
 write_goal G H look out (Some j) = write_spelt G H out (tree_at look G H 4096 j)
 
 -- 8, 9 and 10 as a run of no steps
+abbrev pub error_of : Unready → WriteError
+error_of UnfitChart = Unfit
+error_of TooSmallChart = TooSmall
+error_of (UnfinishedChart k) = Unfinished k
+
 abbrev pub write_by : Outcome → List ℕ → Wrote → Wrote
-write_by UnfitChart out wrote = refused Unfit out
-write_by TooSmallChart out wrote = refused TooSmall out
-write_by (UnfinishedChart k) out wrote = refused (Unfinished k) out
-write_by (Done k) out wrote = wrote
+write_by (Err UnfitChart) out wrote = refused (Err Unfit) out
+write_by (Err TooSmallChart) out wrote = refused (Err TooSmall) out
+write_by (Err (UnfinishedChart k)) out wrote = refused (Err (Unfinished k)) out
+write_by (Ok k) out wrote = wrote
 
 unfoldable pub write_of : List ℕ → List ℕ → List ℕ → List ℕ → Wrote
 unfolding standing_of goal_in tree_at

@@ -5,4 +5,4 @@ use Rattle.capi.proofs.bobbinmarl_write.Goals as goal
 pub returns : goal.returns
 returns c = write_crosses _ _ _ _ _ _ _ _ _ c.write-answer.ensures.0
     c.write-answer.ensures.1 c.write-answer.ensures.2
-    c.tell_bytes.ensures.0 c.tell_bytes.ensures.1
+    c.tell.ensures.0 c.tell.ensures.1

@@ -1,4 +1,3 @@
-use Prim.Native.Nat.{◌-◌, ◌≤◌}
 use mathlib.Core.Path.{◌≡◌}
 use lib.ListN.{take}
 use Rattle.writing.specs.Filling.{eight}
@@ -6,7 +5,4 @@ use Rattle.filler.proofs.Eights.{numbers_of}
 use Rattle.filler.proofs.eight_from.Given as goal
 
 abbrev pub invariant-loop-i : goal.invariant-loop-i
-invariant-loop-i l = (l.i ≤ 8) × (l.row ≡ eight (take l.i (numbers_of l.line l.from l.count)))
-
-abbrev pub decreases-loop-i : goal.decreases-loop-i
-decreases-loop-i l = 8 - l.i
+invariant-loop-i l = l.row ≡ eight (take l.i (numbers_of l.line l.from l.count))

@@ -9,21 +9,20 @@ use Rattle.filler.proofs.fill_row.Goals as goal
 
 pub loop-k-init : goal.loop-k-init
 unfolding offset_of filled_from
-loop-k-init c = (omega arith, refl, refl)
+loop-k-init c = (refl, refl)
 
 pub loop-k-preserved : goal.loop-k-preserved
 loop-k-preserved c =
     let g = c.args.grammar.now in
     let text = c.args.text.now in
     let k = c.loop-k.k in
-    let place = c.loop-k.invariant.1 in (
-      omega arith,
+    let place = c.loop-k.invariant.0 in (
       offset_next text k _ (c.after_line-at.ensures ∙ ap (after_line text) place),
-      ap (λ rows. set rows k c.application_at.result) c.loop-k.invariant.2
+      ap (λ rows. set rows k c.application_at.result) c.loop-k.invariant.1
           ∙ filled_next g text k c.args.rows.now _ (c.application_at.ensures ∙ ap (application_at g text) place),
     )
 
 pub returns : goal.returns
 returns c =
     let all : c.loop-k.k ≡ c.args.n = omega arith in
-    c.loop-k.invariant.2 ∙ ap (λ n. filled_from c.args.grammar.now c.args.text.now n c.args.rows.now) all
+    c.loop-k.invariant.1 ∙ ap (λ n. filled_from c.args.grammar.now c.args.text.now n c.args.rows.now) all

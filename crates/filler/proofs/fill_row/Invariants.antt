@@ -1,10 +1,7 @@
 -- The records so far, and where the next line begins.
-use Rattle.std.proofs.Common.{◌≡◌, ◌≤◌, ◌-◌}
+use Rattle.std.proofs.Common.{◌≡◌}
 use Rattle.filler.specs.Rows.{offset_of, filled_from}
 use Rattle.filler.proofs.fill_row.Given as goal
 
 abbrev pub invariant-loop-k : goal.invariant-loop-k
-invariant-loop-k l = (l.k ≤ l.n) × (l.at ≡ offset_of l.text l.k) × (l.rows ≡ filled_from l.grammar l.text l.k l.initial.rows)
-
-abbrev pub decreases-loop-k : goal.decreases-loop-k
-decreases-loop-k l = l.n - l.k
+invariant-loop-k l = (l.at ≡ offset_of l.text l.k) × (l.rows ≡ filled_from l.grammar l.text l.k l.initial.rows)

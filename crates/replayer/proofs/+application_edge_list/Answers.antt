@@ -63,7 +63,7 @@ application-edge_list-requires t c =
     let line = c.next_line-line.ensures.contents in
     let fields = c.read_row-count.ensures.1 in
     let answer = c.taken-taken.ensures in
-    let taken = c.in-With.is in
+    let taken = c.in-Some.is in
     let opened = row_opened c.args.st.now pre.3 c.open_row.new.st _ _ _
     c.open_row.ensures in
     let sized = taken_sized _ _ _ _ _ p pre.1 inside _ line _ fields _ answer _ taken in
@@ -72,22 +72,22 @@ application-edge_list-requires t c =
       (pre.0, sized, opened_rows _ p pre.1 inside _ _ opened, c.open_row.auto.st ∙ pre.3),
     )
 
-pub application-returns-in-Not : goal.application-returns-in-Not
-application-returns-in-Not t c =
+pub application-returns-in-None : goal.application-returns-in-None
+application-returns-in-None t c =
     let pre = c.requires in
     applied_refused _ _ _ _ _ (progress_in true c.args.st.now) pre.1 c.if-text-at.false _
     c.next_line-line.ensures.contents _ c.read_row-count.ensures.1 _
-    c.taken-taken.ensures _ c.in-Not.is refl
+    c.taken-taken.ensures _ c.in-None.is refl
 
-pub application-returns-in-With : goal.application-returns-in-With
-application-returns-in-With t c =
+pub application-returns-in-Some : goal.application-returns-in-Some
+application-returns-in-Some t c =
     let pre = c.requires in
     let inside = c.if-text-at.false in
     let p = progress_in true c.args.st.now in
     let line = c.next_line-line.ensures.contents in
     let fields = c.read_row-count.ensures.1 in
     let answer = c.taken-taken.ensures in
-    let taken = c.in-With.is in
+    let taken = c.in-Some.is in
     let opened = row_opened c.args.st.now pre.3 c.open_row.new.st _ _ _
     c.open_row.ensures in
     let sized = taken_sized _ _ _ _ _ p pre.1 inside _ line _ fields _ answer _ taken in

@@ -4,16 +4,12 @@ use Rattle.replayer.proofs.MaskTests.{with_none, mask_next, with_done}
 use Rattle.replayer.proofs.mask_of.Goals as goal
 
 pub loop-k-init : goal.loop-k-init
-loop-k-init c = (omega arith, with_none c.args.listed)
+loop-k-init c = with_none c.args.listed
 
 pub loop-k-preserved : goal.loop-k-preserved
-loop-k-preserved c = (
-  omega arith,
-  mask_next c.args.listed c.loop-k.k
-      _ _ (omega arith) (c.requires.1 c.loop-k.k (omega arith))
-      c.loop-k.invariant.1 c.with-mask.ensures,
-)
+loop-k-preserved c = mask_next c.args.listed c.loop-k.k _ _ (omega arith) (c.requires.1 c.loop-k.k (omega arith))
+    c.loop-k.invariant c.with-mask.ensures
 
 pub returns : goal.returns
 returns c = with_done c.args.listed c.args.n c.loop-k.k
-    _ c.loop-k.invariant.0 c.loop-k-test.false c.loop-k.invariant.1
+    _ (omega arith) c.loop-k-test.false c.loop-k.invariant

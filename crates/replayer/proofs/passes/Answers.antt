@@ -1,18 +1,19 @@
 -- A text without rows, a replay that fails, and one that is whole or not.
 use native.Mathlib.Omega.{arith}
-use mathlib.Core.Path.{refl, sym, ◌∙◌}
+use mathlib.Core.Path.{refl, sym}
 use Rattle.joins.proofs.Known.{graph_nodes_few, graph_edges_few}
+use Rattle.replayer.proofs.PlacedRows.{text_count}
 use Rattle.replayer.proofs.Verdicts.{none_refused, failed_answer, whole_answer}
 use Rattle.replayer.proofs.passes.Goals as goal
 
-pub returns-then-n-eq0 : goal.returns-then-n-eq0
-returns-then-n-eq0 c = sym (none_refused _ _ _ (sym c.row_count-n.ensures ∙ c.if-n-eq0.true))
+pub returns-in_default : goal.returns-in_default
+returns-in_default c = sym (none_refused _ _ _ c.in_default.ensures)
 
 pub from_start-requires : goal.from_start-requires
-from_start-requires c = (c.requires, omega (arith, c.row_count-n.ensures), refl)
+from_start-requires c = let count = text_count _ _ c.in-Some.ensures in (c.requires, omega arith, refl)
 
 pub returns-then-not-from_start : goal.returns-then-not-from_start
-returns-then-not-from_start c = sym (failed_answer _ _ _ _ c.row_count-n.ensures c.if-n-eq0.false _
+returns-then-not-from_start c = sym (failed_answer _ _ _ _ c.in-Some.ensures _
     c.from_start.new.st c.from_start.ensures
     c.if-not-from_start.true)
 
@@ -26,6 +27,6 @@ is_whole-requires c =
     )
 
 pub returns : goal.returns
-returns c = sym (whole_answer _ _ _ _ c.row_count-n.ensures c.if-n-eq0.false _
+returns c = sym (whole_answer _ _ _ _ c.in-Some.ensures _
     c.from_start.new.st c.from_start.ensures
     c.if-not-from_start.false _ c.is_whole.ensures)

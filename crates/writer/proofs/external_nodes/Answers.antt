@@ -11,7 +11,6 @@ pub loop-k-init : goal.loop-k-init
 loop-k-init c = (
   c.rank_at-rank.ensures.0 ∙ ap (rank_at c.args.grammar.now)
       c.start_symbol.ensures,
-  omega arith,
   placed_bare _,
 )
 
@@ -31,12 +30,11 @@ pub loop-k-preserved : goal.loop-k-preserved
 loop-k-preserved c =
     let inv = c.loop-k.invariant in (
       inv.0,
-      omega (arith, inv.0, c.loop-k-test.true),
       placed_put _ _ _ _ _ (omega (arith, c.rank_at-rank.ensures.1, c.loop-k-test.true))
-          c.graph_external.ensures c.with_node-l.ensures inv.2,
+          c.graph_external.ensures c.with_node-l.ensures inv.1,
     )
 
 pub returns : goal.returns
 returns c =
     let inv = c.loop-k.invariant in
-    c.nodes_of.ensures ∙ externals_all _ _ _ _ inv.1 (omega (arith, inv.0, c.loop-k-test.false)) inv.2
+    c.nodes_of.ensures ∙ externals_all _ _ _ _ (omega arith) (omega (arith, inv.0, c.loop-k-test.false)) inv.1

@@ -1,4 +1,3 @@
-use Prim.Native.Nat.{◌-◌, ◌≤◌}
 use mathlib.Core.Path.{◌≡◌}
 use Rattle.places.specs.Words.{places_of}
 use Rattle.questions.specs.Layout.{rank_at, start_symbol, graph_external}
@@ -7,8 +6,5 @@ use Rattle.writer.proofs.external_nodes.Given as goal
 
 abbrev pub invariant-loop-k : goal.invariant-loop-k
 invariant-loop-k l =
-    (l.rank ≡ rank_at l.grammar (start_symbol l.grammar)) × (l.k ≤ rank_at l.grammar (start_symbol l.grammar)) × Placed
+    (l.rank ≡ rank_at l.grammar (start_symbol l.grammar)) × Placed
     (λ k. graph_external l.graph k) l.k (places_of l.l)
-
-abbrev pub decreases-loop-k : goal.decreases-loop-k
-decreases-loop-k l = l.rank - l.k

@@ -1,29 +1,23 @@
-use Rattle.writer.proofs.Deliveries.{done_accepted, done_known, written_unfit, written_small, written_unfinished, written_done}
+-- A chart that is not ready, and the goal of one with nothing left.
+use Rattle.std.proofs.lemmas.Result.{err_from_is_err_and}
+use Rattle.writer.proofs.Deliveries.{done_accepted, done_known, written_unready, written_done}
 use Rattle.writer.proofs.write.Goals as goal
 
 pub write_goal-requires : goal.write_goal-requires
-write_goal-requires c = (
-  done_accepted c.args.grammar.now c.args.graph.now c.args.chart.now
-      c.args.out.now _ c.standing.ensures c.in-Done.field-0
-      c.in-Done.is,
-  done_known c.args.grammar.now c.args.graph.now
-      c.args.chart.now c.args.out.now _ c.standing.ensures
-      c.in-Done.field-0 c.in-Done.is,
-)
+write_goal-requires c =
+    let a = c.args in
+    let done = c.in_ok-standing.was in (
+      done_accepted a.grammar.now a.graph.now a.chart.now a.out.now _ c.standing.ensures _ done,
+      done_known a.grammar.now a.graph.now a.chart.now a.out.now _ c.standing.ensures _ done,
+    )
 
-pub returns-in-Unfit : goal.returns-in-Unfit
-returns-in-Unfit c = written_unfit c.args.grammar.now c.args.graph.now c.args.chart.now
-    c.args.out.now _ c.standing.ensures (cc)
+pub returns-in_err-standing : goal.returns-in_err-standing
+returns-in_err-standing c =
+    let a = c.args in
+    let p = err_from_is_err_and c.from_residual.result c.from_residual.ensures.1 in
+    rw (p.1, p.2) (written_unready a.grammar.now a.graph.now a.chart.now a.out.now _ c.standing.ensures _ c.in_err-standing.was)
 
-pub returns-in-TooSmall : goal.returns-in-TooSmall
-returns-in-TooSmall c = written_small c.args.grammar.now c.args.graph.now c.args.chart.now
-    c.args.out.now _ c.standing.ensures (cc)
-
-pub returns-in-Unfinished : goal.returns-in-Unfinished
-returns-in-Unfinished c = written_unfinished c.args.grammar.now c.args.graph.now c.args.chart.now
-    c.args.out.now _ c.standing.ensures _ (cc)
-
-pub returns-in-Done : goal.returns-in-Done
-returns-in-Done c = written_done c.args.grammar.now c.args.graph.now c.args.chart.now
-    c.args.out.now _ c.standing.ensures c.in-Done.field-0
-    _ _ c.in-Done.is c.write_goal.ensures
+pub returns : goal.returns
+returns c =
+    let a = c.args in
+    written_done a.grammar.now a.graph.now a.chart.now a.out.now _ c.standing.ensures _ _ _ c.in_ok-standing.was c.write_goal.ensures

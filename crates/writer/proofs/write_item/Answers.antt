@@ -6,32 +6,28 @@ use Rattle.writer.proofs.Deliveries.{listed_in}
 use Rattle.extractor.proofs.ListLaws.{listed_more}
 use Rattle.writer.proofs.write_item.Goals as goal
 
-pub write_brief-requires : goal.write_brief-requires
-write_brief-requires c = (
-  c.requires,
-  listed_more _ _ 256 4096 _ _ _ (omega arith) c.if-n-eq0.false
-      (listed_in _ _ _ 256 _ _ _ (length-replicate {A = ℕ} 264 0)
-      c.list_applications-n.ensures),
-  omega (
-    arith,
-    c.list_applications-n.ensures.few,
-    c.list_applications-n.auto.list,
-    length-replicate {A = ℕ} 264 0,
-  ),
-  c.if-n-le40.true,
-)
+pub write_listed-requires : goal.write_listed-requires
+write_listed-requires c =
+    let size = length-replicate {A = ℕ} 264 0 in (
+      c.requires,
+      listed_more _ _ 256 4096 _ _ _ (omega arith) c.if-n-eq0.false
+          (listed_in _ _ _ 256 _ _ _ size c.list_applications-n.ensures),
+      omega (arith, c.list_applications-n.ensures.few, c.list_applications-n.auto.list, size),
+      omega arith,
+      omega arith,
+      omega arith,
+      omega arith,
+    )
 
-pub write_short-requires : goal.write_short-requires
-write_short-requires c = (
-  c.requires,
-  listed_more _ _ 256 4096 _ _ _ (omega arith) c.if-n-eq0.false
-      (listed_in _ _ _ 256 _ _ _ (length-replicate {A = ℕ} 264 0)
-      c.list_applications-n.ensures),
-  omega (
-    arith,
-    c.list_applications-n.ensures.few,
-    c.list_applications-n.auto.list,
-    length-replicate {A = ℕ} 264 0,
-  ),
-  c.if-n-le256.true,
-)
+pub write_listed-requires-then-n-le256 : goal.write_listed-requires-then-n-le256
+write_listed-requires-then-n-le256 c =
+    let size = length-replicate {A = ℕ} 264 0 in (
+      c.requires,
+      listed_more _ _ 256 4096 _ _ _ (omega arith) c.if-n-eq0.false
+          (listed_in _ _ _ 256 _ _ _ size c.list_applications-n.ensures),
+      omega (arith, c.list_applications-n.ensures.few, c.list_applications-n.auto.list, size),
+      omega arith,
+      omega arith,
+      omega arith,
+      omega arith,
+    )

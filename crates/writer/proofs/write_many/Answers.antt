@@ -6,17 +6,16 @@ use Rattle.writer.proofs.Deliveries.{listed_in}
 use Rattle.extractor.proofs.ListLaws.{listed_more}
 use Rattle.writer.proofs.write_many.Goals as goal
 
-pub write_middle-requires : goal.write_middle-requires
-write_middle-requires c = (
-  c.requires,
-  listed_more _ _ 1024 4096 _ _ _ (omega arith) c.if-n-eq0.false
-      (listed_in _ _ _ 1024 _ _ _ (length-replicate {A = ℕ} 1032 0)
-      c.list_applications-n.ensures),
-  omega (
-    arith,
-    c.list_applications-n.ensures.few,
-    c.list_applications-n.auto.list,
-    length-replicate {A = ℕ} 1032 0,
-  ),
-  omega (arith, c.list_applications-n.ensures.few, length-replicate {A = ℕ} 1032 0),
-)
+pub write_listed-requires : goal.write_listed-requires
+write_listed-requires c =
+    let size = length-replicate {A = ℕ} 1032 0 in
+    let few = c.list_applications-n.ensures.few in (
+      c.requires,
+      listed_more _ _ 1024 4096 _ _ _ (omega arith) c.if-n-eq0.false
+          (listed_in _ _ _ 1024 _ _ _ size c.list_applications-n.ensures),
+      omega (arith, few, c.list_applications-n.auto.list, size),
+      omega (arith, few, size),
+      omega arith,
+      omega (arith, few, size),
+      omega arith,
+    )

@@ -1,4 +1,3 @@
-use Prim.Native.Nat.{◌-◌}
 use mathlib.Core.Path.{◌≡◌}
 use lib.ListN.{take}
 use Rattle.hrg.specs.Grammars.{right_of}
@@ -8,6 +7,3 @@ use Rattle.replayer.proofs.fitting.external_mask.Given as goal
 
 abbrev pub invariant-loop-k : goal.invariant-loop-k
 invariant-loop-k l = l.mask ≡ with_all 0 (take l.k (right_of (grammar_of l.grammar) l.r).externals)
-
-abbrev pub decreases-loop-k : goal.decreases-loop-k
-decreases-loop-k l = l.rank - l.k

@@ -1,4 +1,3 @@
-use Prim.Native.Nat.{◌-◌}
 use lib.ListN.{get_or}
 use lib.Dec.{eqb}
 use Rattle.questions.specs.Layout.{rule_external}
@@ -10,6 +9,3 @@ use Rattle.replayer.proofs.fitting.externals_fit.Given as goal
 abbrev pub invariant-loop-k : goal.invariant-loop-k
 invariant-loop-k l = PassedTo
     (λ k. eqb (node_in l.row (rule_external l.grammar (rule_in l.row) k)) (get_or l.listed k 0)) l.k
-
-abbrev pub decreases-loop-k : goal.decreases-loop-k
-decreases-loop-k l = l.rank - l.k

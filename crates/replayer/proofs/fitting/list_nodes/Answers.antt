@@ -12,7 +12,7 @@ bounds-row-1 c = rule_there _ _ _ c.requires.0
     c.requires.1
 
 pub loop-k-init : goal.loop-k-init
-loop-k-init c = (omega arith, placed_none _ _ c.requires.3)
+loop-k-init c = placed_none _ _ c.requires.3
 
 pub overflow_add-nodes : goal.overflow_add-nodes
 overflow_add-nodes c = omega (
@@ -53,14 +53,9 @@ bounds-nodes-k c = omega (
 )
 
 pub loop-k-preserved : goal.loop-k-preserved
-loop-k-preserved c = (
-  omega (arith, c.loop-k-test.true),
-  placed_next
-      _ _ _ _ (omega (arith, c.loop-k-test.true, c.rank_at-rank.ensures.1))
-      (ap (node_in c.args.row.now) c.edge_node-x.ensures) c.loop-k.invariant.1,
-)
+loop-k-preserved c = placed_next _ _ _ _ (omega (arith, c.loop-k-test.true, c.rank_at-rank.ensures.1))
+    (ap (node_in c.args.row.now) c.edge_node-x.ensures) c.loop-k.invariant
 
 pub returns : goal.returns
 returns c = nodes_all _ _ _ c.requires.0 c.requires.1 _ c.requires.2 _ c.edge_label.ensures
-    _ c.rank_at-rank.ensures.0 _ _ c.loop-k.invariant.0 c.loop-k-test.false
-    c.loop-k.invariant.1
+    _ c.rank_at-rank.ensures.0 _ _ (omega arith) c.loop-k-test.false c.loop-k.invariant

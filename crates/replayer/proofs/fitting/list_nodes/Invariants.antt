@@ -1,4 +1,3 @@
-use Prim.Native.Nat.{◌-◌, ◌≤◌}
 use Rattle.questions.specs.Layout.{edge_node}
 use Rattle.preorder.specs.Replay.{rule_in}
 use Rattle.replayer.specs.Fitting.{node_in}
@@ -6,8 +5,5 @@ use Rattle.replayer.proofs.NodeTests.{Placed}
 use Rattle.replayer.proofs.fitting.list_nodes.Given as goal
 
 abbrev pub invariant-loop-k : goal.invariant-loop-k
-invariant-loop-k l = (l.k ≤ l.rank) × Placed
+invariant-loop-k l = Placed
     (λ k. node_in l.row (edge_node l.grammar (rule_in l.row) l.i k)) l.k l.nodes
-
-abbrev pub decreases-loop-k : goal.decreases-loop-k
-decreases-loop-k l = l.rank - l.k

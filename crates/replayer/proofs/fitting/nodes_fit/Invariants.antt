@@ -1,4 +1,3 @@
-use Prim.Native.Nat.{◌-◌}
 use lib.Dec.{eqb}
 use Rattle.questions.specs.Layout.{edge_node, graph_node}
 use Rattle.preorder.specs.Replay.{rule_in}
@@ -9,6 +8,3 @@ use Rattle.replayer.proofs.fitting.nodes_fit.Given as goal
 abbrev pub invariant-loop-k : goal.invariant-loop-k
 invariant-loop-k l = PassedTo
     (λ k. eqb (graph_node l.graph l.g k) (node_in l.row (edge_node l.grammar (rule_in l.row) l.i k))) l.k
-
-abbrev pub decreases-loop-k : goal.decreases-loop-k
-decreases-loop-k l = l.rank - l.k

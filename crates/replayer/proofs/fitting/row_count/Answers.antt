@@ -1,26 +1,27 @@
 -- The rows that are left, with those passed, make the count of the text.
+use mathlib.Core.Path.{◌∙◌}
 use Rattle.replayer.proofs.TextRows.{count_none, count_first, count_refused, count_next, count_behind, count_all}
 use Rattle.replayer.proofs.fitting.row_count.Goals as goal
 
-pub returns-then-n-eq0 : goal.returns-then-n-eq0
-returns-then-n-eq0 c = count_none _ _ c.said_count-n.ensures c.if-n-eq0.true
+pub returns-in_err-n : goal.returns-in_err-n
+returns-in_err-n c = c.from_residual.ensures ∙ count_none _ c.in_err-n.ensures
 
 pub loop-k-init : goal.loop-k-init
-loop-k-init c = count_first _ _ c.said_count-n.ensures _ c.if-n-eq0.false c.after_line-at.ensures
+loop-k-init c = count_first _ _ _ c.in_ok-n.ensures c.after_line-at.ensures
 
-pub is_row-requires : goal.is_row-requires
-is_row-requires c = (c.loop-k.invariant.within, c.next_line-line.ensures.contents)
+pub has_letter-requires : goal.has_letter-requires
+has_letter-requires c = (c.loop-k.invariant.within, c.next_line-line.ensures.contents)
 
-pub returns-then-not-is_row : goal.returns-then-not-is_row
-returns-then-not-is_row c = count_refused _ _ _ _ c.loop-k.invariant c.loop-k-test.true _ c.is_row.ensures
-    c.if-not-is_row.true
+pub returns-then-not-has_letter : goal.returns-then-not-has_letter
+returns-then-not-has_letter c = count_refused _ _ _ _ c.loop-k.invariant c.loop-k-test.true _ c.has_letter.ensures
+    c.if-not-has_letter.true
 
 pub behind-at-requires : goal.behind-at-requires
 behind-at-requires c = (c.loop-k.invariant.within, c.next_line-line.ensures.contents)
 
 pub loop-k-preserved : goal.loop-k-preserved
-loop-k-preserved c = count_next _ _ _ _ c.loop-k.invariant c.loop-k-test.true _ c.is_row.ensures
-    c.if-not-is_row.false _ c.behind-at.ensures
+loop-k-preserved c = count_next _ _ _ _ c.loop-k.invariant c.loop-k-test.true _ c.has_letter.ensures
+    c.if-not-has_letter.false _ c.behind-at.ensures
 
 pub returns-then-at-text : goal.returns-then-at-text
 returns-then-at-text c = count_behind _ _ _ _ c.loop-k.invariant c.loop-k-test.false c.if-at-text.true

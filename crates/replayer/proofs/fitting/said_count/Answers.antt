@@ -3,27 +3,27 @@ use native.Mathlib.Omega.{arith}
 use Rattle.replayer.proofs.TextRows.{said_letter, said_fields, said_few, said_many, said_all}
 use Rattle.replayer.proofs.fitting.said_count.Goals as goal
 
-pub is_count-requires : goal.is_count-requires
-is_count-requires c = (omega arith, c.next_line-line.ensures.contents)
+pub has_letter-requires : goal.has_letter-requires
+has_letter-requires c = (omega arith, c.next_line-line.ensures.contents)
 
-pub returns-then-not-is_count : goal.returns-then-not-is_count
-returns-then-not-is_count c = said_letter _ _ c.is_count.ensures c.if-not-is_count.true
+pub returns-then-not-has_letter : goal.returns-then-not-has_letter
+returns-then-not-has_letter c = said_letter _ _ c.has_letter.ensures c.if-not-has_letter.true
 
 pub returns-then-field_count-ne1 : goal.returns-then-field_count-ne1
-returns-then-field_count-ne1 c = said_fields _ _ c.is_count.ensures c.if-not-is_count.false _
+returns-then-field_count-ne1 c = said_fields _ _ c.has_letter.ensures c.if-not-has_letter.false _
     c.next_line-line.ensures.contents _ c.field_count.ensures c.if-field_count-ne1.true
 
 pub returns-then-n-lt1 : goal.returns-then-n-lt1
-returns-then-n-lt1 c = said_few _ _ c.is_count.ensures c.if-not-is_count.false _
+returns-then-n-lt1 c = said_few _ _ c.has_letter.ensures c.if-not-has_letter.false _
     c.next_line-line.ensures.contents _ c.field_count.ensures c.if-field_count-ne1.false
     _ c.number-n.ensures c.if-n-lt1.true
 
 pub returns-then-n-gt4096 : goal.returns-then-n-gt4096
-returns-then-n-gt4096 c = said_many _ _ c.is_count.ensures c.if-not-is_count.false _
+returns-then-n-gt4096 c = said_many _ _ c.has_letter.ensures c.if-not-has_letter.false _
     c.next_line-line.ensures.contents _ c.field_count.ensures c.if-field_count-ne1.false _
     c.number-n.ensures c.if-n-lt1.false c.if-n-gt4096.true
 
 pub returns : goal.returns
-returns c = said_all _ _ c.is_count.ensures c.if-not-is_count.false _
+returns c = said_all _ _ c.has_letter.ensures c.if-not-has_letter.false _
     c.next_line-line.ensures.contents _ c.field_count.ensures c.if-field_count-ne1.false _
     c.number-n.ensures c.if-n-lt1.false c.if-n-gt4096.false

@@ -1,4 +1,4 @@
-use Prim.Native.Nat.{◌-◌, ◌^◌, ◌<◌}
+use Prim.Native.Nat.{◌^◌, ◌<◌}
 use mathlib.Core.Path.{◌≡◌}
 use Rattle.hrg.specs.Grammars.{right_of}
 use Rattle.questions.specs.Abstract.{grammar_of}
@@ -13,6 +13,3 @@ invariant-loop-x l = (l.nodes < 2 ^ 64) ×
     (new_nodes (right_of (grammar_of l.grammar) (rule_in l.row)) l.row)) ×
     (with_all l.nodes (inner_from (right_of (grammar_of l.grammar) (rule_in l.row)) l.row l.x) ≡ with_all l.used
     (new_nodes (right_of (grammar_of l.grammar) (rule_in l.row)) l.row))
-
-abbrev pub decreases-loop-x : goal.decreases-loop-x
-decreases-loop-x l = l.n - l.x
