@@ -8,9 +8,10 @@ use mathlib.Core.List.{List, ◌++◌}
 use lib.Dec.{ltb, leb, eqb}
 use borrow.Author.Tests.{ne_eqb, le-leb}
 use Rattle.masks.specs.Masks.{◌∪◌, full, Added}
-use Rattle.hrg.specs.Counts.{hit, occurs}
+use mir.Val.{bool_byte}
+use Rattle.hrg.specs.Counts.{flag, hit, occurs}
 use Rattle.hrg.specs.WellFormedTest.{each, every}
-use Rattle.hrg.proofs.Sums.{occurs_append, hit_self, hit_ne}
+use Rattle.hrg.proofs.Sums.{occurs_append}
 use Rattle.questions.specs.Layout.{plan_kind, plan_first, plan_second, rule_edges}
 use Rattle.questions.specs.Questions.{covered, children_of, introduced_by, children_before, introduced_before, plan_so_far, plan_whole}
 use Rattle.questions.specs.Walk.{Room}
@@ -24,11 +25,22 @@ use Rattle.tables.proofs.Covering.{marked_by_lem, marks_append, marks_covered, c
 pub room_lines : (n : ℕ) (due : Due) (r q : ℕ) → Room n due → due ≡ PlanLine r q → Room n (PlanLine r q)
 room_lines n due r q h e = subst (Room n) e h
 
-pub hit_yes : (a b : ℕ) → a ≡ b → 1 ≡ hit a b
-hit_yes a b e = rw e (sym (hit_self b))
+-- whether two numbers are the same, as a number
+module _ (a b x : ℕ) (e : x ≡ bool_byte (eqb a b)) where
+  pub hit_from : x ≡ hit a b
+  unfolding hit
+  hit_from = e ∙ go (eqb a b)
+    where
+      go : (y : Bool) → bool_byte y ≡ flag y
+      go true = refl
+      go false = refl
 
-pub hit_no : (a b : ℕ) → (a ≡ b → ⊥) → 0 ≡ hit a b
-hit_no a b e = sym (hit_ne a b e)
+  pub hit_few : x ≤ 1
+  hit_few = go (eqb a b) e
+    where
+      go : (y : Bool) → x ≡ bool_byte y → x ≤ 1
+      go true p = omega arith
+      go false p = omega arith
 
 -- ---- one line
 pub children_one : (kind first second c x : ℕ) → kind ≡ 1 → x ≡ hit c first → x ≡ occurs c (children_of kind first second)
@@ -73,13 +85,6 @@ module _ (g : List ℕ) (r c : ℕ) where
     introduced_next e p =
         rw (add-one, occurs_append c (introduced_before g r q) (introduced_by (plan_kind g r q) (plan_first g r q) (plan_second g r q)), ← k, ← s)
         (omega arith)
-
-  module _ (n q sum : ℕ) (a : q ≤ n) (b : n ≤ q) where
-    pub children_done : sum ≡ occurs c (children_before g r q) → sum ≡ occurs c (children_before g r n)
-    children_done p = p ∙ ap (λ k. occurs c (children_before g r k)) (let e : q ≡ n = omega arith in e)
-
-    pub introduced_done : sum ≡ occurs c (introduced_before g r q) → sum ≡ occurs c (introduced_before g r n)
-    introduced_done p = p ∙ ap (λ k. occurs c (introduced_before g r k)) (let e : q ≡ n = omega arith in e)
 
 pub both_times : (c x y : ℕ) (xs ys : List ℕ) → x ≡ occurs c xs → y ≡ occurs c ys → x + y ≡ occurs c (xs ++ ys)
 both_times c x y xs ys p q = omega (arith, occurs_append c xs ys)
