@@ -4,13 +4,26 @@ use Rattle.masks.specs.Masks.{member}
 use Rattle.questions.specs.Layout.{grammar_words, plan_kind, plan_first, plan_second}
 use Rattle.questions.specs.Questions.{children_of, introduced_by, children_before, introduced_before, plan_so_far}
 use Rattle.tables.specs.Marks.{marked, marks}
+use Rattle.tables.specs.declared.plans.Named.{Named}
+use Rattle.tables.specs.declared.plans.Named.TheVariants.{Child, Edge}
 use Rattle.tables.specs.declared.plans.PlanMarks.{PlanMarks}
+use Rattle.hrg.specs.Counts.{occurs}
 
 -- a table as long as the largest, a rule of it, and q plan lines
 pub record PlanRoom (g : List ℕ) (r q : ℕ) : Type 0 where
   pub long : grammar_words ≤ length g
   pub rule : r ≤ 63
   pub lines : q ≤ 16
+
+-- how often a plan line of these fields names a child, or an edge that it introduces
+abbrev pub named_in : ℕ → ℕ → ℕ → Named → ℕ
+named_in kind first second (Child c) = occurs c (children_of kind first second)
+named_in kind first second (Edge i) = occurs i (introduced_by kind first second)
+
+-- how often the first n plan lines of rule r do
+abbrev pub named_before : List ℕ → ℕ → ℕ → Named → ℕ
+named_before g r n (Child c) = occurs c (children_before g r n)
+named_before g r n (Edge i) = occurs i (introduced_before g r n)
 
 -- the sets of the children and of the introduced edges of the first n plan lines
 pub record Marked (g : List ℕ) (r n children introduced : ℕ) : Type 0 where

@@ -3,9 +3,9 @@
 ghost use Rattle.std.specs.Prelude.{◌≡◌, ◌++◌, ◌&&◌, ◌+◌, ◌≤◌, eqb};
 ghost use Rattle.hrg.specs.Counts.{occurs};
 ghost use Rattle.questions.specs.Layout.{rule_edges};
-ghost use Rattle.questions.specs.Questions.{children_of, introduced_by, children_before, introduced_before, plan_so_far, plan_whole};
+ghost use Rattle.questions.specs.Questions.{children_of, introduced_by, children_before, plan_so_far, plan_whole};
 ghost use Rattle.tables.specs.Marks.{marks};
-ghost use Rattle.tables.specs.Plans.{PlanRoom, Marked, introduce_fits, join_fits, Takes, Keeps};
+ghost use Rattle.tables.specs.Plans.{PlanRoom, Marked, named_in, named_before, introduce_fits, join_fits, Takes, Keeps};
 ghost use Rattle.tables.specs.Concluding.{Count};
 
 use crate::marks::has_all;
@@ -38,32 +38,34 @@ fn introduced_in(kind: u64, first: u64, second: u64, i: u64) -> u64
     }
 }
 
-// How often c is a child in the first n plan lines of rule r.
-fn child_before(g: &[u64], r: u64, n: u64, c: u64) -> u64
-    requires { PlanRoom g.now r n }
-    ensures { (result ≡ occurs c (children_before g.now r n)) × (result ≤ 32) }
-{
-    let mut sum: u64 = 0;
-    for q in 0..n {
-        let kind = layout::plan_kind_in(g, r, q);
-        let first = layout::plan_first_in(g, r, q);
-        let second = layout::plan_second_in(g, r, q);
-        sum += child_in(kind, first, second, c);
-    }
-    sum
+// What a plan line may name: a child, or the edge that it introduces.
+#[derive(Clone, Copy)]
+enum Named {
+    Child(u64),
+    Edge(u64),
 }
 
-// How often the edge i is introduced by the first n plan lines of rule r.
-fn introduced_before(g: &[u64], r: u64, n: u64, i: u64) -> u64
+// How often a plan line of these fields names it.
+fn named_in(kind: u64, first: u64, second: u64, what: Named) -> u64
+    ensures { (result ≡ named_in kind first second what) × (result ≤ 2) }
+{
+    match what {
+        Named::Child(c) => child_in(kind, first, second, c),
+        Named::Edge(i) => introduced_in(kind, first, second, i),
+    }
+}
+
+// How often the first n plan lines of rule r name it.
+fn named_before(g: &[u64], r: u64, n: u64, what: Named) -> u64
     requires { PlanRoom g.now r n }
-    ensures { (result ≡ occurs i (introduced_before g.now r n)) × (result ≤ 16) }
+    ensures { (result ≡ named_before g.now r n what) × (result ≤ 32) }
 {
     let mut sum: u64 = 0;
     for q in 0..n {
         let kind = layout::plan_kind_in(g, r, q);
         let first = layout::plan_first_in(g, r, q);
         let second = layout::plan_second_in(g, r, q);
-        sum += introduced_in(kind, first, second, i);
+        sum += named_in(kind, first, second, what);
     }
     sum
 }
@@ -73,7 +75,7 @@ fn child_times(g: &[u64], r: u64, q: u64, kind: u64, first: u64, second: u64, c:
     requires { PlanRoom g.now r q }
     ensures { result ≡ occurs c (children_before g.now r q ++ children_of kind first second) }
 {
-    child_before(g, r, q, c) + child_in(kind, first, second, c)
+    named_before(g, r, q, Named::Child(c)) + child_in(kind, first, second, c)
 }
 
 // ---- a plan line over children keeps the plan rules so far
@@ -83,7 +85,7 @@ pub(crate) fn introduce_so_far(g: &[u64], r: u64, q: u64, first: u64, second: u6
 {
     let times = child_times(g, r, q, 1, first, second, first);
     let edges = layout::rule_edges(g, r);
-    let before = introduced_before(g, r, q, second);
+    let before = named_before(g, r, q, Named::Edge(second));
     (first < q) & (times == 1) & ((second < edges) & (before == 0))
 }
 
