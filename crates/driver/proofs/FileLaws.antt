@@ -4,9 +4,8 @@ use mathlib.Core.List.{List}
 use Prim.Native.Nat.{ℕ, ◌≤◌, ◌<◌}
 use lib.ListN.{length}
 use borrow.Author.Tests.{eq-eqb, ne_eqb}
-use Rattle.questions.specs.Reading.{read_grammar}
+use Rattle.questions.specs.Reading.{read_grammar, Answer}
 use Rattle.questions.specs.Checking.{read_graph}
-use Rattle.questions.specs.declared.Answer.{Answer}
 use Rattle.readers.specs.Readers.{Gives}
 use Rattle.programs.specs.Files.{reading_number, file_bytes, grammar_file, graph_file, files_of, FileGives, FilesGive}
 use Rattle.programs.proofs.Limits.{grammar_oversize, grammar_within, graph_oversize, graph_within}

@@ -8,12 +8,10 @@ use lib.ListN.{length, drop, replicate, length-replicate}
 use borrow.Author.Tests.{le-leb, lt-leb}
 use Rattle.format.specs.Lines.{counting_lines}
 use Rattle.questions.specs.Layout.{grammar_words, graph_words}
-use Rattle.questions.specs.Reading.{Verdict, read_lines, grammar_verdict, graph_verdict, delivered, read_grammar}
+use Rattle.questions.specs.Reading.{Verdict, read_lines, grammar_verdict, graph_verdict, delivered, read_grammar, Answer, Done, Refused}
 use Rattle.questions.specs.Checking.{check_grammar, read_graph}
 use Rattle.questions.specs.Walk.{Room}
 use Rattle.questions.specs.declared.Due.TheVariants.{Grammar, Graph}
-use Rattle.questions.specs.declared.Answer.{Answer}
-use Rattle.questions.specs.declared.Answer.TheVariants.{Done, Refused}
 use Rattle.readers.specs.Readers.{Gives, verdict_of}
 
 pub gives_refusal : (size k : ℕ) (t former : List ℕ) → (k ≡ 0 → ⊥) → Gives (delivered size (verdict_of k t) former) (Refused k) former

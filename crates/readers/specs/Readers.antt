@@ -3,8 +3,7 @@ use Rattle.std.specs.Prelude.{◌≡◌, Bool, List, ℕ}
 use Rattle.format.specs.Fields.{fields_of}
 use Rattle.format.specs.Lines.{Line}
 use Rattle.questions.specs.Layout.{place_of, stored}
-use Rattle.questions.specs.Reading.{Verdict, accepted, go_on, Outcome}
-use Rattle.questions.specs.declared.Answer.{Answer}
+use Rattle.questions.specs.Reading.{Verdict, accepted, go_on, Outcome, Answer}
 use Rattle.questions.specs.declared.Due.{Due}
 use Rattle.questions.specs.declared.Due.TheVariants.{Grammar, Symbol, Rule, RuleEdge, PlanLine, Graph, GraphEdge, Nothing}
 

@@ -90,7 +90,7 @@ fn grammar_stands(t: &[u64]) -> bool
 {
     let mut f = [0u64; 9];
     fields_into(t, 0, 3, &mut f);
-    if judging::judge_grammar(&f[0..3]) != 0 {
+    if judging::judge_grammar(&f[0..3]).is_err() {
         return false;
     }
     ends(t, 0, 3)
@@ -103,7 +103,7 @@ fn symbol_stands(t: &[u64], s: u64) -> bool
     let p = layout::symbol_place(s);
     let mut f = [0u64; 9];
     fields_into(t, p, 3, &mut f);
-    if judging::judge_symbol(t, s, &f[0..3]) != 0 {
+    if judging::judge_symbol(t, s, &f[0..3]).is_err() {
         return false;
     }
     ends(t, p, 3)
@@ -117,7 +117,7 @@ fn rule_stands(t: &[u64], r: u64) -> bool
     let n = 5 + layout::rank_at(t, layout::rule_symbol_in(t, r));
     let mut f = [0u64; 9];
     fields_into(t, p, n, &mut f);
-    if judging::judge_rule(t, r, &f[0..n as usize]) != 0 {
+    if judging::judge_rule(t, r, &f[0..n as usize]).is_err() {
         return false;
     }
     ends(t, p, n)
@@ -130,7 +130,7 @@ fn graph_stands(g: &[u64], t: &[u64]) -> bool
     let n = 2 + layout::rank_at(g, layout::start_symbol(g));
     let mut f = [0u64; 9];
     fields_into(t, 0, n, &mut f);
-    if judging::judge_graph(g, &f[0..n as usize]) != 0 {
+    if judging::judge_graph(g, &f[0..n as usize]).is_err() {
         return false;
     }
     ends(t, 0, n)
