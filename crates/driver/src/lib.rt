@@ -6,6 +6,7 @@
 ghost use Rattle.std.specs.Prelude.{◌≡◌, [], ◌∷◌, ◌++◌, ◌+◌, ◌≤◌, length, drop};
 ghost use Rattle.std.proofs.lemmas.List.Edits.{sets};
 ghost use Rattle.format.specs.Writing.{line_text};
+ghost use Rattle.questions.specs.Refusing.{answer_of};
 ghost use Rattle.charting.specs.Calls.{number_of as chartNumber};
 ghost use Rattle.writing.specs.Writing.{number_of as writingNumber};
 ghost use Rattle.replayer.specs.Verdicts.{number_of as verdictNumber};
@@ -13,17 +14,17 @@ ghost use Rattle.programs.specs.Files.{reading_number, grammar_file, graph_file,
 ghost use Rattle.programs.specs.Programs.{refusal_line, steps_line, Prints, derived_text, write_chart, derive_tables, derive_files, replay_tables, replay_files};
 
 use charting::Outcome;
-use questions::Answer;
+use questions::Refusal;
 use replayer::Verdict;
 
 // ---- 01's number of each answer, 0 where it is no refusal
 
-pub fn reading_number(a: Answer) -> u64
-    ensures { result ≡ reading_number a }
+pub fn reading_number(read: Result<(), Refusal>) -> u64
+    ensures { result ≡ reading_number (answer_of read) }
 {
-    match a {
-        Answer::Done => 0,
-        Answer::Refused(k) => k,
+    match read {
+        Ok(()) => 0,
+        Err(refusal) => refusal as u64,
     }
 }
 
