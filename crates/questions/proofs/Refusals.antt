@@ -3,10 +3,12 @@
 use mathlib.Core.Path.{◌≡◌, refl, sym, ap, ◌∙◌}
 use mathlib.Core.Bool.{Bool, true, false, cond, false≢true}
 use mathlib.Core.List.{List}
-use Prim.Native.Nat.{ℕ, ◌≤◌, ◌<◌}
+use Prim.Native.Nat.{ℕ, ◌+◌, ◌≤◌, ◌<◌}
 use native.Mathlib.Omega.{arith}
 use lib.ListN.{length}
 use lib.Dec.{T, leb, leb→le}
+use denote.Enum.Declared.{tag_of}
+use Rattle.questions.specs.contracts.Refusal.{the_type}
 use Rattle.std.specs.Prelude.{⊤, Result, Ok, Err, is_err}
 use Rattle.questions.specs.Refusing.{number_of, number_in}
 use Rattle.questions.specs.declared.Refusal.{Refusal}
@@ -19,7 +21,17 @@ use Rattle.questions.proofs.WellFormedWalk.{IsLine}
 use Rattle.questions.specs.declared.Due.{Due}
 use Rattle.questions.specs.declared.Due.TheVariants.{Grammar, Symbol, Rule, RuleEdge, PlanLine, Graph, GraphEdge, Nothing}
 
--- ---- the number of a refusal is not 0
+-- ---- the number of a refusal is the code's, and not 0
+pub number_cast : (r : Refusal) → tag_of the_type r + 1 ≡ number_of r
+number_cast Shape = refl
+number_cast Letter = refl
+number_cast Fields = refl
+number_cast Count = refl
+number_cast Nodes = refl
+number_cast Uncovered = refl
+number_cast Plan = refl
+number_cast Unfit = refl
+
 pub number_some : (r : Refusal) → number_of r ≡ 0 → ⊥
 number_some Shape e = absurd (omega arith)
 number_some Letter e = absurd (omega arith)
