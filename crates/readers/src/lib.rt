@@ -82,10 +82,9 @@ fn read_line(g: &[u64], t: &mut [u64], due: Due, line: &[u8], ended: bool) -> Re
 fn missing_line(due: Due) -> Result<(), Refusal>
     ensures { number_in result ≡ missing due }
 {
-    if let Due::Nothing = due {
-        Ok(())
-    } else {
-        Err(Refusal::Letter)
+    match due {
+        Due::Nothing => Ok(()),
+        _ => Err(Refusal::Letter),
     }
 }
 
