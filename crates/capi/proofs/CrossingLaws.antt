@@ -6,8 +6,7 @@ use Prim.Native.Nat.{ℕ, ◌<◌, ◌≤◌}
 use lib.Dec.{leb}
 use borrow.Author.Tests.{le-leb, lt-leb}
 use Rattle.records.specs.Words.{words_for}
-use Rattle.questions.specs.Reading.{Outcome as Reading}
-use Rattle.questions.specs.declared.Answer.{Answer as ReadingAnswer}
+use Rattle.questions.specs.Reading.{Outcome as Reading, Answer as ReadingAnswer}
 use Rattle.readers.specs.Readers.{Gives}
 use Rattle.charting.specs.Calls.{number_of as chart_number, start_of, run_of, Outcome}
 use Rattle.charting.specs.Facts.{StartChoices, RunChoices}

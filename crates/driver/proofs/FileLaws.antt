@@ -4,9 +4,11 @@ use mathlib.Core.List.{List}
 use Prim.Native.Nat.{ℕ, ◌≤◌, ◌<◌}
 use lib.ListN.{length}
 use borrow.Author.Tests.{eq-eqb, ne_eqb}
+use Rattle.std.specs.Prelude.{⊤, Result, Ok, Err}
 use Rattle.questions.specs.Reading.{read_grammar}
+use Rattle.questions.specs.Refusing.{number_in, answer_of}
+use Rattle.questions.specs.declared.Refusal.{Refusal}
 use Rattle.questions.specs.Checking.{read_graph}
-use Rattle.questions.specs.declared.Answer.{Answer}
 use Rattle.readers.specs.Readers.{Gives}
 use Rattle.programs.specs.Files.{reading_number, file_bytes, grammar_file, graph_file, files_of, FileGives, FilesGive}
 use Rattle.programs.proofs.Limits.{grammar_oversize, grammar_within, graph_oversize, graph_within}
@@ -14,16 +16,21 @@ use Rattle.programs.proofs.Limits.{grammar_oversize, grammar_within, graph_overs
 pub grammar_over : (text former : List ℕ) → file_bytes < length text → FileGives (grammar_file text former) 1 former
 grammar_over text former h = rw (grammar_oversize text former h) (record { answers = refl; leaves = refl })
 
-pub grammar_read : (text former table : List ℕ) (a : Answer) (k : ℕ) → length text ≤ file_bytes → Gives (read_grammar text former) a table → k ≡ reading_number a
-    → FileGives (grammar_file text former) k table
-grammar_read text former table a k h gives e = rw (grammar_within text former h) (record { answers = e ∙ ap reading_number gives.answers; leaves = gives.leaves })
+-- the number of a reader's answer
+told : (r : Result ⊤ Refusal) → number_in r ≡ reading_number (answer_of r)
+told (Ok x) = refl
+told (Err k) = refl
+
+pub grammar_read : (text former table : List ℕ) (r : Result ⊤ Refusal) → length text ≤ file_bytes → Gives (read_grammar text former) (answer_of r) table
+    → FileGives (grammar_file text former) (number_in r) table
+grammar_read text former table r h gives = rw (grammar_within text former h) (record { answers = told r ∙ ap reading_number gives.answers; leaves = gives.leaves })
 
 pub graph_over : (g text former : List ℕ) → file_bytes < length text → FileGives (graph_file g text former) 1 former
 graph_over g text former h = rw (graph_oversize g text former h) (record { answers = refl; leaves = refl })
 
-pub graph_read : (g text former table : List ℕ) (a : Answer) (k : ℕ) → length text ≤ file_bytes → Gives (read_graph g text former) a table → k ≡ reading_number a
-    → FileGives (graph_file g text former) k table
-graph_read g text former table a k h gives e = rw (graph_within g text former h) (record { answers = e ∙ ap reading_number gives.answers; leaves = gives.leaves })
+pub graph_read : (g text former table : List ℕ) (r : Result ⊤ Refusal) → length text ≤ file_bytes → Gives (read_graph g text former) (answer_of r) table
+    → FileGives (graph_file g text former) (number_in r) table
+graph_read g text former table r h gives = rw (graph_within g text former h) (record { answers = told r ∙ ap reading_number gives.answers; leaves = gives.leaves })
 
 module _ (grammar graph formerGrammar formerGraph g : List ℕ) (k : ℕ) (first : FileGives (grammar_file grammar formerGrammar) k g) where
   pub files_refused : (k ≡ 0 → ⊥) → FilesGive (files_of grammar graph formerGrammar formerGraph) k g formerGraph

@@ -6,6 +6,7 @@
 ghost use Rattle.std.specs.Prelude.{◌≡◌, [], ◌∷◌, ◌++◌, ◌+◌, ◌≤◌, length};
 ghost use Rattle.std.proofs.lemmas.List.Edits.{sets};
 ghost use Rattle.format.specs.Writing.{line_text};
+ghost use Rattle.questions.specs.Refusing.{number_in, answer_of};
 ghost use Rattle.charting.specs.Calls.{number_of as chartNumber};
 ghost use Rattle.writing.specs.Writing.{number_of as writingNumber};
 ghost use Rattle.replayer.specs.Verdicts.{number_of as verdictNumber};
@@ -13,18 +14,18 @@ ghost use Rattle.programs.specs.Files.{reading_number, grammar_file, graph_file,
 ghost use Rattle.programs.specs.Programs.{refusal_line, steps_line, Prints, derived_text, write_chart, derive_tables, derive_files, replay_tables, replay_files};
 
 use charting::Unready;
-use questions::Answer;
+use questions::Refusal;
 use replayer::ReplayError;
 use writing::WriteError;
 
 // ---- 01's number of each answer, 0 where it is no refusal
 
-pub fn reading_number(a: Answer) -> u64
-    ensures { result ≡ reading_number a }
+pub fn reading_number(read: Result<(), Refusal>) -> u64
+    ensures { result ≡ reading_number (answer_of read) }
 {
-    match a {
-        Answer::Done => 0,
-        Answer::Refused(k) => k,
+    match read {
+        Ok(()) => 0,
+        Err(refusal) => refusal as u64,
     }
 }
 
@@ -60,32 +61,29 @@ pub fn verdict_number(v: Result<(), ReplayError>) -> u64
 // ---- files
 
 // Reads the text of a grammar file. One above 32,768 bytes is refused 1.
-fn read_grammar(text: &[u8], table: &mut [u64]) -> u64
-    ensures { FileGives (grammar_file text.now table.old) result table.new }
+fn read_grammar(text: &[u8], table: &mut [u64]) -> Result<(), Refusal>
+    ensures { FileGives (grammar_file text.now table.old) (number_in result) table.new }
 {
     if 32768 < text.len() {
-        return 1;
+        return Err(Refusal::Shape);
     }
-    reading_number(readers::read_grammar(text, table))
+    readers::read_grammar(text, table)
 }
 
-fn read_graph(grammar: &[u64], text: &[u8], table: &mut [u64]) -> u64
-    ensures { FileGives (graph_file grammar.now text.now table.old) result table.new }
+fn read_graph(grammar: &[u64], text: &[u8], table: &mut [u64]) -> Result<(), Refusal>
+    ensures { FileGives (graph_file grammar.now text.now table.old) (number_in result) table.new }
 {
     if 32768 < text.len() {
-        return 1;
+        return Err(Refusal::Shape);
     }
-    reading_number(readers::read_graph(grammar, text, table))
+    readers::read_graph(grammar, text, table)
 }
 
-// The grammar, then the graph: the first refusal, or 0.
-fn read_files(grammar: &[u8], graph: &[u8], g: &mut [u64], h: &mut [u64]) -> u64
-    ensures { FilesGive (files_of grammar.now graph.now g.old h.old) result g.new h.new }
+// The grammar, then the graph: the first refusal ends it.
+fn read_files(grammar: &[u8], graph: &[u8], g: &mut [u64], h: &mut [u64]) -> Result<(), Refusal>
+    ensures { FilesGive (files_of grammar.now graph.now g.old h.old) (number_in result) g.new h.new }
 {
-    let k = read_grammar(grammar, g);
-    if k != 0 {
-        return k;
-    }
+    read_grammar(grammar, g)?;
     read_graph(g, graph, h)
 }
 
@@ -157,9 +155,8 @@ pub fn derive(grammar: &[u8], graph: &[u8], out: &mut [u8; 32774]) -> usize
 {
     let mut g = [0u64; layout::GRAMMAR_WORDS];
     let mut h = [0u64; layout::GRAPH_WORDS];
-    let k = read_files(grammar, graph, &mut g, &mut h);
-    if k != 0 {
-        return put_refusal(k, out);
+    if let Err(refusal) = read_files(grammar, graph, &mut g, &mut h) {
+        return put_refusal(refusal as u64, out);
     }
     derive_tables(&g, &h, out)
 }
@@ -182,9 +179,8 @@ fn replay_number(grammar: &[u8], graph: &[u8], derivation: &[u8]) -> u64
 {
     let mut g = [0u64; layout::GRAMMAR_WORDS];
     let mut h = [0u64; layout::GRAPH_WORDS];
-    let k = read_files(grammar, graph, &mut g, &mut h);
-    if k != 0 {
-        return k;
+    if let Err(refusal) = read_files(grammar, graph, &mut g, &mut h) {
+        return refusal as u64;
     }
     replay_tables(&g, &h, derivation)
 }

@@ -11,7 +11,7 @@ pub enum Cell {
 }
 
 // The letters that lines of the three files start with.
-#[derive(Clone, Copy)]
+#[derive(Clone, Copy, PartialEq, Eq)]
 pub enum Letter {
     G,
     S,

@@ -19,10 +19,9 @@ use Rattle.hrg.specs.WellFormedTest.{every, some, each, listed_test, edge_test, 
 use Rattle.hrg.specs.Grammars.{Grammar, Graph, touches, cost}
 use Rattle.hrg.specs.Cases.{Case, k1, k2, k3, k4, k5, k6}
 use Rattle.questions.specs.Layout.{grammar_words, graph_words}
-use Rattle.questions.specs.Reading.{read_grammar}
+use Rattle.questions.specs.Reading.{read_grammar, Done}
 use Rattle.questions.specs.Checking.{check_grammar, check_graph, read_graph}
 use Rattle.questions.specs.Abstract.{grammar_of, graph_of}
-use Rattle.questions.specs.declared.Answer.TheVariants.{Done}
 use Rattle.places.specs.Words.{word_by, word_of, bytes_and, places_of}
 use Rattle.agenda.specs.Records.{item_of, same_chart_item, plus}
 use Rattle.agenda.specs.Consequences.{gather, at_root, terminal_at as terminal_at_agenda, with_terminal, pair, with_partner, consequences, leaf_records}

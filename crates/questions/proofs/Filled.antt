@@ -19,7 +19,7 @@ use Rattle.format.specs.Lines.{lines_of}
 use Rattle.format.specs.Writing.{Writable, line_text}
 use Rattle.questions.specs.Layout.{symbol_place, rule_place, edge_place, plan_place, graph_edge_place, place_of, line_field, stored, grammar_words, graph_words, symbol_count, rule_count, rule_edges, rule_plan, graph_edges, rank_at}
 use Rattle.questions.specs.Questions.{judge}
-use Rattle.questions.specs.Reading.{next, Verdict, refused, accepted, when_done, go_on, read_lines, grammar_verdict, graph_verdict, delivered, Outcome, read_grammar}
+use Rattle.questions.specs.Reading.{next, Verdict, refused, accepted, when_done, go_on, read_lines, grammar_verdict, graph_verdict, delivered, Outcome, read_grammar, Done, Refused}
 use Rattle.questions.specs.Checking.{fields_due, stored_fields, check_lines, filled_by, check_grammar, check_graph, FilledGrammar, FilledGraph}
 use Rattle.questions.specs.Walk.{Room, Walk, done, line}
 use Rattle.questions.proofs.StoredLaws.{get_d_tabulate, length_stored, field_stored_same, same_line}
@@ -28,7 +28,6 @@ use Rattle.questions.proofs.WellFormedReading.{read_walk, check_walk}
 use Rattle.questions.proofs.Refusals.{grammar_refused_first, grammar_passed_first}
 use Rattle.questions.proofs.TableTextLines.{letter_at, letter_capital, written_read, delivered_long}
 use Rattle.questions.proofs.SmallFields.{count_due, judge_small}
-use Rattle.questions.specs.declared.Answer.TheVariants.{Done, Refused}
 use Rattle.questions.specs.declared.Due.{Due}
 use Rattle.questions.specs.declared.Due.TheVariants.{Grammar, Symbol, Rule, RuleEdge, PlanLine, Graph, GraphEdge, Nothing}
 

@@ -1,22 +1,56 @@
 -- Which refusal comes first (a line whose fixed fields are not all there is 3, a grammar table that fails question 8
 -- is 8 whatever the graph text), and what a refusal leaves: every word of the lent table.
-use mathlib.Core.Path.{◌≡◌, refl, ap}
-use mathlib.Core.Bool.{Bool, true, false, cond}
+use mathlib.Core.Path.{◌≡◌, refl, sym, ap, ◌∙◌}
+use mathlib.Core.Bool.{Bool, true, false, cond, false≢true}
 use mathlib.Core.List.{List}
-use Prim.Native.Nat.{ℕ, ◌≤◌, ◌<◌}
+use Prim.Native.Nat.{ℕ, ◌+◌, ◌≤◌, ◌<◌}
 use native.Mathlib.Omega.{arith}
 use lib.ListN.{length}
 use lib.Dec.{T, leb, leb→le}
+use denote.Enum.Declared.{tag_of}
+use Rattle.questions.specs.contracts.Refusal.{the_type}
+use Rattle.std.specs.Prelude.{⊤, Result, Ok, Err, is_err}
+use Rattle.questions.specs.Refusing.{number_of, number_in}
+use Rattle.questions.specs.declared.Refusal.{Refusal}
+use Rattle.questions.specs.declared.Refusal.TheVariants.{Shape, Letter, Fields, Count, Nodes, Uncovered, Plan, Unfit}
 use Rattle.questions.specs.Layout.{grammar_words, graph_words}
 use Rattle.questions.specs.Questions.{judge_grammar, judge_symbol, judge_rule, judge_rule_edge, judge_plan, judge_graph, judge_graph_edge, judge}
-use Rattle.questions.specs.Reading.{Verdict, refused, accepted, Outcome, delivered, grammar_verdict, graph_verdict, read_grammar}
+use Rattle.questions.specs.Reading.{Verdict, refused, accepted, Outcome, delivered, grammar_verdict, graph_verdict, read_grammar, Done, Refused}
 use Rattle.questions.specs.Checking.{check_grammar, read_graph}
 use Rattle.questions.proofs.WellFormedWalk.{IsLine}
-use Rattle.questions.specs.declared.Answer.TheVariants.{Done, Refused}
 use Rattle.questions.specs.declared.Due.{Due}
 use Rattle.questions.specs.declared.Due.TheVariants.{Grammar, Symbol, Rule, RuleEdge, PlanLine, Graph, GraphEdge, Nothing}
 
--- the fixed fields of a line
+-- ---- the number of a refusal is the code's, and not 0
+pub number_cast : (r : Refusal) → tag_of the_type r + 1 ≡ number_of r
+number_cast Shape = refl
+number_cast Letter = refl
+number_cast Fields = refl
+number_cast Count = refl
+number_cast Nodes = refl
+number_cast Uncovered = refl
+number_cast Plan = refl
+number_cast Unfit = refl
+
+pub number_some : (r : Refusal) → number_of r ≡ 0 → ⊥
+number_some Shape e = absurd (omega arith)
+number_some Letter e = absurd (omega arith)
+number_some Fields e = absurd (omega arith)
+number_some Count e = absurd (omega arith)
+number_some Nodes e = absurd (omega arith)
+number_some Uncovered e = absurd (omega arith)
+number_some Plan e = absurd (omega arith)
+number_some Unfit e = absurd (omega arith)
+
+pub err_some : (r : Result ⊤ Refusal) (b : Bool) → b ≡ is_err r → b ≡ true → number_in r ≡ 0 → ⊥
+err_some (Ok x) b e t = absurd (false≢true (sym e ∙ t))
+err_some (Err k) b e t = number_some k
+
+pub ok_none : (r : Result ⊤ Refusal) (b : Bool) → b ≡ is_err r → b ≡ false → number_in r ≡ 0
+ok_none (Ok x) b e f = refl
+ok_none (Err k) b e f = absurd (false≢true (sym f ∙ e))
+
+-- ---- the fixed fields of a line
 abbrev pub fixed_fields : Due → ℕ
 fixed_fields Grammar = 3
 fixed_fields (Symbol s) = 3

@@ -16,11 +16,10 @@ use Rattle.hrg.proofs.Sums.{hit_self}
 use Rattle.format.specs.Writing.{Writable}
 use Rattle.questions.specs.Layout.{symbol_place, edge_place, plan_place, place_of, line_field, grammar_words, symbol_count, rule_count, kind_field, rank_at, rule_symbol, rule_edges, rule_plan, rule_external, edge_label, edge_node, plan_kind, plan_first, plan_second}
 use Rattle.questions.specs.Questions.{field}
-use Rattle.questions.specs.Reading.{next, accepted, grammar_verdict, read_grammar}
+use Rattle.questions.specs.Reading.{next, accepted, grammar_verdict, read_grammar, Done}
 use Rattle.questions.specs.Abstract.{build, kind_from, plan_from, rule_from, grammar_of}
 use Rattle.questions.specs.TableText.{kind_number, plan_fields, grammar_fields, series, rule_lines, rules_lines, grammar_lines, grammar_text}
 use Rattle.questions.specs.Walk.{Room}
-use Rattle.questions.specs.declared.Answer.TheVariants.{Done}
 use Rattle.questions.specs.declared.Due.{Due}
 use Rattle.questions.specs.declared.Due.TheVariants.{Grammar, Symbol, Rule, RuleEdge, PlanLine, Graph, GraphEdge, Nothing}
 use Rattle.questions.proofs.WellFormedWalk.{IsLine, reach, room_place, Before, cond_by}

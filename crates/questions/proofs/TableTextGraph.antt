@@ -12,12 +12,11 @@ use Rattle.hrg.specs.Grammars.{no_edge, rank_of, edge_at}
 use Rattle.hrg.specs.WellFormed.{GrammarOk, GraphOk}
 use Rattle.format.specs.Writing.{Writable}
 use Rattle.questions.specs.Layout.{graph_edge_place, place_of, graph_words, start_symbol, rank_at, graph_edges, graph_external, graph_label, graph_node}
-use Rattle.questions.specs.Reading.{next, accepted, grammar_verdict, graph_verdict}
+use Rattle.questions.specs.Reading.{next, accepted, grammar_verdict, graph_verdict, Done}
 use Rattle.questions.specs.Checking.{check_grammar, read_graph}
 use Rattle.questions.specs.Abstract.{build, grammar_of, graph_of}
 use Rattle.questions.specs.TableText.{graph_fields, series, graph_lines, graph_text}
 use Rattle.questions.specs.Walk.{Room}
-use Rattle.questions.specs.declared.Answer.TheVariants.{Done}
 use Rattle.questions.specs.declared.Due.{Due}
 use Rattle.questions.specs.declared.Due.TheVariants.{Grammar, Symbol, Rule, RuleEdge, PlanLine, Graph, GraphEdge, Nothing}
 use Rattle.questions.proofs.WellFormedWalk.{IsLine, reach, room_place, Before, cond_by}

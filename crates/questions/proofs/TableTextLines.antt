@@ -19,10 +19,9 @@ use Rattle.format.specs.Writing.{line_body, line_text, Writable}
 use Rattle.format.proofs.RoundTrip.{written_letter, written_fields, written_shape, written_line}
 use Rattle.questions.specs.Layout.{place_of, letter_due, line_field, stored}
 use Rattle.questions.specs.Questions.{field, judge}
-use Rattle.questions.specs.Reading.{next, judge_line, Verdict, accepted, read_lines, delivered}
+use Rattle.questions.specs.Reading.{next, judge_line, Verdict, accepted, read_lines, delivered, Done}
 use Rattle.questions.specs.TableText.{series, lines_text}
 use Rattle.questions.specs.Walk.{Room}
-use Rattle.questions.specs.declared.Answer.TheVariants.{Done}
 use Rattle.questions.specs.declared.Due.{Due}
 use Rattle.questions.specs.declared.Due.TheVariants.{Grammar, Symbol, Rule, RuleEdge, PlanLine, Graph, GraphEdge, Nothing}
 use Rattle.questions.proofs.SmallFields.{Small}

@@ -5,10 +5,9 @@ use Rattle.hrg.specs.Counts.{tabulate}
 use Rattle.hrg.specs.ClosureRun.{same_list}
 use Rattle.questions.specs.Layout.{place_of, line_field, stored, grammar_words, graph_words, start_symbol, rank_at}
 use Rattle.questions.specs.Questions.{judge}
-use Rattle.questions.specs.Reading.{Verdict, refused, accepted, when_done, go_on, next, delivered, Outcome, graph_verdict, read_grammar}
+use Rattle.questions.specs.Reading.{Verdict, refused, accepted, when_done, go_on, next, delivered, Outcome, graph_verdict, read_grammar, Done, Refused}
 use Rattle.questions.specs.declared.Due.{Due}
 use Rattle.questions.specs.declared.Due.TheVariants.{Grammar, Symbol, Rule, RuleEdge, PlanLine, Graph, GraphEdge, Nothing}
-use Rattle.questions.specs.declared.Answer.TheVariants.{Done, Refused}
 
 -- how many fields the line at a place of t has, by the ranks in the lines read before it: those of c, or of the
 -- grammar g for a graph's lines

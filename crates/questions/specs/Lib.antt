@@ -2,6 +2,7 @@
 pub mod Layout
 pub mod Questions
 pub mod Reading
+pub mod Refusing
 pub mod Checking
 pub mod Abstract
 pub mod Walk

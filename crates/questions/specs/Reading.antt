@@ -8,8 +8,6 @@ use Rattle.questions.specs.Layout.{place_of, letter_due, stored, grammar_words, 
 use Rattle.questions.specs.Questions.{ask, judge}
 use Rattle.questions.specs.declared.Due.{Due}
 use Rattle.questions.specs.declared.Due.TheVariants.{Grammar, Symbol, Rule, RuleEdge, PlanLine, Graph, GraphEdge, Nothing}
-use Rattle.questions.specs.declared.Answer.{Answer}
-use Rattle.questions.specs.declared.Answer.TheVariants.{Done, Refused}
 
 -- The order of lines: what is due after a line, by the table t with that line. A count never leads past the largest
 -- table, whatever stands in t.
@@ -72,6 +70,10 @@ unfolding read_lines
 graph_verdict g text = read_lines g (replicate graph_words 0) Graph (lines_of text)
 
 -- ---- what a reader answers and leaves in the lent table: too short a table is 8, and only an accepted text is written
+pub data Answer : Type 0 where
+  Done : Answer
+  Refused : ℕ → Answer
+
 pub record Outcome : Type 0 where
   pub answer : Answer
   pub table : List ℕ

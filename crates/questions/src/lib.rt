@@ -3,7 +3,7 @@
 
 #![tactic(auto)]
 
-#[derive(Clone, Copy)]
+#[derive(Clone, Copy, PartialEq, Eq, Debug)]
 pub enum Due {
     Grammar,
     Symbol(u64),
@@ -15,9 +15,16 @@ pub enum Due {
     Nothing,
 }
 
-// A reader's answer: done, or one of 01's refusals.
-#[derive(Clone, Copy)]
-pub enum Answer {
-    Done,
-    Refused(u64),
+// Why a text or a table is refused, with 01's numbers (docs/REFUSALS.md): the shape of a line, the letter due, the fixed
+// fields, how many nodes are listed and which, nodes on no edge, the plan, and what is lent.
+#[derive(Clone, Copy, PartialEq, Eq, Debug)]
+pub enum Refusal {
+    Shape = 1,
+    Letter,
+    Fields,
+    Count,
+    Nodes,
+    Uncovered,
+    Plan,
+    Unfit,
 }

@@ -18,7 +18,7 @@ use Rattle.layout.specs.Storing.{store_at}
 use Rattle.questions.specs.declared.Due.{Due}
 use Rattle.questions.specs.declared.Due.TheVariants.{Grammar, Symbol, Rule, RuleEdge, PlanLine, Graph, GraphEdge, Nothing}
 use Rattle.questions.proofs.WellFormedWalk.{room_in, room_next}
-use Rattle.readers.specs.Readers.{line_with, Stores, missing, verdict_of}
+use Rattle.readers.specs.Readers.{line_with, missing, verdict_of}
 
 -- ---- places
 stored_there : (t fs : List ℕ) (due : Due) → Room (length t) due → store_at t due fs ≡ stored t (place_of due) fs
@@ -105,10 +105,9 @@ module _ (g t₀ : List ℕ) (first : Due) (text t : List ℕ) (due : Due) (at :
   pub turn_no : (k ≡ 0 → ⊥) → (t' : List ℕ) → verdict_of k t' ≡ read_lines g t₀ first (counting_lines text)
   turn_no n t' = sym (reads_no g t due text at h k known n (accepted t')) ∙ inv.rest
 
-  pub turn_on : k ≡ 0 → (t' : List ℕ) (due' : Due) (at' : ℕ) → length t' ≡ length t → Stores t due line k t' → due' ≡ cond (in_table due) (next t' due) Nothing → at' ≡ after_line text start
+  pub turn_on : k ≡ 0 → (t' : List ℕ) (due' : Due) (at' : ℕ) → length t' ≡ length t → t' ≡ stored t (place_of due) (fields_of line) → due' ≡ cond (in_table due) (next t' due) Nothing → at' ≡ after_line text start
       → Reading g t₀ first text t' due' at'
-  turn_on z t' due' at' l stores follows a =
-      let p = stores z in
+  turn_on z t' due' at' l p follows a =
       let q : due' ≡ next t' due = follows ∙ ap (λ b. cond b (next t' due) Nothing) (room_in (length t) due inv.room) in
       record {
         within = omega (arith, a, after_le text start);

@@ -1,10 +1,10 @@
 -- What the readers' contracts say: the answer and every lent word by the outcome of crate `tables`.
-use Rattle.std.specs.Prelude.{◌≡◌, Bool, List, ℕ}
+use Rattle.std.specs.Prelude.{◌≡◌, Bool, List, ℕ, ⊤, Result, OnOk}
 use Rattle.format.specs.Fields.{fields_of}
 use Rattle.format.specs.Lines.{Line}
 use Rattle.questions.specs.Layout.{place_of, stored}
-use Rattle.questions.specs.Reading.{Verdict, accepted, go_on, Outcome}
-use Rattle.questions.specs.declared.Answer.{Answer}
+use Rattle.questions.specs.Reading.{Verdict, accepted, go_on, Outcome, Answer}
+use Rattle.questions.specs.declared.Refusal.{Refusal}
 use Rattle.questions.specs.declared.Due.{Due}
 use Rattle.questions.specs.declared.Due.TheVariants.{Grammar, Symbol, Rule, RuleEdge, PlanLine, Graph, GraphEdge, Nothing}
 
@@ -22,8 +22,8 @@ abbrev pub line_with : List ℕ → Bool → Line
 line_with bytes ended = record { bytes = bytes; ended = ended }
 
 -- a line that passes is stored at its place
-abbrev pub Stores : List ℕ → Due → List ℕ → ℕ → List ℕ → Type 0
-Stores t due line k t' = k ≡ 0 → t' ≡ stored t (place_of due) (fields_of line)
+abbrev pub Stores : List ℕ → Due → List ℕ → Result ⊤ Refusal → List ℕ → Type 0
+Stores t due line r t' = OnOk r (t' ≡ stored t (place_of due) (fields_of line))
 
 -- at the end of a text: refusal 2 where a line is due
 abbrev pub missing : Due → ℕ

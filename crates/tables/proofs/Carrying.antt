@@ -12,12 +12,14 @@ use Rattle.masks.specs.Masks.{bit, member, ◌∪◌, full, Added}
 use Rattle.masks.proofs.Laws.{bit_empty, member_true, member_false}
 use Rattle.hrg.specs.Counts.{hit, occurs, tabulate}
 use Rattle.hrg.proofs.Sums.{occurs_append, hit_self, hit_ne}
+use Rattle.std.specs.Prelude.{Option, Some, None}
 use Rattle.questions.specs.declared.Due.TheVariants.{PlanLine}
 use Rattle.questions.specs.Layout.{plans_from, plan_place, grammar_words, place_of, plan_kind, plan_first, plan_second, rule_edges, rule_plan}
 use Rattle.questions.specs.Questions.{ask, children_of, children_before, introduced_before, plan_so_far, plan_whole, judge_plan, judge}
 use Rattle.questions.specs.Checking.{fields_due, stored_fields}
 use Rattle.tables.specs.Marks.{marked, marks}
-use Rattle.tables.specs.Plans.{Marked, introduce_fits, join_fits, With, line_kept, Keeps}
+use Rattle.tables.specs.Plans.{Marked, introduce_fits, join_fits, With, Takes, line_kept, Keeps}
+use Rattle.tables.specs.declared.plans.PlanMarks.{PlanMarks}
 use Rattle.tables.proofs.LineFields.{ends_yes, ends_no}
 use Rattle.tables.specs.Concluding.{behind, Standing, Stands, Leads, Reaches, Count, rule_after}
 use Rattle.tables.proofs.Covering.{marks_append, marks_bit}
@@ -108,38 +110,43 @@ module _ (children introduced first second : ℕ) where
   pub with_two : (x y : ℕ) → Added children first x → Added x second y → With 2 first second children introduced y introduced
   with_two x y a b = record { below = marks_two children 2 first second x y refl a b; edges = marks_no_edge introduced 2 first second (λ z. omega arith) }
 
-  with_leaf : With 0 first second children introduced children introduced
-  with_leaf = record { below = marks_none children 0 first second (λ z. omega arith) (λ z. omega arith); edges = marks_no_edge introduced 0 first second (λ z. omega arith) }
+  pub with_none : With 0 first second children introduced children introduced
+  with_none = record { below = marks_none children 0 first second (λ z. omega arith) (λ z. omega arith); edges = marks_no_edge introduced 0 first second (λ z. omega arith) }
 
 -- ---- the line that stands in the table
 module _ (g : List ℕ) (r q children introduced kind first second : ℕ) (M : Marked g r q children introduced) (few : q + 1 ≤ 16)
     (e0 : kind ≡ plan_kind g r q) (e1 : first ≡ plan_first g r q) (e2 : second ≡ plan_second g r q) where
-  kept_known : (k : ℕ) → kind ≡ k → k ≤ 2 → (b : Bool) → b ≡ plan_so_far g r q k first second → (x y : ℕ)
-      → (b ≡ true → With k first second children introduced x y) → Keeps g r q b x y
+  -- a line of kind k that fits keeps the plan so far
+  kept_known : (k : ℕ) → kind ≡ k → k ≤ 2 → (b : Bool) → b ≡ plan_so_far g r q k first second → (found : Option PlanMarks)
+      → Takes b k first second (record { children = children; introduced = introduced }) found → Keeps g r q found
   unfolding line_kept
-  kept_known k same low b p x y w = record {
-    so = p ∙ rw (← e0, ← e1, ← e2, same, le-leb k 2 low) refl;
-    sets = λ h. let s = w h in marked_next g r q k first second children introduced x y (sym same ∙ e0) e1 e2 M s.below s.edges;
-  }
+  kept_known k same low b p found w = go found w
+    where
+      so : b ≡ line_kept g r q
+      so = p ∙ rw (← e0, ← e1, ← e2, same, le-leb k 2 low) refl
 
-  pub keeps_one : kind ≡ 1 → (edges : ℕ) → Count edges (rule_edges g r) 8 → (b : Bool) (x y : ℕ)
-      → (b ≡ introduce_fits q edges children introduced first second) × (b ≡ true → With 1 first second children introduced x y) → Keeps g r q b x y
-  keeps_one same edges c b x y p =
-      kept_known 1 same (omega arith) b (p.0 ∙ introduce_fits_is g r q children introduced M (omega arith) first second edges c.same c.few) x y p.1
+      go : (f : Option PlanMarks) → Takes b k first second (record { children = children; introduced = introduced }) f → Keeps g r q f
+      go None v = sym so ∙ v
+      go (Some m) v = record {
+        so = sym so ∙ v.0;
+        sets = marked_next g r q k first second children introduced m.children m.introduced (sym same ∙ e0) e1 e2 M v.1.below v.1.edges;
+      }
 
-  pub keeps_two : kind ≡ 2 → (b : Bool) (x y : ℕ)
-      → (b ≡ join_fits q children first second) × (b ≡ true → With 2 first second children introduced x y) → Keeps g r q b x y
-  keeps_two same b x y p = kept_known 2 same (omega arith) b (p.0 ∙ join_fits_is g r q children introduced M (omega arith) first second) x y p.1
+  pub keeps_none : kind ≡ 0 → (found : Option PlanMarks)
+      → Takes (eqb first 0 && eqb second 0) 0 first second (record { children = children; introduced = introduced }) found → Keeps g r q found
+  keeps_none same = kept_known 0 same (omega arith) _ (leaf_ok g r q first second)
 
-  unknown : 2 < kind → false ≡ line_kept g r q
+  pub keeps_one : kind ≡ 1 → (edges : ℕ) → Count edges (rule_edges g r) 8 → (found : Option PlanMarks)
+      → Takes (introduce_fits q edges children introduced first second) 1 first second (record { children = children; introduced = introduced }) found → Keeps g r q found
+  keeps_one same edges c = kept_known 1 same (omega arith) _ (introduce_fits_is g r q children introduced M (omega arith) first second edges c.same c.few)
+
+  pub keeps_two : kind ≡ 2 → (found : Option PlanMarks)
+      → Takes (join_fits q children first second) 2 first second (record { children = children; introduced = introduced }) found → Keeps g r q found
+  keeps_two same = kept_known 2 same (omega arith) _ (join_fits_is g r q children introduced M (omega arith) first second)
+
+  pub keeps_unknown : 2 < kind → line_kept g r q ≡ false
   unfolding line_kept
-  unknown h = rw (← e0, lt-leb kind 2 h) refl
-
-  pub keeps_none : (kind ≡ 0) → Keeps g r q (eqb first 0 && eqb second 0) children introduced
-  keeps_none e = kept_known 0 e (omega arith) _ (leaf_ok g r q first second) children introduced (λ h. with_leaf children introduced first second)
-
-  pub keeps_unknown : 2 < kind → Keeps g r q false children introduced
-  keeps_unknown l = record { so = unknown l; sets = λ h. absurd (false≢true h) }
+  keeps_unknown h = rw (← e0, lt-leb kind 2 h) refl
 
 -- ---- the answer of a line where it stands
 -- the plan is whole with line q as its last
@@ -184,24 +191,23 @@ module _ (t : List ℕ) (r q : ℕ) where
   unfolding line_kept
   standing_kept s = answered (leb (plan_kind t r q) 2) (plan_so_far t r q (plan_kind t r q) (plan_first t r q) (plan_second t r q)) closes (sym plan_answer ∙ s.passed)
 
-  module _ (b : Bool) (so : b ≡ line_kept t r q) where
-    pub line_not_kept : not b ≡ true → Stands [] t (PlanLine r q) false
-    line_not_kept e = record { yes = λ y. absurd (false≢true y); no = λ y s. false≢true (sym (not-true b e) ∙ so ∙ (standing_kept s).0) }
+  pub line_not_kept : line_kept t r q ≡ false → Stands [] t (PlanLine r q) false
+  line_not_kept e = record { yes = λ y. absurd (false≢true y); no = λ y s. false≢true (sym e ∙ (standing_kept s).0) }
 
-    module _ (z : Bool) (zs : z ≡ eqb (behind t (plan_place r q) 3) 0) where
-      pub line_not_zero : not z ≡ true → Stands [] t (PlanLine r q) false
-      unfolding place_of fields_due
-      line_not_zero e = record { yes = λ y. absurd (false≢true y); no = λ y s. ends_no t (plan_place r q) 3 z zs (not-true z e) s.rest }
+  module _ (z : Bool) (zs : z ≡ eqb (behind t (plan_place r q) 3) 0) where
+    pub line_not_zero : not z ≡ true → Stands [] t (PlanLine r q) false
+    unfolding place_of fields_due
+    line_not_zero e = record { yes = λ y. absurd (false≢true y); no = λ y s. ends_no t (plan_place r q) 3 z zs (not-true z e) s.rest }
 
-      pub line_stands : not b ≡ false → not z ≡ false → (w : Bool) → w ≡ closes → Stands [] t (PlanLine r q) w
-      unfolding place_of fields_due line_kept
-      line_stands kept clear w e = record {
-        yes = λ y. record {
-          passed = plan_answer ∙ passing (leb (plan_kind t r q) 2) (plan_so_far t r q (plan_kind t r q) (plan_first t r q) (plan_second t r q)) closes (sym so ∙ not-false b kept) (sym e ∙ y);
-          rest = ends_yes t (plan_place r q) 3 z zs (not-false z clear);
-        };
-        no = λ y s. false≢true (sym y ∙ e ∙ (standing_kept s).1);
-      }
+    pub line_stands : line_kept t r q ≡ true → not z ≡ false → (w : Bool) → w ≡ closes → Stands [] t (PlanLine r q) w
+    unfolding place_of fields_due line_kept
+    line_stands kept clear w e = record {
+      yes = λ y. record {
+        passed = plan_answer ∙ passing (leb (plan_kind t r q) 2) (plan_so_far t r q (plan_kind t r q) (plan_first t r q) (plan_second t r q)) closes kept (sym e ∙ y);
+        rest = ends_yes t (plan_place r q) 3 z zs (not-false z clear);
+      };
+      no = λ y s. false≢true (sym y ∙ e ∙ (standing_kept s).1);
+    }
 
 -- ---- line after line: q lines are passed, all but the last of the plan for good, and that one if the plan is whole
 pub record Passed (t : List ℕ) (r n q : ℕ) : Type 0 where

@@ -4,7 +4,7 @@ use native.Mathlib.Omega.{arith}
 use native.Mathlib.Numerals.{add-one}
 use native.Mathlib.Decide.{dec_lt}
 use mathlib.Core.Path.{◌≡◌, refl, sym, ap, ◌∙◌}
-use mathlib.Core.Bool.{Bool, true, false, ◌&&◌, ◌||◌, cond, false≢true}
+use mathlib.Core.Bool.{Bool, true, false, ◌&&◌, ◌||◌, cond}
 use mathlib.Core.List.{List, [], ◌∷◌, ◌++◌}
 use lib.Bits.{bit_or, bit_and, or_zero_l, or_zero_r, and_mask}
 use lib.ListN.{length, get_or, drop, drop_of_length-le}
@@ -17,9 +17,9 @@ use Rattle.hrg.specs.Counts.{hit, occurs, tabulate}
 use Rattle.hrg.specs.WellFormedTest.{Decides}
 use Rattle.hrg.proofs.Sums.{hit_ne, length_tabulate}
 use Rattle.hrg.proofs.WellFormedTest.{◌and◌, decides_le, decides_eq, decides_map, decides_every}
-use Rattle.questions.specs.Layout.{graph_edge_place, edge_place, line_field, rank_at, edge_label, graph_label}
+use Rattle.questions.specs.Layout.{edges_from, graph_edge_place, line_field, rank_at}
 use Rattle.questions.proofs.StoredLaws.{get_d_tabulate}
-use Rattle.tables.specs.Marks.{marked, marks, nodes_at, Distinct}
+use Rattle.tables.specs.Marks.{marked, marks, nodes_at, nodes_from, Listed}
 use Rattle.questions.specs.Questions.{listed, covered, nodes_on_edges, nodes_on_graph}
 use Rattle.tables.proofs.Listing.{true_is, Seen, seen_none, seen_all, seen_out, seen_twice, seen_more}
 
@@ -98,29 +98,31 @@ pub line_done : (n : ℕ) (f : ℕ → ℕ) (k m v : ℕ) → n ≤ k → marks 
 line_done n f k m v h p = marks_done (tabulate n f) k m v (omega (arith, length_tabulate n f)) p
 
 -- ---- the edges one by one
-pub edges_none : (g : List ℕ) (r : ℕ) → 0 ≡ marks 0 (nodes_on_edges g r 0)
-unfolding marks nodes_on_edges
-edges_none g r = refl
+pub from_none : (g t : List ℕ) (p : ℕ) → 0 ≡ marks 0 (nodes_from g t p 0)
+unfolding marks nodes_from
+from_none g t p = refl
 
-pub edges_next : (g : List ℕ) (r i label rank p m x : ℕ) → label ≡ edge_label g r i → rank ≡ rank_at g label → p ≡ edge_place r i → m ≡ marks 0 (nodes_on_edges g r i)
-    → x ≡ marks m (tabulate rank (λ k. line_field g p (1 + k))) → x ≡ marks 0 (nodes_on_edges g r (i + 1))
-unfolding nodes_on_edges
-edges_next g r i label rank p m x a b e c d = d ∙ rw (b, a, e, c, add-one) (sym (marks_append 0 (nodes_on_edges g r i) (tabulate (rank_at g (edge_label g r i)) (λ k. line_field g (edge_place r i) (1 + k)))))
+pub from_next : (g t : List ℕ) (p i label rank m x : ℕ) → label ≡ line_field t (p + i) 0 → rank ≡ rank_at g label → m ≡ marks 0 (nodes_from g t p i)
+    → x ≡ marks m (nodes_at t (p + i) rank) → x ≡ marks 0 (nodes_from g t p (i + 1))
+unfolding nodes_from
+from_next g t p i label rank m x a b c d = d ∙ rw (b, a, c, add-one) (sym (marks_append 0 (nodes_from g t p i) (nodes_at t (p + i) (rank_at g (line_field t (p + i) 0)))))
 
-pub edges_done : (g : List ℕ) (r n i x : ℕ) → i ≤ n → n ≤ i → x ≡ marks 0 (nodes_on_edges g r i) → x ≡ marks 0 (nodes_on_edges g r n)
-edges_done g r n i x a b p = p ∙ ap (λ k. marks 0 (nodes_on_edges g r k)) (let e : i ≡ n = omega arith in e)
+-- those of a rule and of a graph
+rule_from : (g : List ℕ) (r n : ℕ) → nodes_from g g (edges_from r) n ≡ nodes_on_edges g r n
+unfolding nodes_from nodes_on_edges
+rule_from g r zero = refl
+rule_from g r (suc n) = ap (λ l. l ++ nodes_at g (edges_from r + n) (rank_at g (line_field g (edges_from r + n) 0))) (rule_from g r n)
 
-pub graph_none : (g h : List ℕ) → 0 ≡ marks 0 (nodes_on_graph g h 0)
-unfolding marks nodes_on_graph
-graph_none g h = refl
+pub rule_marks : (g : List ℕ) (r n p x : ℕ) → p ≡ edges_from r → x ≡ marks 0 (nodes_from g g p n) → x ≡ marks 0 (nodes_on_edges g r n)
+rule_marks g r n p x e m = m ∙ ap (λ q. marks 0 (nodes_from g g q n)) e ∙ ap (marks 0) (rule_from g r n)
 
-pub graph_next : (g h : List ℕ) (e label rank p m x : ℕ) → label ≡ graph_label h e → rank ≡ rank_at g label → p ≡ graph_edge_place e → m ≡ marks 0 (nodes_on_graph g h e)
-    → x ≡ marks m (tabulate rank (λ k. line_field h p (1 + k))) → x ≡ marks 0 (nodes_on_graph g h (e + 1))
-unfolding nodes_on_graph
-graph_next g h e label rank p m x a b q c d = d ∙ rw (b, a, q, c, add-one) (sym (marks_append 0 (nodes_on_graph g h e) (tabulate (rank_at g (graph_label h e)) (λ k. line_field h (graph_edge_place e) (1 + k)))))
+graph_from : (g h : List ℕ) (n : ℕ) → nodes_from g h (graph_edge_place 0) n ≡ nodes_on_graph g h n
+unfolding nodes_from nodes_on_graph
+graph_from g h zero = refl
+graph_from g h (suc n) = ap (λ l. l ++ nodes_at h (1 + n) (rank_at g (line_field h (1 + n) 0))) (graph_from g h n)
 
-pub graph_done : (g h : List ℕ) (n i x : ℕ) → i ≤ n → n ≤ i → x ≡ marks 0 (nodes_on_graph g h i) → x ≡ marks 0 (nodes_on_graph g h n)
-graph_done g h n i x a b p = p ∙ ap (λ k. marks 0 (nodes_on_graph g h k)) (let e : i ≡ n = omega arith in e)
+pub graph_marks : (g h : List ℕ) (n p x : ℕ) → p ≡ graph_edge_place 0 → x ≡ marks 0 (nodes_from g h p n) → x ≡ marks 0 (nodes_on_graph g h n)
+graph_marks g h n p x e m = m ∙ ap (λ q. marks 0 (nodes_from g h q n)) e ∙ ap (marks 0) (graph_from g h n)
 
 -- ---- the members of a mask of a list
 marked_bit : (m y x : ℕ) → x < 64 → (0 < bit (marked m y) x → 0 < bit m x + hit x y) × (0 < bit m x + hit x y → 0 < bit (marked m y) x)
@@ -176,10 +178,10 @@ module _ (nodes : ℕ) (t : List ℕ) (p n seen k : ℕ) (s : Sought nodes (node
   abbrev own : List ℕ
   own = nodes_at t p n
 
-  pub sought_all : n ≤ k → Distinct nodes own true seen
+  pub sought_all : n ≤ k → Listed nodes own seen
   sought_all h = record {
-    kept = seen_all nodes own seen k s.part (omega (arith, length_tabulate n (λ j. line_field t p (1 + j))));
-    set = λ y. line_done n (λ j. line_field t p (1 + j)) k seen (marks 0 own) h s.set;
+    kept = sym (seen_all nodes own seen k s.part (omega (arith, length_tabulate n (λ j. line_field t p (1 + j)))));
+    set = line_done n (λ j. line_field t p (1 + j)) k seen (marks 0 own) h s.set;
   }
 
   module _ (few : nodes ≤ 64) (x : ℕ) (h : k < n) (v : x ≡ line_field t p (1 + k)) where
@@ -189,14 +191,11 @@ module _ (nodes : ℕ) (t : List ℕ) (p n seen k : ℕ) (s : Sought nodes (node
     value : x ≡ get_or own k 0
     value = v ∙ sym (get_d_tabulate n (λ j. line_field t p (1 + j)) k 0 h)
 
-    refused : (m : ℕ) → false ≡ listed nodes own → Distinct nodes own false m
-    refused m f = record { kept = f; set = λ y. absurd (false≢true y) }
+    pub sought_out : nodes ≤ x → listed nodes own ≡ false
+    sought_out l = sym (seen_out nodes own seen k x inside value (omega arith))
 
-    pub sought_out : nodes ≤ x → (m : ℕ) → Distinct nodes own false m
-    sought_out l m = refused m (seen_out nodes own seen k x inside value (omega arith))
-
-    pub sought_twice : bit_and (seen / 2 ^ x) 1 ≡ 1 → (m : ℕ) → Distinct nodes own false m
-    sought_twice b m = refused m (seen_twice nodes own seen k x inside value s.part (true_member seen x (sym (shifted_bit seen x) ∙ b)))
+    pub sought_twice : bit_and (seen / 2 ^ x) 1 ≡ 1 → listed nodes own ≡ false
+    sought_twice b = sym (seen_twice nodes own seen k x inside value s.part (true_member seen x (sym (shifted_bit seen x) ∙ b)))
 
     pub sought_more : x < nodes → (bit_and (seen / 2 ^ x) 1 ≡ 1 → ⊥) → Sought nodes own (bit_or seen (1 * 2 ^ x % 2 ^ 64)) (k + 1)
     unfolding ◌∪◌

@@ -14,6 +14,7 @@ use lib.Dec.{eqb, ltb, leb}
 use borrow.Author.Tests.{eq-eqb, lt-ltb, le-ltb, le-leb, not-true, not-false}
 use Rattle.masks.specs.Masks.{◌∪◌, full}
 use Rattle.hrg.proofs.Sums.{length_tabulate}
+use Rattle.std.specs.Prelude.{Option, Some, None}
 use Rattle.questions.specs.declared.Due.{Due}
 use Rattle.questions.specs.declared.Due.TheVariants.{RuleEdge, PlanLine, GraphEdge, Nothing}
 use Rattle.questions.specs.Layout.{edges_from, place_of, line_field, symbol_count, kind_field, rank_at, rule_nodes, rule_edges, graph_nodes, graph_edges, edge_label, graph_label}
@@ -23,8 +24,8 @@ use Rattle.questions.specs.Checking.{fields_due, stored_fields}
 use Rattle.questions.proofs.StoredLaws.{get_d_tabulate}
 use Rattle.questions.proofs.WellFormedAccepted.{fields_listed}
 use Rattle.questions.proofs.WellFormedWalk.{IsLine}
-use Rattle.tables.specs.Marks.{marks, nodes_at, Distinct}
-use Rattle.tables.specs.Concluding.{behind, Standing, Stands, Attached, Nearly, NearlyStands, Rest, Leads, Reaches, Count}
+use Rattle.tables.specs.Marks.{marks, nodes_at, Listed}
+use Rattle.tables.specs.Concluding.{behind, Standing, Stands, Ending, Attached, Nearly, NearlyWith, NearlyStands, Rest, Leads, Reaches, Count}
 use Rattle.tables.proofs.Asking.{EdgeAsked}
 use Rattle.tables.proofs.LineAnswers.{rule_edge_asked, graph_edge_asked}
 use Rattle.tables.proofs.LineFields.{ends_yes, ends_no}
@@ -33,31 +34,16 @@ use Rattle.tables.proofs.Covering.{marks_append, marks_union, marks_covered}
 use Rattle.tables.proofs.Leading.{lines_start, lines_end, lines_no, lines_next, next_edge, next_graph_edge}
 
 -- ---- the nodes of a line, and what is behind them
-module _ (nodes : ℕ) (t : List ℕ) (p n : ℕ) (ok : Bool) (seen : ℕ) (D : Distinct nodes (nodes_at t p n) ok seen) where
-  pub attached_no : not ok ≡ true → Attached nodes t p n ok seen
-  attached_no h = record {
-    kept = λ y. sym D.kept ∙ y;
-    rest = λ y. absurd (false≢true (sym (not-true ok h) ∙ y));
-    set = D.set;
-    no = λ y l z. false≢true (sym y ∙ D.kept ∙ l);
-  }
+module _ (nodes : ℕ) (t : List ℕ) (p n : ℕ) where
+  pub attached_no : listed nodes (nodes_at t p n) ≡ false → Attached nodes t p n None
+  attached_no f l z = false≢true (sym f ∙ l)
 
   module _ (z : Bool) (zs : z ≡ eqb (behind t p (1 + n)) 0) where
-    pub behind_no : not z ≡ true → (m : ℕ) → Attached nodes t p n false m
-    behind_no h m = record {
-      kept = λ y. absurd (false≢true y);
-      rest = λ y. absurd (false≢true y);
-      set = λ y. absurd (false≢true y);
-      no = λ y l r. ends_no t p (1 + n) z zs (not-true z h) r;
-    }
+    pub behind_no : not z ≡ true → Attached nodes t p n None
+    behind_no h l r = ends_no t p (1 + n) z zs (not-true z h) r
 
-    pub attached_yes : not ok ≡ false → not z ≡ false → Attached nodes t p n ok seen
-    attached_yes k h = record {
-      kept = λ y. sym D.kept ∙ y;
-      rest = λ y. ends_yes t p (1 + n) z zs (not-false z h);
-      set = D.set;
-      no = λ y. absurd (false≢true (sym y ∙ not-false ok k));
-    }
+    pub attached_yes : (seen : ℕ) → Listed nodes (nodes_at t p n) seen → not z ≡ false → Ending nodes t p n seen
+    attached_yes seen k h = record { kept = k; rest = ends_yes t p (1 + n) z zs (not-false z h) }
 
 -- a line that stands, and one that does not
 does : {g t : List ℕ} (due : Due) → Standing g t due → Stands g t due true
@@ -111,25 +97,24 @@ module _ (g t : List ℕ) (due : Due) (fixed : Bool) (rank nodes j edges : ℕ) 
   abbrev verdict : ℕ
   verdict = judge g t due (stored_fields g t t due)
 
-  pub nearly_no : not fixed ≡ true → (seen : ℕ) → NearlyStands g t due false seen
-  nearly_no n seen = record {
-    yes = λ y. absurd (false≢true y);
-    set = λ y. absurd (false≢true y);
-    no = λ y s. absurd (false≢true (sym (not-true fixed n) ∙ (kept_by fixed inside (ltb j edges || all) verdict L.answer s.passed).0));
-  }
+  pub nearly_no : not fixed ≡ true → NearlyStands g t due None
+  nearly_no n s = absurd (false≢true (sym (not-true fixed n) ∙ (kept_by fixed inside (ltb j edges || all) verdict L.answer s.passed).0))
 
-  pub nearly_by : not fixed ≡ false → (p k top : ℕ) → p ≡ place_of due → k ≡ rank → top ≡ min 64 nodes → (ok : Bool) (seen : ℕ) → Attached top t p k ok seen
-      → NearlyStands g t due ok seen
-  nearly_by n p k top q r w ok seen A =
-      let A2 : Attached top t (place_of due) rank ok seen = subst (λ i. Attached top t i rank ok seen) q (subst (λ i. Attached top t p i ok seen) r A) in
-      let same : listed top (nodes_at t (place_of due) rank) ≡ listed nodes (nodes_at t (place_of due) rank) = rw w (listed_top nodes (nodes_at t (place_of due) rank)) in
-      record {
-        yes = λ y. record {
-          passed = by_kept fixed inside (ltb j edges || all) verdict L.answer (not-false fixed n) (sym same ∙ A2.kept y);
-          rest = subst (λ i. behind t (place_of due) i ≡ 0) (sym L.count) (A2.rest y);
+  pub nearly_by : not fixed ≡ false → (p k top : ℕ) → p ≡ place_of due → k ≡ rank → top ≡ min 64 nodes → (found : Option ℕ) → Attached top t p k found
+      → NearlyStands g t due found
+  nearly_by n p k top q r w found A = go found (subst (λ i. Attached top t i rank found) q (subst (λ i. Attached top t p i found) r A))
+    where
+      same : listed top (nodes_at t (place_of due) rank) ≡ listed nodes (nodes_at t (place_of due) rank)
+      same = rw w (listed_top nodes (nodes_at t (place_of due) rank))
+
+      go : (f : Option ℕ) → Attached top t (place_of due) rank f → NearlyStands g t due f
+      go None B = λ s. B (same ∙ (kept_by fixed inside (ltb j edges || all) verdict L.answer s.passed).1) (subst (λ i. behind t (place_of due) i ≡ 0) L.count s.rest)
+      go (Some seen) B = record {
+        stands = record {
+          passed = by_kept fixed inside (ltb j edges || all) verdict L.answer (not-false fixed n) (sym same ∙ B.kept.kept);
+          rest = subst (λ i. behind t (place_of due) i ≡ 0) (sym L.count) B.rest;
         };
-        set = λ y. A2.set y ∙ ap (marks 0) (sym L.own);
-        no = λ y s. A2.no y (same ∙ (kept_by fixed inside (ltb j edges || all) verdict L.answer s.passed).1) (subst (λ i. behind t (place_of due) i ≡ 0) L.count s.rest);
+        set = B.kept.set ∙ ap (marks 0) (sym L.own);
       }
 
   nearly_stands : (ltb j edges || all) ≡ true → Nearly g t due → Standing g t due
@@ -248,11 +233,11 @@ module _ (size : ℕ) (g t : List ℕ) (kind : ℕ → Due) (after : Due) (first
   passed_none = record { set = ap (marks 0) (sym E.none); lines = λ k h. absurd (omega arith) }
 
   module _ (i mask : ℕ) (P : Passed g t kind on i mask) where
-    pub passed_more : (ok : Bool) (seen : ℕ) → NearlyStands g t (kind i) ok seen → not ok ≡ false → Passed g t kind on (i + 1) (bit_or mask seen)
+    pub passed_more : (seen : ℕ) → NearlyWith g t (kind i) seen → Passed g t kind on (i + 1) (bit_or mask seen)
     unfolding ◌∪◌
-    passed_more ok seen s h = record {
+    passed_more seen s = record {
       set =
-          ap (λ m. bit_or m seen) P.set ∙ ap (bit_or (marks 0 (on i))) (s.set (not-false ok h) ∙ ap (marks 0) (E.lines i).own)
+          ap (λ m. bit_or m seen) P.set ∙ ap (bit_or (marks 0 (on i))) (s.set ∙ ap (marks 0) (E.lines i).own)
           ∙ sym (marks_union (marks 0 (on i)) (nodes_at t (place_of (kind i)) (E.rank i))) ∙ sym (marks_append 0 (on i) (nodes_at t (place_of (kind i)) (E.rank i)))
           ∙ ap (marks 0) (sym (E.more i));
       lines = λ k l. go k l (dec_lt k i);
@@ -260,7 +245,7 @@ module _ (size : ℕ) (g t : List ℕ) (kind : ℕ → Due) (after : Due) (first
       where
         go : (k : ℕ) → k < i + 1 → Dec (k < i) → Nearly g t (kind k)
         go k l (yes d) = P.lines k d
-        go k l (no d) = subst (λ j. Nearly g t (kind j)) (let e : i ≡ k = omega arith in e) (s.yes (not-false ok h))
+        go k l (no d) = subst (λ j. Nearly g t (kind j)) (let e : i ≡ k = omega arith in e) s.stands
 
     -- up to a line before which no one is the last
     to_line : (k : ℕ) → k < n → k ≤ i → Leads size g t (kind 0) first (cond (ltb k n) (kind k) after) (first + k)
@@ -270,10 +255,10 @@ module _ (size : ℕ) (g t : List ℕ) (kind : ℕ → Due) (after : Due) (first
         (lines_next size g t (kind 0) first kind after n k (first + k) (to_line k (omega arith) (omega arith)) (omega arith) (E.known k) true
         (does (kind k) (nearly_before g t (kind k) _ _ _ _ _ _ (E.lines k) (omega arith) (P.lines k (omega arith)))) refl (E.place k) (E.order k) (first + suc k) (omega arith))
 
-    pub passed_no : i < n → (ok : Bool) (seen : ℕ) → NearlyStands g t (kind i) ok seen → not ok ≡ true → Rest size g t (kind 0) first → ⊥
-    passed_no h ok seen s e =
+    pub passed_no : i < n → (Nearly g t (kind i) → ⊥) → Rest size g t (kind 0) first → ⊥
+    passed_no h s =
         lines_no size g t (kind 0) first kind after n i (first + i) (to_line i h (omega arith)) h (E.known i) false
-        (does_not (kind i) (λ q. s.no (not-true ok e) (stands_nearly g t (kind i) _ _ _ _ _ _ (E.lines i) q))) refl
+        (does_not (kind i) (λ q. s (stands_nearly g t (kind i) _ _ _ _ _ _ (E.lines i) q))) refl
 
     -- after the last one
     module _ (some : 1 ≤ n) (end : i ≡ n) (m : ℕ) (same : m ≡ nodes) (b : Bool) (B : b ≡ (leb m 64 && eqb (mask ∪ full (min m 64)) mask)) where

@@ -1,12 +1,15 @@
 -- Words that are 0: one word made of many, and a few tested one by one.
-use Prim.Native.Nat.{ℕ, ◌+◌, ◌*◌, ◌≤◌, ◌<◌}
+use Prim.Native.Nat.{ℕ, ◌+◌, ◌-◌, ◌*◌, ◌≤◌, ◌<◌}
 use native.Mathlib.Omega.{arith}
 use native.Mathlib.Decide.{dec_lt}
-use mathlib.Core.Path.{◌≡◌, refl, sym, subst}
+use mathlib.Core.Path.{◌≡◌, sym, ap, ◌∙◌, subst}
 use mathlib.Core.Bool.{Bool, true, false, false≢true}
 use mathlib.Core.List.{List}
 use lib.Bits.{bit_or, or_add_and, and_le_l, and_le_r}
-use lib.ListN.{get_or}
+use lib.ListN.{length, get_or, take, drop, length-take, length-drop}
+use lib.Seq.{get_or-take, get_or-drop}
+use Rattle.std.specs.Bool.{MatchBool}
+use Rattle.std.specs.List.{AllWithin, HoldsAt}
 use Rattle.tables.specs.Concluding.{Zero, Zeros, Gathered, eight_from}
 
 -- ---- one by one
@@ -14,28 +17,39 @@ module _ (t : List ℕ) (a : ℕ) where
   pub zero_none : Zero t a a
   zero_none i k l = absurd (omega arith)
 
-  pub zero_more : (i : ℕ) → Zero t a i → get_or t i 0 ≡ 0 → Zero t a (i + 1)
-  zero_more i z e k b l = go (dec_lt k i)
-    where
-      go : Dec (k < i) → get_or t k 0 ≡ 0
-      go (yes d) = z k b d
-      go (no d) = let same : k ≡ i = omega arith in rw same e
-
   pub zeros_at : (b c d : ℕ) (z : Bool) → a ≡ c → b ≡ d → Zeros t a b z → Zeros t c d z
   zeros_at b c d z e f zs = rw (← e, ← f) zs
-
-  pub zeros_no : (b i : ℕ) → a ≤ i → i < b → (get_or t i 0 ≡ 0 → ⊥) → Zeros t a b false
-  zeros_no b i l h n = record { yes = λ y. absurd (false≢true y); no = λ e z. n (z i l h) }
 
   pub zeros_all : (b i : ℕ) → Zero t a i → i ≡ b → Zeros t a b true
   zeros_all b i z e = record { yes = λ y. subst (Zero t a) e z; no = λ y. absurd (false≢true (sym y)) }
 
+  -- each is tested
+  pub zeros_by : (b : ℕ) → a ≤ b → b ≤ length t → (r : Bool)
+      → MatchBool r (AllWithin (λ x. x ≡ 0) (take (b - a) (drop a t)) 0 (length (take (b - a) (drop a t))))
+      ((k : ℕ) × (k < length (take (b - a) (drop a t))) × HoldsAt (λ x. x ≡ 0 → ⊥) (take (b - a) (drop a t)) k)
+      → Zeros t a b r
+  zeros_by b l m r h = go r h
+    where
+      long : length (take (b - a) (drop a t)) ≡ b - a
+      long = simp (length-take, length-drop) (omega arith)
+
+      own : (k : ℕ) → k < b - a → get_or (take (b - a) (drop a t)) k 0 ≡ get_or t (a + k) 0
+      own k d = get_or-take (b - a) (drop a t) k 0 d ∙ get_or-drop a t k 0
+
+      go : (s : Bool) → MatchBool s (AllWithin (λ x. x ≡ 0) (take (b - a) (drop a t)) 0 (length (take (b - a) (drop a t))))
+          ((k : ℕ) × (k < length (take (b - a) (drop a t))) × HoldsAt (λ x. x ≡ 0 → ⊥) (take (b - a) (drop a t)) k) → Zeros t a b s
+      go true f = record {
+        yes = λ y i k d. ap (λ j. get_or t j 0) (let e : i ≡ a + (i - a) = omega arith in e) ∙ sym (own (i - a) (omega arith)) ∙ f (i - a) 0 (omega arith) (omega (arith, long));
+        no = λ y. absurd (false≢true (sym y));
+      }
+      go false f = record {
+        yes = λ y. absurd (false≢true y);
+        no = λ y z. f.2 0 (own f.0 (omega (arith, f.1, long)) ∙ z (a + f.0) (omega arith) (omega (arith, f.1, long)));
+      }
+
 -- ---- one word made of many
 or_none : (a b : ℕ) → bit_or a b ≡ 0 → (a ≡ 0) × (b ≡ 0)
 or_none a b h = (omega (arith, or_add_and a b, and_le_r a b), omega (arith, or_add_and a b, and_le_l a b))
-
-pub gathered_none : (t : List ℕ) (a : ℕ) → Gathered t a a 0
-gathered_none t a = record { yes = λ h i k l. absurd (omega arith); no = λ z. refl }
 
 pub gathered_more : (t : List ℕ) (a i any : ℕ) → Gathered t a i any → a ≤ i → Gathered t a (i + 1) (bit_or any (get_or t i 0))
 gathered_more t a i any G l = record {
@@ -84,9 +98,6 @@ gathered_both t a i b p q l m G K = record { yes = λ h k c d. go (or_none p q h
         rw (none, rest)
 
 -- two halves of as many words, gone through by turns
-pub none_from : (t : List ℕ) (a : ℕ) → Gathered t a (a + 16 * 0) 0
-none_from t a = subst (λ k. Gathered t a k 0) (let e : a ≡ a + 16 * 0 = omega arith in e) (gathered_none t a)
-
 pub halves : (t : List ℕ) (a n half i p q : ℕ) → half ≡ a + 16 * n → i ≡ n → Gathered t a (a + 16 * i) p → Gathered t half (half + 16 * i) q → Gathered t a (a + 32 * n) (bit_or p q)
 halves t a n half i p q h e G K =
     gathered_both t a half (a + 32 * n) p q (omega arith) (omega arith)

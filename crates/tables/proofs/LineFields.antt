@@ -1,12 +1,11 @@
 -- The line that is due, judged where it stands in a table.
-use Prim.Native.Nat.{ℕ, ◌+◌, ◌-◌, ◌≤◌, ◌<◌}
+use Prim.Native.Nat.{ℕ, ◌-◌, ◌≤◌, ◌<◌}
 use native.Mathlib.Omega.{arith}
-use native.Mathlib.Decide.{dec_lt}
 use mathlib.Core.Path.{◌≡◌, sym, ap, ap₂, ◌∙◌}
 use mathlib.Core.Bool.{Bool, true, false, false≢true}
 use mathlib.Core.List.{List}
-use lib.ListN.{length, get_or, take, drop, set}
-use lib.Seq.{get_or-take, get_or-set_same, get_or-set_other, ext_get_or, length-take-le}
+use lib.ListN.{length, get_or, take, drop}
+use lib.Seq.{get_or-take, ext_get_or, length-take-le}
 use lib.Dec.{eqb}
 use borrow.Author.Tests.{eqb-true, eqb-false}
 use Rattle.hrg.specs.Counts.{tabulate}
@@ -35,15 +34,6 @@ abbrev pub Copied : List ℕ → ℕ → List ℕ → ℕ → Type 0
 Copied t p f k = (j : ℕ) → j < k → get_or f j 0 ≡ line_field t p j
 
 module _ (t : List ℕ) (p : ℕ) (f : List ℕ) (k : ℕ) (C : Copied t p f k) where
-  pub copied_next : k < length f → (x : ℕ) → x ≡ line_field t p k → Copied t p (set f k x) (k + 1)
-  copied_next l x e j b = go (dec_lt j k)
-    where
-      go : Dec (j < k) → get_or (set f k x) j 0 ≡ line_field t p j
-      go (yes d) = get_or-set_other f k j x 0 (λ z. omega arith) ∙ C j d
-      go (no d) =
-          let same : j ≡ k = omega arith in
-          ap (λ i. get_or (set f k x) i 0) same ∙ get_or-set_same f k x 0 l ∙ e ∙ ap (line_field t p) (sym same)
-
   pub copied_done : (n : ℕ) → n ≤ k → n ≤ length f → take n f ≡ tabulate n (λ j. line_field t p j)
   copied_done n b l =
       let long = length_tabulate n (λ j. line_field t p j) in

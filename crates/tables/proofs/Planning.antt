@@ -8,27 +8,41 @@ use mathlib.Core.List.{List, ◌++◌}
 use lib.Dec.{ltb, leb, eqb}
 use borrow.Author.Tests.{ne_eqb, le-leb}
 use Rattle.masks.specs.Masks.{◌∪◌, full, Added}
-use Rattle.hrg.specs.Counts.{hit, occurs}
+use mir.Val.{bool_byte}
+use Rattle.hrg.specs.Counts.{flag, hit, occurs}
 use Rattle.hrg.specs.WellFormedTest.{each, every}
-use Rattle.hrg.proofs.Sums.{occurs_append, hit_self, hit_ne}
+use Rattle.hrg.proofs.Sums.{occurs_append}
 use Rattle.questions.specs.Layout.{plan_kind, plan_first, plan_second, rule_edges}
 use Rattle.questions.specs.Questions.{covered, children_of, introduced_by, children_before, introduced_before, plan_so_far, plan_whole}
 use Rattle.questions.specs.Walk.{Room}
 use Rattle.questions.specs.declared.Due.{Due}
 use Rattle.questions.specs.declared.Due.TheVariants.{PlanLine}
 use Rattle.tables.specs.Marks.{marked, marks}
-use Rattle.tables.specs.Plans.{Marked}
+use Rattle.tables.specs.Plans.{named_in, named_before, Marked}
+use Rattle.tables.specs.declared.plans.Named.{Named}
+use Rattle.tables.specs.declared.plans.Named.TheVariants.{Child, Edge}
 use Rattle.tables.proofs.Covering.{marked_by_lem, marks_append, marks_covered, covered_by}
 
 -- ---- the places of plan lines
 pub room_lines : (n : ℕ) (due : Due) (r q : ℕ) → Room n due → due ≡ PlanLine r q → Room n (PlanLine r q)
 room_lines n due r q h e = subst (Room n) e h
 
-pub hit_yes : (a b : ℕ) → a ≡ b → 1 ≡ hit a b
-hit_yes a b e = rw e (sym (hit_self b))
+-- whether two numbers are the same, as a number
+module _ (a b x : ℕ) (e : x ≡ bool_byte (eqb a b)) where
+  pub hit_from : x ≡ hit a b
+  unfolding hit
+  hit_from = e ∙ go (eqb a b)
+    where
+      go : (y : Bool) → bool_byte y ≡ flag y
+      go true = refl
+      go false = refl
 
-pub hit_no : (a b : ℕ) → (a ≡ b → ⊥) → 0 ≡ hit a b
-hit_no a b e = sym (hit_ne a b e)
+  pub hit_few : x ≤ 1
+  hit_few = go (eqb a b) e
+    where
+      go : (y : Bool) → x ≡ bool_byte y → x ≤ 1
+      go true p = omega arith
+      go false p = omega arith
 
 -- ---- one line
 pub children_one : (kind first second c x : ℕ) → kind ≡ 1 → x ≡ hit c first → x ≡ occurs c (children_of kind first second)
@@ -53,33 +67,37 @@ introduced_none kind first second i p = rw (ne_eqb kind 1 p)
 
 -- ---- line by line
 module _ (g : List ℕ) (r c : ℕ) where
-  pub children_start : 0 ≡ occurs c (children_before g r 0)
+  children_start : 0 ≡ occurs c (children_before g r 0)
   unfolding children_before occurs
   children_start = refl
 
-  pub introduced_start : 0 ≡ occurs c (introduced_before g r 0)
+  introduced_start : 0 ≡ occurs c (introduced_before g r 0)
   unfolding introduced_before occurs
   introduced_start = refl
 
   module _ (q kind first second sum x : ℕ) (k : kind ≡ plan_kind g r q) (f : first ≡ plan_first g r q) (s : second ≡ plan_second g r q) where
-    pub children_next : sum ≡ occurs c (children_before g r q) → x ≡ occurs c (children_of kind first second) → sum + x ≡ occurs c (children_before g r (q + 1))
+    children_next : sum ≡ occurs c (children_before g r q) → x ≡ occurs c (children_of kind first second) → sum + x ≡ occurs c (children_before g r (q + 1))
     unfolding children_before
     children_next e p =
         rw (add-one, occurs_append c (children_before g r q) (children_of (plan_kind g r q) (plan_first g r q) (plan_second g r q)), ← k, ← f, ← s)
         (omega arith)
 
-    pub introduced_next : sum ≡ occurs c (introduced_before g r q) → x ≡ occurs c (introduced_by kind first second) → sum + x ≡ occurs c (introduced_before g r (q + 1))
+    introduced_next : sum ≡ occurs c (introduced_before g r q) → x ≡ occurs c (introduced_by kind first second) → sum + x ≡ occurs c (introduced_before g r (q + 1))
     unfolding introduced_before
     introduced_next e p =
         rw (add-one, occurs_append c (introduced_before g r q) (introduced_by (plan_kind g r q) (plan_first g r q) (plan_second g r q)), ← k, ← s)
         (omega arith)
 
-  module _ (n q sum : ℕ) (a : q ≤ n) (b : n ≤ q) where
-    pub children_done : sum ≡ occurs c (children_before g r q) → sum ≡ occurs c (children_before g r n)
-    children_done p = p ∙ ap (λ k. occurs c (children_before g r k)) (let e : q ≡ n = omega arith in e)
+-- both
+module _ (g : List ℕ) (r : ℕ) where
+  pub named_start : (what : Named) → 0 ≡ named_before g r 0 what
+  named_start (Child c) = children_start g r c
+  named_start (Edge i) = introduced_start g r i
 
-    pub introduced_done : sum ≡ occurs c (introduced_before g r q) → sum ≡ occurs c (introduced_before g r n)
-    introduced_done p = p ∙ ap (λ k. occurs c (introduced_before g r k)) (let e : q ≡ n = omega arith in e)
+  pub named_next : (q kind first second sum x : ℕ) → kind ≡ plan_kind g r q → first ≡ plan_first g r q → second ≡ plan_second g r q
+      → (what : Named) → sum ≡ named_before g r q what → x ≡ named_in kind first second what → sum + x ≡ named_before g r (q + 1) what
+  named_next q kind first second sum x k f s (Child c) = children_next g r c q kind first second sum x k f s
+  named_next q kind first second sum x k f s (Edge i) = introduced_next g r i q kind first second sum x k f s
 
 pub both_times : (c x y : ℕ) (xs ys : List ℕ) → x ≡ occurs c xs → y ≡ occurs c ys → x + y ≡ occurs c (xs ++ ys)
 both_times c x y xs ys p q = omega (arith, occurs_append c xs ys)

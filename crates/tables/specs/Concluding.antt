@@ -1,5 +1,5 @@
 -- What the functions of question 8's check promise one another.
-use Rattle.std.specs.Prelude.{◌≡◌, ◌⊎◌, Bool, true, false, cond, List, ℕ, ◌+◌, ◌*◌, ◌/◌, ◌^◌, ◌≤◌, ◌<◌, min, get_or, drop, ltb}
+use Rattle.std.specs.Prelude.{◌≡◌, ◌⊎◌, Bool, true, false, cond, List, ℕ, ◌+◌, ◌*◌, ◌/◌, ◌^◌, ◌≤◌, ◌<◌, min, get_or, drop, ltb, Option, MatchOption}
 use Rattle.std.specs.Int.Bits.{bit_or}
 use Rattle.questions.specs.Layout.{place_of, rule_count}
 use Rattle.questions.specs.Questions.{listed, judge}
@@ -7,7 +7,7 @@ use Rattle.questions.specs.Reading.{next}
 use Rattle.questions.specs.Checking.{fields_due, stored_fields}
 use Rattle.questions.specs.declared.Due.{Due}
 use Rattle.questions.specs.declared.Due.TheVariants.{Rule, Nothing}
-use Rattle.tables.specs.Marks.{marks, nodes_at}
+use Rattle.tables.specs.Marks.{marks, nodes_at, Listed}
 
 -- the words from a on are 0, as far as b
 abbrev pub Zero : List ℕ → ℕ → ℕ → Type 0
@@ -44,24 +44,28 @@ pub record Stands (g t : List ℕ) (due : Due) (r : Bool) : Type 0 where
   pub yes : r ≡ true → Standing g t due
   pub no : r ≡ false → Standing g t due → ⊥
 
--- ok says whether the n nodes of the line at place p are in range and distinct, with nothing behind them; then `seen`
--- is their set
-pub record Attached (nodes : ℕ) (t : List ℕ) (p n : ℕ) (ok : Bool) (seen : ℕ) : Type 0 where
-  pub kept : ok ≡ true → listed nodes (nodes_at t p n) ≡ true
-  pub rest : ok ≡ true → behind t p (1 + n) ≡ 0
-  pub set : ok ≡ true → seen ≡ marks 0 (nodes_at t p n)
-  pub no : ok ≡ false → listed nodes (nodes_at t p n) ≡ true → behind t p (1 + n) ≡ 0 → ⊥
+-- the n nodes of the line at place p are in range and distinct, with nothing behind them, and `seen` is their set
+pub record Ending (nodes : ℕ) (t : List ℕ) (p n seen : ℕ) : Type 0 where
+  pub kept : Listed nodes (nodes_at t p n) seen
+  pub rest : behind t p (1 + n) ≡ 0
+
+-- their set is found where they are
+abbrev pub Attached : ℕ → List ℕ → ℕ → ℕ → Option ℕ → Type 0
+Attached nodes t p n found = MatchOption found (listed nodes (nodes_at t p n) ≡ true → behind t p (1 + n) ≡ 0 → ⊥) (λ seen. Ending nodes t p n seen)
 
 -- the line that is due, an edge's, stands in t but for question 6, which the last one answers for all edges
 pub record Nearly (g t : List ℕ) (due : Due) : Type 0 where
   pub passed : (judge g t due (stored_fields g t t due) ≡ 0) ⊎ (judge g t due (stored_fields g t t due) ≡ 6)
   pub rest : behind t (place_of due) (fields_due g t t due) ≡ 0
 
--- ok says whether it does; then `seen` is the set of its nodes
-pub record NearlyStands (g t : List ℕ) (due : Due) (ok : Bool) (seen : ℕ) : Type 0 where
-  pub yes : ok ≡ true → Nearly g t due
-  pub set : ok ≡ true → seen ≡ marks 0 (drop 1 (stored_fields g t t due))
-  pub no : ok ≡ false → Nearly g t due → ⊥
+-- it does, and `seen` is the set of its nodes
+pub record NearlyWith (g t : List ℕ) (due : Due) (seen : ℕ) : Type 0 where
+  pub stands : Nearly g t due
+  pub set : seen ≡ marks 0 (drop 1 (stored_fields g t t due))
+
+-- the set is found where it does
+abbrev pub NearlyStands : List ℕ → List ℕ → Due → Option ℕ → Type 0
+NearlyStands g t due found = MatchOption found (Nearly g t due → ⊥) (λ seen. NearlyWith g t due seen)
 
 -- From `due` on the lines stand in t one after the other, and the words between them, from `from` on as far as
 -- `size`, are 0.

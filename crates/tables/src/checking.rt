@@ -8,7 +8,7 @@ ghost use Rattle.questions.specs.Walk.{Room};
 ghost use Rattle.questions.specs.Checking.{check_grammar, check_graph};
 ghost use Rattle.tables.specs.Concluding.{Zeros, Gathered, eight_from, behind, Stands, Attached, NearlyStands, Count, rule_after, Reaches, Concludes};
 
-use crate::marks::NodeSet;
+use crate::plans::PlanMarks;
 use crate::{judging, marks, plans};
 
 // How many words are looked at together.
@@ -31,13 +31,11 @@ fn gather(t: &[u64], a: u64, n: u64) -> u64
     let half = a + TWO_EIGHTS * n;
     let mut low: u64 = 0;
     let mut high: u64 = 0;
-    let mut i: u64 = 0;
-    while i < n {
+    for i in 0..n {
         let at = (a + TWO_EIGHTS * i) as usize;
         low = with_eight(t, at + 8, with_eight(t, at, low));
         let to = (half + TWO_EIGHTS * i) as usize;
         high = with_eight(t, to + 8, with_eight(t, to, high));
-        i += 1;
     }
     low | high
 }
@@ -47,14 +45,7 @@ fn few_zeros(t: &[u64], a: u64, b: u64) -> bool
     requires { (a ≤ b) × (b ≤ length t.now) }
     ensures { Zeros t.now a b result }
 {
-    let mut i = a;
-    while i < b {
-        if t[i as usize] != 0 {
-            return false;
-        }
-        i += 1;
-    }
-    true
+    t[a as usize..b as usize].iter().all(|w| *w == 0)
 }
 
 // The same for any number of words: mostly there are none between two lines; of many one word is made, so that little
@@ -87,10 +78,8 @@ fn fields_into(t: &[u64], p: u64, n: u64, f: &mut [u64])
     requires { (p < length t.now) × (n ≤ 9) × (length f.old ≡ 9) }
     ensures { take n f.new ≡ tabulate n (λ j. line_field t.now p j) }
 {
-    let mut k: u64 = 0;
-    while k < n {
+    for k in 0..n {
         f[k as usize] = layout::field_in(t, p, k);
-        k += 1;
     }
 }
 
@@ -101,7 +90,7 @@ fn grammar_stands(t: &[u64]) -> bool
 {
     let mut f = [0u64; 9];
     fields_into(t, 0, 3, &mut f);
-    if judging::judge_grammar(&f[0..3]) != 0 {
+    if judging::judge_grammar(&f[0..3]).is_err() {
         return false;
     }
     ends(t, 0, 3)
@@ -114,7 +103,7 @@ fn symbol_stands(t: &[u64], s: u64) -> bool
     let p = layout::symbol_place(s);
     let mut f = [0u64; 9];
     fields_into(t, p, 3, &mut f);
-    if judging::judge_symbol(t, s, &f[0..3]) != 0 {
+    if judging::judge_symbol(t, s, &f[0..3]).is_err() {
         return false;
     }
     ends(t, p, 3)
@@ -128,7 +117,7 @@ fn rule_stands(t: &[u64], r: u64) -> bool
     let n = 5 + layout::rank_at(t, layout::rule_symbol_in(t, r));
     let mut f = [0u64; 9];
     fields_into(t, p, n, &mut f);
-    if judging::judge_rule(t, r, &f[0..n as usize]) != 0 {
+    if judging::judge_rule(t, r, &f[0..n as usize]).is_err() {
         return false;
     }
     ends(t, p, n)
@@ -141,55 +130,51 @@ fn graph_stands(g: &[u64], t: &[u64]) -> bool
     let n = 2 + layout::rank_at(g, layout::start_symbol(g));
     let mut f = [0u64; 9];
     fields_into(t, 0, n, &mut f);
-    if judging::judge_graph(g, &f[0..n as usize]) != 0 {
+    if judging::judge_graph(g, &f[0..n as usize]).is_err() {
         return false;
     }
     ends(t, 0, n)
 }
 
-// The n nodes of the edge's line at place p: whether they are in range and distinct, with nothing behind them; then
-// their set.
-fn attached(t: &[u64], p: u64, n: u64, nodes: u64) -> NodeSet
+// The set of the n nodes of the edge's line at place p, where they are in range and distinct, with nothing behind them.
+fn attached(t: &[u64], p: u64, n: u64, nodes: u64) -> Option<u64>
     requires { (p < length t.now) × (n ≤ 4) × (nodes ≤ 64) }
-    ensures { Attached nodes t.now p n result.ok result.seen }
+    ensures { Attached nodes t.now p n result }
 {
-    let found = marks::distinct(t, p, n, nodes);
-    if !found.ok {
-        return found;
-    }
+    let seen = marks::distinct(t, p, n, nodes)?;
     if !ends(t, p, 1 + n) {
-        return NodeSet { ok: false, seen: 0 };
+        return None;
     }
-    found
+    Some(seen)
 }
 
 // An edge's line but for question 6: its nodes are given back as a set, so that the last line's question, whether
 // every node is on an edge, needs no second walk.
-fn graph_edge_stands(g: &[u64], t: &[u64], e: u64, symbols: u64, nodes: u64) -> NodeSet
+fn graph_edge_stands(g: &[u64], t: &[u64], e: u64, symbols: u64, nodes: u64) -> Option<u64>
     requires { Room (length t.now) (GraphEdge e) × (symbols ≡ symbol_count g.now) × (nodes ≡ min 64 (graph_nodes t.now)) }
-    ensures { NearlyStands g.now t.now (GraphEdge e) result.ok result.seen }
+    ensures { NearlyStands g.now t.now (GraphEdge e) result }
 {
     let p = layout::graph_edge_place(e);
     let label = layout::graph_label_in(t, e);
     let kind = layout::kind_of(g, label);
     let fixed = (label < symbols) & (kind == 0);
     if !fixed {
-        return NodeSet { ok: false, seen: 0 };
+        return None;
     }
     attached(t, p, layout::rank_at(g, label), nodes)
 }
 
 // The same of a rule.
-fn rule_edge_stands(t: &[u64], r: u64, i: u64, symbols: u64, nodes: u64) -> NodeSet
+fn rule_edge_stands(t: &[u64], r: u64, i: u64, symbols: u64, nodes: u64) -> Option<u64>
     requires { Room (length t.now) (RuleEdge r i) × (symbols ≡ symbol_count t.now) × (nodes ≡ min 64 (rule_nodes t.now r)) }
-    ensures { NearlyStands [] t.now (RuleEdge r i) result.ok result.seen }
+    ensures { NearlyStands [] t.now (RuleEdge r i) result }
 {
     let p = layout::edge_place(r, i);
     let label = layout::edge_label_in(t, r, i);
     let rank = layout::rank_at(t, label);
     let fixed = (label < symbols) & (1 <= rank);
     if !fixed {
-        return NodeSet { ok: false, seen: 0 };
+        return None;
     }
     attached(t, p, rank, nodes)
 }
@@ -200,12 +185,10 @@ fn check_symbols(t: &[u64], n: u64) -> bool
     requires { Room (length t.now) Grammar × Count n (symbol_count t.now) 64 }
     ensures { Reaches grammar_words [] t.now (Symbol 0) (symbol_place 0) (Rule 0) (symbol_place n) result }
 {
-    let mut s: u64 = 0;
-    while s < n {
+    for s in 0..n {
         if !symbol_stands(t, s) {
             return false;
         }
-        s += 1;
     }
     true
 }
@@ -217,16 +200,13 @@ fn check_edges(t: &[u64], r: u64, n: u64) -> bool
 {
     let symbols = layout::symbol_count_in(t);
     let nodes = layout::rule_nodes_in(t, r);
-    let top = layout::at_most(64, nodes);
+    let top = nodes.min(64);
     let mut mask: u64 = 0;
-    let mut i: u64 = 0;
-    while i < n {
-        let line = rule_edge_stands(t, r, i, symbols, top);
-        if !line.ok {
+    for i in 0..n {
+        let Some(seen) = rule_edge_stands(t, r, i, symbols, top) else {
             return false;
-        }
-        mask |= line.seen;
-        i += 1;
+        };
+        mask |= seen;
     }
     marks::has_all(mask, nodes)
 }
@@ -237,22 +217,20 @@ fn check_plan(t: &[u64], r: u64, n: u64, edges: u64) -> bool
     requires { Room (length t.now) (Rule r) × Count n (rule_plan t.now r) 16 × Count edges (rule_edges t.now r) 8 }
     ensures { Reaches grammar_words [] t.now (PlanLine r 0) (plans_from r) (rule_after t.now r) (plan_place r n) result }
 {
-    let mut children: u64 = 0;
-    let mut introduced: u64 = 0;
-    let mut q: u64 = 0;
-    while q < n {
-        let line = plans::with_line(t, r, q, edges, children, introduced);
-        if !line.kept {
+    let mut named = PlanMarks {
+        children: 0,
+        introduced: 0,
+    };
+    for q in 0..n {
+        let Some(more) = plans::with_line(t, r, q, edges, named) else {
             return false;
-        }
+        };
         if !ends(t, layout::plan_place(r, q), 3) {
             return false;
         }
-        children = line.children;
-        introduced = line.introduced;
-        q += 1;
+        named = more;
     }
-    marks::has_all(children, n - 1) & marks::has_all(introduced, edges)
+    marks::has_all(named.children, n - 1) & marks::has_all(named.introduced, edges)
 }
 
 // The lines of rule r, and the words between its edges and its plan.
@@ -279,8 +257,7 @@ fn check_rules(t: &[u64], first: u64, n: u64) -> bool
     ensures { Concludes grammar_words [] t.now (Rule 0) first result }
 {
     let mut from = first;
-    let mut r: u64 = 0;
-    while r < n {
+    for r in 0..n {
         if !zeros(t, from, layout::rule_place(r)) {
             return false;
         }
@@ -288,7 +265,6 @@ fn check_rules(t: &[u64], first: u64, n: u64) -> bool
             return false;
         }
         from = layout::plan_place(r, layout::rule_plan_in(t, r));
-        r += 1;
     }
     zeros(t, from, layout::GRAMMAR_WORDS as u64)
 }
@@ -317,16 +293,13 @@ fn check_graph_edges(g: &[u64], t: &[u64], n: u64) -> bool
 {
     let symbols = layout::symbol_count(g);
     let nodes = layout::graph_nodes_in(t);
-    let top = layout::at_most(64, nodes);
+    let top = nodes.min(64);
     let mut mask: u64 = 0;
-    let mut e: u64 = 0;
-    while e < n {
-        let edge = graph_edge_stands(g, t, e, symbols, top);
-        if !edge.ok {
+    for e in 0..n {
+        let Some(seen) = graph_edge_stands(g, t, e, symbols, top) else {
             return false;
-        }
-        mask |= edge.seen;
-        e += 1;
+        };
+        mask |= seen;
     }
     if !marks::has_all(mask, nodes) {
         return false;

@@ -1,16 +1,17 @@
-// Questions 3 to 7, one function for each kind of line: the first no is the answer, 0 is no refusal.
+// Questions 3 to 7, one function for each kind of line: the first no is the refusal.
 ghost use Rattle.std.specs.Prelude.{◌≡◌, cond, ◌&&◌, ◌||◌, ◌+◌, ◌≤◌, length, eqb, ltb};
 ghost use Rattle.questions.specs.Layout.{in_table, rule_plan};
 ghost use Rattle.questions.specs.Questions.{ask, plan_whole, judge_grammar, judge_symbol, judge_rule, judge_rule_edge, judge_plan, judge_graph, judge_graph_edge, judge};
+ghost use Rattle.questions.specs.Refusing.{number_in};
 ghost use Rattle.questions.specs.Walk.{Room};
 ghost use Rattle.tables.specs.Plans.{PlanRoom};
 
 use crate::{marks, plans};
-use questions::Due;
+use questions::{Due, Refusal};
 
 // `G`: symbols (1-64), rules (1-64), start symbol.
-pub(crate) fn judge_grammar(f: &[u64]) -> u64
-    ensures { result ≡ judge_grammar f.now }
+pub(crate) fn judge_grammar(f: &[u64]) -> Result<(), Refusal>
+    ensures { number_in result ≡ judge_grammar f.now }
 {
     let n = f.len() as u64;
     let symbols = layout::field(f, 0);
@@ -21,17 +22,17 @@ pub(crate) fn judge_grammar(f: &[u64]) -> u64
         & ((1 <= rules) & (rules <= 64))
         & (start < symbols);
     if !fixed {
-        return 3;
+        return Err(Refusal::Fields);
     }
     if n != 3 {
-        return 4;
+        return Err(Refusal::Count);
     }
-    0
+    Ok(())
 }
 
 // `S`: its number, kind, rank.
-pub(crate) fn judge_symbol(g: &[u64], s: u64, f: &[u64]) -> u64
-    ensures { result ≡ judge_symbol g.now s f.now }
+pub(crate) fn judge_symbol(g: &[u64], s: u64, f: &[u64]) -> Result<(), Refusal>
+    ensures { number_in result ≡ judge_symbol g.now s f.now }
 {
     let n = f.len() as u64;
     let number = layout::field(f, 0);
@@ -45,17 +46,17 @@ pub(crate) fn judge_symbol(g: &[u64], s: u64, f: &[u64]) -> u64
         & ((1 <= rank) | (s == start))
         & ((kind == 1) | (s != start));
     if !fixed {
-        return 3;
+        return Err(Refusal::Fields);
     }
     if n != 3 {
-        return 4;
+        return Err(Refusal::Count);
     }
-    0
+    Ok(())
 }
 
 // `R`: its number, its nonterminal, nodes (1-8), edges (1-8), plan nodes (2-16), then its external nodes.
-pub(crate) fn judge_rule(g: &[u64], r: u64, f: &[u64]) -> u64
-    ensures { result ≡ judge_rule g.now r f.now }
+pub(crate) fn judge_rule(g: &[u64], r: u64, f: &[u64]) -> Result<(), Refusal>
+    ensures { number_in result ≡ judge_rule g.now r f.now }
 {
     let n = f.len() as u64;
     let number = layout::field(f, 0);
@@ -73,22 +74,22 @@ pub(crate) fn judge_rule(g: &[u64], r: u64, f: &[u64]) -> u64
         & ((1 <= edges) & (edges <= 8))
         & ((2 <= plan) & (plan <= 16));
     if !fixed {
-        return 3;
+        return Err(Refusal::Fields);
     }
     let due = 5 + layout::rank_at(g, symbol);
     if n != due {
-        return 4;
+        return Err(Refusal::Count);
     }
     if !marks::listed(f, 5, nodes) {
-        return 5;
+        return Err(Refusal::Nodes);
     }
-    0
+    Ok(())
 }
 
 // `E` of a rule: symbol of rank 1 or more, then that many nodes; with the last one, is every node on an edge?
-pub(crate) fn judge_rule_edge(g: &[u64], r: u64, i: u64, f: &[u64]) -> u64
+pub(crate) fn judge_rule_edge(g: &[u64], r: u64, i: u64, f: &[u64]) -> Result<(), Refusal>
     requires { (r ≤ 63) × (i ≤ 7) }
-    ensures { result ≡ judge_rule_edge g.now r i f.now }
+    ensures { number_in result ≡ judge_rule_edge g.now r i f.now }
 {
     let n = f.len() as u64;
     let label = layout::field(f, 0);
@@ -96,22 +97,22 @@ pub(crate) fn judge_rule_edge(g: &[u64], r: u64, i: u64, f: &[u64]) -> u64
     let rank = layout::rank_at(g, label);
     let fixed = (1 <= n) & (label < symbols) & (1 <= rank);
     if !fixed {
-        return 3;
+        return Err(Refusal::Fields);
     }
     let due = 1 + rank;
     if n != due {
-        return 4;
+        return Err(Refusal::Count);
     }
     if !marks::listed(f, 1, layout::rule_nodes(g, r)) {
-        return 5;
+        return Err(Refusal::Nodes);
     }
     if i + 1 < layout::rule_edges(g, r) {
-        return 0;
+        return Ok(());
     }
     if !marks::rule_covered(g, r, i, f) {
-        return 6;
+        return Err(Refusal::Uncovered);
     }
-    0
+    Ok(())
 }
 
 // Questions 4 and 7 for a plan line of a known kind.
@@ -124,36 +125,36 @@ fn judge_known_plan(
     first: u64,
     second: u64,
     kept: bool,
-) -> u64
+) -> Result<(), Refusal>
     requires { PlanRoom g.now r q }
-    ensures { result ≡ ask 4 (eqb n 3) (ask 7 (kept && (ltb (q + 1) (rule_plan g.now r) || plan_whole g.now r q kind first second)) 0) }
+    ensures { number_in result ≡ ask 4 (eqb n 3) (ask 7 (kept && (ltb (q + 1) (rule_plan g.now r) || plan_whole g.now r q kind first second)) 0) }
 {
     if n != 3 {
-        return 4;
+        return Err(Refusal::Count);
     }
     if !kept {
-        return 7;
+        return Err(Refusal::Plan);
     }
     if q + 1 < layout::rule_plan(g, r) {
-        return 0;
+        return Ok(());
     }
     if !plans::whole(g, r, q, kind, first, second) {
-        return 7;
+        return Err(Refusal::Plan);
     }
-    0
+    Ok(())
 }
 
 // `P`: kind, first, second.
-pub(crate) fn judge_plan(g: &[u64], r: u64, q: u64, f: &[u64]) -> u64
+pub(crate) fn judge_plan(g: &[u64], r: u64, q: u64, f: &[u64]) -> Result<(), Refusal>
     requires { PlanRoom g.now r q }
-    ensures { result ≡ judge_plan g.now r q f.now }
+    ensures { number_in result ≡ judge_plan g.now r q f.now }
 {
     let n = f.len() as u64;
     let kind = layout::field(f, 0);
     let first = layout::field(f, 1);
     let second = layout::field(f, 2);
     if n < 3 {
-        return 3;
+        return Err(Refusal::Fields);
     }
     match kind {
         0 => {
@@ -168,35 +169,35 @@ pub(crate) fn judge_plan(g: &[u64], r: u64, q: u64, f: &[u64]) -> u64
             let kept = plans::join_so_far(g, r, q, first, second);
             judge_known_plan(g, r, q, n, 2, first, second, kept)
         }
-        _ => 3,
+        _ => Err(Refusal::Fields),
     }
 }
 
 // `H`: nodes (1-64), edges (1-64), then external nodes, as many as the start's rank.
-pub(crate) fn judge_graph(g: &[u64], f: &[u64]) -> u64
-    ensures { result ≡ judge_graph g.now f.now }
+pub(crate) fn judge_graph(g: &[u64], f: &[u64]) -> Result<(), Refusal>
+    ensures { number_in result ≡ judge_graph g.now f.now }
 {
     let n = f.len() as u64;
     let nodes = layout::field(f, 0);
     let edges = layout::field(f, 1);
     let fixed = (2 <= n) & ((1 <= nodes) & (nodes <= 64)) & ((1 <= edges) & (edges <= 64));
     if !fixed {
-        return 3;
+        return Err(Refusal::Fields);
     }
     let due = 2 + layout::rank_at(g, layout::start_symbol(g));
     if n != due {
-        return 4;
+        return Err(Refusal::Count);
     }
     if !marks::listed(f, 2, nodes) {
-        return 5;
+        return Err(Refusal::Nodes);
     }
-    0
+    Ok(())
 }
 
 // `E` of a graph: a terminal symbol, then as many nodes as its rank; with the last one, is every node on an edge?
-pub(crate) fn judge_graph_edge(g: &[u64], h: &[u64], e: u64, f: &[u64]) -> u64
+pub(crate) fn judge_graph_edge(g: &[u64], h: &[u64], e: u64, f: &[u64]) -> Result<(), Refusal>
     requires { e ≤ 63 }
-    ensures { result ≡ judge_graph_edge g.now h.now e f.now }
+    ensures { number_in result ≡ judge_graph_edge g.now h.now e f.now }
 {
     let n = f.len() as u64;
     let label = layout::field(f, 0);
@@ -204,32 +205,32 @@ pub(crate) fn judge_graph_edge(g: &[u64], h: &[u64], e: u64, f: &[u64]) -> u64
     let kind = layout::kind_of(g, label);
     let fixed = (1 <= n) & (label < symbols) & (kind == 0);
     if !fixed {
-        return 3;
+        return Err(Refusal::Fields);
     }
     let due = 1 + layout::rank_at(g, label);
     if n != due {
-        return 4;
+        return Err(Refusal::Count);
     }
     if !marks::listed(f, 1, layout::graph_nodes(h)) {
-        return 5;
+        return Err(Refusal::Nodes);
     }
     if e + 1 < layout::graph_edges(h) {
-        return 0;
+        return Ok(());
     }
     if !marks::graph_covered(g, h, e, f) {
-        return 6;
+        return Err(Refusal::Uncovered);
     }
-    0
+    Ok(())
 }
 
 // Questions 3 to 7 for the line that is due in the table t; a graph's lines are judged with the grammar table g. A
 // line that is in no table is refused 2.
-pub fn judge(g: &[u64], t: &[u64], due: Due, f: &[u64]) -> u64
+pub fn judge(g: &[u64], t: &[u64], due: Due, f: &[u64]) -> Result<(), Refusal>
     requires { Room (length t.now) due }
-    ensures { result ≡ cond (in_table due) (judge g.now t.now due f.now) 2 }
+    ensures { number_in result ≡ cond (in_table due) (judge g.now t.now due f.now) 2 }
 {
     if !layout::in_table(due) {
-        return 2;
+        return Err(Refusal::Letter);
     }
     match due {
         Due::Grammar => judge_grammar(f),
@@ -239,6 +240,6 @@ pub fn judge(g: &[u64], t: &[u64], due: Due, f: &[u64]) -> u64
         Due::PlanLine(r, q) => judge_plan(t, r, q, f),
         Due::Graph => judge_graph(g, f),
         Due::GraphEdge(e) => judge_graph_edge(g, t, e, f),
-        Due::Nothing => 2,
+        Due::Nothing => Err(Refusal::Letter),
     }
 }

@@ -4,17 +4,16 @@ ghost use Rattle.masks.specs.Masks.{◌∪◌, full};
 ghost use Rattle.hrg.specs.Counts.{tabulate};
 ghost use Rattle.questions.specs.Layout.{line_field, rule_nodes, graph_nodes};
 ghost use Rattle.questions.specs.Questions.{listed, covered, nodes_on_edges, nodes_on_graph};
-ghost use Rattle.tables.specs.Marks.{marks, nodes_at, Distinct};
+ghost use Rattle.tables.specs.Marks.{marks, nodes_at, nodes_from, Distinct};
 
 // Whether the fields from `from` on are in range and distinct.
 pub(crate) fn listed(f: &[u64], from: u64, nodes: u64) -> bool
     ensures { result ≡ listed nodes (drop from f.now) }
 {
     let n = f.len() as u64;
-    let top = layout::at_most(64, nodes);
+    let top = nodes.min(64);
     let mut seen: u64 = 0;
-    let mut k = from;
-    while k < n {
+    for k in from..n {
         let x = f[k as usize];
         if top <= x {
             return false;
@@ -23,38 +22,28 @@ pub(crate) fn listed(f: &[u64], from: u64, nodes: u64) -> bool
             return false;
         }
         seen = masks::with(seen, x);
-        k += 1;
     }
     true
 }
 
-// Whether listed nodes are in range and distinct; then their set.
-#[derive(Clone, Copy)]
-pub(crate) struct NodeSet {
-    pub(crate) ok: bool,
-    pub(crate) seen: u64,
-}
-
-// The same of the fields 1 to n of the line at place p, as nodes below `nodes`: each is tested once, and put into the
-// set.
-pub(crate) fn distinct(t: &[u64], p: u64, n: u64, nodes: u64) -> NodeSet
+// The set of the fields 1 to n of the line at place p, where they are nodes below `nodes` and distinct: each is tested
+// once, and put into the set.
+pub(crate) fn distinct(t: &[u64], p: u64, n: u64, nodes: u64) -> Option<u64>
     requires { (p < length t.now) × (n ≤ 4) × (nodes ≤ 64) }
-    ensures { Distinct nodes (nodes_at t.now p n) result.ok result.seen }
+    ensures { Distinct nodes (nodes_at t.now p n) result }
 {
     let mut seen: u64 = 0;
-    let mut k: u64 = 0;
-    while k < n {
+    for k in 0..n {
         let x = layout::field_in(t, p, 1 + k);
         if nodes <= x {
-            return NodeSet { ok: false, seen };
+            return None;
         }
         if (seen >> x) & 1 == 1 {
-            return NodeSet { ok: false, seen };
+            return None;
         }
         seen |= 1u64 << x;
-        k += 1;
     }
-    NodeSet { ok: true, seen }
+    Some(seen)
 }
 
 // m with the fields from `from` on.
@@ -63,10 +52,8 @@ fn mark_fields(m: u64, f: &[u64], from: u64) -> u64
 {
     let n = f.len() as u64;
     let mut mask = m;
-    let mut k = from;
-    while k < n {
+    for k in from..n {
         mask = masks::with(mask, f[k as usize]);
-        k += 1;
     }
     mask
 }
@@ -77,40 +64,21 @@ fn mark_line(m: u64, t: &[u64], p: u64, n: u64) -> u64
     ensures { result ≡ marks m (tabulate n (λ k. line_field t.now p (1 + k))) }
 {
     let mut mask = m;
-    let mut k: u64 = 0;
-    while k < n {
+    for k in 0..n {
         mask = masks::with(mask, layout::field_at(t, p, 1 + k));
-        k += 1;
     }
     mask
 }
 
-// The nodes on the first n edges of rule r.
-fn mark_edges(g: &[u64], r: u64, n: u64) -> u64
-    requires { (r ≤ 63) × (n ≤ 8) }
-    ensures { result ≡ marks 0 (nodes_on_edges g.now r n) }
+// The nodes on the n edges whose lines stand in t from place p on, with the labels of g.
+fn mark_edges(g: &[u64], t: &[u64], p: u64, n: u64) -> u64
+    requires { (p ≤ 1666) × (n ≤ 64) }
+    ensures { result ≡ marks 0 (nodes_from g.now t.now p n) }
 {
     let mut mask: u64 = 0;
-    let mut i: u64 = 0;
-    while i < n {
-        let rank = layout::rank_at(g, layout::edge_label(g, r, i));
-        mask = mark_line(mask, g, layout::edge_place(r, i), rank);
-        i += 1;
-    }
-    mask
-}
-
-// The nodes on the first n edges of the graph h.
-fn mark_graph(g: &[u64], h: &[u64], n: u64) -> u64
-    requires { n ≤ 64 }
-    ensures { result ≡ marks 0 (nodes_on_graph g.now h.now n) }
-{
-    let mut mask: u64 = 0;
-    let mut e: u64 = 0;
-    while e < n {
-        let rank = layout::rank_at(g, layout::graph_label(h, e));
-        mask = mark_line(mask, h, layout::graph_edge_place(e), rank);
-        e += 1;
+    for i in 0..n {
+        let rank = layout::rank_at(g, layout::field_at(t, p + i, 0));
+        mask = mark_line(mask, t, p + i, rank);
     }
     mask
 }
@@ -128,7 +96,7 @@ pub(crate) fn rule_covered(g: &[u64], r: u64, n: u64, f: &[u64]) -> bool
     requires { (r ≤ 63) × (n ≤ 8) }
     ensures { result ≡ covered (rule_nodes g.now r) (nodes_on_edges g.now r n ++ drop 1 f.now) }
 {
-    let m = mark_fields(mark_edges(g, r, n), f, 1);
+    let m = mark_fields(mark_edges(g, g, layout::edges_from(r), n), f, 1);
     has_all(m, layout::rule_nodes(g, r))
 }
 
@@ -137,6 +105,6 @@ pub(crate) fn graph_covered(g: &[u64], h: &[u64], n: u64, f: &[u64]) -> bool
     requires { n ≤ 64 }
     ensures { result ≡ covered (graph_nodes h.now) (nodes_on_graph g.now h.now n ++ drop 1 f.now) }
 {
-    let m = mark_fields(mark_graph(g, h, n), f, 1);
+    let m = mark_fields(mark_edges(g, h, layout::graph_edge_place(0), n), f, 1);
     has_all(m, layout::graph_nodes(h))
 }

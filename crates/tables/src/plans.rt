@@ -1,30 +1,20 @@
 // Question 7: the children and the introduced edges of a rule's plan lines, counted, or carried as sets from line to
 // line.
-ghost use Rattle.std.specs.Prelude.{◌≡◌, ◌++◌, true, ◌+◌, ◌≤◌};
-ghost use Rattle.hrg.specs.Counts.{occurs, hit};
+ghost use Rattle.std.specs.Prelude.{◌≡◌, ◌++◌, ◌&&◌, ◌+◌, ◌≤◌, eqb};
+ghost use Rattle.hrg.specs.Counts.{occurs};
 ghost use Rattle.questions.specs.Layout.{rule_edges};
-ghost use Rattle.questions.specs.Questions.{children_of, introduced_by, children_before, introduced_before, plan_so_far, plan_whole};
+ghost use Rattle.questions.specs.Questions.{children_of, introduced_by, children_before, plan_so_far, plan_whole};
 ghost use Rattle.tables.specs.Marks.{marks};
-ghost use Rattle.tables.specs.Plans.{PlanRoom, Marked, introduce_fits, join_fits, With, Keeps};
+ghost use Rattle.tables.specs.Plans.{PlanRoom, Marked, named_in, named_before, introduce_fits, join_fits, Takes, Keeps};
 ghost use Rattle.tables.specs.Concluding.{Count};
 
 use crate::marks::has_all;
 
 // The children and the introduced edges of some plan lines, as sets.
 #[derive(Clone, Copy)]
-struct PlanMarks {
-    children: u64,
-    introduced: u64,
-}
-
-// 1 where the two numbers are the same.
-fn same(a: u64, b: u64) -> u64
-    ensures { (result ≡ hit a b) × (result ≤ 1) }
-{
-    if a == b {
-        return 1;
-    }
-    0
+pub(crate) struct PlanMarks {
+    pub(crate) children: u64,
+    pub(crate) introduced: u64,
 }
 
 // How often c is a child in a plan line of these fields.
@@ -32,8 +22,8 @@ fn child_in(kind: u64, first: u64, second: u64, c: u64) -> u64
     ensures { (result ≡ occurs c (children_of kind first second)) × (result ≤ 2) }
 {
     match kind {
-        1 => same(c, first),
-        2 => same(c, first) + same(c, second),
+        1 => u64::from(c == first),
+        2 => u64::from(c == first) + u64::from(c == second),
         _ => 0,
     }
 }
@@ -43,41 +33,39 @@ fn introduced_in(kind: u64, first: u64, second: u64, i: u64) -> u64
     ensures { (result ≡ occurs i (introduced_by kind first second)) × (result ≤ 1) }
 {
     match kind {
-        1 => same(i, second),
+        1 => u64::from(i == second),
         _ => 0,
     }
 }
 
-// How often c is a child in the first n plan lines of rule r.
-fn child_before(g: &[u64], r: u64, n: u64, c: u64) -> u64
-    requires { PlanRoom g.now r n }
-    ensures { (result ≡ occurs c (children_before g.now r n)) × (result ≤ 32) }
-{
-    let mut sum: u64 = 0;
-    let mut q: u64 = 0;
-    while q < n {
-        let kind = layout::plan_kind_in(g, r, q);
-        let first = layout::plan_first_in(g, r, q);
-        let second = layout::plan_second_in(g, r, q);
-        sum += child_in(kind, first, second, c);
-        q += 1;
-    }
-    sum
+// What a plan line may name: a child, or the edge that it introduces.
+#[derive(Clone, Copy)]
+enum Named {
+    Child(u64),
+    Edge(u64),
 }
 
-// How often the edge i is introduced by the first n plan lines of rule r.
-fn introduced_before(g: &[u64], r: u64, n: u64, i: u64) -> u64
+// How often a plan line of these fields names it.
+fn named_in(kind: u64, first: u64, second: u64, what: Named) -> u64
+    ensures { (result ≡ named_in kind first second what) × (result ≤ 2) }
+{
+    match what {
+        Named::Child(c) => child_in(kind, first, second, c),
+        Named::Edge(i) => introduced_in(kind, first, second, i),
+    }
+}
+
+// How often the first n plan lines of rule r name it.
+fn named_before(g: &[u64], r: u64, n: u64, what: Named) -> u64
     requires { PlanRoom g.now r n }
-    ensures { (result ≡ occurs i (introduced_before g.now r n)) × (result ≤ 16) }
+    ensures { (result ≡ named_before g.now r n what) × (result ≤ 32) }
 {
     let mut sum: u64 = 0;
-    let mut q: u64 = 0;
-    while q < n {
+    for q in 0..n {
         let kind = layout::plan_kind_in(g, r, q);
         let first = layout::plan_first_in(g, r, q);
         let second = layout::plan_second_in(g, r, q);
-        sum += introduced_in(kind, first, second, i);
-        q += 1;
+        sum += named_in(kind, first, second, what);
     }
     sum
 }
@@ -87,7 +75,7 @@ fn child_times(g: &[u64], r: u64, q: u64, kind: u64, first: u64, second: u64, c:
     requires { PlanRoom g.now r q }
     ensures { result ≡ occurs c (children_before g.now r q ++ children_of kind first second) }
 {
-    child_before(g, r, q, c) + child_in(kind, first, second, c)
+    named_before(g, r, q, Named::Child(c)) + child_in(kind, first, second, c)
 }
 
 // ---- a plan line over children keeps the plan rules so far
@@ -97,7 +85,7 @@ pub(crate) fn introduce_so_far(g: &[u64], r: u64, q: u64, first: u64, second: u6
 {
     let times = child_times(g, r, q, 1, first, second, first);
     let edges = layout::rule_edges(g, r);
-    let before = introduced_before(g, r, q, second);
+    let before = named_before(g, r, q, Named::Edge(second));
     (first < q) & (times == 1) & ((second < edges) & (before == 0))
 }
 
@@ -139,14 +127,12 @@ fn marks_before(g: &[u64], r: u64, n: u64) -> PlanMarks
 {
     let mut children: u64 = 0;
     let mut introduced: u64 = 0;
-    let mut q: u64 = 0;
-    while q < n {
+    for q in 0..n {
         let kind = layout::plan_kind_in(g, r, q);
         let first = layout::plan_first_in(g, r, q);
         let second = layout::plan_second_in(g, r, q);
         children = mark_children(children, kind, first, second);
         introduced = mark_introduced(introduced, kind, first, second);
-        q += 1;
     }
     PlanMarks {
         children,
@@ -161,7 +147,7 @@ pub(crate) fn whole(g: &[u64], r: u64, q: u64, kind: u64, first: u64, second: u6
 {
     let before = marks_before(g, r, q);
     let children = has_all(mark_children(before.children, kind, first, second), q);
-    let edges = layout::at_most(8, layout::rule_edges(g, r));
+    let edges = layout::rule_edges(g, r).min(8);
     let introduced = has_all(
         mark_introduced(before.introduced, kind, first, second),
         edges,
@@ -170,76 +156,65 @@ pub(crate) fn whole(g: &[u64], r: u64, q: u64, kind: u64, first: u64, second: u6
 }
 
 // ---- a line judged by the sets of the lines before it: where a table is checked they are carried from line to line
-// The sets with one more plan line, and whether it is kept. Where it is not, the sets are of no use.
-#[derive(Clone, Copy)]
-pub(crate) struct LineMarks {
-    pub(crate) kept: bool,
-    pub(crate) children: u64,
-    pub(crate) introduced: u64,
+// The sets with line q, a leaf, where it is kept.
+fn with_leaf(named: PlanMarks, first: u64, second: u64) -> Option<PlanMarks>
+    ensures { Takes (eqb first 0 && eqb second 0) 0 first second named result }
+{
+    if first == 0 && second == 0 {
+        return Some(named);
+    }
+    None
 }
 
 // With line q, which introduces the edge `second` over the child `first`.
 fn with_introduce(
     q: u64,
     edges: u64,
-    children: u64,
-    introduced: u64,
+    named: PlanMarks,
     first: u64,
     second: u64,
-) -> LineMarks
-    ensures { (result.kept ≡ introduce_fits q edges children introduced first second) × (result.kept ≡ true → With 1 first second children introduced result.children result.introduced) }
+) -> Option<PlanMarks>
+    ensures { Takes (introduce_fits q edges named.children named.introduced first second) 1 first second named result }
 {
-    let no = LineMarks {
-        kept: false,
-        children,
-        introduced,
-    };
     if q <= first {
-        return no;
+        return None;
     }
-    if masks::has(children, first) {
-        return no;
+    if masks::has(named.children, first) {
+        return None;
     }
     if edges <= second {
-        return no;
+        return None;
     }
-    if masks::has(introduced, second) {
-        return no;
+    if masks::has(named.introduced, second) {
+        return None;
     }
-    LineMarks {
-        kept: true,
-        children: masks::with(children, first),
-        introduced: masks::with(introduced, second),
-    }
+    Some(PlanMarks {
+        children: masks::with(named.children, first),
+        introduced: masks::with(named.introduced, second),
+    })
 }
 
 // With line q, which joins the children `first` and `second`.
-fn with_join(q: u64, children: u64, introduced: u64, first: u64, second: u64) -> LineMarks
-    ensures { (result.kept ≡ join_fits q children first second) × (result.kept ≡ true → With 2 first second children introduced result.children result.introduced) }
+fn with_join(q: u64, named: PlanMarks, first: u64, second: u64) -> Option<PlanMarks>
+    ensures { Takes (join_fits q named.children first second) 2 first second named result }
 {
-    let no = LineMarks {
-        kept: false,
-        children,
-        introduced,
-    };
     if q <= first {
-        return no;
+        return None;
     }
-    if masks::has(children, first) {
-        return no;
+    if masks::has(named.children, first) {
+        return None;
     }
     if q <= second {
-        return no;
+        return None;
     }
-    let more = masks::with(children, first);
+    let more = masks::with(named.children, first);
     if masks::has(more, second) {
-        return no;
+        return None;
     }
-    LineMarks {
-        kept: true,
+    Some(PlanMarks {
         children: masks::with(more, second),
-        introduced,
-    }
+        introduced: named.introduced,
+    })
 }
 
 // With line q of rule r, as it stands in the table.
@@ -248,27 +223,18 @@ pub(crate) fn with_line(
     r: u64,
     q: u64,
     edges: u64,
-    children: u64,
-    introduced: u64,
-) -> LineMarks
-    requires { PlanRoom t.now r (q + 1) × Count edges (rule_edges t.now r) 8 × Marked t.now r q children introduced }
-    ensures { Keeps t.now r q result.kept result.children result.introduced }
+    named: PlanMarks,
+) -> Option<PlanMarks>
+    requires { PlanRoom t.now r (q + 1) × Count edges (rule_edges t.now r) 8 × Marked t.now r q named.children named.introduced }
+    ensures { Keeps t.now r q result }
 {
     let kind = layout::plan_kind_in(t, r, q);
     let first = layout::plan_first_in(t, r, q);
     let second = layout::plan_second_in(t, r, q);
     match kind {
-        0 => LineMarks {
-            kept: (first == 0) & (second == 0),
-            children,
-            introduced,
-        },
-        1 => with_introduce(q, edges, children, introduced, first, second),
-        2 => with_join(q, children, introduced, first, second),
-        _ => LineMarks {
-            kept: false,
-            children,
-            introduced,
-        },
+        0 => with_leaf(named, first, second),
+        1 => with_introduce(q, edges, named, first, second),
+        2 => with_join(q, named, first, second),
+        _ => None,
     }
 }

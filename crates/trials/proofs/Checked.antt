@@ -9,11 +9,9 @@ use lib.ListN.{take, replicate}
 use Rattle.hrg.specs.Grammars.{Grammar, Graph}
 use Rattle.hrg.specs.ClosureRun.{same_list}
 use Rattle.questions.specs.Layout.{grammar_words, graph_words}
-use Rattle.questions.specs.Reading.{Outcome, read_grammar}
+use Rattle.questions.specs.Reading.{Outcome, read_grammar, Answer, Done}
 use Rattle.questions.specs.Checking.{check_grammar, check_graph, read_graph}
 use Rattle.questions.specs.Abstract.{grammar_of, graph_of}
-use Rattle.questions.specs.declared.Answer.{Answer}
-use Rattle.questions.specs.declared.Answer.TheVariants.{Done}
 use Rattle.agenda.specs.Steps.{run_chart, start_chart}
 use Rattle.records.specs.Words.{words_for, capacity, record_at, chart_of, written}
 use Rattle.validity.specs.Checking.{holds, known_chart}

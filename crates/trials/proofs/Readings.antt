@@ -14,11 +14,9 @@ use Rattle.hrg.specs.Cases.{grammar_a, grammar_b, k1, k2, k3, k4, k5, k6}
 use Rattle.hrg.specs.WellFormedTest.{every, some, each}
 use Rattle.questions.specs.Layout.{grammar_words, graph_words, place_of, letter_due, in_table, word_field, line_field, packed, stored}
 use Rattle.questions.specs.Questions.{listed, covered, judge_grammar, judge_symbol, judge_rule, nodes_on_edges, judge_rule_edge, children_of, introduced_by, children_before, introduced_before, plan_so_far, plan_whole, judge_plan, judge_graph, nodes_on_graph, judge_graph_edge, judge}
-use Rattle.questions.specs.Reading.{Outcome, next, judge_line, read_lines, grammar_verdict, graph_verdict, delivered, read_grammar}
+use Rattle.questions.specs.Reading.{Outcome, next, judge_line, read_lines, grammar_verdict, graph_verdict, delivered, read_grammar, Answer, Done}
 use Rattle.questions.specs.Checking.{check_grammar, read_graph}
 use Rattle.questions.specs.Abstract.{build, rule_from, grammar_of, graph_of}
-use Rattle.questions.specs.declared.Answer.{Answer}
-use Rattle.questions.specs.declared.Answer.TheVariants.{Done}
 use Rattle.questions.proofs.Refusals.{grammar_passed_first}
 use Rattle.questions.proofs.Filled.{grammar_filled_check, graph_filled_check}
 use Rattle.trials.specs.Trials.{Trial}

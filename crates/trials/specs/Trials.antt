@@ -4,10 +4,8 @@ use Rattle.std.specs.Prelude.{Bool, List, [], ◌∷◌, ℕ, take, replicate, O
 use Rattle.records.specs.Words.{words_for}
 use Rattle.hrg.specs.ClosureRun.{same_list}
 use Rattle.questions.specs.Layout.{grammar_words, graph_words}
-use Rattle.questions.specs.Reading.{read_grammar}
+use Rattle.questions.specs.Reading.{read_grammar, Answer, Done, Refused}
 use Rattle.questions.specs.Checking.{read_graph}
-use Rattle.questions.specs.declared.Answer.{Answer}
-use Rattle.questions.specs.declared.Answer.TheVariants.{Done, Refused}
 use Rattle.charting.specs.Calls.{number_of, steps_of, start_of, run_of, runs_of}
 use Rattle.writing.specs.Writing.{number_of as writing_number, write_of, Answer as Writing}
 use Rattle.writing.specs.declared.WriteError.TheVariants.{Unfit, TooSmall, Unfinished, Underivable, NoRoom}

@@ -6,5 +6,4 @@ pub returns-then-text-gt32768 : goal.returns-then-text-gt32768
 returns-then-text-gt32768 c = grammar_over _ _ c.if-text-gt32768.true
 
 pub returns : goal.returns
-returns c = grammar_read _ _ _ _ _ c.if-text-gt32768.false
-    c.read_grammar.ensures c.reading_number.ensures
+returns c = grammar_read _ _ _ _ c.if-text-gt32768.false c.read_grammar.ensures

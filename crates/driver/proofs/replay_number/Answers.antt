@@ -1,10 +1,11 @@
 -- A law for each answer.
+use mathlib.Core.Path.{refl}
+use Rattle.questions.proofs.Refusals.{number_cast, number_some}
 use Rattle.driver.proofs.ProgramLaws.{replays_unread, replays_read}
 use Rattle.driver.proofs.replay_number.Goals as goal
 
-pub returns-then-k-ne0 : goal.returns-then-k-ne0
-returns-then-k-ne0 c = replays_unread _ _ _ _ _ c.read_files-k.ensures _ c.if-k-ne0.true
+pub returns-in-Err : goal.returns-in-Err
+returns-in-Err c = rw (number_cast c.in-Err.refusal) (replays_unread _ _ _ _ _ c.in-Err.ensures _ (number_some _))
 
 pub returns : goal.returns
-returns c = replays_read _ _ _ _ _ c.read_files-k.ensures _ _ c.if-k-ne0.false
-    c.replay_tables.ensures
+returns c = replays_read _ _ _ _ _ c.in_default.ensures _ _ refl c.replay_tables.ensures

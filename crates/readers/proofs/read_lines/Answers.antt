@@ -1,19 +1,23 @@
 -- The loop over the lines that count: reading what is left gives what the whole text gives.
 use native.Mathlib.Omega.{arith}
 use mathlib.Core.Path.{refl, ◌∙◌}
+use Rattle.std.proofs.lemmas.Result.{err_from_is_err_and}
+use Rattle.questions.proofs.Refusals.{number_some}
 use Rattle.readers.proofs.Turns.{reads_done, turn_no, turn_on, turn_less}
 use Rattle.readers.proofs.read_lines.Goals as goal
 
 pub loop-at-init : goal.loop-at-init
 loop-at-init c = record { within = omega arith; size = refl; room = c.requires; rest = refl }
 
-pub read_line-k-requires : goal.read_line-k-requires
-read_line-k-requires c = c.loop-at.invariant.room
+pub read_line-requires : goal.read_line-requires
+read_line-requires c = c.loop-at.invariant.room
 
-pub returns-then-k-ne0 : goal.returns-then-k-ne0
-returns-then-k-ne0 c = turn_no _ _ _ _ _ _ _ c.loop-at.invariant c.loop-at-test.true
+pub returns-in_err-read_line : goal.returns-in_err-read_line
+returns-in_err-read_line c =
+    let p = err_from_is_err_and c.from_residual.result c.from_residual.ensures.1 in rw (p.1, p.2)
+    (turn_no _ _ _ _ _ _ _ c.loop-at.invariant c.loop-at-test.true
     _ c.next_counting-line.ensures.contents _ c.counting_start-start.ensures
-    _ c.is_ended.ensures _ c.read_line-k.ensures.0 c.if-k-ne0.true _
+    _ c.is_ended.ensures _ c.in_err-read_line.ensures.0 (number_some _) _)
 
 pub loop-at-smaller : goal.loop-at-smaller
 loop-at-smaller c = omega (
@@ -25,8 +29,8 @@ loop-at-smaller c = omega (
 pub loop-at-preserved : goal.loop-at-preserved
 loop-at-preserved c = turn_on _ _ _ _ _ _ _ c.loop-at.invariant c.loop-at-test.true
     _ c.next_counting-line.ensures.contents _ c.counting_start-start.ensures
-    _ c.is_ended.ensures _ c.read_line-k.ensures.0 c.if-k-ne0.false
-    _ _ _ c.read_line-k.auto.t c.read_line-k.ensures.1
+    _ c.is_ended.ensures _ c.in_ok-read_line.ensures.0 refl
+    _ _ _ c.read_line.auto.t c.in_ok-read_line.ensures.1
     c.next_due-due.ensures c.after_line-at.ensures
 
 pub returns : goal.returns

@@ -1,7 +1,7 @@
 -- The fields of a line of the shape, judged, and stored where they pass.
 use native.Mathlib.Omega.{arith}
-use mathlib.Core.Path.{sym, ◌∙◌}
 use lib.ListN.{length-take}
+use Rattle.std.proofs.lemmas.Result.{err_from_is_err_and}
 use Rattle.format.proofs.ShapeLaws.{shape_shaped}
 use Rattle.readers.proofs.Turns.{judged_fields, stored_fields_is}
 use Rattle.readers.proofs.store_line.Goals as goal
@@ -21,16 +21,13 @@ slice_bounds-f-end c = omega (
   (shape_shaped _ c.requires.1).few,
 )
 
-pub returns-then-k-ne0 : goal.returns-then-k-ne0
-returns-then-k-ne0 c = (
-  judged_fields _ _ _ _ c.requires.0 c.read_row-n.ensures.1 _ _ c.judge-k.ensures,
-  λ z. absurd (c.if-k-ne0.true z),
-)
+pub returns-in_err-judge : goal.returns-in_err-judge
+returns-in_err-judge c =
+    let p = err_from_is_err_and c.from_residual.result c.from_residual.ensures.1 in rw (p.1, p.2)
+    (judged_fields _ _ _ _ c.requires.0 c.read_row-n.ensures.1 _ _ c.in_err-judge.ensures, tt)
 
 pub returns : goal.returns
 returns c = (
-  sym c.if-k-ne0.false ∙ judged_fields _ _ _ _ c.requires.0 c.read_row-n.ensures.1
-      _ _ c.judge-k.ensures,
-  λ z. stored_fields_is _ _ _ _ c.requires.0
-      c.read_row-n.ensures.1 _ c.store.ensures,
+  judged_fields _ _ _ _ c.requires.0 c.read_row-n.ensures.1 _ _ c.in_ok-judge.ensures,
+  stored_fields_is _ _ _ _ c.requires.0 c.read_row-n.ensures.1 _ c.store.ensures,
 )

@@ -11,18 +11,17 @@ use Rattle.tables.proofs.checking.check_rules.Goals as goal
 pub loop-r-init : goal.loop-r-init
 loop-r-init c = (
   omega arith,
-  omega arith,
   lines_start grammar_words [] _ Rule _ _ _ _ (omega arith)
       c.requires.1.some,
 )
 
 pub returns-then-not-zeros : goal.returns-then-not-zeros
-returns-then-not-zeros c = rules_gap_no grammar_words _ _ _ _ _ _ c.loop-r.invariant.2
+returns-then-not-zeros c = rules_gap_no grammar_words _ _ _ _ _ _ c.loop-r.invariant.1
     c.loop-r-test.true _ (zeros_at _ _ _ _ _ _ refl
     c.rule_place.ensures c.zeros.ensures) c.if-not-zeros.true-raw
 
 pub returns-then-not-check_rule : goal.returns-then-not-check_rule
-returns-then-not-check_rule c = rules_no grammar_words _ _ _ _ _ _ c.loop-r.invariant.2 c.loop-r-test.true
+returns-then-not-check_rule c = rules_no grammar_words _ _ _ _ _ _ c.loop-r.invariant.1 c.loop-r-test.true
     _ (zeros_at _ _ _ _ _ _ refl c.rule_place.ensures c.zeros.ensures)
     c.if-not-zeros.false-raw _ _ c.check_rule.ensures.1 c.if-not-check_rule.true-raw
 
@@ -40,9 +39,8 @@ loop-r-preserved c =
     let if2 = c.if-not-check_rule in
     let rule-plan-in = c.rule_plan_in in
     let loop = c.loop-r in (
-      omega arith,
       omega (arith, check-rule.ensures.0 if2.false, rule-plan-in.ensures),
-      rules_next grammar_words _ _ _ _ _ _ loop.invariant.2 c.loop-r-test.true
+      rules_next grammar_words _ _ _ _ _ _ loop.invariant.1 c.loop-r-test.true
           _ (zeros_at _ _ _ _ _ _ refl c.rule_place.ensures c.zeros.ensures)
           c.if-not-zeros.false-raw _ _ check-rule.ensures.1 if2.false-raw c.requires.1
           _ (sym (c.plan_place-from.ensures ∙ ap (plan_place loop.r) rule-plan-in.ensures)),
@@ -50,5 +48,5 @@ loop-r-preserved c =
 
 pub returns : goal.returns
 returns c = concludes_on grammar_words [] _ _ _ _ _ (lines_end grammar_words [] _ _ _ Rule
-    _ _ _ _ c.loop-r.invariant.2 c.loop-r-test.false _ (omega arith))
+    _ _ _ _ c.loop-r.invariant.1 c.loop-r-test.false _ (omega arith))
     _ (concludes_last grammar_words [] _ _ _ c.zeros-2.ensures)

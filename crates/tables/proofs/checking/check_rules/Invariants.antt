@@ -1,4 +1,4 @@
-use Prim.Native.Nat.{◌-◌, ◌≤◌}
+use Prim.Native.Nat.{◌≤◌}
 use mathlib.Core.Bool.{cond}
 use mathlib.Core.List.{[]}
 use lib.Dec.{ltb}
@@ -8,8 +8,5 @@ use Rattle.tables.specs.Concluding.{Leads}
 use Rattle.tables.proofs.checking.check_rules.Given as goal
 
 abbrev pub invariant-loop-r : goal.invariant-loop-r
-invariant-loop-r l = (l.r ≤ l.n) × (l.from ≤ rule_place l.r) × Leads grammar_words [] l.t (Rule 0) l.first
+invariant-loop-r l = (l.from ≤ rule_place l.r) × Leads grammar_words [] l.t (Rule 0) l.first
     (cond (ltb l.r l.n) (Rule l.r) Nothing) l.from
-
-abbrev pub decreases-loop-r : goal.decreases-loop-r
-decreases-loop-r l = l.n - l.r

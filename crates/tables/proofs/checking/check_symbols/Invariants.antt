@@ -1,4 +1,3 @@
-use Prim.Native.Nat.{◌-◌, ◌≤◌}
 use mathlib.Core.Bool.{cond}
 use mathlib.Core.List.{[]}
 use lib.Dec.{ltb}
@@ -8,8 +7,5 @@ use Rattle.tables.specs.Concluding.{Leads}
 use Rattle.tables.proofs.checking.check_symbols.Given as goal
 
 abbrev pub invariant-loop-s : goal.invariant-loop-s
-invariant-loop-s l = (l.s ≤ l.n) × Leads grammar_words [] l.t (Symbol 0) (symbol_place 0) (cond (ltb l.s l.n) (Symbol l.s) (Rule 0))
+invariant-loop-s l = Leads grammar_words [] l.t (Symbol 0) (symbol_place 0) (cond (ltb l.s l.n) (Symbol l.s) (Rule 0))
     (symbol_place l.s)
-
-abbrev pub decreases-loop-s : goal.decreases-loop-s
-decreases-loop-s l = l.n - l.s

@@ -1,22 +1,13 @@
--- The words passed are 0.
-use native.Mathlib.Omega.{arith}
-use Rattle.tables.proofs.Gaps.{zero_none, zero_more, zeros_no, zeros_all}
+-- Each word passes the test or one does not (proofs/Gaps).
+use Prim.Native.Nat.{◌-◌}
+use mathlib.Core.Path.{◌≡◌}
+use lib.ListN.{take, drop}
+use borrow.Author.Tests.{tests}
+use Rattle.std.proofs.Common.{rules}
+use Rattle.std.proofs.lemmas.Iterator.{cases_from_all, YieldsList-from_slice}
+use Rattle.tables.proofs.Gaps.{zeros_by}
 use Rattle.tables.proofs.checking.few_zeros.Goals as goal
 
-pub loop-i-init : goal.loop-i-init
-loop-i-init c = (omega arith, omega arith, zero_none c.args.t.now _)
-
-pub returns-then-t-i-ne0 : goal.returns-then-t-i-ne0
-returns-then-t-i-ne0 c = zeros_no _ _ _ _ c.loop-i.invariant.0 c.loop-i-test.true
-    c.if-t-i-ne0.true
-
-pub loop-i-preserved : goal.loop-i-preserved
-loop-i-preserved c = (
-  omega arith,
-  omega arith,
-  zero_more c.args.t.now
-      _ _ c.loop-i.invariant.2 c.if-t-i-ne0.false,
-)
-
 pub returns : goal.returns
-returns c = zeros_all _ _ _ _ c.loop-i.invariant.2 (omega arith)
+returns c = zeros_by _ _ _ c.requires.0 c.requires.1 _ (cases_from_all _ _ _ (λ x. x ≡ 0) (λ x. x ≡ 0 → ⊥) c.all.ensures.ran
+    (YieldsList-from_slice (take (c.args.b - c.args.a) (drop c.args.a c.args.t.now)) cc) (λ x q k. search (rules, tests)) (λ x q k. search (rules, tests)))

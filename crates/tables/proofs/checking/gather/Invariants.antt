@@ -1,11 +1,7 @@
-use Prim.Native.Nat.{◌+◌, ◌-◌, ◌*◌, ◌≤◌}
-use mathlib.Core.Path.{◌≡◌}
+use Prim.Native.Nat.{◌+◌, ◌*◌}
 use Rattle.tables.specs.Concluding.{Gathered}
 use Rattle.tables.proofs.checking.gather.Given as goal
 
 abbrev pub invariant-loop-i : goal.invariant-loop-i
-invariant-loop-i l = (l.i ≤ l.n) × (l.half ≡ l.a + 16 * l.n) × Gathered l.t l.a (l.a + 16 * l.i) l.low ×
+invariant-loop-i l = Gathered l.t l.a (l.a + 16 * l.i) l.low ×
     Gathered l.t l.half (l.half + 16 * l.i) l.high
-
-abbrev pub decreases-loop-i : goal.decreases-loop-i
-decreases-loop-i l = l.n - l.i

@@ -5,15 +5,16 @@ use Rattle.questions.specs.declared.Due.TheVariants.{Grammar}
 use Rattle.questions.specs.Layout.{place_of}
 use Rattle.questions.specs.Questions.{judge}
 use Rattle.questions.specs.Checking.{fields_due}
+use Rattle.questions.proofs.Refusals.{err_some, ok_none}
 use Rattle.tables.proofs.LineFields.{stands_no, stands_rest}
 use Rattle.tables.proofs.checking.grammar_stands.Goals as goal
 
-pub returns-then-judge_grammar-ne0 : goal.returns-then-judge_grammar-ne0
+pub returns-then-is_err : goal.returns-then-is_err
 unfolding judge place_of fields_due
-returns-then-judge_grammar-ne0 c = stands_no [] _ Grammar _ _ refl refl _ c.fields_into.ensures
-    _ c.judge_grammar.ensures c.if-judge_grammar-ne0.true
+returns-then-is_err c = stands_no [] _ Grammar _ _ refl refl _ c.fields_into.ensures
+    _ c.judge_grammar.ensures (err_some _ _ c.is_err.ensures.value c.if-is_err.true)
 
 pub returns : goal.returns
 unfolding judge place_of fields_due
 returns c = stands_rest [] _ Grammar _ _ refl refl _ c.fields_into.ensures
-    _ c.judge_grammar.ensures c.if-judge_grammar-ne0.false _ c.ends.ensures
+    _ c.judge_grammar.ensures (ok_none _ _ c.is_err.ensures.value c.if-is_err.false) _ c.ends.ensures

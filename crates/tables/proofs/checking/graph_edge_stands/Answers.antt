@@ -5,7 +5,7 @@ use Rattle.tables.proofs.checking.graph_edge_stands.Goals as goal
 
 pub returns-then-not-fixed : goal.returns-then-not-fixed
 returns-then-not-fixed c = nearly_no _ _ _ _ _ _ _ _ _ (graph_line_lem _ _ _ _ _ _ c.graph_label_in-label.ensures
-    c.requires.1 c.kind_of-kind.ensures) c.if-not-fixed.true-raw _
+    c.requires.1 c.kind_of-kind.ensures) c.if-not-fixed.true-raw
 
 pub returns : goal.returns
 unfolding place_of
@@ -14,4 +14,4 @@ returns c =
     nearly_by _ _ _ _ _ _ _ _ _ (graph_line_lem _ _ _ _ _ _ c.graph_label_in-label.ensures pre.1
     c.kind_of-kind.ensures) c.if-not-fixed.false-raw
     _ _ _ c.graph_edge_place-p.ensures c.rank_at.ensures.0 pre.2
-    _ _ c.attached.ensures
+    _ c.attached.ensures

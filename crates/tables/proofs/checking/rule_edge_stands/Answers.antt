@@ -7,7 +7,7 @@ use Rattle.tables.proofs.checking.rule_edge_stands.Goals as goal
 
 pub returns-then-not-fixed : goal.returns-then-not-fixed
 returns-then-not-fixed c = nearly_no [] _ _ _ _ _ _ _ _ (rule_line_lem _ _ _ _ _ _ c.edge_label_in-label.ensures
-    c.requires.1 c.rank_at-rank.ensures.0) c.if-not-fixed.true-raw _
+    c.requires.1 c.rank_at-rank.ensures.0) c.if-not-fixed.true-raw
 
 pub returns : goal.returns
 unfolding place_of
@@ -15,4 +15,4 @@ returns c =
     let pre = c.requires in
     nearly_by [] _ _ _ _ _ _ _ _ (rule_line_lem _ _ _ _ _ _ c.edge_label_in-label.ensures pre.1
     c.rank_at-rank.ensures.0) c.if-not-fixed.false-raw _ _ _ c.edge_place-p.ensures
-    refl pre.2 _ _ c.attached.ensures
+    refl pre.2 _ c.attached.ensures

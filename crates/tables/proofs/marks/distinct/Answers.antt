@@ -8,11 +8,11 @@ loop-k-init c = sought_none _ _
 pub returns-then-nodes-x : goal.returns-then-nodes-x
 returns-then-nodes-x c = sought_out _ _ _ _ _ _ c.loop-k.invariant
     c.requires.2 _ c.loop-k-test.true
-    c.field_in-x.ensures c.if-nodes-x.true _
+    c.field_in-x.ensures c.if-nodes-x.true
 
 pub returns-then-seen-x-eq1 : goal.returns-then-seen-x-eq1
 returns-then-seen-x-eq1 c = sought_twice _ _ _ _ _ _ c.loop-k.invariant c.requires.2 _ c.loop-k-test.true
-    c.field_in-x.ensures c.if-seen-x-eq1.true _
+    c.field_in-x.ensures c.if-seen-x-eq1.true
 
 pub loop-k-preserved : goal.loop-k-preserved
 loop-k-preserved c = sought_more _ _ _ _ _ _ c.loop-k.invariant c.requires.2 _ c.loop-k-test.true

@@ -1,10 +1,6 @@
-use Prim.Native.Nat.{◌-◌}
 use Rattle.tables.specs.Marks.{nodes_at}
 use Rattle.tables.proofs.Covering.{Sought}
 use Rattle.tables.proofs.marks.distinct.Given as goal
 
 abbrev pub invariant-loop-k : goal.invariant-loop-k
 invariant-loop-k l = Sought l.nodes (nodes_at l.t l.p l.n) l.seen l.k
-
-abbrev pub decreases-loop-k : goal.decreases-loop-k
-decreases-loop-k l = l.n - l.k

@@ -1,4 +1,3 @@
-use Prim.Native.Nat.{◌-◌}
 use mathlib.Core.Path.{◌≡◌}
 use lib.ListN.{drop}
 use Rattle.tables.specs.Marks.{marks}
@@ -6,6 +5,3 @@ use Rattle.tables.proofs.marks.mark_fields.Given as goal
 
 abbrev pub invariant-loop-k : goal.invariant-loop-k
 invariant-loop-k l = marks l.mask (drop l.k l.f) ≡ marks l.m (drop l.from l.f)
-
-abbrev pub decreases-loop-k : goal.decreases-loop-k
-decreases-loop-k l = l.n - l.k

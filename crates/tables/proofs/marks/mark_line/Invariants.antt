@@ -1,4 +1,4 @@
-use Prim.Native.Nat.{◌+◌, ◌-◌}
+use Prim.Native.Nat.{◌+◌}
 use mathlib.Core.Path.{◌≡◌}
 use lib.ListN.{drop}
 use Rattle.hrg.specs.Counts.{tabulate}
@@ -9,6 +9,3 @@ use Rattle.tables.proofs.marks.mark_line.Given as goal
 abbrev pub invariant-loop-k : goal.invariant-loop-k
 invariant-loop-k l = marks l.mask (drop l.k (tabulate l.n (λ j. line_field l.t l.p (1 + j)))) ≡ marks l.m
     (tabulate l.n (λ j. line_field l.t l.p (1 + j)))
-
-abbrev pub decreases-loop-k : goal.decreases-loop-k
-decreases-loop-k l = l.n - l.k

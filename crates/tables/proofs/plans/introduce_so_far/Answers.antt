@@ -4,4 +4,4 @@ use Rattle.tables.proofs.plans.introduce_so_far.Goals as goal
 
 pub returns : goal.returns
 returns c = introduce_ok _ _ _ _ _ _ _ _ c.child_times-times.ensures c.rule_edges-edges.ensures
-    c.introduced_before-before.ensures.0
+    c.named_before-before.ensures.0

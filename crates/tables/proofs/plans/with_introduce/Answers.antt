@@ -1,5 +1,4 @@
 -- The tests in their order (proofs/Carrying).
-use mathlib.Core.Bool.{false≢true}
 use borrow.Author.Tests.{lt-ltb, le-ltb}
 use Rattle.tables.specs.Plans.{introduce_fits}
 use Rattle.tables.proofs.Carrying.{with_one}
@@ -7,39 +6,30 @@ use Rattle.tables.proofs.plans.with_introduce.Goals as goal
 
 pub returns-then-q-first : goal.returns-then-q-first
 unfolding introduce_fits
-returns-then-q-first c = (simp (le-ltb _ _ c.if-q-first.true), λ y. absurd (false≢true y))
+returns-then-q-first c = simp (le-ltb _ _ c.if-q-first.true)
 
 pub returns-then-has : goal.returns-then-has
 unfolding introduce_fits
-returns-then-has c = (
-  simp (lt-ltb _ _ c.if-q-first.false, ← c.has.ensures.value, c.if-has.true),
-  λ y. absurd (false≢true y),
-)
+returns-then-has c = simp (lt-ltb _ _ c.if-q-first.false, ← c.has.ensures.value, c.if-has.true)
 
 pub returns-then-edges-second : goal.returns-then-edges-second
 unfolding introduce_fits
-returns-then-edges-second c = (
-  simp (
-    lt-ltb _ _ c.if-q-first.false,
-    ← c.has.ensures.value,
-    c.if-has.false,
-    le-ltb _ _ c.if-edges-second.true,
-  ),
-  λ y. absurd (false≢true y),
+returns-then-edges-second c = simp (
+  lt-ltb _ _ c.if-q-first.false,
+  ← c.has.ensures.value,
+  c.if-has.false,
+  le-ltb _ _ c.if-edges-second.true,
 )
 
 pub returns-then-has-2 : goal.returns-then-has-2
 unfolding introduce_fits
-returns-then-has-2 c = (
-  simp (
-    lt-ltb _ _ c.if-q-first.false,
-    ← c.has.ensures.value,
-    c.if-has.false,
-    lt-ltb _ _ c.if-edges-second.false,
-    ← c.has-2.ensures.value,
-    c.if-has-2.true,
-  ),
-  λ y. absurd (false≢true y),
+returns-then-has-2 c = simp (
+  lt-ltb _ _ c.if-q-first.false,
+  ← c.has.ensures.value,
+  c.if-has.false,
+  lt-ltb _ _ c.if-edges-second.false,
+  ← c.has-2.ensures.value,
+  c.if-has-2.true,
 )
 
 pub returns : goal.returns
@@ -53,5 +43,5 @@ returns c = (
     ← c.has-2.ensures.value,
     c.if-has-2.false,
   ),
-  λ y. with_one _ _ _ _ _ _ c.with.ensures c.with-2.ensures,
+  with_one _ _ _ _ _ _ c.with.ensures c.with-2.ensures,
 )

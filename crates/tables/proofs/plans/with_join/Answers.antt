@@ -1,5 +1,4 @@
 -- The tests in their order (proofs/Carrying).
-use mathlib.Core.Bool.{false≢true}
 use borrow.Author.Tests.{lt-ltb, le-ltb}
 use Rattle.tables.specs.Plans.{join_fits}
 use Rattle.tables.proofs.Covering.{marked_by_lem}
@@ -8,40 +7,31 @@ use Rattle.tables.proofs.plans.with_join.Goals as goal
 
 pub returns-then-q-first : goal.returns-then-q-first
 unfolding join_fits
-returns-then-q-first c = (simp (le-ltb _ _ c.if-q-first.true), λ y. absurd (false≢true y))
+returns-then-q-first c = simp (le-ltb _ _ c.if-q-first.true)
 
 pub returns-then-has : goal.returns-then-has
 unfolding join_fits
-returns-then-has c = (
-  simp (lt-ltb _ _ c.if-q-first.false, ← c.has.ensures.value, c.if-has.true),
-  λ y. absurd (false≢true y),
-)
+returns-then-has c = simp (lt-ltb _ _ c.if-q-first.false, ← c.has.ensures.value, c.if-has.true)
 
 pub returns-then-q-second : goal.returns-then-q-second
 unfolding join_fits
-returns-then-q-second c = (
-  simp (
-    lt-ltb _ _ c.if-q-first.false,
-    ← c.has.ensures.value,
-    c.if-has.false,
-    le-ltb _ _ c.if-q-second.true,
-  ),
-  λ y. absurd (false≢true y),
+returns-then-q-second c = simp (
+  lt-ltb _ _ c.if-q-first.false,
+  ← c.has.ensures.value,
+  c.if-has.false,
+  le-ltb _ _ c.if-q-second.true,
 )
 
 pub returns-then-has-2 : goal.returns-then-has-2
 unfolding join_fits
-returns-then-has-2 c = (
-  simp (
-    lt-ltb _ _ c.if-q-first.false,
-    ← c.has.ensures.value,
-    c.if-has.false,
-    lt-ltb _ _ c.if-q-second.false,
-    ← marked_by_lem _ _ _ c.with-more.ensures,
-    ← c.has-2.ensures.value,
-    c.if-has-2.true,
-  ),
-  λ y. absurd (false≢true y),
+returns-then-has-2 c = simp (
+  lt-ltb _ _ c.if-q-first.false,
+  ← c.has.ensures.value,
+  c.if-has.false,
+  lt-ltb _ _ c.if-q-second.false,
+  ← marked_by_lem _ _ _ c.with-more.ensures,
+  ← c.has-2.ensures.value,
+  c.if-has-2.true,
 )
 
 pub returns : goal.returns
@@ -56,5 +46,5 @@ returns c = (
     ← c.has-2.ensures.value,
     c.if-has-2.false,
   ),
-  λ y. with_two _ _ _ _ _ _ c.with-more.ensures c.with.ensures,
+  with_two _ _ _ _ _ _ c.with-more.ensures c.with.ensures,
 )

@@ -1,0 +1,14 @@
+-- The count over the plan lines passed, one line a turn.
+use native.Mathlib.Omega.{arith}
+use Rattle.tables.proofs.Planning.{named_start, named_next}
+use Rattle.tables.proofs.plans.named_before.Goals as goal
+
+pub loop-q-init : goal.loop-q-init
+loop-q-init c = (omega arith, named_start _ _ _)
+
+pub loop-q-preserved : goal.loop-q-preserved
+loop-q-preserved c = (
+  omega (arith, c.loop-q.invariant.0, c.named_in-sum.ensures.1),
+  named_next _ _ _ _ _ _ _ _ c.plan_kind_in-kind.ensures c.plan_first_in-first.ensures c.plan_second_in-second.ensures
+      _ c.loop-q.invariant.1 c.named_in-sum.ensures.0,
+)
