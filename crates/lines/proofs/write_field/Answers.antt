@@ -1,31 +1,10 @@
--- Four stores to the lent buffer, as one list of bytes.
+-- Four bytes in the place of four.
 use native.Mathlib.Omega.{arith}
-use mathlib.Core.Path.{refl}
-use lib.ListN.{length-set}
-use native.Mathlib.Numerals.{add-one, add-two, add-three}
-use Rattle.format.specs.Fields.{field_text}
+use mathlib.Core.Path.{refl, ◌∙◌}
+use Rattle.format.proofs.WritingLaws.{field_text_length, put_sets}
 use Rattle.lines.proofs.write_field.Goals as goal
 
-pub bounds-out-at-2 : goal.bounds-out-at-2
-bounds-out-at-2 c = simp length-set (omega arith)
-
-pub bounds-out-at-3 : goal.bounds-out-at-3
-bounds-out-at-3 c = simp length-set (omega arith)
-
-pub bounds-out-at-4 : goal.bounds-out-at-4
-bounds-out-at-4 c = simp length-set (omega arith)
-
 pub returns : goal.returns
-unfolding field_text
-returns c = (
-  refl,
-  rw (
-    c.column.ensures,
-    c.column-2.ensures,
-    c.column-3.ensures,
-    c.last_column.ensures,
-    add-one,
-    add-two,
-    add-three,
-  ),
-)
+returns c =
+    let size = field_text_length c.args.n in
+    (refl, put_sets _ _ _ _ _ (c.copy_from_slice.ensures.after ∙ c.field_bytes.ensures) (omega arith) (omega arith))

@@ -1,27 +1,19 @@
--- A loop that writes through a callee: place, length and contents in one invariant.
+-- Place and contents of what is written so far.
 use native.Mathlib.Omega.{arith}
-use mathlib.Core.Path.{◌≡◌, refl, ◌∙◌}
-use borrow.Author.Rules.{rules}
+use mathlib.Core.Path.{refl, ◌∙◌}
 use Rattle.format.specs.Writing.{fields_text}
 use Rattle.format.proofs.WritingLaws.{fields_next}
 use Rattle.lines.proofs.write_fields.Goals as goal
 
-pub loop-k-init : goal.loop-k-init
+pub loop-n-init : goal.loop-n-init
 unfolding fields_text
-loop-k-init c = (search rules, omega arith, refl, refl)
+loop-n-init c = (omega arith, refl)
 
-pub loop-k-preserved : goal.loop-k-preserved
-loop-k-preserved c =
+pub loop-n-preserved : goal.loop-n-preserved
+loop-n-preserved c =
     let a = c.args in
-    let l = c.loop-k in (
-      search rules,
+    let l = c.loop-n in (
       omega arith,
-      c.write_field-p.auto.out ∙ l.invariant.2,
-      c.write_field-p.ensures.1 ∙ rw (l.invariant.3, l.invariant.1)
-          (fields_next a.out.now a.at a.fields.now l.k (omega arith)),
+      c.write_field-p.ensures.1 ∙ rw (l.invariant.1, l.invariant.0)
+          (fields_next a.out.now a.at a.fields.now l.n-index (omega arith)),
     )
-
-pub returns : goal.returns
-returns c =
-    let end : c.loop-k.k ≡ c.args.count = omega arith in
-    (omega arith, c.loop-k.invariant.3 ∙ rw end)
