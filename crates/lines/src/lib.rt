@@ -37,6 +37,7 @@ fn line_end(text: &[u8], from: usize) -> usize
 }
 
 // The line that starts at `from`, without its line feed: a part of the lent text.
+#[tactic(auto, using(format::proofs::LineLaws::end_le, format::proofs::LineLaws::start_le_end, format::proofs::LineLaws::line_part, format::proofs::LineLaws::part_line))]
 pub fn next_line(text: &[u8], from: usize) -> &[u8]
     ensures { PartOf text.entry (line_start text.now from) (line_of (drop from text.now)) result }
 {
@@ -54,6 +55,7 @@ pub fn is_ended(text: &[u8], from: usize) -> bool
 }
 
 // The place behind the line feed of the line that starts at `from`, or the end of the text.
+#[tactic(auto, using(format::proofs::LineLaws::after_feed, format::proofs::LineLaws::after_last))]
 pub fn after_line(text: &[u8], from: usize) -> usize
     ensures { result ≡ after_line text.now from }
 {
@@ -62,6 +64,7 @@ pub fn after_line(text: &[u8], from: usize) -> usize
 }
 
 // Whether a line feed ends the line that was found at `from`: its end is not searched for again.
+#[tactic(auto, using(crate::proofs::Places::found_end, format::proofs::LineLaws::end_le), unfolding(format::specs::Lines::is_ended))]
 pub fn ends(text: &[u8], from: usize, line: &[u8]) -> bool
     requires { (from ≤ length text.now) × (line.now ≡ line_of (drop from text.now)) }
     ensures { result ≡ is_ended text.now from }
@@ -70,6 +73,7 @@ pub fn ends(text: &[u8], from: usize, line: &[u8]) -> bool
 }
 
 // The place behind the line feed of the line that was found at `from`, or the end of the text.
+#[tactic(auto, using(crate::proofs::Places::found_end, format::proofs::LineLaws::end_le, format::proofs::LineLaws::after_feed, format::proofs::LineLaws::after_last))]
 pub fn behind(text: &[u8], from: usize, line: &[u8]) -> usize
     requires { (from ≤ length text.now) × (line.now ≡ line_of (drop from text.now)) }
     ensures { result ≡ after_line text.now from }
@@ -121,6 +125,7 @@ fn last_column(n: u64) -> u8
     b'0' + (n % 10) as u8
 }
 
+#[tactic(auto, using(format::proofs::FieldLaws::value_four))]
 fn value(a: u8, b: u8, c: u8, d: u8) -> u64
     ensures { (result ≡ value_of (a ∷ b ∷ c ∷ d ∷ [])) × (result ≤ 9999) }
 {
@@ -180,6 +185,7 @@ pub fn field_count(line: &[u8]) -> usize
 }
 
 // Field k of a line, counted from 0.
+#[tactic(auto, using(format::proofs::FieldLaws::field_missing, format::proofs::FieldLaws::field_cell), unfolding(format::specs::Fields::field_count, format::specs::Fields::field_bytes))]
 pub fn field(line: &[u8], k: usize) -> Cell
     ensures { result ≡ field_of line.now k }
 {
@@ -229,6 +235,7 @@ pub fn letter_byte(line: &[u8]) -> u8
     line.first().copied().unwrap_or(0)
 }
 
+#[tactic(auto, unfolding(format::specs::Shape::letter_kind))]
 pub fn letter_kind(line: &[u8]) -> Letter
     ensures { result ≡ letter_kind (letter_of line.now) }
 {
