@@ -1,8 +1,8 @@
 -- Laws of the computed tests.
-use Rattle.std.specs.Prelude.{ℕ, zero, suc, ◌+◌, ◌-◌, ◌≤◌, ◌<◌, ◌≡◌, refl, Bool, true, false, ◌&&◌, List, [], ◌∷◌, eqb, leb, IsTrue, ◌↔◌}
-use Rattle.std.proofs.Common.{sym, ap, ◌∙◌, arith, add-one, eqb-true, eq-eqb, le-leb, leb-true, leb-false}
+use Rattle.std.specs.Prelude.{ℕ, zero, suc, ◌≤◌, ◌<◌, ◌≡◌, refl, Bool, true, false, ◌&&◌, List, [], ◌∷◌, eqb, leb, IsTrue, ◌↔◌}
+use Rattle.std.proofs.Common.{sym, ap, ◌∙◌, arith, eqb-true, eq-eqb, le-leb, leb-true}
 use Rattle.std.proofs.Math.Bool.{and-false, and-eq-true_iff}
-use Rattle.std.proofs.lemmas.Bool.{false≢true, lt-leb}
+use Rattle.std.proofs.lemmas.Bool.{false≢true}
 use Rattle.std.specs.Cmp.Lexicographic.{pointwise}
 use Rattle.std.proofs.Math.Decide.{dec_lt}
 use Rattle.format.specs.Tests.{all_below, same_bytes}
@@ -11,23 +11,7 @@ use Rattle.format.specs.Tests.{all_below, same_bytes}
 pub both : (a b : Bool) → (a && b) ≡ true → (a ≡ true) × (b ≡ true)
 both a b = (and-eq-true_iff a b).0
 
--- a sum is compared without the risk that it does not fit
-pub leb_sum : (a b n : ℕ) → a ≤ n → leb b (n - a) ≡ leb (a + b) n
-leb_sum a b n h = go (leb (a + b) n) refl
-  where
-    go : (x : Bool) → leb (a + b) n ≡ x → leb b (n - a) ≡ x
-    go true e = le-leb b (n - a) (omega (arith, leb-true (a + b) n e))
-    go false e = lt-leb b (n - a) (omega (arith, leb-false (a + b) n e))
-
 -- ---- every number below n
-pub all_none : (p : ℕ → Bool) → all_below 0 p ≡ true
-unfolding all_below
-all_none p = refl
-
-pub all_next : (n : ℕ) (p : ℕ → Bool) → all_below n p ≡ true → p n ≡ true → all_below (n + 1) p ≡ true
-unfolding all_below
-all_next n p h y = rw (add-one n, h, y)
-
 pub all_no : (n k : ℕ) (p : ℕ → Bool) → k < n → p k ≡ false → all_below n p ≡ false
 unfolding all_below
 all_no zero k p l h = absurd (omega arith)

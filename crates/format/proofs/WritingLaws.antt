@@ -1,7 +1,7 @@
 -- Laws of writing: lengths, texts written one behind the other, and what is written at all.
-use Rattle.std.specs.Prelude.{ℕ, suc, ◌+◌, ◌*◌, ◌≤◌, ◌<◌, ◌≡◌, refl, Bool, true, false, ◌&&◌, List, [], ◌∷◌, ◌++◌, length, get_or, take, set, leb}
+use Rattle.std.specs.Prelude.{ℕ, suc, ◌+◌, ◌*◌, ◌≤◌, ◌<◌, ◌≡◌, refl, Bool, true, false, List, [], ◌∷◌, ◌++◌, length, get_or, take, set, leb}
 use borrow.Rule.Slice.PartMut.{put_mid}
-use Rattle.std.proofs.Common.{sym, ap, ◌∙◌, append_assoc, length-append, length-take, take-suc, get_or-take, length-take-le, arith, add-zero, add-suc, suc-add, add-one, le-leb, leb-true}
+use Rattle.std.proofs.Common.{sym, ap, ◌∙◌, append_assoc, length-append, take-suc, length-take-le, arith, add-zero, add-suc, suc-add, add-one, le-leb, leb-true}
 use Rattle.std.proofs.Math.ListN.{get_or-eq_default}
 use Rattle.std.proofs.Math.Seq.{sets-eq}
 use Rattle.std.proofs.lemmas.List.{drop-drop}
@@ -9,7 +9,7 @@ use Rattle.std.proofs.lemmas.List.Edits.{sets}
 use Rattle.std.proofs.Math.Decide.{dec_lt}
 use Rattle.std.proofs.lemmas.Bool.{lt-leb}
 use Rattle.format.specs.Tests.{all_below}
-use Rattle.format.proofs.TestLaws.{both, all_at, all_of, all_same}
+use Rattle.format.proofs.TestLaws.{both, all_at, all_of}
 use Rattle.format.specs.Fields.{field_text}
 use Rattle.format.specs.Shape.{is_capital}
 use Rattle.format.proofs.ShapeLaws.{capital_true, true_capital}
@@ -94,16 +94,6 @@ true_writable letter ns w =
     rw (true_capital letter w.capital, le-leb 1 (length ns) w.some, le-leb (length ns) 18 w.few)
     (all_of (length ns) (λ k. leb (get_or ns k 0) 9999) (λ k l. le-leb (get_or ns k 0) 9999 (w.small k)))
 
--- the test as the code makes it, over the numbers that are lent and the count
-pub writable_take : (letter : ℕ) (fields : List ℕ) (count : ℕ) → count ≤ 18 → count ≤ length fields
-    → writable letter (take count fields) ≡ (is_capital letter && (leb 1 count && all_below count (λ k. leb (get_or fields k 0) 9999)))
-unfolding writable
-writable_take letter fields count l e =
-    let size : length (take count fields) ≡ count = length-take-le count fields e in
-    rw (size, le-leb count 18 l)
-    (ap (λ (t : Bool). is_capital letter && (leb 1 count && t))
-    (all_same count (λ k. leb (get_or (take count fields) k 0) 9999) (λ k. leb (get_or fields k 0) 9999) (λ k b. rw (get_or-take count fields k 0 b))))
-
 -- what is written is a number of four columns, or a line of the shape, and lies within the buffer
 pub fits_field : (out : List ℕ) (at n : ℕ) → field_fits out at n ≡ true → (n ≤ 9999) × (at + 4 ≤ length out)
 unfolding field_fits
@@ -166,3 +156,6 @@ module _ (out : List ℕ) (at : ℕ) (text now : List ℕ) (r : ℕ) where
   -- one that does not fit changes nothing
   pub put_none : (fits : Bool) → Put fits out at text now r → fits ≡ false → (r ≡ at) × (now ≡ out)
   put_none fits p e = (p.place ∙ rw e, p.contents ∙ rw e)
+
+-- for code that tests, and writes or does not
+pub ruleset putting = (field_large, field_room, line_many, line_not, line_room, put_refused, put_made)

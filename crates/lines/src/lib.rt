@@ -24,6 +24,7 @@ fn line_start(text: &[u8], from: usize) -> usize
 }
 
 // The place of the line feed of the line that starts at `from`, or the end of the text.
+#[tactic(auto, using(format::proofs::LineLaws::scanning))]
 fn line_end(text: &[u8], from: usize) -> usize
     ensures { result ≡ line_end text.now from }
 {
@@ -37,7 +38,7 @@ fn line_end(text: &[u8], from: usize) -> usize
 }
 
 // The line that starts at `from`, without its line feed: a part of the lent text.
-#[tactic(auto, using(format::proofs::LineLaws::end_le, format::proofs::LineLaws::start_le_end, format::proofs::LineLaws::line_part, format::proofs::LineLaws::part_line))]
+#[tactic(auto, using(format::proofs::LineLaws::parts))]
 pub fn next_line(text: &[u8], from: usize) -> &[u8]
     ensures { PartOf text.entry (line_start text.now from) (line_of (drop from text.now)) result }
 {
@@ -64,7 +65,7 @@ pub fn after_line(text: &[u8], from: usize) -> usize
 }
 
 // Whether a line feed ends the line that was found at `from`: its end is not searched for again.
-#[tactic(auto, using(crate::proofs::Places::found_end, format::proofs::LineLaws::end_le), unfolding(format::specs::Lines::is_ended))]
+#[tactic(auto, using(crate::proofs::Places::found), unfolding(format::specs::Lines::is_ended))]
 pub fn ends(text: &[u8], from: usize, line: &[u8]) -> bool
     requires { (from ≤ length text.now) × (line.now ≡ line_of (drop from text.now)) }
     ensures { result ≡ is_ended text.now from }
@@ -73,7 +74,7 @@ pub fn ends(text: &[u8], from: usize, line: &[u8]) -> bool
 }
 
 // The place behind the line feed of the line that was found at `from`, or the end of the text.
-#[tactic(auto, using(crate::proofs::Places::found_end, format::proofs::LineLaws::end_le, format::proofs::LineLaws::after_feed, format::proofs::LineLaws::after_last))]
+#[tactic(auto, using(crate::proofs::Places::found))]
 pub fn behind(text: &[u8], from: usize, line: &[u8]) -> usize
     requires { (from ≤ length text.now) × (line.now ≡ line_of (drop from text.now)) }
     ensures { result ≡ after_line text.now from }
@@ -91,6 +92,7 @@ pub fn counting_start(text: &[u8], from: usize) -> usize
 }
 
 // The next line that counts, a part of the lent text.
+#[tactic(auto, using(format::proofs::LineLaws::counting), unfolding(format::specs::Lines::counting_of))]
 pub fn next_counting(text: &[u8], from: usize) -> &[u8]
     ensures { PartOf text.entry (counting_start text.now from) (counting_of text.now from) result }
 {
@@ -116,7 +118,11 @@ fn column(p: u64, n: u64) -> u8
     requires { 0 < p }
     ensures { result ≡ column_of p n }
 {
-    if n < p { b' ' } else { b'0' + (n / p % 10) as u8 }
+    if n < p {
+        b' '
+    } else {
+        b'0' + (n / p % 10) as u8
+    }
 }
 
 fn last_column(n: u64) -> u8
@@ -137,10 +143,16 @@ fn value(a: u8, b: u8, c: u8, d: u8) -> u64
 fn field_bytes(n: u64) -> [u8; 4]
     ensures { result ≡ field_text n }
 {
-    [column(1000, n), column(100, n), column(10, n), last_column(n)]
+    [
+        column(1000, n),
+        column(100, n),
+        column(10, n),
+        last_column(n),
+    ]
 }
 
 // Any four bytes: a number where they are the text of their value.
+#[tactic(auto, using(crate::proofs::Cells::comparing))]
 fn compared_cell(a: u8, b: u8, c: u8, d: u8) -> Cell
     ensures { result ≡ cell_of (a ∷ b ∷ c ∷ d ∷ []) }
 {
@@ -153,6 +165,7 @@ fn compared_cell(a: u8, b: u8, c: u8, d: u8) -> Cell
 }
 
 // The number behind two blanks, by its last two columns, if they are the text of one.
+#[tactic(auto, using(crate::proofs::Cells::one_digit, crate::proofs::Cells::two_digits))]
 fn last_two(c: u8, d: u8) -> Option<u64>
     ensures { IfSome result (λ n. Number n ≡ cell_of (32 ∷ 32 ∷ c ∷ d ∷ [])) }
 {
@@ -185,7 +198,7 @@ pub fn field_count(line: &[u8]) -> usize
 }
 
 // Field k of a line, counted from 0.
-#[tactic(auto, using(format::proofs::FieldLaws::field_missing, format::proofs::FieldLaws::field_cell), unfolding(format::specs::Fields::field_count, format::specs::Fields::field_bytes))]
+#[tactic(auto, using(format::proofs::FieldLaws::reading), unfolding(format::specs::Fields::field_count))]
 pub fn field(line: &[u8], k: usize) -> Cell
     ensures { result ≡ field_of line.now k }
 {
@@ -196,6 +209,7 @@ pub fn field(line: &[u8], k: usize) -> Cell
     read_cell(line[at + 1], line[at + 2], line[at + 3], line[at + 4])
 }
 
+// 10,000 stands for none, as the definitions have it: every test against the largest number refuses it.
 fn number_in(c: Cell) -> u64
     ensures { result ≡ number_in c }
 {
@@ -214,6 +228,7 @@ pub fn number(line: &[u8], k: usize) -> u64
 }
 
 // The numbers of a line's fields in the first places of `row`, and how many they are.
+#[tactic(auto, using(crate::proofs::Rows::row_done))]
 pub fn read_row(line: &[u8], row: &mut [u64]) -> usize
     requires { field_count line.now ≤ length row.old }
     ensures { (result ≡ field_count line.now) × (take result row.new ≡ fields_of line.now) × (drop result row.new ≡ drop result row.old) }
@@ -261,6 +276,7 @@ fn is_capital(b: u8) -> bool
 }
 
 // Whether each of the first `count` fields holds a number.
+#[tactic(auto, using(format::proofs::TestLaws::all_of))]
 fn all_numbers(line: &[u8], count: usize) -> bool
     ensures { result ≡ all_below count (λ k. leb (number_of line.now k) 9999) }
 {
@@ -294,6 +310,7 @@ fn has_room(len: usize, at: usize, size: usize) -> bool
     at <= len && size <= len - at
 }
 
+#[tactic(auto, using(format::proofs::WritingLaws::field_text_length, format::proofs::WritingLaws::put_sets))]
 fn write_field(out: &mut [u8], at: usize, n: u64) -> usize
     requires { at + 4 ≤ length out.old }
     ensures { (result ≡ at + 4) × (out.new ≡ sets out.old at (field_text n)) }
@@ -304,6 +321,7 @@ fn write_field(out: &mut [u8], at: usize, n: u64) -> usize
 
 // Writes the text of n at `at` and answers the next place. A number above 9,999, or one that the
 // buffer has no room for, is not written, and `at` is answered.
+#[tactic(auto, using(format::proofs::WritingLaws::putting), unfolding(format::specs::Fields::field_text))]
 pub fn put_field(out: &mut [u8], at: usize, n: u64) -> usize
     ensures { Put (field_fits out.old at n) out.old at (field_text n) out.new result }
 {
@@ -314,6 +332,7 @@ pub fn put_field(out: &mut [u8], at: usize, n: u64) -> usize
     }
 }
 
+#[tactic(auto, using(format::proofs::WritingLaws::fields_next), unfolding(format::specs::Writing::fields_text))]
 fn write_fields(out: &mut [u8], at: usize, fields: &[u64]) -> usize
     requires { at + 4 * length fields.now ≤ length out.old }
     ensures { (result ≡ at + 4 * length fields.now) × (out.new ≡ sets out.old at (fields_text fields.now)) }
@@ -354,10 +373,14 @@ pub fn write_line(out: &mut [u8], at: usize, letter: u8, fields: &[u64], count: 
 // A line that is not of the shape (no capital letter, no field or more than 18, a number above
 // 9,999), that has more fields than are lent, or that the buffer has no room for, is not written,
 // and `at` is answered.
+#[tactic(auto, using(format::proofs::WritingLaws::putting))]
 pub fn put_line(out: &mut [u8], at: usize, letter: u8, fields: [u64; 18], count: usize) -> usize
     ensures { Put (line_fits out.old at letter fields count) out.old at (line_text letter (take count fields)) out.new result }
 {
-    if count <= 18 && is_writable(letter, &fields[..count]) && has_room(out.len(), at, 4 * count + 2) {
+    if count <= 18
+        && is_writable(letter, &fields[..count])
+        && has_room(out.len(), at, 4 * count + 2)
+    {
         write_line(out, at, letter, &fields, count)
     } else {
         at

@@ -2,9 +2,9 @@
 use native.Mathlib.Omega.{arith}
 use mathlib.Core.Path.{sym}
 use lib.Dec.{leb}
-use borrow.Author.Tests.{le-leb, lt-leb}
+use borrow.Author.Tests.{lt-leb}
 use Rattle.format.specs.Fields.{number_of}
-use Rattle.format.proofs.TestLaws.{all_no, all_of}
+use Rattle.format.proofs.TestLaws.{all_no}
 use Rattle.lines.proofs.all_numbers.Goals as goal
 
 pub returns-then-number-gt9999 : goal.returns-then-number-gt9999
@@ -13,9 +13,3 @@ returns-then-number-gt9999 c =
     let k = c.loop-k.k in
     sym (all_no c.args.count k (λ i. leb (number_of line i) 9999) c.loop-k-test.true
     (lt-leb (number_of line k) 9999 (omega arith)))
-
-pub returns : goal.returns
-returns c =
-    let line = c.args.line.now in
-    sym (all_of c.args.count (λ i. leb (number_of line i) 9999)
-    (λ i l. le-leb (number_of line i) 9999 (c.loop-k.invariant i (omega arith))))
