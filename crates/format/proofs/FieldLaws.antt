@@ -27,10 +27,6 @@ pub digit_below : (b : ℕ) → b < 48 → digit_of b ≡ 0
 unfolding digit_of
 digit_below b h = rw (lt-leb 48 b h)
 
-pub digit_above : (b : ℕ) → 57 < b → digit_of b ≡ 0
-unfolding digit_of
-digit_above b h = rw (le-leb 48 b (omega arith), lt-leb b 57 h)
-
 pub digit_of_lem : (x : ℕ) → digit_of (48 + x % 10) ≡ x % 10
 digit_of_lem x = digit_in (48 + x % 10) (omega arith) (omega arith) ∙ omega arith
 
@@ -113,6 +109,14 @@ field_missing line k h = rw (le-ltb k (field_count line) h)
 pub field_cell : (line : List ℕ) (k : ℕ) → k < field_count line → field_of line k ≡ cell_of (field_bytes line k)
 unfolding field_of
 field_cell line k h = rw (lt-ltb k (field_count line) h)
+
+-- the same for code that reads the four bytes
+pub field_read : (line : List ℕ) (k : ℕ) → k < field_count line
+    → field_of line k ≡ cell_of (get_or line (4 * k + 1) 0 ∷ get_or line (4 * k + 2) 0 ∷ get_or line (4 * k + 3) 0 ∷ get_or line (4 * k + 4) 0 ∷ [])
+unfolding field_bytes
+field_read line k h = field_cell line k h
+
+pub ruleset reading = (field_missing, field_read)
 
 -- the text of n reads as n
 pub text_field : (line : List ℕ) (k n : ℕ) → k < field_count line → n ≤ 9999 → field_bytes line k ≡ field_text n → field_of line k ≡ Number n

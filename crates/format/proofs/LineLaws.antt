@@ -228,3 +228,10 @@ unfolding counting_of
 counting_part text from =
     let s = counting_start text from in
     part_line text s ∙ rw (start_in text s (counting_le text from))
+
+-- ---- for code that searches a line's end, and for code that cuts a line out
+pub ruleset scanning = (start_le, scan_start, scan_end, scan_feed, scan_more)
+
+pub ruleset parts = (end_le, start_le_end, line_part, part_line)
+
+pub ruleset counting = (start_in, counting_le, counting_part)

@@ -1,8 +1,9 @@
 -- Laws of the computed tests.
-use Rattle.std.specs.Prelude.{ℕ, zero, suc, ◌+◌, ◌-◌, ◌≤◌, ◌<◌, ◌≡◌, refl, Bool, true, false, ◌&&◌, List, [], ◌∷◌, eqb, leb}
-use Rattle.std.proofs.Common.{sym, ◌∙◌, arith, add-one, eqb-true, eq-eqb, le-leb, leb-true, leb-false}
-use Rattle.std.proofs.Math.Bool.{and-true, and-false, and-eq-true_iff}
-use Rattle.std.proofs.lemmas.Bool.{false≢true, lt-leb}
+use Rattle.std.specs.Prelude.{ℕ, zero, suc, ◌≤◌, ◌<◌, ◌≡◌, refl, Bool, true, false, ◌&&◌, List, [], ◌∷◌, eqb, leb, IsTrue, ◌↔◌}
+use Rattle.std.proofs.Common.{sym, ap, ◌∙◌, arith, eqb-true, eq-eqb, le-leb, leb-true}
+use Rattle.std.proofs.Math.Bool.{and-false, and-eq-true_iff}
+use Rattle.std.proofs.lemmas.Bool.{false≢true}
+use Rattle.std.specs.Cmp.Lexicographic.{pointwise}
 use Rattle.std.proofs.Math.Decide.{dec_lt}
 use Rattle.format.specs.Tests.{all_below, same_bytes}
 
@@ -10,23 +11,7 @@ use Rattle.format.specs.Tests.{all_below, same_bytes}
 pub both : (a b : Bool) → (a && b) ≡ true → (a ≡ true) × (b ≡ true)
 both a b = (and-eq-true_iff a b).0
 
--- a sum is compared without the risk that it does not fit
-pub leb_sum : (a b n : ℕ) → a ≤ n → leb b (n - a) ≡ leb (a + b) n
-leb_sum a b n h = go (leb (a + b) n) refl
-  where
-    go : (x : Bool) → leb (a + b) n ≡ x → leb b (n - a) ≡ x
-    go true e = le-leb b (n - a) (omega (arith, leb-true (a + b) n e))
-    go false e = lt-leb b (n - a) (omega (arith, leb-false (a + b) n e))
-
 -- ---- every number below n
-pub all_none : (p : ℕ → Bool) → all_below 0 p ≡ true
-unfolding all_below
-all_none p = refl
-
-pub all_next : (n : ℕ) (p : ℕ → Bool) → all_below n p ≡ true → p n ≡ true → all_below (n + 1) p ≡ true
-unfolding all_below
-all_next n p h y = rw (add-one n, h, y)
-
 pub all_no : (n k : ℕ) (p : ℕ → Bool) → k < n → p k ≡ false → all_below n p ≡ false
 unfolding all_below
 all_no zero k p l h = absurd (omega arith)
@@ -55,6 +40,15 @@ unfolding all_below
 all_same zero p q h = refl
 all_same (suc n) p q h = rw (all_same n p q (λ k l. h k (omega arith)), h n (omega arith))
 
+-- a test of every number below n, by what it says
+pub all_by : (n m : ℕ) (f : ℕ → ℕ) (b : Bool) → (IsTrue b ↔ ((k : ℕ) → k < n → f k ≤ m)) → b ≡ all_below n (λ k. leb (f k) m)
+all_by n m f b h = go b (all_below n (λ k. leb (f k) m)) refl h
+  where
+    go : (a t : Bool) → all_below n (λ k. leb (f k) m) ≡ t → (IsTrue a ↔ ((k : ℕ) → k < n → f k ≤ m)) → a ≡ t
+    go true t e h = sym (all_of n (λ k. leb (f k) m) (λ k l. le-leb (f k) m (h.0 refl k l))) ∙ e
+    go false true e h = h.1 (λ k l. leb-true (f k) m (all_at n (λ k. leb (f k) m) e k l))
+    go false false e h = refl
+
 -- ---- bytes that are the same
 pub same_refl : (bs : List ℕ) → same_bytes bs bs ≡ true
 unfolding same_bytes
@@ -72,13 +66,10 @@ same_eq (b ∷ bs) (c ∷ cs) h =
     let rest : bs ≡ cs = same_eq bs cs two.1 in
     cc
 
--- four bytes, compared one by one
-pub same_four : (a b c d e f g h : ℕ) → (((eqb a e && eqb b f) && eqb c g) && eqb d h) ≡ same_bytes (a ∷ b ∷ c ∷ d ∷ []) (e ∷ f ∷ g ∷ h ∷ [])
+-- bytes compared one by one
+pub same_pointwise : (bs cs : List ℕ) → pointwise eqb bs cs ≡ same_bytes bs cs
 unfolding same_bytes
-same_four a b c d e f g h = go (eqb a e) (eqb b f) (eqb c g)
-  where
-    go : (x y z : Bool) → (((x && y) && z) && eqb d h) ≡ (x && (y && (z && (eqb d h && true))))
-    go true true true = sym (and-true (eqb d h))
-    go true true false = refl
-    go true false z = refl
-    go false y z = refl
+same_pointwise [] [] = refl
+same_pointwise [] (c ∷ cs) = refl
+same_pointwise (b ∷ bs) [] = refl
+same_pointwise (b ∷ bs) (c ∷ cs) = ap (λ t. eqb b c && t) (same_pointwise bs cs)

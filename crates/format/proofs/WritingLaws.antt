@@ -1,12 +1,15 @@
 -- Laws of writing: lengths, texts written one behind the other, and what is written at all.
-use Rattle.std.specs.Prelude.{ℕ, suc, ◌+◌, ◌*◌, ◌≤◌, ◌<◌, ◌≡◌, refl, Bool, true, false, ◌&&◌, List, [], ◌∷◌, ◌++◌, length, get_or, take, set, leb}
-use Rattle.std.proofs.Common.{sym, ap, ◌∙◌, append_assoc, length-append, length-take, take-suc, get_or-take, length-take-le, arith, add-zero, add-suc, suc-add, add-one, le-leb, leb-true}
+use Rattle.std.specs.Prelude.{ℕ, suc, ◌+◌, ◌*◌, ◌≤◌, ◌<◌, ◌≡◌, refl, Bool, true, false, List, [], ◌∷◌, ◌++◌, length, get_or, take, set, leb}
+use borrow.Rule.Slice.PartMut.{put_mid}
+use Rattle.std.proofs.Common.{sym, ap, ◌∙◌, append_assoc, length-append, take-suc, length-take-le, arith, add-zero, add-suc, suc-add, add-one, le-leb, leb-true}
 use Rattle.std.proofs.Math.ListN.{get_or-eq_default}
+use Rattle.std.proofs.Math.Seq.{sets-eq}
+use Rattle.std.proofs.lemmas.List.{drop-drop}
 use Rattle.std.proofs.lemmas.List.Edits.{sets}
 use Rattle.std.proofs.Math.Decide.{dec_lt}
 use Rattle.std.proofs.lemmas.Bool.{lt-leb}
 use Rattle.format.specs.Tests.{all_below}
-use Rattle.format.proofs.TestLaws.{both, all_at, all_of, all_same}
+use Rattle.format.proofs.TestLaws.{both, all_at, all_of}
 use Rattle.format.specs.Fields.{field_text}
 use Rattle.format.specs.Shape.{is_capital}
 use Rattle.format.proofs.ShapeLaws.{capital_true, true_capital}
@@ -43,6 +46,11 @@ fields_text_append (m ∷ ms) ns = rw (fields_text_append ms ns) (sym (append_as
 fields_text_one : (n : ℕ) → fields_text (n ∷ []) ≡ field_text n
 unfolding fields_text field_text
 fields_text_one n = refl
+
+-- a text in the place of as many bytes
+pub put_sets : (out new text : List ℕ) (at size : ℕ) → new ≡ text → size ≡ length text → at + length text ≤ length out
+    → put_mid at size out new ≡ sets out at text
+put_sets out new text at size p e h = rw (p, e, sets-eq text out at h, append_assoc) (ap (λ l. take at out ++ (text ++ l)) (drop-drop (length text) at out))
 
 -- one turn of the loop that writes fields
 pub fields_next : (out : List ℕ) (at : ℕ) (fields : List ℕ) (k : ℕ) → k < length fields
@@ -85,26 +93,6 @@ unfolding writable
 true_writable letter ns w =
     rw (true_capital letter w.capital, le-leb 1 (length ns) w.some, le-leb (length ns) 18 w.few)
     (all_of (length ns) (λ k. leb (get_or ns k 0) 9999) (λ k l. le-leb (get_or ns k 0) 9999 (w.small k)))
-
--- the test as the code makes it, over the numbers that are lent and the count
-pub writable_first : (letter : ℕ) (fields : List ℕ) (count : ℕ) → 1 ≤ count → count ≤ 18 → count ≤ length fields
-    → writable letter (take count fields) ≡ (is_capital letter && all_below count (λ k. leb (get_or fields k 0) 9999))
-unfolding writable
-writable_first letter fields count h l e =
-    let size : length (take count fields) ≡ count = length-take-le count fields e in
-    rw (size, le-leb 1 count h, le-leb count 18 l)
-    (ap (λ (t : Bool). is_capital letter && t)
-    (all_same count (λ k. leb (get_or (take count fields) k 0) 9999) (λ k. leb (get_or fields k 0) 9999) (λ k b. rw (get_or-take count fields k 0 b))))
-
-pub writable_none : (letter : ℕ) (fields : List ℕ) (count : ℕ) → count < 1 → writable letter (take count fields) ≡ false
-unfolding writable
-writable_none letter fields count h =
-    let size : length (take count fields) ≡ 0 = omega (arith, length-take count fields) in
-    rw size (go (is_capital letter))
-  where
-    go : (t : Bool) → (t && (leb 1 0 && (leb 0 18 && all_below 0 (λ k. leb (get_or (take count fields) k 0) 9999)))) ≡ false
-    go true = refl
-    go false = refl
 
 -- what is written is a number of four columns, or a line of the shape, and lies within the buffer
 pub fits_field : (out : List ℕ) (at n : ℕ) → field_fits out at n ≡ true → (n ≤ 9999) × (at + 4 ≤ length out)
@@ -168,3 +156,6 @@ module _ (out : List ℕ) (at : ℕ) (text now : List ℕ) (r : ℕ) where
   -- one that does not fit changes nothing
   pub put_none : (fits : Bool) → Put fits out at text now r → fits ≡ false → (r ≡ at) × (now ≡ out)
   put_none fits p e = (p.place ∙ rw e, p.contents ∙ rw e)
+
+-- for code that tests, and writes or does not
+pub ruleset putting = (field_large, field_room, line_many, line_not, line_room, put_refused, put_made)

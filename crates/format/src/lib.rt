@@ -3,7 +3,7 @@
 #![tactic(auto)]
 
 // What stands in a field of a line.
-#[derive(Clone, Copy)]
+#[derive(Clone, Copy, PartialEq, Eq, Debug)]
 pub enum Cell {
     Number(u64),
     Bad,
@@ -11,7 +11,7 @@ pub enum Cell {
 }
 
 // The letters that lines of the three files start with.
-#[derive(Clone, Copy, PartialEq, Eq)]
+#[derive(Clone, Copy, PartialEq, Eq, Debug)]
 pub enum Letter {
     G,
     S,

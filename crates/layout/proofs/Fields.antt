@@ -5,16 +5,15 @@ use native.Mathlib.Nat.{zero-div, div-eq_of_lt, lt_of_lt_of_le}
 use mathlib.Core.Path.{◌≡◌, refl, sym, ap, ap₂, ◌∙◌}
 use mathlib.Core.Bool.{Bool, true, false, ◌&&◌, cond}
 use mathlib.Core.List.{List}
-use lib.ListN.{length, get_or, drop, set, get_or-eq_default}
+use lib.ListN.{length, get_or, drop, get_or-eq_default}
 use lib.Pow.{pow_mono}
-use lib.Seq.{set_out, get_or-drop, drop-drop}
+use lib.Seq.{get_or-drop, drop-drop}
 use lib.Dec.{ltb}
 use borrow.Author.Tests.{ltb-true}
 use Rattle.questions.specs.declared.Due.{Due}
 use Rattle.questions.specs.declared.Due.TheVariants.{Grammar, Symbol, Rule, RuleEdge, PlanLine, Graph, GraphEdge, Nothing}
-use Rattle.questions.specs.Layout.{rule_place, grammar_words, place_of, in_table, word_field, line_field, packed, stored}
+use Rattle.questions.specs.Layout.{rule_place, in_table, word_field, line_field, packed}
 use Rattle.questions.proofs.StoredLaws.{packed_small}
-use Rattle.layout.specs.Storing.{store_at}
 
 -- ---- fields
 -- a word of 64 bits has no field from 10 on
@@ -77,22 +76,6 @@ chosen due d b f x e h p = rw (← e, h, p)
 pub passed : {A : Type 0} (due : Due) (b : Bool) (f : Due → A) (x : A) → b ≡ in_table due → b ≡ false → x ≡ cond (in_table due) (f due) x
 passed due b f x e h = rw (← e, h)
 
--- a line in the table is at a place of the largest one
-place_small : (d : Due) → Inside d → place_of d < grammar_words
-unfolding place_of
-place_small Grammar h = omega arith
-place_small (Symbol s) h = omega arith
-place_small (Rule r) h = omega arith
-place_small (RuleEdge r i) h = omega (arith, h.0, h.1)
-place_small (PlanLine r q) h = omega (arith, h.0, h.1)
-place_small Graph h = omega arith
-place_small (GraphEdge e) h = omega arith
-place_small Nothing h = omega arith
-
--- the place x of a line that passed the test b and is d
-pub placed : (due d : Due) (b : Bool) (x : ℕ) → b ≡ in_table due → b ≡ true → due ≡ d → x ≡ place_of d → (x ≡ cond (in_table due) (place_of due) 0) × (x < grammar_words)
-placed due d b x e h p q = (q ∙ chosen due d b place_of 0 e h p, rw q (place_small d (known due d b e h p)))
-
 -- ---- a line stored
 -- the word of the fields from k on, made from the last one to the first
 module _ (fs : List ℕ) (w k : ℕ) (e : w ≡ packed (9 - k) (drop k fs)) where
@@ -113,23 +96,5 @@ module _ (fs : List ℕ) (w k : ℕ) (e : w ≡ packed (9 - k) (drop k fs)) wher
   pub packed_done : k ≤ 0 → w ≡ packed 9 fs
   packed_done h = let z : k ≡ 0 = omega arith in rw z at e
 
-module _ (t fs : List ℕ) (due : Due) (b : Bool) (e : b ≡ in_table due) where
-  pub store_out : b ≡ false → t ≡ store_at t due fs
-  unfolding store_at
-  store_out h = rw (← e, h)
-
-  module _ (h : b ≡ true) (p : ℕ) (q : p ≡ cond (in_table due) (place_of due) 0) where
-    place_known : p ≡ place_of due
-    place_known = q ∙ ap (λ c. cond c (place_of due) 0) (sym e ∙ h)
-
-    store_there : stored t p fs ≡ store_at t due fs
-    unfolding store_at
-    store_there = rw (← e, h, ← place_known)
-
-    pub store_short : length t ≤ p → t ≡ store_at t due fs
-    unfolding stored
-    store_short l = sym (set_out t p (packed 9 fs) l) ∙ store_there
-
-    pub store_in : (w : ℕ) → w ≡ packed 9 fs → set t p w ≡ store_at t due fs
-    unfolding stored
-    store_in w v = ap (set t p) v ∙ store_there
+-- for the loop that makes the word
+pub ruleset packing = (packed_room, packed_next)

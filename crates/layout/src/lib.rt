@@ -1,10 +1,10 @@
 // The fields of a table by name, the places of its lines and their order, for every table and every number: a field
 // past the end is 0. A line that is known to be there is read with no test of the table's end, by the functions in
-// `_in`.
+// `_in`, which require what the others test.
 
 #![tactic(auto)]
 
-ghost use Rattle.std.specs.Prelude.{◌≡◌, cond, ◌+◌, ◌*◌, ◌≤◌, ◌<◌, min, get_or, length};
+ghost use Rattle.std.specs.Prelude.{◌≡◌, cond, ◌+◌, ◌*◌, ◌≤◌, ◌<◌, min, get_or, length, Some, None, IfSome};
 ghost use Rattle.questions.specs.declared.Due.TheVariants.{Symbol, RuleEdge, PlanLine, GraphEdge, Nothing};
 ghost use Rattle.questions.specs.Layout.{symbol_place, rule_stride, rule_place, edges_from, edge_place, plans_from, plan_place, graph_edge_place, grammar_words, place_of, in_table, word_field, line_field, packed, symbol_count, rule_count, start_symbol, kind_field, rank_at, rule_symbol, rule_nodes, rule_edges, rule_plan, rule_external, edge_label, edge_node, plan_kind, plan_first, plan_second, graph_nodes, graph_edges, graph_external, graph_label, graph_node};
 ghost use Rattle.questions.specs.Reading.{next};
@@ -85,27 +85,31 @@ pub fn graph_edge_place(e: u64) -> u64
 
 // ---- the field of a line
 // Field from + k of a word, which has none from 10 on.
+#[tactic(auto, using(crate::proofs::Fields::field_past), unfolding(questions::specs::Layout::word_field))]
 fn field_from(w: u64, from: u64, k: u64) -> u64
     requires { from ≤ 5 }
     ensures { result ≡ word_field w (from + k) }
 {
-    if 10 - from <= k {
-        return 0;
+    if k < 10 - from {
+        (w >> (7 * (from + k))) % 128
+    } else {
+        0
     }
-    (w >> (7 * (from + k))) % 128
 }
 
 // Field j of the line at place p.
+#[tactic(auto, using(crate::proofs::Fields::place_past, crate::proofs::Fields::field_there))]
 pub fn field_at(t: &[u64], p: u64, j: u64) -> u64
     ensures { result ≡ line_field t.now p j }
 {
-    if t.len() as u64 <= p {
-        return 0;
+    match t.get(p as usize) {
+        Some(w) => field_from(*w, 0, j),
+        None => 0,
     }
-    field_from(t[p as usize], 0, j)
 }
 
 // The same of a line that the table has.
+#[tactic(auto, unfolding(questions::specs::Layout::line_field, questions::specs::Layout::word_field))]
 pub fn field_in(t: &[u64], p: u64, j: u64) -> u64
     requires { (p < length t.now) × (j ≤ 8) }
     ensures { result ≡ line_field t.now p j }
@@ -113,31 +117,25 @@ pub fn field_in(t: &[u64], p: u64, j: u64) -> u64
     (t[p as usize] >> (7 * j)) % 128
 }
 
-// Field from + k of the line at place base + i.
+// Field from + k of the line at place base + i. A sum that saturates is past the end of every table.
+#[tactic(auto, using(crate::proofs::Fields::place_past), unfolding(questions::specs::Layout::line_field))]
 fn line_field(t: &[u64], base: u64, i: u64, from: u64, k: u64) -> u64
-    requires { (base ≤ 2305843009213693952) × (from ≤ 5) }
+    requires { from ≤ 5 }
     ensures { result ≡ line_field t.now (base + i) (from + k) }
 {
-    let n = t.len() as u64;
-    if n < i {
-        return 0;
+    match t.get(base.saturating_add(i) as usize) {
+        Some(w) => field_from(*w, from, k),
+        None => 0,
     }
-    let p = base + i;
-    if n <= p {
-        return 0;
-    }
-    field_from(t[p as usize], from, k)
 }
 
 // The same in the block of rule r: base is the place of such a line in rule 0.
+#[tactic(auto, using(crate::proofs::Fields::place_past))]
 fn rule_field(t: &[u64], base: u64, r: u64, i: u64, from: u64, k: u64) -> u64
-    requires { (base ≤ 74) × (from ≤ 5) }
+    requires { from ≤ 5 }
     ensures { result ≡ line_field t.now (base + rule_stride * r + i) (from + k) }
 {
-    if r >= 46116860184273880 {
-        return 0;
-    }
-    line_field(t, base + STRIDE * r, i, from, k)
+    line_field(t, base.saturating_add(r.saturating_mul(STRIDE)), i, from, k)
 }
 
 // ---- a grammar table
@@ -170,42 +168,44 @@ pub fn kind_of(g: &[u64], s: u64) -> u64
 pub fn at_most(cap: u64, n: u64) -> u64
     ensures { result ≡ min cap n }
 {
-    if n < cap {
-        return n;
-    }
-    cap
+    n.min(cap)
 }
 
 pub fn rank_at(g: &[u64], s: u64) -> u64
     ensures { (result ≡ rank_at g.now s) × (result ≤ 4) }
 {
-    at_most(4, line_field(g, SYMBOLS, s, 2, 0))
+    line_field(g, SYMBOLS, s, 2, 0).min(4)
 }
 
+#[tactic(auto, using(crate::proofs::Fields::rule_line_lem))]
 pub fn rule_symbol(g: &[u64], r: u64) -> u64
     ensures { result ≡ rule_symbol g.now r }
 {
     rule_field(g, RULES, r, 0, 1, 0)
 }
 
+#[tactic(auto, using(crate::proofs::Fields::rule_line_lem))]
 pub fn rule_nodes(g: &[u64], r: u64) -> u64
     ensures { result ≡ rule_nodes g.now r }
 {
     rule_field(g, RULES, r, 0, 2, 0)
 }
 
+#[tactic(auto, using(crate::proofs::Fields::rule_line_lem))]
 pub fn rule_edges(g: &[u64], r: u64) -> u64
     ensures { result ≡ rule_edges g.now r }
 {
     rule_field(g, RULES, r, 0, 3, 0)
 }
 
+#[tactic(auto, using(crate::proofs::Fields::rule_line_lem))]
 pub fn rule_plan(g: &[u64], r: u64) -> u64
     ensures { result ≡ rule_plan g.now r }
 {
     rule_field(g, RULES, r, 0, 4, 0)
 }
 
+#[tactic(auto, using(crate::proofs::Fields::rule_line_lem))]
 pub fn rule_external(g: &[u64], r: u64, k: u64) -> u64
     ensures { result ≡ rule_external g.now r k }
 {
@@ -289,7 +289,7 @@ pub fn symbol_rank_in(g: &[u64], s: u64) -> u64
     requires { symbol_place s < length g.now }
     ensures { (result ≡ rank_at g.now s) × (result ≤ 4) }
 {
-    at_most(4, field_in(g, SYMBOLS + s, 2))
+    field_in(g, SYMBOLS + s, 2).min(4)
 }
 
 pub fn rule_symbol_in(g: &[u64], r: u64) -> u64
@@ -424,85 +424,90 @@ pub fn graph_node_in(h: &[u64], e: u64, k: u64) -> u64
 
 // ---- the line due
 // Whether a largest table has a place for the line.
+#[tactic(auto, unfolding(questions::specs::Layout::in_table))]
 pub fn in_table(due: Due) -> bool
     ensures { result ≡ in_table due }
 {
     match due {
-        Due::Grammar => true,
-        Due::Symbol(s) => s < 64,
-        Due::Rule(r) => r < 64,
-        Due::RuleEdge(r, i) => (r < 64) & (i < 8),
-        Due::PlanLine(r, q) => (r < 64) & (q < 16),
-        Due::Graph => true,
-        Due::GraphEdge(e) => e < 64,
-        Due::Nothing => true,
+        Due::Grammar | Due::Graph | Due::Nothing => true,
+        Due::Symbol(n) | Due::Rule(n) | Due::GraphEdge(n) => n < 64,
+        Due::RuleEdge(r, i) => r < 64 && i < 8,
+        Due::PlanLine(r, q) => r < 64 && q < 16,
     }
 }
 
-// The place of the line; 0 for a line that is in no table.
-pub fn place_of(due: Due) -> u64
-    ensures { (result ≡ cond (in_table due) (place_of due) 0) × (result < grammar_words) }
+// The place of the line, if it is in a table.
+#[tactic(auto, unfolding(questions::specs::Layout::in_table, questions::specs::Layout::place_of))]
+pub fn place_of(due: Due) -> Option<u64>
+    ensures { (result ≡ cond (in_table due) (Some (place_of due)) None) × IfSome result (λ p. p < grammar_words) }
 {
     if !in_table(due) {
-        return 0;
+        return None;
     }
-    match due {
-        Due::Grammar => 0,
+    let p = match due {
+        Due::Grammar | Due::Graph | Due::Nothing => 0,
         Due::Symbol(s) => symbol_place(s),
         Due::Rule(r) => rule_place(r),
         Due::RuleEdge(r, i) => edge_place(r, i),
         Due::PlanLine(r, q) => plan_place(r, q),
-        Due::Graph => 0,
         Due::GraphEdge(e) => graph_edge_place(e),
-        Due::Nothing => 0,
-    }
+    };
+    Some(p)
 }
 
 // ---- the order of lines
+#[tactic(auto, unfolding(questions::specs::Reading::next))]
 fn after_symbol(t: &[u64], s: u64) -> Due
     requires { s ≤ 63 }
     ensures { result ≡ next t.now (Symbol s) }
 {
-    if s + 1 < at_most(64, symbol_count(t)) {
-        return Due::Symbol(s + 1);
+    if s + 1 < symbol_count(t).min(64) {
+        Due::Symbol(s + 1)
+    } else {
+        Due::Rule(0)
     }
-    Due::Rule(0)
 }
 
+#[tactic(auto, unfolding(questions::specs::Reading::next))]
 fn after_rule_edge(t: &[u64], r: u64, i: u64) -> Due
     requires { i ≤ 7 }
     ensures { result ≡ next t.now (RuleEdge r i) }
 {
-    if i + 1 < at_most(8, rule_edges(t, r)) {
-        return Due::RuleEdge(r, i + 1);
+    if i + 1 < rule_edges(t, r).min(8) {
+        Due::RuleEdge(r, i + 1)
+    } else {
+        Due::PlanLine(r, 0)
     }
-    Due::PlanLine(r, 0)
 }
 
+#[tactic(auto, unfolding(questions::specs::Reading::next))]
 fn after_plan_line(t: &[u64], r: u64, q: u64) -> Due
     requires { (r ≤ 63) × (q ≤ 15) }
     ensures { result ≡ next t.now (PlanLine r q) }
 {
-    if q + 1 < at_most(16, rule_plan(t, r)) {
-        return Due::PlanLine(r, q + 1);
+    if q + 1 < rule_plan(t, r).min(16) {
+        Due::PlanLine(r, q + 1)
+    } else if r + 1 < rule_count(t).min(64) {
+        Due::Rule(r + 1)
+    } else {
+        Due::Nothing
     }
-    if r + 1 < at_most(64, rule_count(t)) {
-        return Due::Rule(r + 1);
-    }
-    Due::Nothing
 }
 
+#[tactic(auto, unfolding(questions::specs::Reading::next))]
 fn after_graph_edge(t: &[u64], e: u64) -> Due
     requires { e ≤ 63 }
     ensures { result ≡ next t.now (GraphEdge e) }
 {
-    if e + 1 < at_most(64, graph_edges(t)) {
-        return Due::GraphEdge(e + 1);
+    if e + 1 < graph_edges(t).min(64) {
+        Due::GraphEdge(e + 1)
+    } else {
+        Due::Nothing
     }
-    Due::Nothing
 }
 
 // What is due after a line, by the table with that line; nothing after a line that is in no table.
+#[tactic(auto, unfolding(questions::specs::Layout::in_table, questions::specs::Reading::next))]
 pub fn next_due(t: &[u64], due: Due) -> Due
     ensures { result ≡ cond (in_table due) (next t.now due) Nothing }
 {
@@ -526,35 +531,29 @@ pub fn next_due(t: &[u64], due: Due) -> Due
 pub fn field(f: &[u64], k: u64) -> u64
     ensures { result ≡ get_or f.now k 0 }
 {
-    if f.len() as u64 <= k {
-        return 0;
-    }
-    f[k as usize]
+    f.get(k as usize).copied().unwrap_or(0)
 }
 
 // The word of a line with these fields: its last field first.
+#[tactic(auto, using(crate::proofs::Fields::packing), unfolding(questions::specs::Layout::packed))]
 fn line_word(f: &[u64]) -> u64
     ensures { result ≡ packed 9 f.now }
 {
     let mut w: u64 = 0;
-    let mut k: u64 = 9;
-    while 0 < k {
-        k -= 1;
+    for k in (0..9).rev() {
         w = field(f, k) % 128 + 128 * w;
     }
     w
 }
 
 // The line's fields at its place; a table without that place stays as it is.
+#[tactic(auto, unfolding(crate::specs::Storing::store_at, questions::specs::Layout::stored))]
 pub fn store(t: &mut [u64], due: Due, f: &[u64])
     ensures { t.new ≡ store_at t.old due f.now }
 {
-    if !in_table(due) {
-        return;
+    if let Some(p) = place_of(due)
+        && p < t.len() as u64
+    {
+        t[p as usize] = line_word(f);
     }
-    let p = place_of(due);
-    if t.len() as u64 <= p {
-        return;
-    }
-    t[p as usize] = line_word(f);
 }

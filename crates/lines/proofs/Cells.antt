@@ -1,12 +1,16 @@
 -- The texts of numbers below 100.
 use mathlib.Core.Path.{◌≡◌, refl, sym, ap, ◌∙◌}
-use mathlib.Core.List.{[], ◌∷◌}
+use mathlib.Core.Bool.{Bool}
+use mathlib.Core.List.{List, [], ◌∷◌}
+use lib.Dec.{eqb}
+use lib.Pointwise.{pointwise}
 use Prim.Native.Nat.{ℕ, ◌+◌, ◌-◌, ◌*◌, ◌≤◌}
 use native.Mathlib.Omega.{arith}
-use Rattle.format.specs.Fields.{value_from, value_of, cell_of, none, more}
-use Rattle.format.proofs.FieldLaws.{digit_in}
+use Rattle.format.specs.Fields.{field_text, value_from, value_of, cell_of, none, more}
+use Rattle.format.specs.Tests.{same_bytes}
+use Rattle.format.proofs.FieldLaws.{digit_in, cell_yes, cell_no}
+use Rattle.format.proofs.TestLaws.{same_pointwise}
 use Rattle.format.proofs.DecimalLaws.{decimal_reads}
-use Rattle.format.specs.declared.Cell.{Cell}
 use Rattle.format.specs.declared.Cell.TheVariants.{Number}
 
 pub one_digit : (c d n : ℕ) → 48 ≤ d → d ≤ 57 → c ≡ 32 → n ≡ d - 48 → Number n ≡ cell_of (32 ∷ 32 ∷ c ∷ d ∷ [])
@@ -41,6 +45,8 @@ two_digits c d n l h k m q =
       value = omega (arith, digit_in c tens m, digit_in d l h);
     }))
 
--- two blanks in front
-pub two_blanks : (a b c d : ℕ) (r : Cell) → a ≡ 32 → b ≡ 32 → r ≡ cell_of (32 ∷ 32 ∷ c ∷ d ∷ []) → r ≡ cell_of (a ∷ b ∷ c ∷ d ∷ [])
-two_blanks a b c d r p q e = e ∙ rw (p, q)
+-- bytes compared with the text of a number
+pub compared : (bs text : List ℕ) (n : ℕ) (b : Bool) → text ≡ field_text n → b ≡ pointwise eqb bs text → b ≡ same_bytes bs (field_text n)
+compared bs text n b p e = e ∙ rw p (same_pointwise bs (field_text n))
+
+pub ruleset comparing = (cell_yes, cell_no, compared)

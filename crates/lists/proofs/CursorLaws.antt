@@ -8,9 +8,11 @@ use native.Mathlib.Omega.{arith}
 use native.Mathlib.Decide.{dec_lt, ℕ_discrete}
 use lib.ListN.{length, length-append, get_or, get_or-append}
 use borrow.Author.Tests.{eq-eqb, ne_eqb, le-leb, lt-leb, lt-ltb, le-ltb}
+use Rattle.std.proofs.Common.{fold, drop}
+use Rattle.std.proofs.lemmas.List.{drop_all}
 use Rattle.lists.specs.Lists.{first_from, Listed, Within}
 use Rattle.lists.specs.Cursors.{alone, starts_of, nearer, nearest_of, least_of, after_of, moved_on, passed_of, Points, Ahead, Skims, stays, goes, SkimsAll, left_of, left_all}
-use Rattle.lists.proofs.ListLaws.{IsFirst, first_of_lem, five}
+use Rattle.lists.proofs.ListLaws.{IsFirst, first_of_lem, five, five_elements}
 
 -- ---- the nearer of two
 pub nearer_end : (m c : ℕ) → c ≡ 0 → m ≡ nearer m c
@@ -73,11 +75,13 @@ nearest_is cs =
 pub nearest_pos : (cs : List ℕ) (m : ℕ) → m ≡ nearest_of cs → (0 < m) × (m ≤ 20481)
 nearest_pos cs m e = (omega (arith, (nearest_is cs).pos), omega (arith, (nearest_is cs).most))
 
-pub nearest_by : (cs : List ℕ) (a b c d e : ℕ) → a ≡ nearer 20481 (get_or cs 0 0) → b ≡ nearer a (get_or cs 1 0) → c ≡ nearer b (get_or cs 2 0) → d ≡ nearer c (get_or cs 3 0) → e ≡ nearer d (get_or cs 4 0)
-    → e ≡ nearest_of cs
+nearest_fold : (cs : List ℕ) → length cs ≡ 5 → fold nearer 20481 cs ≡ nearest_of cs
 unfolding nearest_of
-nearest_by cs a b c d e p q r s t =
-    t ∙ ap (λ i. nearer i (get_or cs 4 0)) (s ∙ ap (λ i. nearer i (get_or cs 3 0)) (r ∙ ap (λ i. nearer i (get_or cs 2 0)) (q ∙ ap (λ i. nearer i (get_or cs 1 0)) p)))
+nearest_fold cs n = subst (λ xs. fold nearer 20481 xs ≡ nearest_of xs) (five_elements cs n) refl
+
+-- a loop over the five that has come to their end
+pub nearest_end : (cs : List ℕ) (m i : ℕ) → length cs ≡ 5 → 5 ≤ i → fold nearer m (drop i cs) ≡ fold nearer 20481 cs → m ≡ nearest_of cs
+nearest_end cs m i n h p = rw (drop_all i cs (omega arith)) at p ∙ nearest_fold cs n
 
 pub least_by : (cs : List ℕ) (m : ℕ) → m ≡ nearest_of cs → ((m - 1) / 5 ≡ least_of cs) × ((m - 1) / 5 ≤ 4096)
 unfolding least_of

@@ -2,13 +2,16 @@
 use Prim.Native.Nat.{ℕ, zero, suc, ◌+◌, ◌-◌, ◌≤◌, ◌<◌}
 use mathlib.Core.Path.{◌≡◌, refl, sym, ap, ◌∙◌, subst}
 use mathlib.Core.Logic.{◌≢◌}
-use mathlib.Core.List.{List, [], ◌∷◌, ◌++◌, append_assoc}
+use mathlib.Core.List.{List, [], ◌∷◌, ◌++◌, append_assoc, append-nil}
 use mathlib.Core.Bool.{Bool, true, false, cond, ◌&&◌}
 use native.Mathlib.Omega.{arith}
 use native.Mathlib.Decide.{dec_lt, ℕ_discrete}
 use lib.Dec.{eqb, leb}
-use lib.ListN.{length, length-append, get_or, set, length-set, replicate, length-replicate, get_or-replicate, get_or-append}
-use lib.Seq.{get_or-set_same, get_or-set_other, get_or_at, ext_get_or}
+use native.Mathlib.Nat.{add_assoc}
+use native.Mathlib.Numerals.{add-one}
+use Rattle.std.proofs.lemmas.List.{drop_all}
+use lib.ListN.{length, drop, length-append, get_or, set, length-set, replicate, length-replicate, get_or-replicate, get_or-append}
+use lib.Seq.{drop-cons, get_or-set_same, get_or-set_other, get_or_at, ext_get_or}
 use borrow.Author.Tests.{eq-eqb, ne_eqb, le-leb, eqb-true, leb-true}
 use Rattle.lists.specs.Lists.{list_words, first_to, first_from, IsLast, Listed, Unlisted, Linkable, tail_of, appended, entered, Ready, entered_all, Within}
 use Rattle.lists.specs.Cursors.{alone}
@@ -440,86 +443,52 @@ pub within_five : (m a b c d e : ℕ) → a ≤ m → b ≤ m → c ≤ m → d 
 within_five m a b c d e p q r s t = five (λ i. get_or (a ∷ b ∷ c ∷ d ∷ e ∷ []) i 0 ≤ m) p q r s t
 
 -- a list of five is its five elements
-five_elements : (xs : List ℕ) → length xs ≡ 5 → get_or xs 0 0 ∷ get_or xs 1 0 ∷ get_or xs 2 0 ∷ get_or xs 3 0 ∷ get_or xs 4 0 ∷ [] ≡ xs
+pub five_elements : (xs : List ℕ) → length xs ≡ 5 → get_or xs 0 0 ∷ get_or xs 1 0 ∷ get_or xs 2 0 ∷ get_or xs 3 0 ∷ get_or xs 4 0 ∷ [] ≡ xs
 five_elements xs e =
     let ys : List ℕ = get_or xs 0 0 ∷ get_or xs 1 0 ∷ get_or xs 2 0 ∷ get_or xs 3 0 ∷ get_or xs 4 0 ∷ [] in
     sym (ext_get_or 0 xs ys e (λ i l. five (λ k. get_or xs k 0 ≡ get_or ys k 0) refl refl refl refl refl i (omega arith)))
 
+-- .. by what each one is
+pub five_each : (xs : List ℕ) (f : ℕ → ℕ) → length xs ≡ 5 → ((i : ℕ) → i < 5 → get_or xs i 0 ≡ f i) → xs ≡ f 0 ∷ f 1 ∷ f 2 ∷ f 3 ∷ f 4 ∷ []
+five_each xs f n h =
+    rw (← five_elements xs n, h 0 (omega arith), h 1 (omega arith), h 2 (omega arith), h 3 (omega arith), h 4 (omega arith))
+
+-- entries from e on, one for each key
+unfoldable pub entered_from : List ℕ → ℕ → List ℕ → List ℕ
+entered_from ws e [] = ws
+entered_from ws e (b ∷ bs) = entered_from (entered ws e b) (e + 1) bs
+
+entered_five : (ws : List ℕ) (e : ℕ) (bs : List ℕ) → length bs ≡ 5 → entered_from ws e bs ≡ entered_all ws e bs
+unfolding entered_from entered_all
+entered_five ws e bs n = subst (λ xs. entered_from ws e xs ≡ entered_all ws e xs) (five_elements bs n) (simp add_assoc)
+
+-- the loop over the keys goes on, and ends
+pub entered_turn : (ws v : List ℕ) (e i : ℕ) (bs : List ℕ) → i < length bs → v ≡ entered ws (e + i) (get_or bs i 0)
+    → entered_from v (e + (i + 1)) (drop (i + 1) bs) ≡ entered_from ws (e + i) (drop i bs)
+unfolding entered_from
+entered_turn ws v e i bs h p =
+    let next : e + (i + 1) ≡ e + i + 1 = omega arith in
+    rw (drop-cons bs i 0 h, p, next, add-one i)
+
+pub entered_end : (ws v : List ℕ) (e i : ℕ) (bs : List ℕ) → length bs ≡ 5 → 5 ≤ i → entered_from v (e + i) (drop i bs) ≡ entered_from ws e bs → v ≡ entered_all ws e bs
+unfolding entered_from
+entered_end ws v e i bs n h p = rw (drop_all i bs (omega arith)) at p ∙ entered_five ws e bs n
+
+listed_from : (ws keys : List ℕ) (e : ℕ) (bs : List ℕ) → Listed ws keys → e ≡ length keys → e + length bs ≤ 20480 → ((i : ℕ) → i < length bs → get_or bs i 0 ≤ 2048)
+    → Listed (entered_from ws e bs) (keys ++ bs)
+unfolding entered_from
+listed_from ws keys e [] c q h l = rw append-nil c
+listed_from ws keys e (b ∷ bs) c q h l =
+    let more = listed_entered ws keys e b c q (omega arith) (l 0 (omega arith)) in
+    subst (λ ks. Listed (entered_from (entered ws e b) (e + 1) bs) ks) (append_assoc keys (b ∷ []) bs)
+    (listed_from (entered ws e b) (keys ++ (b ∷ [])) (e + 1) bs more (omega (arith, longer keys b)) (omega arith) (λ i m. l (suc i) (omega arith)))
+
 pub listed_entered_all : (ws keys : List ℕ) (e : ℕ) (bs : List ℕ) → Listed ws keys → e ≡ length keys → e + 5 ≤ 20480 → Within 2048 bs → length bs ≡ 5
     → Listed (entered_all ws e bs) (keys ++ bs)
-unfolding entered_all
 listed_entered_all ws keys e bs c q h l n =
-    let b0 = get_or bs 0 0 in
-    let b1 = get_or bs 1 0 in
-    let b2 = get_or bs 2 0 in
-    let b3 = get_or bs 3 0 in
-    let b4 = get_or bs 4 0 in
-    let k1 : List ℕ = keys ++ (b0 ∷ []) in
-    let k2 : List ℕ = k1 ++ (b1 ∷ []) in
-    let k3 : List ℕ = k2 ++ (b2 ∷ []) in
-    let k4 : List ℕ = k3 ++ (b3 ∷ []) in
-    let n1 = longer keys b0 in
-    let n2 = longer k1 b1 in
-    let n3 = longer k2 b2 in
-    let n4 = longer k3 b3 in
-    let c1 = listed_entered ws keys e b0 c q (omega arith) (l 0 (omega arith)) in
-    let c2 = listed_entered _ k1 (e + 1) b1 c1 (omega arith) (omega arith) (l 1 (omega arith)) in
-    let c3 = listed_entered _ k2 (e + 2) b2 c2 (omega arith) (omega arith) (l 2 (omega arith)) in
-    let c4 = listed_entered _ k3 (e + 3) b3 c3 (omega arith) (omega arith) (l 3 (omega arith)) in
-    let c5 = listed_entered _ k4 (e + 4) b4 c4 (omega arith) (omega arith) (l 4 (omega arith)) in
-    let z : k4 ++ (b4 ∷ []) ≡ keys ++ (b0 ∷ b1 ∷ b2 ∷ b3 ∷ b4 ∷ []) = simp append_assoc in
-    subst (λ (ks : List ℕ). Listed (entered_all ws e bs) ks) (z ∙ ap (λ (xs : List ℕ). keys ++ xs) (five_elements bs n)) c5
-
-pub entered_all_by : (ws v1 v2 v3 v4 v5 : List ℕ) (e : ℕ) (bs : List ℕ) → v1 ≡ entered ws e (get_or bs 0 0) → v2 ≡ entered v1 (e + 1) (get_or bs 1 0) → v3 ≡ entered v2 (e + 2) (get_or bs 2 0)
-    → v4 ≡ entered v3 (e + 3) (get_or bs 3 0) → v5 ≡ entered v4 (e + 4) (get_or bs 4 0) → v5 ≡ entered_all ws e bs
-unfolding entered_all
-entered_all_by ws v1 v2 v3 v4 v5 e bs p q r s t =
-    t ∙ ap (λ (v : List ℕ). entered v (e + 4) (get_or bs 4 0))
-    (s ∙ ap (λ (v : List ℕ). entered v (e + 3) (get_or bs 3 0))
-    (r ∙ ap (λ (v : List ℕ). entered v (e + 2) (get_or bs 2 0))
-    (q ∙ ap (λ (v : List ℕ). entered v (e + 1) (get_or bs 1 0)) p)))
+    rw (← entered_five ws e bs n) (listed_from ws keys e bs c q (omega arith) (λ i m. l i (omega arith)))
 
 -- .. where only the first has a key
 pub entered_one_by : (ws v : List ℕ) (e b : ℕ) → v ≡ entered ws e b → v ≡ entered_all ws e (alone b)
-entered_one_by ws v e b p = entered_all_by ws v v v v v e (alone b) p (enter_none v (e + 1) 0 refl) (enter_none v (e + 2) 0 refl) (enter_none v (e + 3) 0 refl) (enter_none v (e + 4) 0 refl)
-
--- words as entries e to e + 3 come, one after another
-module _ (ws : List ℕ) (e : ℕ) (bs : List ℕ) (r : Ready ws) (h : e + 5 ≤ 20480) (l : Within 2048 bs) where
-  pub link_first : Linkable ws e (get_or bs 0 0)
-  link_first = ready_link ws e (get_or bs 0 0) r (omega arith) (l 0 (omega arith))
-
-  module _ (v1 : List ℕ) (q1 : v1 ≡ entered ws e (get_or bs 0 0)) where
-    ready_1 : Ready v1
-    ready_1 = ready_next ws v1 e (get_or bs 0 0) r (omega arith) (l 0 (omega arith)) q1
-
-    pub link_second : Linkable v1 (e + 1) (get_or bs 1 0)
-    link_second = ready_link v1 (e + 1) (get_or bs 1 0) ready_1 (omega arith) (l 1 (omega arith))
-
-    module _ (v2 : List ℕ) (q2 : v2 ≡ entered v1 (e + 1) (get_or bs 1 0)) where
-      ready_2 : Ready v2
-      ready_2 = ready_next v1 v2 (e + 1) (get_or bs 1 0) ready_1 (omega arith) (l 1 (omega arith)) q2
-
-      pub link_third : Linkable v2 (e + 2) (get_or bs 2 0)
-      link_third = ready_link v2 (e + 2) (get_or bs 2 0) ready_2 (omega arith) (l 2 (omega arith))
-
-      module _ (v3 : List ℕ) (q3 : v3 ≡ entered v2 (e + 2) (get_or bs 2 0)) where
-        ready_3 : Ready v3
-        ready_3 = ready_next v2 v3 (e + 2) (get_or bs 2 0) ready_2 (omega arith) (l 2 (omega arith)) q3
-
-        pub link_fourth : Linkable v3 (e + 3) (get_or bs 3 0)
-        link_fourth = ready_link v3 (e + 3) (get_or bs 3 0) ready_3 (omega arith) (l 3 (omega arith))
-
-        module _ (v4 : List ℕ) (q4 : v4 ≡ entered v3 (e + 3) (get_or bs 3 0)) where
-          ready_4 : Ready v4
-          ready_4 = ready_next v3 v4 (e + 3) (get_or bs 3 0) ready_3 (omega arith) (l 3 (omega arith)) q4
-
-          pub link_fifth : Linkable v4 (e + 4) (get_or bs 4 0)
-          link_fifth = ready_link v4 (e + 4) (get_or bs 4 0) ready_4 (omega arith) (l 4 (omega arith))
-
-pub appended_by : (ws : List ℕ) (e b t : ℕ) → t ≡ tail_of ws b → set (set (set ws t (e + 1)) (2049 + b) (e + 1)) (4098 + e) 0 ≡ appended ws e b
-unfolding appended
-appended_by ws e b t q = rw q
-
--- lists of five that are equal element by element
-pub same_five : (a b c d e v w x y z : ℕ) → a ≡ v → b ≡ w → c ≡ x → d ≡ y → e ≡ z → ◌≡◌ {A = List ℕ} (a ∷ b ∷ c ∷ d ∷ e ∷ []) (v ∷ w ∷ x ∷ y ∷ z ∷ [])
-same_five a b c d e v w x y z p q r s t = cc
+unfolding entered_all entered
+entered_one_by ws v e b p = p

@@ -44,7 +44,7 @@ pub fn full(n: u64) -> u64
     ensures { Filled n result }
 {
     if n >= 64 {
-        return 18446744073709551615;
+        return u64::MAX;
     }
     (1u64 << n) - 1
 }

@@ -1,32 +1,13 @@
 -- A loop that reads one field a turn: the row holds the fields so far.
 use native.Mathlib.Omega.{arith}
-use mathlib.Core.Path.{refl, ◌∙◌}
-use lib.ListN.{length-set}
+use mathlib.Core.Path.{◌∙◌}
 use lib.Seq.{drop-set-lt}
-use Rattle.lines.proofs.Rows.{row_more, row_done}
+use Rattle.lines.proofs.Rows.{row_more}
 use Rattle.lines.proofs.read_row.Goals as goal
-
-pub loop-k-init : goal.loop-k-init
-loop-k-init c = (omega arith, refl, refl, refl)
-
-pub bounds-row-k : goal.bounds-row-k
-bounds-row-k c = omega (arith, c.requires, c.field_count-count.ensures, c.loop-k.invariant.1)
 
 pub loop-k-preserved : goal.loop-k-preserved
 loop-k-preserved c = (
-  omega arith,
-  simp length-set c.loop-k.invariant.1,
-  row_more _ _ _ _ (omega (arith, c.field_count-count.ensures))
-      (omega (arith, c.requires, c.field_count-count.ensures, c.loop-k.invariant.1))
-      c.number.ensures c.loop-k.invariant.2,
-  drop-set-lt _ c.loop-k.row
-      _ _ c.loop-k-test.true ∙ c.loop-k.invariant.3,
-)
-
-pub returns : goal.returns
-returns c = (
-  c.field_count-count.ensures,
-  row_done _ _ _ _ c.field_count-count.ensures c.loop-k.invariant.0 c.loop-k-test.false
-      c.loop-k.invariant.2,
-  c.loop-k.invariant.3,
+  row_more _ _ _ _ (omega (arith, c.field_count-count.ensures)) (omega (arith, c.requires, c.field_count-count.ensures))
+      c.number.ensures c.loop-k.invariant.0,
+  drop-set-lt _ c.loop-k.row _ _ c.loop-k-test.true ∙ c.loop-k.invariant.1,
 )

@@ -10,24 +10,13 @@ use Rattle.lines.proofs.write_line.Goals as goal
 
 pub write_fields-p-requires : goal.write_fields-p-requires
 write_fields-p-requires c =
-    let a = c.args in (
-      c.requires.0,
-      omega (
-        arith,
-        c.requires.1,
-        length-set a.out.now a.at a.letter,
-      ),
-    )
+    let a = c.args in
+    omega (arith, length-take-le a.count a.fields.now c.requires.0, length-set a.out.now a.at a.letter)
 
 pub bounds-out-p : goal.bounds-out-p
 bounds-out-p c =
     let a = c.args in
-    omega (
-      arith,
-      c.requires.1,
-      length-set a.out.now a.at a.letter,
-      c.write_fields-p.auto.out,
-    )
+    omega (arith, length-take-le a.count a.fields.now c.requires.0, length-set a.out.now a.at a.letter)
 
 pub returns : goal.returns
 returns c =
@@ -36,6 +25,5 @@ returns c =
     let ns = take a.count a.fields.now in
     let size : length ns ≡ a.count = length-take-le a.count a.fields.now c.requires.0 in (
       omega arith,
-      ap (λ (l : List ℕ). set l p 10) c.write_fields-p.ensures.1 ∙ line_sets a.out.now a.at
-          a.letter ns p (omega arith),
+      ap (λ (l : List ℕ). set l p 10) c.write_fields-p.ensures.1 ∙ line_sets a.out.now a.at a.letter ns p (omega arith),
     )

@@ -1,0 +1,9 @@
+use Rattle.std.proofs.Common.{◌≡◌, ℕ, ◌<◌, ◌≤◌, length, get_or}
+use Rattle.lists.specs.Cursors.{moved_on}
+use Rattle.lists.proofs.passed.Given as goal
+
+abbrev pub invariant-loop-c : goal.invariant-loop-c
+invariant-loop-c l =
+    (length l.c-items ≡ 5)
+    × ((k : ℕ) → k < l.c-index → get_or l.c-items k 0 ≡ moved_on l.ws l.to (get_or l.fn.cs k 0))
+    × ((k : ℕ) → l.c-index ≤ k → get_or l.c-items k 0 ≡ get_or l.fn.cs k 0)
