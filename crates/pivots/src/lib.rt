@@ -49,13 +49,11 @@ fn edge_pivot(g: &[u64], plans: &[u32; PLAN_TABLE_WORDS], r: u64, p: u64, i: u64
 {
     let nodes = rules::plans::open_at(g, plans, r, p);
     let rank = layout::rank_at(g, layout::edge_label(g, r, i));
-    let mut k: u64 = 0;
-    while k < rank {
+    for k in 0..rank {
         let v = layout::edge_node(g, r, i, k);
         if masks::has(nodes, v) {
             return NODE_END * k + v;
         }
-        k += 1;
     }
     NO_PIVOT
 }
@@ -67,9 +65,7 @@ fn shared_node(g: &[u64], plans: &[u32; PLAN_TABLE_WORDS], r: u64, p: u64, q: u6
 {
     let here = rules::plans::open_at(g, plans, r, p);
     let there = rules::plans::open_at(g, plans, r, q);
-    let mut v = layout::rule_nodes(g, r);
-    while 0 < v {
-        v -= 1;
+    for v in (0..layout::rule_nodes(g, r)).rev() {
         if masks::has(here, v) & masks::has(there, v) {
             return v;
         }
@@ -198,12 +194,10 @@ fn fill_places(t: &mut [u32])
     requires { length t.old ≡ key_table_words }
     ensures { Placed t.old 64 t.new }
 {
-    let mut s: u64 = 0;
-    while s < 64 {
+    for s in 0..64 {
         let u = t[(USES_FROM + s) as usize] as u64;
         t[(PLACES_FROM + s) as usize] = place_word(PASSIVE_TAG, s, u) as u32;
         t[(SOUGHT_FROM + s) as usize] = place_word(EDGE_TAG, s, u) as u32;
-        s += 1;
     }
 }
 
@@ -214,15 +208,12 @@ pub fn fill(g: &[u64], plans: &[u32; PLAN_TABLE_WORDS], t: &mut [u32])
     requires { (check_grammar g.now ≡ true) × PlanTable g.now plans.now × (t.old ≡ replicate key_table_words 0) }
     ensures { KeyTable g.now t.new }
 {
-    let n = PER_RULE * layout::rule_count(g);
-    let mut i: u64 = 0;
-    while i < n {
+    for i in 0..PER_RULE * layout::rule_count(g) {
         let want = rules::wants::want_of(g, plans, i / PER_RULE, i % PER_RULE);
         if want != 80 {
             let w = pivot(g, plans, i / PER_RULE, i % PER_RULE);
             enter(t, i, want, w);
         }
-        i += 1;
     }
     fill_places(t);
 }

@@ -29,15 +29,6 @@ use Rattle.rules.specs.Rules.{root_items, GivesRoot, made_of}
 use Rattle.rules.proofs.Parents.{child_lower}
 use Rattle.rules.proofs.Covering.{root_covering}
 
--- ---- sums that stay in 32 bits
-pub plus_small : (a b : ℕ) → a + b ≤ 4294967295 → a + b ≡ plus a b
-unfolding plus
-plus_small a b h = omega arith
-
-pub plus_large : (a b : ℕ) → 4294967295 ≤ a + b → 4294967295 ≡ plus a b
-unfolding plus
-plus_large a b h = omega arith
-
 -- ---- the symbol of a rule, a field of a line, is a byte
 pub symbol_byte : (g : List ℕ) (r s : ℕ) → s ≡ rule_symbol g r → s < 256
 unfolding line_field word_field

@@ -41,13 +41,11 @@ pub struct Made {
 }
 
 // A sum of counts, or the most that a count can be.
+#[tactic(auto, unfolding(agenda::specs::Records::plus))]
 pub fn plus(a: u32, b: u32) -> u32
     ensures { result ≡ plus a b }
 {
-    if a > 4294967295 - b {
-        return 4294967295;
-    }
-    a + b
+    a.saturating_add(b)
 }
 
 // ---- lists of graph nodes: eight places, 64 where there is none
@@ -59,11 +57,9 @@ fn root_nodes(g: &[u64], r: u64, f: [u8; PLACES]) -> [u8; PLACES]
     let rank = layout::rank_at(g, layout::rule_symbol(g, r));
     let map = places::word_of(f);
     let mut l = NONE;
-    let mut k: u64 = 0;
-    while k < rank {
+    for k in 0..rank {
         let x = layout::rule_external(g, r, k);
         l = places::with_node(l, k, places::node_at(map, x));
-        k += 1;
     }
     places::nodes_of(l)
 }
@@ -75,10 +71,8 @@ pub fn edge_nodes(g: &[u64], h: &[u64], e: u64) -> [u8; PLACES]
 {
     let rank = joins::rank_of(g, layout::graph_label_in(h, e));
     let mut l = NONE;
-    let mut k: u64 = 0;
-    while k < rank {
+    for k in 0..rank {
         l = places::with_node(l, k, layout::graph_node_in(h, e, k));
-        k += 1;
     }
     places::nodes_of(l)
 }
@@ -261,11 +255,9 @@ fn fitting(
     let map = places::word_of(f);
     let rank = layout::rank_at(g, want);
     let mut rest = m;
-    let mut k: u64 = 0;
-    while k < rank {
+    for k in 0..rank {
         let y = layout::edge_node_in(g, of, i, k);
         rest = with_node(graph, k, places::node_at(map, y), rest);
-        k += 1;
     }
     rest
 }

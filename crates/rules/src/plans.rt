@@ -82,13 +82,11 @@ fn fill_rule(g: &[u64], r: u64, t: &mut [u32])
 {
     let n = layout::rule_plan(g, r);
     let mut ms = [0u64; 16];
-    let mut q: u64 = 0;
-    while q < n {
+    for q in 0..n {
         let m = joins::node_below(g, r, q, &ms);
         ms[q as usize] = m;
         let o = joins::open_at(g, r, q, m);
         put_children(g, r, q, o, t);
-        q += 1;
     }
 }
 
@@ -98,11 +96,8 @@ pub fn fill(g: &[u64], t: &mut [u32])
     requires { (check_grammar g.now ≡ true) × (t.old ≡ replicate plan_table_words 0) }
     ensures { PlanTable g.now t.new }
 {
-    let n = layout::rule_count(g);
-    let mut r: u64 = 0;
-    while r < n {
+    for r in 0..layout::rule_count(g) {
         fill_rule(g, r, t);
-        r += 1;
     }
 }
 
