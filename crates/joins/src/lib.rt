@@ -249,13 +249,6 @@ fn covered(
     nodes & images(w) == nodes
 }
 
-// What two sets and maps make: the map of the item, if they make one.
-#[derive(Clone, Copy)]
-pub struct Combined {
-    pub nodes: [u8; PLACES],
-    pub ok: bool,
-}
-
 // Whether two sets and maps of rule nodes make an item of rule r at plan node q, and its map: the rule nodes in `stays`
 // are open there. It may be sure that each map has the open graph nodes of its set: then those of the union, which are
 // among them, are covered if none is dropped.
@@ -271,34 +264,20 @@ pub fn combine(
     sure: bool,
     f: [u8; PLACES],
     t: [u8; PLACES],
-) -> Combined
+) -> Option<[u8; PLACES]>
     requires { Premises g.now h.now graph.now r q stays m1 m2 sure f t }
     ensures { Combines g.now h.now r q m1 m2 f t result }
 {
     if !masks::disjoint(m1, m2) {
-        return Combined {
-            nodes: f,
-            ok: false,
-        };
+        return None;
     }
-    let merged = merging::merge(stays, f, t);
-    if !merged.ok {
-        return Combined {
-            nodes: f,
-            ok: false,
-        };
-    }
+    let merged = merging::merge(stays, f, t)?;
     let m = masks::union(m1, m2);
     if loses(graph, m, merged.dropped) {
-        return Combined {
-            nodes: f,
-            ok: false,
-        };
+        return None;
     }
-    let kept = merged.kept;
-    let ok = covered(g, h, graph, m, sure, kept);
-    Combined {
-        nodes: places::nodes_of(kept),
-        ok,
+    if !covered(g, h, graph, m, sure, merged.kept) {
+        return None;
     }
+    Some(places::nodes_of(merged.kept))
 }

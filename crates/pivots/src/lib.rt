@@ -3,7 +3,7 @@
 
 #![tactic(auto)]
 
-ghost use Rattle.std.specs.Prelude.{◌≡◌, true, [], ◌∷◌, ℕ, ◌≤◌, ◌<◌, length, replicate};
+ghost use Rattle.std.specs.Prelude.{◌≡◌, MatchOption, IfSome, true, [], ◌∷◌, ℕ, ◌≤◌, ◌<◌, length, replicate};
 ghost use Rattle.hrg.specs.Grammars.{rule_of};
 ghost use Rattle.questions.specs.Checking.{check_grammar};
 ghost use Rattle.questions.specs.Abstract.{grammar_of};
@@ -107,11 +107,10 @@ fn pivot(g: &[u64], plans: &[u32; PLAN_TABLE_WORDS], r: u64, p: u64) -> u64
     requires { (check_grammar g.now ≡ true) × PlanTable g.now plans.now }
     ensures { PivotOf g.now r p result }
 {
-    let above = rules::plans::place_above(g, plans, r, p);
-    if !above.found {
-        return NO_PIVOT;
+    match rules::plans::place_above(g, plans, r, p) {
+        None => NO_PIVOT,
+        Some(q) => pivot_below(g, plans, r, p, q),
     }
-    pivot_below(g, plans, r, p, above.node)
 }
 
 // ---- buckets
@@ -144,17 +143,17 @@ fn key_word(tag: u64, want: u64, w: u64, r: u64, p: u64) -> u64
     NODE_END * base(JOIN_TAG, r, p) + w % NODE_END
 }
 
-// The place of a set that has no other, 5 for any other set.
-fn place_of(u: u64) -> u64
-    ensures { result ≡ place_of u }
+// The place of a set that has no other.
+fn place_of(u: u64) -> Option<u64>
+    ensures { MatchOption result (5 ≡ place_of u) (λ i. (i ≡ place_of u) × (i < 5)) }
 {
     match u {
-        1 => 0,
-        2 => 1,
-        4 => 2,
-        8 => 3,
-        16 => 4,
-        _ => 5,
+        1 => Some(0),
+        2 => Some(1),
+        4 => Some(2),
+        8 => Some(3),
+        16 => Some(4),
+        _ => None,
     }
 }
 
@@ -162,10 +161,9 @@ fn place_of(u: u64) -> u64
 fn place_word(tag: u64, s: u64, u: u64) -> u64
     ensures { (result ≡ place_word tag s u) × (result < 4294967296) }
 {
-    let i = place_of(u);
-    if i >= 5 {
+    let Some(i) = place_of(u) else {
         return 0;
-    }
+    };
     let b = NODE_END * base(tag, s, i);
     if i == 4 {
         return b + 8;
@@ -328,27 +326,19 @@ fn keys_by(
     ]
 }
 
-// The same without an array, where a word of the table tells that there is but one key; 0 where there is none.
-#[derive(Clone, Copy)]
-pub struct OnlyKey {
-    pub single: bool,
-    pub key: u64,
-}
-
-fn only_key(keys: &[u32; KEY_TABLE_WORDS], rules: u64, symbols: u64, x: ChartItem) -> OnlyKey
+// The same without an array, where a word of the table tells that there is but one key: 0 where there is none at all.
+fn only_key(keys: &[u32; KEY_TABLE_WORDS], rules: u64, symbols: u64, x: ChartItem) -> Option<u64>
     requires { (rules ≤ asked_from) × (symbols ≤ sought_from) }
-    ensures { result.single ≡ true → (tag : ℕ) → (result.key ∷ 0 ∷ 0 ∷ 0 ∷ 0 ∷ []) ≡ keys_from keys.now rules symbols tag x }
+    ensures { IfSome result (λ key. (tag : ℕ) → (key ∷ 0 ∷ 0 ∷ 0 ∷ 0 ∷ []) ≡ keys_from keys.now rules symbols tag x) }
 {
     let w = word_for(keys, rules, symbols, x);
     if w != 0 {
-        let key = mix(w / NODE_END, image(w, x));
-        return OnlyKey { single: true, key };
+        return Some(mix(w / NODE_END, image(w, x)));
     }
-    let none = uses_of(keys, x) == 0;
-    OnlyKey {
-        single: none,
-        key: 0,
+    if uses_of(keys, x) == 0 {
+        return Some(0);
     }
+    None
 }
 
 // The keys that an item has.
@@ -359,8 +349,8 @@ pub fn listing(keys: &[u32; KEY_TABLE_WORDS], x: ChartItem) -> [u64; 5]
 }
 
 // An only one.
-pub fn entry(keys: &[u32; KEY_TABLE_WORDS], x: ChartItem) -> OnlyKey
-    ensures { result.single ≡ true → (result.key ∷ 0 ∷ 0 ∷ 0 ∷ 0 ∷ []) ≡ keys_of keys.now x }
+pub fn entry(keys: &[u32; KEY_TABLE_WORDS], x: ChartItem) -> Option<u64>
+    ensures { IfSome result (λ key. (key ∷ 0 ∷ 0 ∷ 0 ∷ 0 ∷ []) ≡ keys_of keys.now x) }
 {
     only_key(keys, 0, PLACES_FROM, x)
 }
@@ -373,8 +363,8 @@ pub fn query(keys: &[u32; KEY_TABLE_WORDS], x: ChartItem) -> [u64; 5]
 }
 
 // An only one.
-pub fn asked(keys: &[u32; KEY_TABLE_WORDS], x: ChartItem) -> OnlyKey
-    ensures { result.single ≡ true → (result.key ∷ 0 ∷ 0 ∷ 0 ∷ 0 ∷ []) ≡ query_of keys.now x }
+pub fn asked(keys: &[u32; KEY_TABLE_WORDS], x: ChartItem) -> Option<u64>
+    ensures { IfSome result (λ key. (key ∷ 0 ∷ 0 ∷ 0 ∷ 0 ∷ []) ≡ query_of keys.now x) }
 {
     only_key(keys, ASKED_FROM, SOUGHT_FROM, x)
 }

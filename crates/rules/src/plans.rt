@@ -7,8 +7,6 @@ ghost use Rattle.rules.specs.Rules.{Above};
 ghost use Rattle.rules.specs.Plans.{plan_table_words, edge_word, second_word, ParentAt, PlanTable};
 ghost use Rattle.rules.specs.Filling.{Placed, Put, ToldTo};
 
-use crate::Place;
-
 // A plan node as one number (`join_word`), which has 16 for its number where there is none, and the rule nodes that
 // are open there.
 #[derive(Clone, Copy)]
@@ -130,15 +128,12 @@ pub fn parent_in(g: &[u64], t: &[u32; PLAN_TABLE_WORDS], r: u64, p: u64) -> Pare
 }
 
 // The plan node above p in rule r: any rule and a plan node that may not be there.
-pub fn place_above(g: &[u64], t: &[u32; PLAN_TABLE_WORDS], r: u64, p: u64) -> Place
+pub fn place_above(g: &[u64], t: &[u32; PLAN_TABLE_WORDS], r: u64, p: u64) -> Option<u64>
     requires { (check_grammar g.now ≡ true) × PlanTable g.now t.now }
     ensures { Above g.now r p result }
 {
     let node = parent_in(g, t, r, p).word % 32;
-    Place {
-        found: node < PER_RULE,
-        node,
-    }
+    if node < PER_RULE { Some(node) } else { None }
 }
 
 // The open rule nodes at plan node p: those that its first child is told of, and none at a leaf.

@@ -39,11 +39,9 @@ fn add_root(
     requires { Accepted g.now h.now × Ready g.now h.now keys.now chart.old index.old lists.old × Handled chart.old j }
     ensures { (chart.new ≡ grown_by chart.old (at_root (grammar_of g.now) (item_of (grammar_of g.now) (record_at chart.old j).item) (record_at chart.old j).item.count j)) × Ready g.now h.now keys.now chart.new index.new lists.new }
 {
-    let made = rules::root(g, records::item_at(chart, j));
-    if !made.ok {
+    let Some(item) = rules::root(g, records::item_at(chart, j)) else {
         return;
-    }
-    let item = made.item;
+    };
     let hash = chains::hash(item);
     index::add(keys, chart, lists, index, item, hash, j, 0);
 }
@@ -68,11 +66,9 @@ fn add_joined(
     requires { RunTables g.now h.now plans.now graph.now × Usable g.now h.now sure x × Usable g.now h.now sure y × Indexed keys.now index.old lists.old (chart_of chart.old).records × Fits chart.old × (capacity chart.old ≤ 4096) × (first < 65536) × (second < 65536) }
     ensures { Joined g.now h.now sure (pair_items g.now h.now x y) count first second keys.now chart.old index.old lists.old chart.new index.new lists.new }
 {
-    let made = rules::combined(g, h, plans, graph, x, y, count, sure);
-    if !made.ok {
+    let Some(item) = rules::combined(g, h, plans, graph, x, y, count, sure) else {
         return;
-    }
-    let item = made.item;
+    };
     let hash = chains::hash(item);
     index::add(keys, chart, lists, index, item, hash, first, second);
 }
@@ -344,14 +340,12 @@ fn add_each(
     requires { Joining g.now h.now plans.now keys.now graph.now chart.old index.old lists.old lead j × (n ≤ item_count chart.old) }
     ensures { (chart.new ≡ grown_by chart.old (gather n (λ k. with_record (grammar_of g.now) (graph_of g.now h.now) (record_at chart.old j) j (record_at chart.old k) k))) × Ready g.now h.now keys.now chart.new index.new lists.new }
 {
-    let asked = pivots::asked(keys, records::item_at(chart, j));
-    if asked.single {
-        add_listed(
-            g, h, plans, keys, graph, chart, lists, index, lead, j, n, asked.key,
-        );
-        return;
+    match pivots::asked(keys, records::item_at(chart, j)) {
+        Some(key) => add_listed(
+            g, h, plans, keys, graph, chart, lists, index, lead, j, n, key,
+        ),
+        None => add_many(g, h, plans, keys, graph, chart, lists, index, lead, j, n),
     }
-    add_many(g, h, plans, keys, graph, chart, lists, index, lead, j, n);
 }
 
 // All that the record at place j makes. Its kind and the plan node above it are read once, here, and tell what it is
