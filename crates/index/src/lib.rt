@@ -54,12 +54,10 @@ fn list(keys: &[u32; KEY_TABLE_WORDS], lists: &mut [u16], n: u64, x: ChartItem)
     requires { Ready lists.old × (n < 4096) }
     ensures { lists.new ≡ entered_all lists.old (5 * n) (keys_of keys.now x) }
 {
-    let own = pivots::entry(keys, x);
-    if !own.single {
-        list_many(keys, lists, n, x);
-        return;
+    match pivots::entry(keys, x) {
+        Some(own) => lists::enter_one(lists, 5 * n, own),
+        None => list_many(keys, lists, n, x),
     }
-    lists::enter_one(lists, 5 * n, own.key);
 }
 
 // The lists of a chart's records, which come one after another: there is none before.

@@ -4,6 +4,7 @@ use mathlib.Core.Bool.{Bool, true, false, ◌&&◌, ◌||◌, not, or-true, fals
 use mathlib.Core.Logic.{⊎_elim}
 use mathlib.Core.List.{List, [], ◌∷◌}
 use Prim.Native.Nat.{ℕ, zero, suc, ◌+◌, ◌^◌, ◌≤◌, ◌<◌}
+use Rattle.std.specs.Prelude.{Option, Some, None, is_some}
 use native.Mathlib.Omega.{arith}
 use native.Mathlib.Decide.{dec_lt}
 use lib.ListN.{length, take}
@@ -253,8 +254,8 @@ module _ {g h w : List ℕ} {r q stays m₁ m₂ : ℕ} {sure : Bool} {f k : Lis
   abbrev R : Rule
   R = rule_of (grammar_of g) r
 
-  abbrev Answer : List ℕ → Bool → Type 0
-  Answer t y = Combines g h r q m₁ m₂ f k (record { nodes = t; ok = y })
+  abbrev Answer : Option (List ℕ) → Type 0
+  Answer x = Combines g h r q m₁ m₂ f k x
 
   rule_small : n ≤ 8
   rule_small = nodes_few g r P.node.grammar P.node.rule
@@ -269,8 +270,8 @@ module _ {g h w : List ℕ} {r q stays m₁ m₂ : ℕ} {sure : Bool} {f k : Lis
       ∙ ap₂ (stages H R r q m₁ m₂)
       (ap (λ i. agree i (take n f) (take n k)) size ∙ agree_take n f k) (ap (λ i. joined i (take n f) (take n k)) size ∙ joined_take n f k)
 
-  none_made : stages H R r q m₁ m₂ (agree n f k) (joined n f k) ≡ [] → Answer f false
-  none_made none = record { makes = record { none = λ _. whole ∙ none; one = λ p. absurd (false≢true p) }; into = P.first_into }
+  none_made : stages H R r q m₁ m₂ (agree n f k) (joined n f k) ≡ [] → Answer None
+  none_made none = record { makes = record { none = whole ∙ none; one = tt }; into = tt }
 
   pub first_plain : Plain f
   first_plain = into_plain (graph_nodes h) f graph_small P.first_into
@@ -278,33 +279,33 @@ module _ {g h w : List ℕ} {r q stays m₁ m₂ : ℕ} {sure : Bool} {f k : Lis
   pub second_plain : Plain k
   second_plain = into_plain (graph_nodes h) k graph_small P.second_into
 
-  pub combine_apart : {b : Bool} → b ≡ disjoint m₁ m₂ → b ≡ false → Answer f false
+  pub combine_apart : {b : Bool} → b ≡ disjoint m₁ m₂ → b ≡ false → Answer None
   combine_apart e fails = none_made (apart_no H R r q m₁ m₂ (agree n f k) (joined n f k) (sym e ∙ fails))
 
   -- two maps merged
-  module _ {x : Merged} (merges : Merges stays f k x) where
-    fits : x.ok ≡ (agree n f k && one_to_one H.nodes (joined n f k))
-    fits =
-        merges.test
-        ∙ ap₂ ◌&&◌ (agree_few n (graph_nodes h) f k rule_small graph_small P.first_bare P.second_bare P.first_into P.second_into)
-        (once_few n (graph_nodes h) f k rule_small graph_small P.first_bare P.second_bare P.first_into P.second_into ∙ ap (λ i. one_to_one i (joined n f k)) (sym (graph_nodes_lem g h)))
+  fits : {x : Option Merged} → Merges stays f k x → is_some x ≡ (agree n f k && one_to_one H.nodes (joined n f k))
+  fits merges =
+      merges.test
+      ∙ ap₂ ◌&&◌ (agree_few n (graph_nodes h) f k rule_small graph_small P.first_bare P.second_bare P.first_into P.second_into)
+      (once_few n (graph_nodes h) f k rule_small graph_small P.first_bare P.second_bare P.first_into P.second_into ∙ ap (λ i. one_to_one i (joined n f k)) (sym (graph_nodes_lem g h)))
 
-    pub combine_clash : x.ok ≡ false → Answer f false
-    combine_clash fails = none_made (merge_not H R r q m₁ m₂ (agree n f k) (joined n f k) (sym fits ∙ fails))
+  pub combine_clash : Merges stays f k None → Answer None
+  combine_clash merges = none_made (merge_not H R r q m₁ m₂ (agree n f k) (joined n f k) (sym (fits merges)))
 
-    module _ (ok : x.ok ≡ true) {m : ℕ} (u : m ≡ m₁ ∪ m₂) (small : m < 2 ^ 64) {lost : Bool} (is : lost ≡ loses_one w m x.dropped) where
+  module _ {x : Merged} (merges : Merges stays f k (Some x)) where
+    module _ {m : ℕ} (u : m ≡ m₁ ∪ m₂) (small : m < 2 ^ 64) {lost : Bool} (is : lost ≡ loses_one w m x.dropped) where
       passed : (agree n f k ≡ true) × (one_to_one H.nodes (joined n f k) ≡ true)
-      passed = and_true (agree n f k) (one_to_one H.nodes (joined n f k)) (sym fits ∙ ok)
+      passed = and_true (agree n f k) (one_to_one H.nodes (joined n f k)) (sym (fits merges))
 
       lost_is : lost ≡ not (none_lost n stays w m f k)
       lost_is =
           is
-          ∙ loses_is n (graph_nodes h) f k rule_small graph_small P.first_bare P.second_bare P.first_into P.second_into stays w m x.dropped merges.dropped
+          ∙ loses_is n (graph_nodes h) f k rule_small graph_small P.first_bare P.second_bare P.first_into P.second_into stays w m x.dropped merges.parts.dropped
 
       map : open_joined n stays f k ≡ restrict R q (joined n f k)
       map = closed g r q stays f k P.node P.opened
 
-      pub combine_lost : lost ≡ true → Answer f false
+      pub combine_lost : lost ≡ true → Answer None
       combine_lost fails =
           none_made
           (cover_no H R r q m₁ m₂ (agree n f k) (joined n f k)
@@ -314,7 +315,7 @@ module _ {g h w : List ℕ} {r q stays m₁ m₂ : ℕ} {sure : Bool} {f k : Lis
       module _ (none : lost ≡ false) where
         kept_cover : covering H m (places_of x.kept) ≡ covering H m (open_joined n stays f k)
         kept_cover =
-            ap (covering H m) merges.kept
+            ap (covering H m) merges.parts.kept
             ∙ kept_covers n (graph_nodes h) f k rule_small graph_small P.first_bare P.second_bare P.first_into P.second_into stays H m (omega (arith, graph_small, graph_nodes_lem g h))
 
         pub combine_sure : sure ≡ true → covering H m (places_of x.kept) ≡ true
@@ -322,27 +323,31 @@ module _ {g h w : List ℕ} {r q stays m₁ m₂ : ℕ} {sure : Bool} {f k : Lis
             kept_cover
             ∙ all_stay g h w P.accepted P.table m small n stays f k m₁ m₂ u first_plain passed.0 (P.first_holds s) (P.second_holds s) (not-false (none_lost n stays w m f k) (sym lost_is ∙ none))
 
-        pub combine_covered : {b : Bool} → b ≡ disjoint m₁ m₂ → b ≡ true → {c : Bool} → c ≡ covering H m (places_of x.kept) → {t : List ℕ} → t ≡ places_of x.kept → Answer t c
-        combine_covered d apart {c} covered places = record {
-          makes = record {
-            none = λ p. whole ∙ cover_no H R r q m₁ m₂ (agree n f k) (joined n f k) (sym cover ∙ p);
-            one = λ p. record {
-              map = restrict R q (joined n f k);
-              item = whole ∙ all_pass H R r q m₁ m₂ (agree n f k) (joined n f k) (sym d ∙ apart) (sym fits ∙ ok) (sym cover ∙ p);
-              places =
-                  places
-                  ∙ merges.kept
-                  ∙ kept_padded n (graph_nodes h) f k rule_small graph_small P.first_bare P.second_bare P.first_into P.second_into stays
-                  ∙ ap padded map;
+        module _ {c : Bool} (covered : c ≡ covering H m (places_of x.kept)) where
+          cover : c ≡ covering H (m₁ ∪ m₂) (restrict R q (joined n f k))
+          cover = covered ∙ kept_cover ∙ ap₂ (covering H) u map
+
+          pub combine_open : c ≡ false → Answer None
+          combine_open p = none_made (cover_no H R r q m₁ m₂ (agree n f k) (joined n f k) (sym cover ∙ p))
+
+          pub combine_covered : c ≡ true → {b : Bool} → b ≡ disjoint m₁ m₂ → b ≡ true → {t : List ℕ} → t ≡ places_of x.kept → Answer (Some t)
+          combine_covered p d apart places = record {
+            makes = record {
+              none = tt;
+              one = record {
+                map = restrict R q (joined n f k);
+                item = whole ∙ all_pass H R r q m₁ m₂ (agree n f k) (joined n f k) (sym d ∙ apart) (sym (fits merges)) (sym cover ∙ p);
+                places =
+                    places
+                    ∙ merges.parts.kept
+                    ∙ kept_padded n (graph_nodes h) f k rule_small graph_small P.first_bare P.second_bare P.first_into P.second_into stays
+                    ∙ ap padded map;
+              };
             };
-          };
-          into =
-              subst (Into (graph_nodes h)) (sym (places ∙ merges.kept))
-              (kept_in n (graph_nodes h) f k rule_small graph_small P.first_bare P.second_bare P.first_into P.second_into stays);
-        }
-          where
-            cover : c ≡ covering H (m₁ ∪ m₂) (restrict R q (joined n f k))
-            cover = covered ∙ kept_cover ∙ ap₂ (covering H) u map
+            into =
+                subst (Into (graph_nodes h)) (sym (places ∙ merges.parts.kept))
+                (kept_in n (graph_nodes h) f k rule_small graph_small P.first_bare P.second_bare P.first_into P.second_into stays);
+          }
 
 -- two maps that differ at a rule node where both have an image make nothing
 pub combine_differ : (H : Graph) (R : Rule) (r q m₁ m₂ : ℕ) (f k : List ℕ) (x : ℕ) → x < R.production.right.nodes → at f x < unplaced → at k x < unplaced → (at f x ≡ at k x → ⊥)

@@ -12,6 +12,7 @@ use lib.Dec.{eqb, ltb}
 use borrow.Author.Tests.{ltb-true}
 use Rattle.masks.specs.Masks.{◌∪◌, disjoint}
 use Rattle.hrg.specs.Counts.{occurs, tabulate}
+use Rattle.std.specs.Prelude.{Some}
 use Rattle.hrg.specs.Grammars.{Graph, Rule, rule_of}
 use Rattle.hrg.specs.Trees.{unplaced, at, padded}
 use Rattle.hrg.specs.Items.{Item, active, passive, either, joined, keep_if, restrict, is_open, is_open_at, node_for, attach}
@@ -94,18 +95,18 @@ module _ (H : Graph) (R : Rule) (r q m₁ m₂ : ℕ) (f k : List ℕ) where
 
 -- ---- over accepted tables
 module _ (g h : List ℕ) (r q m₁ m₂ m : ℕ) (f k t : List ℕ) (accepted : Accepted g h) (known : KnownNode g r q)
-    (makes : Makes (combine (graph_of g h) (rule_of (grammar_of g) r) r q m₁ m₂ f k) r q m t true) (u : m ≡ m₁ ∪ m₂) where
+    (makes : Makes (combine (graph_of g h) (rule_of (grammar_of g) r) r q m₁ m₂ f k) r q m (Some t)) (u : m ≡ m₁ ∪ m₂) where
   abbrev R : Rule
   R = rule_of (grammar_of g) r
 
   size : R.production.right.nodes ≡ rule_nodes g r
   size = right_nodes g r known.grammar known.rule
 
-  facts : ((makes.one refl).map ≡ whole (graph_of g h) R r q m₁ m₂ f k) × (covering (graph_of g h) (m₁ ∪ m₂) (whole (graph_of g h) R r q m₁ m₂ f k) ≡ true)
-  facts = made_facts (graph_of g h) R r q m₁ m₂ f k r q m (makes.one refl).map (makes.one refl).item
+  facts : (makes.one.map ≡ whole (graph_of g h) R r q m₁ m₂ f k) × (covering (graph_of g h) (m₁ ∪ m₂) (whole (graph_of g h) R r q m₁ m₂ f k) ≡ true)
+  facts = made_facts (graph_of g h) R r q m₁ m₂ f k r q m makes.one.map makes.one.item
 
   places : t ≡ padded (whole (graph_of g h) R r q m₁ m₂ f k)
-  places = (makes.one refl).places ∙ ap padded facts.0
+  places = makes.one.places ∙ ap padded facts.0
 
   abbrev image_at : ℕ → ℕ
   image_at x = keep_if (is_open_at R q x) (at (joined R.production.right.nodes f k) x)

@@ -1,5 +1,5 @@
 -- What the functions say of accepted tables: masks of rule edges and of open nodes, and maps of eight rule nodes.
-use Rattle.std.specs.Prelude.{◌≡◌, Bool, true, false, ◌&&◌, ◌||◌, not, ◌⊎◌, List, [], ◌∷◌, ℕ, zero, suc, ◌+◌, ◌*◌, ◌-◌, ◌^◌, ◌≤◌, ◌<◌, get_or, eqb, ltb}
+use Rattle.std.specs.Prelude.{◌≡◌, Option, IfSome, IfNone, Bool, true, false, ◌&&◌, ◌||◌, not, ◌⊎◌, List, [], ◌∷◌, ℕ, zero, suc, ◌+◌, ◌*◌, ◌-◌, ◌^◌, ◌≤◌, ◌<◌, get_or, eqb, ltb}
 use Rattle.std.specs.Int.Bits.{bit_or, bit_and, bit_xor}
 use Rattle.masks.specs.Masks.{member, ◌∪◌}
 use Rattle.hrg.specs.Counts.{occurs, tabulate}
@@ -147,7 +147,7 @@ pub record OneItem (l : List Item) (r q m : ℕ) (t : List ℕ) : Type 0 where
   pub item : l ≡ active r q m map ∷ []
   pub places : t ≡ padded map
 
--- x says whether a list of items has one
-pub record Makes (l : List Item) (r q m : ℕ) (t : List ℕ) (x : Bool) : Type 0 where
-  pub none : x ≡ false → l ≡ []
-  pub one : x ≡ true → OneItem l r q m t
+-- whether a list of items has one, and the places of its map
+pub record Makes (l : List Item) (r q m : ℕ) (x : Option (List ℕ)) : Type 0 where
+  pub none : IfNone x (l ≡ [])
+  pub one : IfSome x (OneItem l r q m)

@@ -1,11 +1,10 @@
 -- Two sets and maps of rule nodes that may make an item, and what they make.
-use Rattle.std.specs.Prelude.{◌≡◌, Bool, true, List, ℕ, take}
+use Rattle.std.specs.Prelude.{◌≡◌, Bool, true, Option, IfSome, List, ℕ, take}
 use Rattle.masks.specs.Masks.{◌∪◌}
 use Rattle.hrg.specs.Grammars.{rule_of}
 use Rattle.hrg.specs.ClosureRun.{combine}
 use Rattle.questions.specs.Layout.{rule_nodes, graph_nodes}
 use Rattle.questions.specs.Abstract.{grammar_of, graph_of}
-use Rattle.joins.specs.declared.Combined.{Combined}
 use Rattle.joins.specs.Joins.{Accepted, KnownNode, OpenAt, BareFrom, Holds, Into, Makes}
 use Rattle.joins.specs.Graphs.{GraphTable}
 
@@ -24,6 +23,6 @@ pub record Premises (g h graph : List ℕ) (r q stays m₁ m₂ : ℕ) (sure : B
   pub second_into : Into (graph_nodes h) t
 
 -- x says whether they make an item, and has its map
-pub record Combines (g h : List ℕ) (r q m₁ m₂ : ℕ) (f t : List ℕ) (x : Combined) : Type 0 where
-  pub makes : Makes (combine (graph_of g h) (rule_of (grammar_of g) r) r q m₁ m₂ (take (rule_nodes g r) f) (take (rule_nodes g r) t)) r q (m₁ ∪ m₂) x.nodes x.ok
-  pub into : Into (graph_nodes h) x.nodes
+pub record Combines (g h : List ℕ) (r q m₁ m₂ : ℕ) (f t : List ℕ) (x : Option (List ℕ)) : Type 0 where
+  pub makes : Makes (combine (graph_of g h) (rule_of (grammar_of g) r) r q m₁ m₂ (take (rule_nodes g r) f) (take (rule_nodes g r) t)) r q (m₁ ∪ m₂) x
+  pub into : IfSome x (Into (graph_nodes h))

@@ -19,12 +19,10 @@ fn edge_sets(g: &[u64], h: &[u64]) -> [u64; 64]
 {
     let mut t = [0u64; 64];
     let n = layout::graph_edges(h);
-    let mut e: u64 = 0;
-    while e < n {
+    for e in 0..n {
         let rank = layout::rank_at(g, layout::graph_label(h, e));
         let on = crate::listed(h, layout::graph_edge_place(e), 1, rank);
         t[e as usize] = on;
-        e += 1;
     }
     t
 }
@@ -33,10 +31,7 @@ fn edge_sets(g: &[u64], h: &[u64]) -> [u64; 64]
 fn chosen(v: u64, k: u64, on: u64) -> u64
     ensures { (x : ℕ) → member result x ≡ (member v k && member on x) }
 {
-    if masks::has(v, k) {
-        return on;
-    }
-    0
+    if masks::has(v, k) { on } else { 0 }
 }
 
 // The nodes on the edges of set i % 16 of the four edges of group i / 16.
@@ -58,12 +53,10 @@ fn put_groups(h: &[u64], sets: &[u64; 64], t: &mut [u64])
     requires { (graph_edges h.now ≤ 64) × (length t.old ≡ graph_table_words) }
     ensures { Grouped h.now sets.now t.old t.new }
 {
-    let n = SUBSETS * ((layout::graph_edges(h) + 3) / 4);
-    let mut i: u64 = 0;
-    while i < n {
+    let n = SUBSETS * layout::graph_edges(h).div_ceil(4);
+    for i in 0..n {
         let m = group(sets, i);
         t[i as usize] = m;
-        i += 1;
     }
 }
 
@@ -77,12 +70,10 @@ fn mark_edge(g: &[u64], h: &[u64], e: u64, t: &mut [u64])
     let w = masks::with(t[first], e);
     t[first] = w;
     let rank = layout::rank_at(g, label);
-    let mut k: u64 = 0;
-    while k < rank {
+    for k in 0..rank {
         let i = (321 + 64 * k + layout::graph_node(h, e, k)) as usize;
         let v = masks::with(t[i], e);
         t[i] = v;
-        k += 1;
     }
 }
 
@@ -91,11 +82,8 @@ fn mark_edges(g: &[u64], h: &[u64], t: &mut [u64])
     requires { Accepted g.now h.now × Indexed g.now h.now t.old 0 }
     ensures { Indexed g.now h.now t.new (graph_edges h.now) }
 {
-    let n = layout::graph_edges(h);
-    let mut e: u64 = 0;
-    while e < n {
+    for e in 0..layout::graph_edges(h) {
         mark_edge(g, h, e, t);
-        e += 1;
     }
 }
 

@@ -53,11 +53,9 @@ fn listed(t: &[u64], p: u64, from: u64, n: u64) -> u64
     requires { (from ≤ 5) × (n ≤ 4) }
     ensures { NodesIn result (tabulate n (λ k. line_field t.now p (from + k))) }
 {
-    let mut mask: u64 = 0;
-    let mut k: u64 = 0;
-    while k < n {
+    let mut mask = 0;
+    for k in 0..n {
         mask = masks::with(mask, layout::field_at(t, p, from + k));
-        k += 1;
     }
     mask
 }
@@ -87,12 +85,10 @@ fn nodes_by(g: &[u64], t: &[u64], base: u64, n: u64, m: u64) -> Sides
         inside: 0,
         outside: 0,
     };
-    let mut i: u64 = 0;
-    while i < n {
+    for i in 0..n {
         let rank = layout::rank_at(g, layout::field_at(t, base + i, 0));
         let on = listed(t, base + i, 1, rank);
         s = with_edge(s, masks::has(m, i), on);
-        i += 1;
     }
     s
 }
@@ -135,17 +131,14 @@ fn touched(g: &[u64], h: &[u64], graph: &[u64; graphs::GRAPH_TABLE_WORDS], m: u6
     requires { Accepted g.now h.now × GraphTable g.now h.now graph.now }
     ensures { Touched g.now h.now m result }
 {
-    let n = layout::graph_edges(h);
-    let mut inside: u64 = 0;
-    let mut outside: u64 = 0;
+    let mut inside = 0;
+    let mut outside = 0;
     let mut rest = m;
-    let mut b: u64 = 0;
-    while 4 * b < n {
+    for b in 0..layout::graph_edges(h).div_ceil(4) {
         let v = rest % graphs::SUBSETS;
         inside |= graph[(graphs::SUBSETS * b + v) as usize];
         outside |= graph[(graphs::SUBSETS * b + (graphs::SUBSETS - 1 - v)) as usize];
         rest /= graphs::SUBSETS;
-        b += 1;
     }
     Sides { inside, outside }
 }
@@ -174,11 +167,9 @@ pub fn nodes_word(g: &[u64], r: u64, i: u64) -> u64
     ensures { result ≡ nodes_word g.now r i }
 {
     let rank = rank_of(g, layout::edge_label_in(g, r, i));
-    let mut w: u64 = 0;
-    let mut k: u64 = 0;
-    while k < rank {
+    let mut w = 0;
+    for k in 0..rank {
         w = 8 * w + layout::edge_node_in(g, r, i, k);
-        k += 1;
     }
     rank + 8 * w
 }
@@ -191,10 +182,8 @@ pub fn attach_by(g: &[u64], r: u64, i: u64, w: u64, l: [u8; PLACES]) -> [u8; PLA
 {
     let nodes = places::word_of(l);
     let mut t = places::NONE;
-    let mut k = w % 8;
     let mut rest = w / 8;
-    while 0 < k {
-        k -= 1;
+    for k in (0..w % 8).rev() {
         t = places::with_node(t, rest % 8, places::node_at(nodes, k));
         rest /= 8;
     }
@@ -235,11 +224,9 @@ fn loses(graph: &[u64; graphs::GRAPH_TABLE_WORDS], m: u64, w: u64) -> bool
 fn images(w: u64) -> u64
     ensures { NodesIn result (places_of w) }
 {
-    let mut mask: u64 = 0;
-    let mut k: u64 = 0;
-    while k < 8 {
+    let mut mask = 0;
+    for k in 0..8 {
         mask = masks::with(mask, places::node_at(w, k));
-        k += 1;
     }
     mask
 }
@@ -263,13 +250,6 @@ fn covered(
     nodes & images(w) == nodes
 }
 
-// What two sets and maps make: the map of the item, if they make one.
-#[derive(Clone, Copy)]
-pub struct Combined {
-    pub nodes: [u8; PLACES],
-    pub ok: bool,
-}
-
 // Whether two sets and maps of rule nodes make an item of rule r at plan node q, and its map: the rule nodes in `stays`
 // are open there. It may be sure that each map has the open graph nodes of its set: then those of the union, which are
 // among them, are covered if none is dropped.
@@ -285,34 +265,20 @@ pub fn combine(
     sure: bool,
     f: [u8; PLACES],
     t: [u8; PLACES],
-) -> Combined
+) -> Option<[u8; PLACES]>
     requires { Premises g.now h.now graph.now r q stays m1 m2 sure f t }
     ensures { Combines g.now h.now r q m1 m2 f t result }
 {
     if !masks::disjoint(m1, m2) {
-        return Combined {
-            nodes: f,
-            ok: false,
-        };
+        return None;
     }
-    let merged = merging::merge(stays, f, t);
-    if !merged.ok {
-        return Combined {
-            nodes: f,
-            ok: false,
-        };
-    }
+    let merged = merging::merge(stays, f, t)?;
     let m = masks::union(m1, m2);
     if loses(graph, m, merged.dropped) {
-        return Combined {
-            nodes: f,
-            ok: false,
-        };
+        return None;
     }
-    let kept = merged.kept;
-    let ok = covered(g, h, graph, m, sure, kept);
-    Combined {
-        nodes: places::nodes_of(kept),
-        ok,
+    if !covered(g, h, graph, m, sure, merged.kept) {
+        return None;
     }
+    Some(places::nodes_of(merged.kept))
 }

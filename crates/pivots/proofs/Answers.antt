@@ -5,6 +5,7 @@ use Prim.Native.Nat.{ℕ, ◌+◌, ◌*◌, ◌/◌, ◌%◌, ◌≤◌, ◌<◌
 use native.Mathlib.Omega.{arith}
 use lib.ListN.{length, get_or}
 use borrow.Author.Tests.{eq-eqb, ne_eqb}
+use Rattle.std.specs.Prelude.{Option, Some, None, IfSome}
 use Rattle.masks.specs.Masks.{bit}
 use Rattle.hrg.specs.Trees.{at}
 use Rattle.agenda.specs.declared.ChartItem.{ChartItem}
@@ -131,3 +132,9 @@ module _ (s : ℕ) (L : List ℕ) (w u tag : ℕ) where
 pub keys_from_lem : (t : List ℕ) (x : ChartItem) (rules symbols tag w u : ℕ) → u ≡ uses_of t x → (ks : List ℕ) → w ≡ word_for t rules symbols x → ks ≡ keys_by w u tag x.of x.nodes
     → ks ≡ keys_from t rules symbols tag x
 keys_from_lem t x rules symbols tag w u uses ks e q = q ∙ ap₂ (λ w u. keys_by w u tag x.of x.nodes) e uses
+
+-- a key that is the only one, whatever the tag is
+pub only_at : (t : List ℕ) (rules symbols tag : ℕ) (x : ChartItem) (o : Option ℕ)
+    → IfSome o (λ key. (tag : ℕ) → (key ∷ 0 ∷ 0 ∷ 0 ∷ 0 ∷ []) ≡ keys_from t rules symbols tag x) → IfSome o (λ key. (key ∷ 0 ∷ 0 ∷ 0 ∷ 0 ∷ []) ≡ keys_from t rules symbols tag x)
+only_at t rules symbols tag x None is = is
+only_at t rules symbols tag x (Some key) is = is tag

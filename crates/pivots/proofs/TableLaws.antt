@@ -12,6 +12,7 @@ use lib.ListN.{length, length-set, get_or, set, replicate, get_or-replicate}
 use lib.Seq.{get_or-set_same, get_or-set_other}
 use lib.Dec.{eqb}
 use borrow.Author.Tests.{eq-eqb, ne_eqb, lt-ltb, le-ltb}
+use Rattle.std.specs.Prelude.{Some, None}
 use Rattle.masks.specs.Masks.{member, single, ◌∪◌, Added}
 use Rattle.hrg.specs.Counts.{occurs}
 use Rattle.hrg.specs.Grammars.{Edge, Rule, Grammar, PlanNode, leaf, introduce, join, rule_of, right_of, plan_of, plan_node, edge_at}
@@ -32,7 +33,6 @@ use Rattle.joins.specs.Joins.{KnownNode, KnownEdge, OpenAt, edge_nodes}
 use Rattle.joins.proofs.Known.{plan_ok, plan_size, plan_few, rule_few, right_nodes, nodes_few}
 use Rattle.joins.proofs.EdgeMaps.{edge_rank, edge_node_few}
 use Rattle.joins.proofs.PlanMasks.{node_is, introduced_is, joined_is}
-use Rattle.rules.specs.declared.Place.{Place}
 use Rattle.rules.specs.Rules.{Above}
 use Rattle.rules.specs.Wants.{want_of}
 use Rattle.rules.proofs.WantLaws.{unknown_rule, unknown_node, rules_few}
@@ -264,15 +264,15 @@ module _ (p : ℕ) (n : PlanNode) where
   unfolding occurs
   child_second a e = omega (arith, ap (λ (n : PlanNode). occurs p (children n)) e, hit_self p)
 
-module _ (g : List ℕ) (r p : ℕ) (x : Place) (above : Above g r p x) where
+module _ (g : List ℕ) (r p : ℕ) where
   abbrev at_node : ℕ → PlanNode
   at_node q = plan_node (plan_of (grammar_of g) r) q
 
-  pub pivot_missing : x.found ≡ false → PivotOf g r p 72
-  pivot_missing found = record {
+  pub pivot_missing : Above g r p None → PivotOf g r p 72
+  pivot_missing above = record {
     small = omega arith;
     each = λ q l.
-        let none = (above.nowhere found).none q l in
+        let none = above.nowhere.none q l in
         record {
           edge = λ i e. absurd (omega (arith, none, child_edge p (at_node q) i e));
           first = λ b e. absurd (omega (arith, none, child_first p (at_node q) b e));
@@ -280,14 +280,14 @@ module _ (g : List ℕ) (r p : ℕ) (x : Place) (above : Above g r p x) where
         };
   }
 
-  pub pivot_found : x.found ≡ true → (w : ℕ) → PivotBelow g r p x.node w × (w ≤ 72) → PivotOf g r p w
-  pivot_found found w (below, few) =
-      let k = above.known found in
+  pub pivot_found : (x : ℕ) → Above g r p (Some x) → (w : ℕ) → PivotBelow g r p x w × (w ≤ 72) → PivotOf g r p w
+  pivot_found x above w (below, few) =
+      let k = above.known in
       record {
         small = few;
         each = λ q l.
-            let only : 0 < occurs p (children (at_node q)) → at_node x.node ≡ at_node q
-            = λ o. ap at_node (sym ((above.parent found).only q (omega (arith, plan_size g r k.grammar k.rule)) o)) in
+            let only : 0 < occurs p (children (at_node q)) → at_node x ≡ at_node q
+            = λ o. ap at_node (sym (above.parent.only q (omega (arith, plan_size g r k.grammar k.rule)) o)) in
             record {
               edge = λ i e. below.edge i (only (child_edge p (at_node q) i e) ∙ e);
               first = λ b e. below.first b (only (child_first p (at_node q) b e) ∙ e);

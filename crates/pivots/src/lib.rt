@@ -3,7 +3,7 @@
 
 #![tactic(auto)]
 
-ghost use Rattle.std.specs.Prelude.{◌≡◌, true, [], ◌∷◌, ℕ, ◌≤◌, ◌<◌, length, replicate};
+ghost use Rattle.std.specs.Prelude.{◌≡◌, MatchOption, IfSome, true, [], ◌∷◌, ℕ, ◌≤◌, ◌<◌, length, replicate};
 ghost use Rattle.hrg.specs.Grammars.{rule_of};
 ghost use Rattle.questions.specs.Checking.{check_grammar};
 ghost use Rattle.questions.specs.Abstract.{grammar_of};
@@ -49,13 +49,11 @@ fn edge_pivot(g: &[u64], plans: &[u32; PLAN_TABLE_WORDS], r: u64, p: u64, i: u64
 {
     let nodes = rules::plans::open_at(g, plans, r, p);
     let rank = layout::rank_at(g, layout::edge_label(g, r, i));
-    let mut k: u64 = 0;
-    while k < rank {
+    for k in 0..rank {
         let v = layout::edge_node(g, r, i, k);
         if masks::has(nodes, v) {
             return NODE_END * k + v;
         }
-        k += 1;
     }
     NO_PIVOT
 }
@@ -67,9 +65,7 @@ fn shared_node(g: &[u64], plans: &[u32; PLAN_TABLE_WORDS], r: u64, p: u64, q: u6
 {
     let here = rules::plans::open_at(g, plans, r, p);
     let there = rules::plans::open_at(g, plans, r, q);
-    let mut v = layout::rule_nodes(g, r);
-    while 0 < v {
-        v -= 1;
+    for v in (0..layout::rule_nodes(g, r)).rev() {
         if masks::has(here, v) & masks::has(there, v) {
             return v;
         }
@@ -111,11 +107,10 @@ fn pivot(g: &[u64], plans: &[u32; PLAN_TABLE_WORDS], r: u64, p: u64) -> u64
     requires { (check_grammar g.now ≡ true) × PlanTable g.now plans.now }
     ensures { PivotOf g.now r p result }
 {
-    let above = rules::plans::place_above(g, plans, r, p);
-    if !above.found {
-        return NO_PIVOT;
+    match rules::plans::place_above(g, plans, r, p) {
+        None => NO_PIVOT,
+        Some(q) => pivot_below(g, plans, r, p, q),
     }
-    pivot_below(g, plans, r, p, above.node)
 }
 
 // ---- buckets
@@ -148,17 +143,17 @@ fn key_word(tag: u64, want: u64, w: u64, r: u64, p: u64) -> u64
     NODE_END * base(JOIN_TAG, r, p) + w % NODE_END
 }
 
-// The place of a set that has no other, 5 for any other set.
-fn place_of(u: u64) -> u64
-    ensures { result ≡ place_of u }
+// The place of a set that has no other.
+fn place_of(u: u64) -> Option<u64>
+    ensures { MatchOption result (5 ≡ place_of u) (λ i. (i ≡ place_of u) × (i < 5)) }
 {
     match u {
-        1 => 0,
-        2 => 1,
-        4 => 2,
-        8 => 3,
-        16 => 4,
-        _ => 5,
+        1 => Some(0),
+        2 => Some(1),
+        4 => Some(2),
+        8 => Some(3),
+        16 => Some(4),
+        _ => None,
     }
 }
 
@@ -166,10 +161,9 @@ fn place_of(u: u64) -> u64
 fn place_word(tag: u64, s: u64, u: u64) -> u64
     ensures { (result ≡ place_word tag s u) × (result < 4294967296) }
 {
-    let i = place_of(u);
-    if i >= 5 {
+    let Some(i) = place_of(u) else {
         return 0;
-    }
+    };
     let b = NODE_END * base(tag, s, i);
     if i == 4 {
         return b + 8;
@@ -198,12 +192,10 @@ fn fill_places(t: &mut [u32])
     requires { length t.old ≡ key_table_words }
     ensures { Placed t.old 64 t.new }
 {
-    let mut s: u64 = 0;
-    while s < 64 {
+    for s in 0..64 {
         let u = t[(USES_FROM + s) as usize] as u64;
         t[(PLACES_FROM + s) as usize] = place_word(PASSIVE_TAG, s, u) as u32;
         t[(SOUGHT_FROM + s) as usize] = place_word(EDGE_TAG, s, u) as u32;
-        s += 1;
     }
 }
 
@@ -214,15 +206,12 @@ pub fn fill(g: &[u64], plans: &[u32; PLAN_TABLE_WORDS], t: &mut [u32])
     requires { (check_grammar g.now ≡ true) × PlanTable g.now plans.now × (t.old ≡ replicate key_table_words 0) }
     ensures { KeyTable g.now t.new }
 {
-    let n = PER_RULE * layout::rule_count(g);
-    let mut i: u64 = 0;
-    while i < n {
+    for i in 0..PER_RULE * layout::rule_count(g) {
         let want = rules::wants::want_of(g, plans, i / PER_RULE, i % PER_RULE);
         if want != 80 {
             let w = pivot(g, plans, i / PER_RULE, i % PER_RULE);
             enter(t, i, want, w);
         }
-        i += 1;
     }
     fill_places(t);
 }
@@ -337,27 +326,19 @@ fn keys_by(
     ]
 }
 
-// The same without an array, where a word of the table tells that there is but one key; 0 where there is none.
-#[derive(Clone, Copy)]
-pub struct OnlyKey {
-    pub single: bool,
-    pub key: u64,
-}
-
-fn only_key(keys: &[u32; KEY_TABLE_WORDS], rules: u64, symbols: u64, x: ChartItem) -> OnlyKey
+// The same without an array, where a word of the table tells that there is but one key: 0 where there is none at all.
+fn only_key(keys: &[u32; KEY_TABLE_WORDS], rules: u64, symbols: u64, x: ChartItem) -> Option<u64>
     requires { (rules ≤ asked_from) × (symbols ≤ sought_from) }
-    ensures { result.single ≡ true → (tag : ℕ) → (result.key ∷ 0 ∷ 0 ∷ 0 ∷ 0 ∷ []) ≡ keys_from keys.now rules symbols tag x }
+    ensures { IfSome result (λ key. (tag : ℕ) → (key ∷ 0 ∷ 0 ∷ 0 ∷ 0 ∷ []) ≡ keys_from keys.now rules symbols tag x) }
 {
     let w = word_for(keys, rules, symbols, x);
     if w != 0 {
-        let key = mix(w / NODE_END, image(w, x));
-        return OnlyKey { single: true, key };
+        return Some(mix(w / NODE_END, image(w, x)));
     }
-    let none = uses_of(keys, x) == 0;
-    OnlyKey {
-        single: none,
-        key: 0,
+    if uses_of(keys, x) == 0 {
+        return Some(0);
     }
+    None
 }
 
 // The keys that an item has.
@@ -368,8 +349,8 @@ pub fn listing(keys: &[u32; KEY_TABLE_WORDS], x: ChartItem) -> [u64; 5]
 }
 
 // An only one.
-pub fn entry(keys: &[u32; KEY_TABLE_WORDS], x: ChartItem) -> OnlyKey
-    ensures { result.single ≡ true → (result.key ∷ 0 ∷ 0 ∷ 0 ∷ 0 ∷ []) ≡ keys_of keys.now x }
+pub fn entry(keys: &[u32; KEY_TABLE_WORDS], x: ChartItem) -> Option<u64>
+    ensures { IfSome result (λ key. (key ∷ 0 ∷ 0 ∷ 0 ∷ 0 ∷ []) ≡ keys_of keys.now x) }
 {
     only_key(keys, 0, PLACES_FROM, x)
 }
@@ -382,8 +363,8 @@ pub fn query(keys: &[u32; KEY_TABLE_WORDS], x: ChartItem) -> [u64; 5]
 }
 
 // An only one.
-pub fn asked(keys: &[u32; KEY_TABLE_WORDS], x: ChartItem) -> OnlyKey
-    ensures { result.single ≡ true → (result.key ∷ 0 ∷ 0 ∷ 0 ∷ 0 ∷ []) ≡ query_of keys.now x }
+pub fn asked(keys: &[u32; KEY_TABLE_WORDS], x: ChartItem) -> Option<u64>
+    ensures { IfSome result (λ key. (key ∷ 0 ∷ 0 ∷ 0 ∷ 0 ∷ []) ≡ query_of keys.now x) }
 {
     only_key(keys, ASKED_FROM, SOUGHT_FROM, x)
 }

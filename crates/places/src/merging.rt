@@ -11,13 +11,11 @@ pub(crate) const LOW: u64 = 9187201950435737471;
 
 pub(crate) const HIGH: u64 = 9259542123273814144;
 
-// The joined map at the places that stay; its nodes at the others, each xor 64, so that a place with none has 0; and
-// whether the two maps agree and are one_to_one_is together.
+// The joined map at the places that stay; its nodes at the others, each xor 64, so that a place with none has 0.
 #[derive(Clone, Copy)]
 pub struct Merged {
     pub kept: u64,
     pub dropped: u64,
-    pub ok: bool,
 }
 
 // 255 at each place that has no node, else 0.
@@ -74,18 +72,21 @@ pub(crate) fn spread(m: u64) -> u64
     ((m % 256 * 72340172838076673 & 9241421688590303745) + LOW & HIGH) / 128 * 255
 }
 
-// Two maps as one: the node of f at each place, and where that has none, the node of t. The places in `stays` are kept.
-pub fn merge(stays: u64, f: [u8; PLACES], t: [u8; PLACES]) -> Merged
+// Two maps as one, if they agree and that is one to one: the node of f at each place, and where that has none, the node
+// of t. The places in `stays` are kept.
+pub fn merge(stays: u64, f: [u8; PLACES], t: [u8; PLACES]) -> Option<Merged>
     requires { ((i : ℕ) → at f i ≤ unplaced) × ((i : ℕ) → at t i ≤ unplaced) }
     ensures { Merges stays f t result }
 {
     let a = crate::word_of(f);
     let b = crate::word_of(t);
     let j = choose(bare(a), b, a);
+    if once(j) & agrees(j, b) != HIGH {
+        return None;
+    }
     let s = spread(stays);
-    Merged {
+    Some(Merged {
         kept: choose(s, j, NONE),
         dropped: (j ^ NONE) & !s,
-        ok: once(j) & agrees(j, b) == HIGH,
-    }
+    })
 }

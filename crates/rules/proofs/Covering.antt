@@ -8,6 +8,7 @@ use lib.ListN.{length, take}
 use lib.Seq.{get_or-take}
 use lib.Dec.{ltb}
 use borrow.Author.Tests.{lt-ltb, ltb-true}
+use Rattle.std.specs.Prelude.{Some}
 use Rattle.masks.specs.Masks.{◌∪◌}
 use Rattle.hrg.specs.Counts.{occurs}
 use Rattle.hrg.specs.Grammars.{Graph, Rule, touches, rule_of, right_of, edge_at}
@@ -37,25 +38,23 @@ pub first_holds : (g h : List ℕ) (x : ChartItem) → x.kind ≡ 0 → Covering
 first_holds g h x is_active covering =
     record { each = λ v l p. let (i, inside, _, image) = (covering.shown v l p).active is_active in (i, inside, image) }
 
-pub second_holds : (g h : List ℕ) (r q : ℕ) (y : ChartItem) (t : List ℕ) (b : Bool) → Second g r q y t b → b ≡ true → Covering g h y
+pub second_holds : (g h : List ℕ) (r q : ℕ) (y : ChartItem) (t : List ℕ) → Second g r q y (Some t) → Covering g h y
     → Holds g h y.edges (rule_nodes g r) t
-second_holds g h r q y t b second is covering = record { each = λ v l p. second.held is v (covering.shown v l p) }
+second_holds g h r q y t second covering = record { each = λ v l p. second.held v (covering.shown v l p) }
 
 -- ---- the item that they make
 module _ (g h : List ℕ) (r q m₁ m₂ : ℕ) (f k t : List ℕ) (accepted : Accepted g h) (known : KnownNode g r q) where
   abbrev n : ℕ
   n = rule_nodes g r
 
-  pub made_covering : (b : Bool) → Makes (combine (graph_of g h) (rule_of (grammar_of g) r) r q m₁ m₂ (take n f) (take n k)) r q (m₁ ∪ m₂) t b → b ≡ true
+  pub made_covering : Makes (combine (graph_of g h) (rule_of (grammar_of g) r) r q m₁ m₂ (take n f) (take n k)) r q (m₁ ∪ m₂) (Some t)
       → (count : ℕ) → Covering g h (record { kind = 0; of = r; plan = q; edges = m₁ ∪ m₂; count = count; nodes = t })
-  made_covering b makes is count =
-      let made = subst (Makes (combine (graph_of g h) (rule_of (grammar_of g) r) r q m₁ m₂ (take n f) (take n k)) r q (m₁ ∪ m₂) t) is makes in
-      record {
-        shown = λ v l p. record {
-          active = λ _. made_shows g h r q m₁ m₂ (m₁ ∪ m₂) (take n f) (take n k) t accepted known made refl v l p;
-          passive = λ none. absurd (none refl);
-        };
-      }
+  made_covering makes count = record {
+    shown = λ v l p. record {
+      active = λ _. made_shows g h r q m₁ m₂ (m₁ ∪ m₂) (take n f) (take n k) t accepted known makes refl v l p;
+      passive = λ none. absurd (none refl);
+    };
+  }
 
 -- ---- the passive item of a root item
 -- at the root every edge is below, so that an open rule node is external

@@ -7,6 +7,7 @@ use native.Mathlib.Omega.{arith}
 use lib.ListN.{length, take}
 use lib.Dec.{eqb}
 use borrow.Author.Tests.{eq-eqb, ne_eqb, eqb-true, eqb-false, lt-ltb, not-true, not-false}
+use Rattle.std.specs.Prelude.{Some}
 use Rattle.hrg.specs.Counts.{hit, occurs}
 use Rattle.hrg.specs.Grammars.{Graph, PlanNode, leaf, introduce, join, Rule, Grammar, rule_of, right_of, plan_of, plan_node}
 use Rattle.hrg.specs.Items.{Item, active, passive}
@@ -23,7 +24,8 @@ use Rattle.joins.proofs.Known.{plan_ok, plan_size}
 use Rattle.joins.proofs.PlanMasks.{node_is}
 use Rattle.rules.specs.declared.plans.Parent.{Parent}
 use Rattle.rules.specs.Plans.{ParentAt, Leads}
-use Rattle.rules.proofs.Parents.{child_lower}
+use Rattle.rules.specs.Rules.{Above}
+use Rattle.rules.proofs.Parents.{above_near, child_lower}
 use Rattle.rules.proofs.RuleItems.{guard_none, each_none, item_active, pair_passive}
 use Rattle.rules.proofs.Meeting.{rule_or_none}
 use Rattle.rules.proofs.JoinWords.{join_first, join_later as word_later}
@@ -126,11 +128,14 @@ module _ (g : List ℕ) (checked : check_grammar g ≡ true) (x : ChartItem) whe
       abbrev c : ℕ
       c = plan_first g x.of up
 
+      near : Above g x.of x.plan (Some up)
+      near = above_near g x.of x.plan up l is.above
+
       known : KnownNode g x.of up
-      known = is.above.known (lt-ltb up 16 l)
+      known = near.known
 
       only : (q : ℕ) → q < length pl → 0 < occurs x.plan (children (plan_node pl q)) → q ≡ up
-      only q n o = (is.above.parent (lt-ltb up 16 l)).only q (omega (arith, plan_size g x.of checked known.rule)) o
+      only q n o = near.parent.only q (omega (arith, plan_size g x.of checked known.rule)) o
 
       from : plan_node pl up ≡ plan_from (plan_kind g x.of up) c (plan_second g x.of up)
       from = node_is g x.of up known _ refl

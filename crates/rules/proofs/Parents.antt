@@ -1,13 +1,13 @@
 -- A plan node is a child at most once: what the search for its parent shows.
-use mathlib.Core.Path.{◌≡◌, sym, ap, ◌∙◌}
-use mathlib.Core.Bool.{Bool, true, false, ◌||◌, false≢true}
+use mathlib.Core.Path.{◌≡◌, sym, ap, ◌∙◌, subst}
+use mathlib.Core.Bool.{Bool, true, false, ◌||◌, cond, false≢true}
 use mathlib.Core.List.{List, [], ◌∷◌}
 use Prim.Native.Nat.{ℕ, zero, suc, ◌≤◌, ◌<◌}
 use native.Mathlib.Omega.{arith}
 use native.Mathlib.Decide.{dec_lt}
 use lib.ListN.{length, get_or-eq_default}
 use lib.Dec.{eqb, ltb}
-use borrow.Author.Tests.{ltb-true}
+use borrow.Author.Tests.{ltb-true, lt-ltb, le-ltb}
 use Rattle.hrg.specs.Counts.{occurs}
 use Rattle.hrg.specs.Grammars.{Rule, no_rule, PlanNode, leaf, introduce, join, plan_of, plan_node}
 use Rattle.hrg.specs.WellFormed.{children, all_children, PlanOk}
@@ -17,8 +17,9 @@ use Rattle.questions.specs.Checking.{check_grammar}
 use Rattle.questions.specs.Abstract.{grammar_of}
 use Rattle.questions.proofs.WellFormedAccepted.{rules_length}
 use Rattle.joins.specs.Joins.{KnownNode}
-use Rattle.rules.specs.declared.Place.{Place}
+use Rattle.std.specs.Prelude.{Option, Some, None}
 use Rattle.rules.specs.Rules.{ParentOf, Childless, Above}
+use Rattle.rules.specs.Plans.{numbered}
 use Rattle.joins.proofs.Known.{plan_ok, plan_size}
 use Rattle.joins.proofs.PlanMasks.{some_one, some_append, node_is, introduced_is, joined_is}
 
@@ -84,19 +85,29 @@ module _ (g : List ℕ) (r p : ℕ) (checked : check_grammar g ≡ true) (rule :
       go q' l k (no d) (no e) = omega arith
 
 -- ---- for any rule and plan node
-abbrev nowhere : Place
-nowhere = record { found = false; node = 0 }
+pub above_none : (g : List ℕ) (r p : ℕ) → Childless g r p → Above g r p None
+above_none g r p none = record { known = tt; parent = tt; nowhere = none }
 
-pub above_none : (g : List ℕ) (r p : ℕ) → Childless g r p → Above g r p nowhere
-above_none g r p none = record { known = λ e. absurd (false≢true e); parent = λ e. absurd (false≢true e); nowhere = λ e. none }
+-- .. of the number that stands in a word
+pub above_near : (g : List ℕ) (r p q : ℕ) → q < 16 → Above g r p (numbered q) → Above g r p (Some q)
+above_near g r p q l above = subst (Above g r p) (ap (λ b. cond b (Some q) None) (lt-ltb q 16 l)) above
 
-pub above_unknown : (g : List ℕ) (r p : ℕ) → rule_count g ≤ r → Above g r p nowhere
+pub above_far : (g : List ℕ) (r p q : ℕ) → 16 ≤ q → Above g r p (numbered q) → Above g r p None
+above_far g r p q l above = subst (Above g r p) (ap (λ b. cond b (Some q) None) (le-ltb q 16 l)) above
+
+pub numbered_near : (g : List ℕ) (r p q : ℕ) → q < 16 → Above g r p (Some q) → Above g r p (numbered q)
+numbered_near g r p q l above = subst (Above g r p) (sym (ap (λ b. cond b (Some q) None) (lt-ltb q 16 l))) above
+
+pub numbered_far : (g : List ℕ) (r p q : ℕ) → 16 ≤ q → Above g r p None → Above g r p (numbered q)
+numbered_far g r p q l above = subst (Above g r p) (sym (ap (λ b. cond b (Some q) None) (le-ltb q 16 l))) above
+
+pub above_unknown : (g : List ℕ) (r p : ℕ) → rule_count g ≤ r → Above g r p None
 above_unknown g r p h =
     above_none g r p (record {
       none = λ q l. absurd (omega (arith, ap (λ (R : Rule). length R.plan) (get_or-eq_default (grammar_of g).rules no_rule {n = r} (omega (arith, rules_length g)))));
     })
 
 module _ (g : List ℕ) (r p : ℕ) (checked : check_grammar g ≡ true) (rule : r < rule_count g) where
-  pub above_past : rule_plan g r ≤ p → Above g r p nowhere
+  pub above_past : rule_plan g r ≤ p → Above g r p None
   above_past h =
       above_none g r p (record { none = λ q l. none_left _ (λ o. omega (arith, child_lower g r p checked rule q (omega (arith, plan_size g r checked rule)) o, plan_size g r checked rule)) })

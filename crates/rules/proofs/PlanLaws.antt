@@ -30,7 +30,7 @@ use Rattle.rules.specs.declared.plans.Parent.{Parent}
 use Rattle.rules.specs.Rules.{ParentOf, Childless}
 use Rattle.rules.specs.Plans.{plan_table_words, edge_word, second_word, join_word, ParentAt, WordsAt, PlacedAt, PlanTable}
 use Rattle.rules.specs.Filling.{ChildOf, Placed, Put, ToldTo}
-use Rattle.rules.proofs.Parents.{child_leaf, child_introduce, child_join, child_lower, once, parent_found, above_unknown, above_past}
+use Rattle.rules.proofs.Parents.{above_near, above_far, above_none, numbered_near, numbered_far, child_leaf, child_introduce, child_join, child_lower, once, parent_found, above_unknown, above_past}
 use Rattle.rules.proofs.Leading.{child_some}
 use Rattle.rules.proofs.JoinWords.{second_known}
 use Rattle.rules.proofs.WantLaws.{rules_few}
@@ -38,13 +38,10 @@ use Rattle.rules.proofs.WantLaws.{rules_few}
 -- ---- one plan node
 missing : (g : List ℕ) (r p w o : ℕ) → 16 ≤ w % 32 → Childless g r p → ParentAt g r p (record { word = w; stays = o })
 missing g r p w o h none = record {
-  above = record { known = λ e. absurd (no e); parent = λ e. absurd (no e); nowhere = λ e. none };
+  above = numbered_far g r p (w % 32) h (above_none g r p none);
   opened = λ l. absurd (omega arith);
   join = λ l. absurd (omega arith);
 }
-  where
-    no : ltb (w % 32) 16 ≡ true → ⊥
-    no e = omega (arith, ltb-true (w % 32) 16 e)
 
 -- a place with the word 0
 empty : (g : List ℕ) (r p w o : ℕ) → w ≡ 0 → Childless g r p → WordsAt g r p w o
@@ -74,11 +71,11 @@ module _ (g : List ℕ) (r p q w o : ℕ) (known : KnownNode g r q) (child : Chi
 
   there : ParentAt g r p (record { word = w; stays = o })
   there = record {
-    above = record {
-      known = λ e. subst (KnownNode g r) (sym node) known;
-      parent = λ e. subst (ParentOf g r p) (sym node) (parent_found g r p known.grammar known.rule q known.node (lt-ltb 0 _ child));
-      nowhere = λ e. absurd (false≢true (sym e ∙ lt-ltb (w % 32) 16 (omega (arith, node, below_few g r q known))));
-    };
+    above = numbered_near g r p (w % 32) (omega (arith, node, below_few g r q known)) (record {
+      known = subst (KnownNode g r) (sym node) known;
+      parent = subst (ParentOf g r p) (sym node) (parent_found g r p known.grammar known.rule q known.node (lt-ltb 0 _ child));
+      nowhere = tt;
+    });
     opened = λ l. subst (λ q. OpenAt g r q o) (sym node) opened;
     join = λ l. record { child = subst (ChildOf g r p) (sym node) child; word = word ∙ ap (join_word g r p) (sym node) };
   }
@@ -128,8 +125,8 @@ module _ (g : List ℕ) (r q : ℕ) (known : KnownNode g r q) (kind first : ℕ)
   open_above above is = go (dec_lt (above.word % 32) 16)
     where
       go : Dec (above.word % 32 < 16) → OpenAt g r q above.stays
-      go (yes l) = subst (λ q. OpenAt g r q above.stays) (sym ((is.above.parent (lt-ltb (above.word % 32) 16 l)).only q known.node first_child)) (is.opened l)
-      go (no l) = absurd (omega (arith, first_child, (is.above.nowhere (le-ltb (above.word % 32) 16 (omega arith))).none q (omega (arith, known.node, plan_size g r known.grammar known.rule))))
+      go (yes l) = subst (λ q. OpenAt g r q above.stays) (sym ((above_near g r first (above.word % 32) l is.above).parent.only q known.node first_child)) (is.opened l)
+      go (no l) = absurd (omega (arith, first_child, (above_far g r first (above.word % 32) (omega arith) is.above).nowhere.none q (omega (arith, known.node, plan_size g r known.grammar known.rule))))
 
 pub open_leaf : (g : List ℕ) (r q : ℕ) → KnownNode g r q → (kind : ℕ) → kind ≡ plan_kind g r q → kind ≡ 0 → OpenAt g r q 0
 open_leaf g r q known kind a e = open_none g r q (leaf_mask g r q known kind a e)
@@ -345,15 +342,15 @@ module _ (g : List ℕ) (checked : check_grammar g ≡ true) where
       word r' p a b (no d) =
           empty g r' p (get_or t (16 * r' + p) 0) (get_or t (1024 + (16 * r' + p)) 0)
           (made r' p a b d (dec_lt r r'))
-          ((above_unknown g r' p (omega arith)).nowhere refl)
+          ((above_unknown g r' p (omega arith)).nowhere)
 
   -- ---- a word of it
   pub parent_far : (r p : ℕ) → 64 ≤ r → ParentAt g r p (record { word = 16; stays = 0 })
-  parent_far r p h = missing g r p 16 0 (omega arith) ((above_unknown g r p (omega (arith, rules_few g checked))).nowhere refl)
+  parent_far r p h = missing g r p 16 0 (omega arith) ((above_unknown g r p (omega (arith, rules_few g checked))).nowhere)
 
   pub parent_past : (r p : ℕ) → 16 ≤ p → ParentAt g r p (record { word = 16; stays = 0 })
   parent_past r p h = missing g r p 16 0 (omega arith) (go (dec_lt r (rule_count g)))
     where
       go : Dec (r < rule_count g) → Childless g r p
-      go (yes d) = (above_past g r p checked d (omega (arith, plan_few g r checked d))).nowhere refl
-      go (no d) = (above_unknown g r p (omega arith)).nowhere refl
+      go (yes d) = (above_past g r p checked d (omega (arith, plan_few g r checked d))).nowhere
+      go (no d) = (above_unknown g r p (omega arith)).nowhere

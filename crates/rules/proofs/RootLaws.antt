@@ -7,6 +7,7 @@ use native.Mathlib.Omega.{arith}
 use lib.ListN.{length, take, get_or-eq_default}
 use lib.Dec.{eqb}
 use borrow.Author.Tests.{eq-eqb, ne_eqb, lt-ltb}
+use Rattle.std.specs.Prelude.{Some, None}
 use Rattle.hrg.specs.Grammars.{Rule, Grammar, no_rule, cost, rule_of, lhs_of, right_of, plan_of}
 use Rattle.hrg.specs.Trees.{padded, images}
 use Rattle.hrg.specs.Items.{Item, active, passive}
@@ -22,21 +23,11 @@ use Rattle.questions.specs.Checking.{check_grammar}
 use Rattle.questions.specs.Abstract.{rule_from, grammar_of}
 use Rattle.questions.proofs.WellFormedAccepted.{rules_length, rule_is}
 use Rattle.joins.proofs.Known.{plan_size, right_nodes}
-use Rattle.rules.specs.declared.Made.{Made}
 use Rattle.rules.specs.declared.plans.Parent.{Parent}
 use Rattle.rules.specs.Plans.{ParentAt}
 use Rattle.rules.specs.Rules.{root_items, GivesRoot, made_of}
-use Rattle.rules.proofs.Parents.{child_lower}
+use Rattle.rules.proofs.Parents.{above_near, child_lower}
 use Rattle.rules.proofs.Covering.{root_covering}
-
--- ---- sums that stay in 32 bits
-pub plus_small : (a b : ℕ) → a + b ≤ 4294967295 → a + b ≡ plus a b
-unfolding plus
-plus_small a b h = omega arith
-
-pub plus_large : (a b : ℕ) → 4294967295 ≤ a + b → 4294967295 ≡ plus a b
-unfolding plus
-plus_large a b h = omega arith
 
 -- ---- the symbol of a rule, a field of a line, is a byte
 pub symbol_byte : (g : List ℕ) (r s : ℕ) → s ≡ rule_symbol g r → s < 256
@@ -68,19 +59,16 @@ module _ (g : List ℕ) (x : ChartItem) where
   abbrev f : List ℕ
   f = take (right_of G x.of).nodes x.nodes
 
-  abbrev nothing : Made
-  nothing = record { ok = false; item = x }
-
-  gives_none : made ≡ [] → GivesRoot g x nothing
-  gives_none e = record { none = λ _. e; one = λ p. absurd (false≢true p); covering = λ h c p. absurd (false≢true p) }
+  gives_none : made ≡ [] → GivesRoot g x None
+  gives_none e = record { none = e; one = tt; covering = λ h c. tt }
 
   as_active : x.kind ≡ 0 → made ≡ root_items G (active x.of x.plan x.edges f) x.count
   as_active e = ap (λ (i : Item). root_items G i x.count) (item_active G x e)
 
-  pub root_passive : (x.kind ≡ 0 → ⊥) → GivesRoot g x nothing
+  pub root_passive : (x.kind ≡ 0 → ⊥) → GivesRoot g x None
   root_passive h = gives_none (ap (λ (i : Item). root_items G i x.count) (item_passive G x h) ∙ passive_none G x.of x.edges x.count _)
 
-  pub root_unknown : (n : ℕ) → x.kind ≡ 0 → n ≡ rule_count g → n ≤ x.of → GivesRoot g x nothing
+  pub root_unknown : (n : ℕ) → x.kind ≡ 0 → n ≡ rule_count g → n ≤ x.of → GivesRoot g x None
   root_unknown n e q h =
       let none : rule_of G x.of ≡ no_rule = get_or-eq_default G.rules no_rule (omega (arith, rules_length g)) in
       let test = ap (λ (R : Rule). eqb (suc x.plan) (length R.plan)) none ∙ ne_eqb (suc x.plan) 0 (λ z. omega arith) in
@@ -93,7 +81,7 @@ module _ (g : List ℕ) (x : ChartItem) where
         ∙ inner_none G x.of x.plan x.edges x.count f
         (ne_eqb (suc x.plan) (length (plan_of G x.of)) (λ q. h (q ∙ plan_size g x.of checked known ∙ sym size)))
 
-    pub root_inner : (suc x.plan ≡ n → ⊥) → GivesRoot g x nothing
+    pub root_inner : (suc x.plan ≡ n → ⊥) → GivesRoot g x None
     root_inner h = gives_none (not_root h)
 
     -- the item that the function makes
@@ -105,14 +93,14 @@ module _ (g : List ℕ) (x : ChartItem) where
     lhs_is = ap (λ (R : Rule). R.production.lhs) (rule_is g x.of known)
 
     pub root_made : (s c : ℕ) (l : List ℕ) → suc x.plan ≡ n → s ≡ rule_symbol g x.of → c ≡ plus x.count 1
-        → l ≡ padded (images (take (rule_nodes g x.of) x.nodes) (right_of G x.of).externals) → GivesRoot g x (record { ok = true; item = passive_item s c l })
+        → l ≡ padded (images (take (rule_nodes g x.of) x.nodes) (right_of G x.of).externals) → GivesRoot g x (Some (passive_item s c l))
     root_made s c l h qs qc ql = record {
-      none = λ p. absurd (true≢false p);
-      one = λ _.
+      none = tt;
+      one =
           as_active e
           ∙ root_item G x.of x.plan x.edges x.count f (eq-eqb (suc x.plan) (length (plan_of G x.of)) (h ∙ size ∙ sym (plan_size g x.of checked known)))
           ∙ ap (λ (y : ChartItem). y ∷ []) (sym is);
-      covering = λ w covers _. root_covering g w x checked known e (h ∙ size) covers s l qs ql c;
+      covering = λ w covers. root_covering g w x checked known e (h ∙ size) covers s l qs ql c;
     }
       where
         nodes : l ≡ padded (images f (right_of G x.of).externals)
@@ -140,15 +128,15 @@ module _ (g : List ℕ) (x : ChartItem) (j : ℕ) where
   records_of_is : (l : List ChartItem) → root_items (grammar_of g) (item_of (grammar_of g) x) x.count ≡ l → made_records ≡ map (λ (y : ChartItem). made_of y j 0) l
   records_of_is l e = root_records (grammar_of g) (item_of (grammar_of g) x) x.count j ∙ ap (map (λ (y : ChartItem). made_of y j 0)) e
 
-  pub root_none : (m : Made) → GivesRoot g x m → m.ok ≡ false → made_records ≡ []
-  root_none m answer p = records_of_is [] (answer.none p)
+  pub root_none : GivesRoot g x None → made_records ≡ []
+  root_none answer = records_of_is [] answer.none
 
-  pub root_one : (m : Made) → GivesRoot g x m → m.ok ≡ true → made_records ≡ made_of m.item j 0 ∷ []
-  root_one m answer p = records_of_is (m.item ∷ []) (answer.one p)
+  pub root_one : (y : ChartItem) → GivesRoot g x (Some y) → made_records ≡ made_of y j 0 ∷ []
+  root_one y answer = records_of_is (y ∷ []) answer.one
 
   -- a plan node that is a child is below its parent, so it is not the root, which is the last one
   pub root_child : x.kind ≡ 0 → check_grammar g ≡ true → (up : Parent) → ParentAt g x.of x.plan up → up.word % 32 < 16 → made_records ≡ []
   root_child e checked up is l =
-      let known = is.above.known (lt-ltb (up.word % 32) 16 l) in
+      let known = (above_near g x.of x.plan (up.word % 32) l is.above).known in
       let lower = child_lower g x.of x.plan checked known.rule (up.word % 32) known.node (is.join l).child in
       records_of_is [] (not_root g x e checked known.rule (rule_plan g x.of) refl (λ q. omega (arith, lower, known.node)))

@@ -11,6 +11,7 @@ use lib.Seq.{get_or-take, length-take-le}
 use lib.Bits.{bit_or}
 use lib.Dec.{eqb}
 use borrow.Author.Tests.{eq-eqb, ne_eqb, ltb-true}
+use Rattle.std.specs.Prelude.{Option, Some, None}
 use Rattle.masks.specs.Masks.{◌∪◌, single, Added}
 use Rattle.masks.proofs.Laws.{bit_empty, union_of}
 use Rattle.hrg.specs.Counts.{occurs}
@@ -27,8 +28,6 @@ use Rattle.agenda.specs.declared.Record.{Record}
 use Rattle.questions.specs.Layout.{rank_at, rule_nodes, edge_label, plan_kind, plan_first, plan_second, graph_nodes, graph_edges, graph_label}
 use Rattle.questions.specs.Abstract.{grammar_of, graph_of}
 use Rattle.questions.proofs.WellFormedLent.{checked_grammar_ok}
-use Rattle.rules.specs.declared.Place.{Place}
-use Rattle.rules.specs.declared.Made.{Made}
 use Rattle.joins.specs.Joins.{Accepted, KnownNode, KnownEdge, BareFrom, Into, Makes, edge_nodes}
 use Rattle.rules.specs.Plans.{second_word}
 use Rattle.rules.specs.Coverage.{Shown, Covering}
@@ -44,20 +43,21 @@ use Rattle.rules.proofs.Covering.{made_covering}
 use Rattle.rules.proofs.RuleItems.{guard_none, binary_nowhere, binary_place, first_is, first_none, item_active, item_passive, with_terminal_lem, pair_passive, edge_pair}
 
 -- ---- the one plan node above
-module _ (g : List ℕ) (H : Graph) (r p m : ℕ) (f : List ℕ) (x : Place) (above : Above g r p x) where
-  only : (found : x.found ≡ true) (q : ℕ) → q < length (plan_of (grammar_of g) r) → (q ≡ x.node → ⊥) → occurs p (children (plan_node (plan_of (grammar_of g) r) q)) ≡ 0
-  only found q l n =
-      let k = above.known found in
-      none_left _ (λ o. n ((above.parent found).only q (omega (arith, l, plan_size g r k.grammar k.rule)) o))
+module _ (g : List ℕ) (H : Graph) (r p m : ℕ) (f : List ℕ) where
+  module _ (x : ℕ) (above : Above g r p (Some x)) where
+    only : (q : ℕ) → q < length (plan_of (grammar_of g) r) → (q ≡ x → ⊥) → occurs p (children (plan_node (plan_of (grammar_of g) r) q)) ≡ 0
+    only q l n =
+        let k = above.known in
+        none_left _ (λ o. n (above.parent.only q (omega (arith, l, plan_size g r k.grammar k.rule)) o))
 
-  inside : x.found ≡ true → x.node < length (plan_of (grammar_of g) r)
-  inside found = let k = above.known found in omega (arith, k.node, plan_size g r k.grammar k.rule)
+    inside : x < length (plan_of (grammar_of g) r)
+    inside = let k = above.known in omega (arith, k.node, plan_size g r k.grammar k.rule)
 
-  binary_above : x.found ≡ true → (b : Item) → binary_of (grammar_of g) H (active r p m f) b ≡ binary_at (grammar_of g) H (active r p m f) b x.node
-  binary_above found b = binary_place (grammar_of g) H r p m f x.node (inside found) (only found) b
+    binary_above : (b : Item) → binary_of (grammar_of g) H (active r p m f) b ≡ binary_at (grammar_of g) H (active r p m f) b x
+    binary_above b = binary_place (grammar_of g) H r p m f x inside only b
 
-  binary_missing : x.found ≡ false → (b : Item) → binary_of (grammar_of g) H (active r p m f) b ≡ []
-  binary_missing found b = binary_nowhere (grammar_of g) H r p m f (above.nowhere found).none b
+  binary_missing : Above g r p None → (b : Item) → binary_of (grammar_of g) H (active r p m f) b ≡ []
+  binary_missing above b = binary_nowhere (grammar_of g) H r p m f above.nowhere.none b
 
 pub terminal_passive : (G : Grammar) (H : Graph) (x : ChartItem) (e : ℕ) → eqb x.kind 0 ≡ false → terminal_items G H (item_of G x) e ≡ []
 unfolding terminal_items
@@ -97,13 +97,13 @@ module _ (g : List ℕ) (r q : ℕ) (known : KnownNode g r q) where
       go false true = ne_eqb (plan_first g r q) p other
       go false false = ne_eqb (plan_first g r q) p other
 
-  module _ (y : ChartItem) (t : List ℕ) where
-    second_none : ((H : Graph) (p m : ℕ) (f : List ℕ) → binary_at G H (active r p m f) (item_of G y) q ≡ []) → Second g r q y t false
-    second_none h = record { none = λ _. h; some = λ e. absurd (false≢true e); bare = λ e. absurd (false≢true e); held = λ e. absurd (false≢true e); into = λ e. absurd (false≢true e) }
+  module _ (y : ChartItem) where
+    second_none : ((H : Graph) (p m : ℕ) (f : List ℕ) → binary_at G H (active r p m f) (item_of G y) q ≡ []) → Second g r q y None
+    second_none h = record { none = h; some = tt; bare = tt; held = tt; into = tt }
 
-    second_some : ((H : Graph) (p m : ℕ) (f : List ℕ) → plan_first g r q ≡ p → binary_at G H (active r p m f) (item_of G y) q ≡ combine H R r q m y.edges f (take n t)) → BareFrom n t
-        → ((v : ℕ) → Shown g y v → (i : ℕ) × (i < n) × (at t i ≡ v)) → ((n : ℕ) → Into n y.nodes → Into n t) → Second g r q y t true
-    second_some h past held into = record { none = λ e. absurd (true≢false e); some = λ _. h; bare = λ _. past; held = λ _. held; into = λ _. into }
+    second_some : (t : List ℕ) → ((H : Graph) (p m : ℕ) (f : List ℕ) → plan_first g r q ≡ p → binary_at G H (active r p m f) (item_of G y) q ≡ combine H R r q m y.edges f (take n t)) → BareFrom n t
+        → ((v : ℕ) → Shown g y v → (i : ℕ) × (i < n) × (at t i ≡ v)) → ((n : ℕ) → Into n y.nodes → Into n t) → Second g r q y (Some t)
+    second_some t h past held into = record { none = tt; some = h; bare = past; held = held; into = into }
 
     with_active : y.kind ≡ 0 → (H : Graph) (p m : ℕ) (f : List ℕ)
         → binary_at G H (active r p m f) (item_of G y) q ≡ guard (eqb r y.of) (join_at H R r p m f y.plan y.edges (take (right_of G y.of).nodes y.nodes) q node)
@@ -129,7 +129,7 @@ module _ (g : List ℕ) (r q : ℕ) (known : KnownNode g r q) where
       edge_label_is : edge.label ≡ edge_label g r i
       edge_label_is = rule_label g r i edge_known
 
-      pub filled_active : y.kind ≡ 0 → Second g r q y t false
+      pub filled_active : y.kind ≡ 0 → Second g r q y None
       unfolding join_at
       filled_active e =
           second_none
@@ -152,16 +152,16 @@ module _ (g : List ℕ) (r q : ℕ) (known : KnownNode g r q) where
         label : w / 4 % 64 ≡ edge_label g r i
         label = asked_label g r q w asks for_edge known i second
 
-        pub filled_label : (w / 4 % 64 ≡ y.of → ⊥) → Second g r q y t false
+        pub filled_label : (w / 4 % 64 ≡ y.of → ⊥) → Second g r q y None
         filled_label e =
             second_none
             (λ H p m f.
             filled_items is_passive H p m f
             ∙ ap (λ b. guard b (joint H m f)) (and_no (eqb (plan_first g r q) p) (eqb y.of edge.label) (ne_eqb y.of edge.label (λ s. e (label ∙ sym (s ∙ edge_label_is))))))
 
-        pub filled_made : w / 4 % 64 ≡ y.of → length y.nodes ≡ 8 → t ≡ padded (attach n (edge_nodes g r i) (take (rank_at g (edge_label g r i)) y.nodes)) → Second g r q y t true
-        filled_made s eight t-is =
-            second_some
+        pub filled_made : (t : List ℕ) → w / 4 % 64 ≡ y.of → length y.nodes ≡ 8 → t ≡ padded (attach n (edge_nodes g r i) (take (rank_at g (edge_label g r i)) y.nodes)) → Second g r q y (Some t)
+        filled_made t s eight t-is =
+            second_some t
             (λ H p m f d.
             filled_items is_passive H p m f
             ∙ ap₂ (λ a b. guard (a && b) (joint H m f)) (eq-eqb (plan_first g r q) p d) (eq-eqb y.of edge.label same)
@@ -216,7 +216,7 @@ module _ (g : List ℕ) (r q : ℕ) (known : KnownNode g r q) where
           let other = second_other g r q w asks not_edge in
           joined_is g r q known (plan_kind g r q) (plan_first g r q) d refl refl other.1 not_leaf other.0
 
-      pub joined_passive : (y.kind ≡ 0 → ⊥) → Second g r q y t false
+      pub joined_passive : (y.kind ≡ 0 → ⊥) → Second g r q y None
       unfolding nonterminal_at
       joined_passive e =
           second_none
@@ -234,14 +234,14 @@ module _ (g : List ℕ) (r q : ℕ) (known : KnownNode g r q) where
             with_active is_active H p m f
             ∙ ap (λ (n : PlanNode). guard (eqb r y.of) (join_at H R r p m f y.plan y.edges (take (right_of G y.of).nodes y.nodes) q n)) join_node
 
-        pub joined_rule : (y.of ≡ r → ⊥) → Second g r q y t false
+        pub joined_rule : (y.of ≡ r → ⊥) → Second g r q y None
         joined_rule e =
             second_none
             (λ H p m f.
             joined_items H p m f
             ∙ ap (λ b. guard b (guard (eqb (plan_first g r q) p && eqb d y.plan) (both H m f (take (right_of G y.of).nodes y.nodes)))) (ne_eqb r y.of (λ s. e (sym s))))
 
-        pub joined_second : (d ≡ y.plan → ⊥) → Second g r q y t false
+        pub joined_second : (d ≡ y.plan → ⊥) → Second g r q y None
         joined_second e =
             second_none
             (λ H p m f.
@@ -249,9 +249,9 @@ module _ (g : List ℕ) (r q : ℕ) (known : KnownNode g r q) where
             ∙ ap (λ b. guard (eqb r y.of) (guard b (both H m f (take (right_of G y.of).nodes y.nodes)))) (and_no (eqb (plan_first g r q) p) (eqb d y.plan) (ne_eqb d y.plan e))
             ∙ guard_none (eqb r y.of))
 
-        pub joined_made : y.of ≡ r → d ≡ y.plan → BareFrom (rule_nodes g y.of) y.nodes → t ≡ y.nodes → Second g r q y t true
-        joined_made s e past t-is =
-            second_some
+        pub joined_made : (t : List ℕ) → y.of ≡ r → d ≡ y.plan → BareFrom (rule_nodes g y.of) y.nodes → t ≡ y.nodes → Second g r q y (Some t)
+        joined_made t s e past t-is =
+            second_some t
             (λ H p m f c.
             joined_items H p m f
             ∙ ap (λ b. guard b (guard (eqb (plan_first g r q) p && eqb d y.plan) (both H m f (take (right_of G y.of).nodes y.nodes)))) (eq-eqb r y.of (sym s))
@@ -272,12 +272,11 @@ module _ (g h : List ℕ) where
   H = graph_of g h
 
   -- ---- answers
-  pub gives_none : (sure : Bool) (l : List Item) (n : ℕ) (x : ChartItem) → l ≡ [] → Gives g h sure l n (record { ok = false; item = x })
-  gives_none sure l n x e = record { none = λ _. e; one = λ p. absurd (false≢true p); covering = λ _ p. absurd (false≢true p) }
+  pub gives_none : (sure : Bool) (l : List Item) (n : ℕ) → l ≡ [] → Gives g h sure l n None
+  gives_none sure l n e = record { none = e; one = tt; covering = λ _. tt }
 
-  pub gives_same : (sure : Bool) (l k : List Item) (n : ℕ) (m : Made) → l ≡ k → Gives g h sure l n m → Gives g h sure k n m
-  gives_same sure l k n m e a =
-      record { none = λ p. sym e ∙ a.none p; one = λ p. ap (map (λ (i : Item). chart_item i n)) (sym e) ∙ a.one p; covering = a.covering }
+  pub gives_same : (sure : Bool) (l k : List Item) (n : ℕ) (m : Option ChartItem) → l ≡ k → Gives g h sure l n m → Gives g h sure k n m
+  gives_same sure l k n m e a = subst (λ (l : List Item). Gives g h sure l n m) e a
 
   -- ---- a pair
   module _ (x y : ChartItem) where
@@ -287,49 +286,52 @@ module _ (g h : List ℕ) where
     pub pair_not : (x.kind ≡ 0 → ⊥) → pairs ≡ []
     pair_not k = pair_passive G' H x y (ne_eqb x.kind 0 k)
 
-    module _ (k : x.kind ≡ 0) (p : Place) (above : Above g x.of x.plan p) where
+    module _ (k : x.kind ≡ 0) where
       is : item_of G' x ≡ active x.of x.plan x.edges (take (right_of G' x.of).nodes x.nodes)
       is = item_active G' x (eq-eqb x.kind 0 k)
 
-      pub pair_nowhere : p.found ≡ false → pairs ≡ []
-      pair_nowhere t = ap (λ (i : Item). binary_of G' H i (item_of G' y)) is ∙ binary_missing g H _ _ _ _ p above t (item_of G' y)
+      pub pair_nowhere : Above g x.of x.plan None → pairs ≡ []
+      pair_nowhere above = ap (λ (i : Item). binary_of G' H i (item_of G' y)) is ∙ binary_missing g H _ _ _ _ above (item_of G' y)
 
-      module _ (found : p.found ≡ true) where
-        pair_at : pairs ≡ binary_at G' H (active x.of x.plan x.edges (take (right_of G' x.of).nodes x.nodes)) (item_of G' y) p.node
-        pair_at = ap (λ (i : Item). binary_of G' H i (item_of G' y)) is ∙ binary_above g H _ _ _ _ p above found (item_of G' y)
+      module _ (q : ℕ) (above : Above g x.of x.plan (Some q)) where
+        pair_at : pairs ≡ binary_at G' H (active x.of x.plan x.edges (take (right_of G' x.of).nodes x.nodes)) (item_of G' y) q
+        pair_at = ap (λ (i : Item). binary_of G' H i (item_of G' y)) is ∙ binary_above g H _ _ _ _ q above (item_of G' y)
 
-        pub pair_other : (plan_first g x.of p.node ≡ x.plan → ⊥) → pairs ≡ []
-        pair_other other = pair_at ∙ first_other g x.of p.node (above.known found) H _ _ _ (item_of G' y) other
+        pub pair_other : (plan_first g x.of q ≡ x.plan → ⊥) → pairs ≡ []
+        pair_other other = pair_at ∙ first_other g x.of q above.known H _ _ _ (item_of G' y) other
 
-        module _ (t : List ℕ) (b : Bool) (second : Second g x.of p.node y t b) where
-          pub pair_neither : b ≡ false → pairs ≡ []
-          pair_neither e = pair_at ∙ second.none e H _ _ _
+        pub pair_neither : Second g x.of q y None → pairs ≡ []
+        pair_neither second = pair_at ∙ second.none H _ _ _
 
-          pair_both : b ≡ true → plan_first g x.of p.node ≡ x.plan
-              → combine H (rule_of G' x.of) x.of p.node x.edges y.edges (take (rule_nodes g x.of) x.nodes) (take (rule_nodes g x.of) t) ≡ pairs
-          pair_both e first =
-              let known = above.known found in
+        module _ (t : List ℕ) (second : Second g x.of q y (Some t)) (first : plan_first g x.of q ≡ x.plan) where
+          abbrev joint_items : List Item
+          joint_items = combine H (rule_of G' x.of) x.of q x.edges y.edges (take (rule_nodes g x.of) x.nodes) (take (rule_nodes g x.of) t)
+
+          pair_both : joint_items ≡ pairs
+          pair_both =
+              let known = above.known in
               sym
-              (pair_at ∙ second.some e H _ _ _ first
-              ∙ ap (λ i. combine H (rule_of G' x.of) x.of p.node x.edges y.edges (take i x.nodes) (take (rule_nodes g x.of) t))
+              (pair_at ∙ second.some H _ _ _ first
+              ∙ ap (λ i. combine H (rule_of G' x.of) x.of q x.edges y.edges (take i x.nodes) (take (rule_nodes g x.of) t))
               (right_nodes g x.of known.grammar known.rule))
 
+          pub pair_unmade : Makes joint_items x.of q (x.edges ∪ y.edges) None → pairs ≡ []
+          pair_unmade makes = sym pair_both ∙ makes.none
+
           -- the one item
-          pub pair_made : (sure : Bool) (made : List ℕ) (j : Bool) (n : ℕ) → b ≡ true → plan_first g x.of p.node ≡ x.plan
-              → Makes (combine H (rule_of G' x.of) x.of p.node x.edges y.edges (take (rule_nodes g x.of) x.nodes) (take (rule_nodes g x.of) t)) x.of p.node (x.edges ∪ y.edges) made j
-              → Accepted g h → Gives g h sure pairs n (record { ok = j; item = record { kind = 0; of = x.of; plan = p.node; edges = bit_or x.edges y.edges; count = n; nodes = made } })
+          pub pair_made : (sure : Bool) (made : List ℕ) (n : ℕ) → Makes joint_items x.of q (x.edges ∪ y.edges) (Some made)
+              → Accepted g h → Gives g h sure pairs n (Some (record { kind = 0; of = x.of; plan = q; edges = bit_or x.edges y.edges; count = n; nodes = made }))
           unfolding ◌∪◌
-          pair_made sure made j n e first makes accepted = record {
-            none = λ f. sym (pair_both e first) ∙ makes.none f;
-            one = λ f.
-                let one = makes.one f in
-                ap (map (λ (i : Item). chart_item i n)) (sym (pair_both e first) ∙ one.item) ∙ ap (λ (l : List ℕ). item l ∷ []) (sym one.places);
-            covering = λ s f.
-                made_covering g h x.of p.node x.edges y.edges x.nodes t made accepted (above.known found) j makes f n;
+          pair_made sure made n makes accepted = record {
+            none = tt;
+            one =
+                let one = makes.one in
+                ap (map (λ (i : Item). chart_item i n)) (sym pair_both ∙ one.item) ∙ ap (λ (l : List ℕ). item l ∷ []) (sym one.places);
+            covering = λ s. made_covering g h x.of q x.edges y.edges x.nodes t made accepted above.known makes n;
           }
             where
               item : List ℕ → ChartItem
-              item l = record { kind = 0; of = x.of; plan = p.node; edges = bit_or x.edges y.edges; count = n; nodes = l }
+              item l = record { kind = 0; of = x.of; plan = q; edges = bit_or x.edges y.edges; count = n; nodes = l }
 
   -- ---- a graph edge
   module _ (e : ℕ) (accepted : Accepted g h) (known : e < graph_edges h) where
@@ -403,22 +405,20 @@ module _ (g h : List ℕ) where
   fresh_records [] n a b = refl
   fresh_records (i ∷ l) n a b = ap (λ (rs : List Record). record_of i n a b ∷ rs) (fresh_records l n a b)
 
-  module _ (sure : Bool) (m : Made) where
-    one_record : (l : List Item) (n a b : ℕ) → Gives g h sure l n m → m.ok ≡ true → map (λ (i : Item). record_of i n a b) l ≡ made_of m.item a b ∷ []
-    one_record l n a b answer p = fresh_records l n a b ∙ ap (map (λ (x : ChartItem). made_of x a b)) (answer.one p)
+  -- none, or the one of m
+  abbrev pub records_by : Option ChartItem → ℕ → ℕ → List Record
+  records_by None a b = []
+  records_by (Some m) a b = made_of m a b ∷ []
 
-    module _ (x y : Record) (j k : ℕ) (answer : Gives g h sure (binary_of G' H (item_of G' x.item) (item_of G' y.item)) (plus x.item.count y.item.count) m) where
-      pub pair_none : m.ok ≡ false → pair G' H x j y k ≡ []
-      unfolding pair
-      pair_none p = ap (map (λ (i : Item). record_of i (plus x.item.count y.item.count) j k)) (answer.none p)
+  given_records : (sure : Bool) (m : Option ChartItem) (l : List Item) (n a b : ℕ) → Gives g h sure l n m → map (λ (i : Item). record_of i n a b) l ≡ records_by m a b
+  given_records sure None l n a b answer = ap (map (λ (i : Item). record_of i n a b)) answer.none
+  given_records sure (Some m) l n a b answer = fresh_records l n a b ∙ ap (map (λ (x : ChartItem). made_of x a b)) answer.one
 
-      pub pair_one : m.ok ≡ true → pair G' H x j y k ≡ made_of m.item j k ∷ []
-      unfolding pair
-      pair_one p = one_record (binary_of G' H (item_of G' x.item) (item_of G' y.item)) (plus x.item.count y.item.count) j k answer p
+  module _ (sure : Bool) (m : Option ChartItem) where
+    pub pair_records : (x y : Record) (j k : ℕ) → Gives g h sure (binary_of G' H (item_of G' x.item) (item_of G' y.item)) (plus x.item.count y.item.count) m
+        → pair G' H x j y k ≡ records_by m j k
+    unfolding pair
+    pair_records x y j k answer = given_records sure m (binary_of G' H (item_of G' x.item) (item_of G' y.item)) (plus x.item.count y.item.count) j k answer
 
-    module _ (x : ChartItem) (n j e : ℕ) (answer : Gives g h sure (terminal_items G' H (item_of G' x) e) n m) where
-      pub terminal_none : m.ok ≡ false → with_terminal G' H (item_of G' x) n j e ≡ []
-      terminal_none p = with_terminal_lem G' H (item_of G' x) n j e ∙ ap (map (λ (i : Item). record_of i n j e)) (answer.none p)
-
-      pub terminal_one : m.ok ≡ true → with_terminal G' H (item_of G' x) n j e ≡ made_of m.item j e ∷ []
-      terminal_one p = with_terminal_lem G' H (item_of G' x) n j e ∙ one_record (terminal_items G' H (item_of G' x) e) n j e answer p
+    pub terminal_records : (x : ChartItem) (n j e : ℕ) → Gives g h sure (terminal_items G' H (item_of G' x) e) n m → with_terminal G' H (item_of G' x) n j e ≡ records_by m j e
+    terminal_records x n j e answer = with_terminal_lem G' H (item_of G' x) n j e ∙ given_records sure m (terminal_items G' H (item_of G' x) e) n j e answer

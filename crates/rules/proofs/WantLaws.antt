@@ -8,6 +8,7 @@ use native.Mathlib.Decide.{dec_lt}
 use lib.ListN.{length, get_or}
 use lib.Dec.{eqb, ltb}
 use borrow.Author.Tests.{eq-eqb, ne_eqb, eqb-true, eqb-false, lt-ltb, le-ltb}
+use Rattle.std.specs.Prelude.{Some, None}
 use Rattle.hrg.specs.Counts.{hit, occurs}
 use Rattle.hrg.specs.Grammars.{Grammar, PlanNode, leaf, introduce, join, right_of, plan_of, plan_node, edge_at}
 use Rattle.hrg.specs.WellFormed.{children}
@@ -23,12 +24,11 @@ use Rattle.joins.specs.Joins.{KnownNode}
 use Rattle.joins.proofs.Known.{plan_ok, plan_size, plan_few}
 use Rattle.joins.proofs.PlanMasks.{introduced_is, joined_is}
 use Rattle.joins.proofs.EdgeMaps.{edge_label_is}
-use Rattle.rules.specs.declared.Place.{Place}
 use Rattle.rules.specs.Rules.{Above}
 use Rattle.rules.specs.declared.plans.Parent.{Parent}
 use Rattle.rules.specs.Plans.{JoinAt, ParentAt}
 use Rattle.rules.specs.Wants.{wants_at, want_of, want_by}
-use Rattle.rules.proofs.Parents.{child_join, above_unknown, above_past}
+use Rattle.rules.proofs.Parents.{above_near, above_far, child_join, above_unknown, above_past}
 use Rattle.rules.proofs.JoinWords.{child_kind, second_edge, second_other, join_first, join_later, later_joins}
 use Rattle.rules.proofs.RuleItems.{each_none, each_only}
 
@@ -60,17 +60,17 @@ module _ (G : Grammar) (r p : ℕ) where
       ap (λ (ws : List ℕ). get_or ws 0 80) (each_none (length pl) (λ q. wants_at G r p (plan_node pl q)) (λ q l. wants_none G r p (plan_node pl q) (none q l)))
 
 -- ---- what the functions answer
-module _ (g : List ℕ) (r p : ℕ) (x : Place) (above : Above g r p x) where
-  pub want_missing : x.found ≡ false → 80 ≡ want_of (grammar_of g) r p
-  want_missing found = sym (want_nowhere (grammar_of g) r p (above.nowhere found).none)
+module _ (g : List ℕ) (r p : ℕ) where
+  pub want_missing : Above g r p None → 80 ≡ want_of (grammar_of g) r p
+  want_missing above = sym (want_nowhere (grammar_of g) r p above.nowhere.none)
 
-  pub want_found : x.found ≡ true → (w : ℕ) → w ≡ get_or (wants_at (grammar_of g) r p (plan_node (plan_of (grammar_of g) r) x.node)) 0 80 → w ≡ want_of (grammar_of g) r p
-  want_found found w q =
-      let k = above.known found in
+  pub want_found : (q : ℕ) → Above g r p (Some q) → (w : ℕ) → w ≡ get_or (wants_at (grammar_of g) r p (plan_node (plan_of (grammar_of g) r) q)) 0 80 → w ≡ want_of (grammar_of g) r p
+  want_found q above w e =
+      let k = above.known in
       let size = plan_size g r k.grammar k.rule in
-      q
-      ∙ sym (want_at (grammar_of g) r p x.node (omega (arith, k.node, size))
-      (λ q' l n. none_left _ (λ o. n ((above.parent found).only q' (omega (arith, l, size)) o))))
+      e
+      ∙ sym (want_at (grammar_of g) r p q (omega (arith, k.node, size))
+      (λ q' l n. none_left _ (λ o. n (above.parent.only q' (omega (arith, l, size)) o))))
 
 module _ (g : List ℕ) (r p q : ℕ) (known : KnownNode g r q) (kind first second : ℕ) (a : kind ≡ plan_kind g r q) (b : first ≡ plan_first g r q) (c : second ≡ plan_second g r q) where
   abbrev told : ℕ
@@ -121,11 +121,11 @@ module _ (g : List ℕ) (r p : ℕ) (x : Parent) (is : ParentAt g r p x) where
   q = x.word % 32
 
   module _ (l : q < 16) where
-    found : ltb q 16 ≡ true
-    found = lt-ltb q 16 l
+    near : Above g r p (Some q)
+    near = above_near g r p q l is.above
 
     above : KnownNode g r q
-    above = is.above.known found
+    above = near.known
 
     child : JoinAt g r p w
     child = is.join l
@@ -134,13 +134,13 @@ module _ (g : List ℕ) (r p : ℕ) (x : Parent) (is : ParentAt g r p x) where
     want_edge one =
         let first = join_first g r p w child (λ e. omega arith) in
         let edge = second_edge g r q (w / 32) first.1 one above in
-        want_found g r p _ is.above found _ (told_edge g r p q above (plan_kind g r q) (plan_first g r q) (plan_second g r q) refl refl refl edge.0 _ first.0 edge.1)
+        want_found g r p q near _ (told_edge g r p q above (plan_kind g r q) (plan_first g r q) (plan_second g r q) refl refl refl edge.0 _ first.0 edge.1)
 
     want_second : (w / 32 % 4 ≡ 1 → ⊥) → (w / 32 % 4 ≡ 3 → ⊥) → 64 + w / 32 / 4 ≡ want_of (grammar_of g) r p
     want_second one three =
         let first = join_first g r p w child three in
         let other = second_other g r q (w / 32) first.1 one in
-        want_found g r p _ is.above found _
+        want_found g r p q near _
         (ap (λ k. 64 + k) other.1
         ∙ told_second g r p q above (plan_kind g r q) (plan_first g r q) (plan_second g r q) refl refl refl (child_kind g r q above p child.child) other.0 first.0)
 
@@ -149,7 +149,7 @@ module _ (g : List ℕ) (r p : ℕ) (x : Parent) (is : ParentAt g r p x) where
         let later = join_later g r p w child three in
         let joins = later_joins g r p w child three above in
         let is_second : plan_second g r q ≡ p = sym (second_of (eqb p (plan_first g r q)) (ne_eqb p (plan_first g r q) (λ e. later.0 (sym e))) (child_join g r q p above (plan_kind g r q) (plan_first g r q) (plan_second g r q) refl refl refl joins.0 joins.1 ∙ lt-ltb 0 _ child.child)) in
-        want_found g r p _ is.above found _
+        want_found g r p q near _
         (ap (λ k. 64 + k) later.1
         ∙ told_first g r p q above (plan_kind g r q) (plan_first g r q) (plan_second g r q) refl refl refl joins.0 joins.1 later.0 is_second)
       where
@@ -168,7 +168,7 @@ module _ (g : List ℕ) (r p : ℕ) (x : Parent) (is : ParentAt g r p x) where
 
       go : Dec (q < 16) → cond (ltb q 16) (cond (eqb (w / 32 % 4) 1) (w / 32 / 4 % 64) (64 + w / 32 / 4)) 80 ≡ want_of (grammar_of g) r p
       go (yes l) = rw (lt-ltb q 16 l) (kinds l (eqb (w / 32 % 4) 1) (eqb (w / 32 % 4) 3) refl refl)
-      go (no l) = rw (le-ltb q 16 (omega arith)) (want_missing g r p _ is.above (le-ltb q 16 (omega arith)))
+      go (no l) = rw (le-ltb q 16 (omega arith)) (want_missing g r p (above_far g r p q (omega arith) is.above))
 
 -- what a function reads off a word
 pub by_none : (w : ℕ) → 16 ≤ w % 32 → 80 ≡ want_by w
@@ -185,7 +185,7 @@ by_child w l e = rw (lt-ltb (w % 32) 16 l, ne_eqb (w / 32 % 4) 1 e)
 
 -- ---- no such rule or plan node
 pub unknown_rule : (g : List ℕ) (r p : ℕ) → rule_count g ≤ r → want_of (grammar_of g) r p ≡ 80
-unknown_rule g r p h = sym (want_missing g r p _ (above_unknown g r p h) refl)
+unknown_rule g r p h = sym (want_missing g r p (above_unknown g r p h))
 
 module _ (g : List ℕ) (checked : check_grammar g ≡ true) where
   pub rules_few : rule_count g ≤ 64
@@ -195,5 +195,5 @@ module _ (g : List ℕ) (checked : check_grammar g ≡ true) where
   unknown_node r p h = go (dec_lt r (rule_count g))
     where
       go : Dec (r < rule_count g) → want_of (grammar_of g) r p ≡ 80
-      go (yes d) = sym (want_missing g r p _ (above_past g r p checked d (omega (arith, plan_few g r checked d))) refl)
+      go (yes d) = sym (want_missing g r p (above_past g r p checked d (omega (arith, plan_few g r checked d))))
       go (no d) = unknown_rule g r p (omega arith)

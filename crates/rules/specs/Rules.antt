@@ -1,5 +1,5 @@
 -- What one rule of the closure makes of one or two items of a chart, over accepted tables: at most one new item.
-use Rattle.std.specs.Prelude.{◌≡◌, Bool, true, false, List, [], ◌∷◌, map, ℕ, ◌<◌, length, take, eqb}
+use Rattle.std.specs.Prelude.{◌≡◌, Bool, true, Option, IfSome, IfNone, List, [], ◌∷◌, map, ℕ, ◌<◌, length, take, eqb}
 use Rattle.hrg.specs.Counts.{occurs}
 use Rattle.hrg.specs.Grammars.{Grammar, Graph, rule_of, right_of, plan_of, plan_node}
 use Rattle.hrg.specs.Trees.{at, padded, images}
@@ -15,8 +15,6 @@ use Rattle.questions.specs.Layout.{rule_nodes, rule_plan, plan_first, graph_node
 use Rattle.questions.specs.Abstract.{grammar_of, graph_of}
 use Rattle.joins.specs.Joins.{Accepted, KnownNode, BareFrom, Into}
 use Rattle.rules.specs.Coverage.{Shown, Covering}
-use Rattle.rules.specs.declared.Place.{Place}
-use Rattle.rules.specs.declared.Made.{Made}
 
 -- ---- the rules
 -- the terminal rule with graph edge e
@@ -61,29 +59,29 @@ pub record StandsFor (g h : List ℕ) (e : ℕ) (y : ChartItem) : Type 0 where
   pub usable : (sure : Bool) → Usable g h sure y
   pub pairs : (x : ChartItem) → pair_items g h x y ≡ edge_items g h x e
 
--- whether item y can be the second at plan node q of rule r, where t has its map: with an item at the first child it
+-- whether item y can be the second at plan node q of rule r, and its map then: with an item at the first child it
 -- makes what two sets and maps make, else nothing
-pub record Second (g : List ℕ) (r q : ℕ) (y : ChartItem) (t : List ℕ) (b : Bool) : Type 0 where
-  pub none : b ≡ false → (H : Graph) (p m : ℕ) (f : List ℕ) → binary_at (grammar_of g) H (active r p m f) (item_of (grammar_of g) y) q ≡ []
-  pub some : b ≡ true → (H : Graph) (p m : ℕ) (f : List ℕ) → plan_first g r q ≡ p
-      → binary_at (grammar_of g) H (active r p m f) (item_of (grammar_of g) y) q ≡ combine H (rule_of (grammar_of g) r) r q m y.edges f (take (rule_nodes g r) t)
-  pub bare : b ≡ true → BareFrom (rule_nodes g r) t
-  pub held : b ≡ true → (v : ℕ) → Shown g y v → (i : ℕ) × (i < rule_nodes g r) × (at t i ≡ v)
-  pub into : b ≡ true → (n : ℕ) → Into n y.nodes → Into n t
+pub record Second (g : List ℕ) (r q : ℕ) (y : ChartItem) (x : Option (List ℕ)) : Type 0 where
+  pub none : IfNone x ((H : Graph) (p m : ℕ) (f : List ℕ) → binary_at (grammar_of g) H (active r p m f) (item_of (grammar_of g) y) q ≡ [])
+  pub some : IfSome x (λ t. (H : Graph) (p m : ℕ) (f : List ℕ) → plan_first g r q ≡ p
+      → binary_at (grammar_of g) H (active r p m f) (item_of (grammar_of g) y) q ≡ combine H (rule_of (grammar_of g) r) r q m y.edges f (take (rule_nodes g r) t))
+  pub bare : IfSome x (λ t. BareFrom (rule_nodes g r) t)
+  pub held : IfSome x (λ t. (v : ℕ) → Shown g y v → (i : ℕ) × (i < rule_nodes g r) × (at t i ≡ v))
+  pub into : IfSome x (λ t. (n : ℕ) → Into n y.nodes → Into n t)
 
 -- ---- the item that a rule makes
 -- whether a list of items has one, and that item with the count n. Where it is sure that what makes the item covers
 -- its open nodes, the item does
-pub record Gives (g h : List ℕ) (sure : Bool) (l : List Item) (n : ℕ) (m : Made) : Type 0 where
-  pub none : m.ok ≡ false → l ≡ []
-  pub one : m.ok ≡ true → map (λ (i : Item). chart_item i n) l ≡ m.item ∷ []
-  pub covering : sure ≡ true → m.ok ≡ true → Covering g h m.item
+pub record Gives (g h : List ℕ) (sure : Bool) (l : List Item) (n : ℕ) (m : Option ChartItem) : Type 0 where
+  pub none : IfNone m (l ≡ [])
+  pub one : IfSome m (λ x. map (λ (i : Item). chart_item i n) l ≡ x ∷ [])
+  pub covering : sure ≡ true → IfSome m (Covering g h)
 
 -- the same of the root rule, which adds what a rule costs to the count of x
-pub record GivesRoot (g : List ℕ) (x : ChartItem) (m : Made) : Type 0 where
-  pub none : m.ok ≡ false → root_items (grammar_of g) (item_of (grammar_of g) x) x.count ≡ []
-  pub one : m.ok ≡ true → root_items (grammar_of g) (item_of (grammar_of g) x) x.count ≡ m.item ∷ []
-  pub covering : (h : List ℕ) → Covering g h x → m.ok ≡ true → Covering g h m.item
+pub record GivesRoot (g : List ℕ) (x : ChartItem) (m : Option ChartItem) : Type 0 where
+  pub none : IfNone m (root_items (grammar_of g) (item_of (grammar_of g) x) x.count ≡ [])
+  pub one : IfSome m (λ y. root_items (grammar_of g) (item_of (grammar_of g) x) x.count ≡ y ∷ [])
+  pub covering : (h : List ℕ) → Covering g h x → IfSome m (Covering g h)
 
 -- the record of an item that was just made of the partners a and b
 abbrev pub made_of : ChartItem → ℕ → ℕ → Record
@@ -99,10 +97,10 @@ pub record Childless (g : List ℕ) (r p : ℕ) : Type 0 where
   pub none : (q : ℕ) → q < length (plan_of (grammar_of g) r) → occurs p (children (plan_node (plan_of (grammar_of g) r) q)) ≡ 0
 
 -- x is the one plan node of rule r that p may be a child of, or there is none
-pub record Above (g : List ℕ) (r p : ℕ) (x : Place) : Type 0 where
-  pub known : x.found ≡ true → KnownNode g r x.node
-  pub parent : x.found ≡ true → ParentOf g r p x.node
-  pub nowhere : x.found ≡ false → Childless g r p
+pub record Above (g : List ℕ) (r p : ℕ) (x : Option ℕ) : Type 0 where
+  pub known : IfSome x (KnownNode g r)
+  pub parent : IfSome x (ParentOf g r p)
+  pub nowhere : IfNone x (Childless g r p)
 
 -- ---- what is known of an active item below plan node q
 pub record ActiveAt (g h : List ℕ) (x : ChartItem) (q : ℕ) : Type 0 where

@@ -18,13 +18,11 @@ fn images(n: u64, chosen: u64, l: [u8; PLACES]) -> u64
     ensures { (v : ℕ) → v < 64 → member result v ≡ true → (i : ℕ) × (i < n) × (member chosen i ≡ true) × (at l i ≡ v) }
 {
     let map = places::word_of(l);
-    let mut set: u64 = 0;
-    let mut i: u64 = 0;
-    while i < n {
+    let mut set = 0;
+    for i in 0..n {
         if masks::has(chosen, i) {
             set = masks::with(set, places::node_at(map, i));
         }
-        i += 1;
     }
     set
 }

@@ -20,34 +20,18 @@ ghost use Rattle.rules.specs.Candidates.{Introduces, Candidates};
 use agenda::ChartItem;
 use joins::graphs::GRAPH_TABLE_WORDS;
 use places::{NONE, PLACES};
-use plans::PLAN_TABLE_WORDS;
+use plans::{PER_RULE, PLAN_TABLE_WORDS};
 
 pub mod coverage;
 pub mod plans;
 pub mod wants;
 
-// A plan node: none where found is false.
-#[derive(Clone, Copy)]
-pub struct Place {
-    pub found: bool,
-    pub node: u64,
-}
-
-// What a rule makes: no item where ok is false. The item comes first, so that its words are copied as words.
-#[derive(Clone, Copy)]
-pub struct Made {
-    pub item: ChartItem,
-    pub ok: bool,
-}
-
 // A sum of counts, or the most that a count can be.
+#[tactic(auto, unfolding(agenda::specs::Records::plus))]
 pub fn plus(a: u32, b: u32) -> u32
     ensures { result ≡ plus a b }
 {
-    if a > 4294967295 - b {
-        return 4294967295;
-    }
-    a + b
+    a.saturating_add(b)
 }
 
 // ---- lists of graph nodes: eight places, 64 where there is none
@@ -59,11 +43,9 @@ fn root_nodes(g: &[u64], r: u64, f: [u8; PLACES]) -> [u8; PLACES]
     let rank = layout::rank_at(g, layout::rule_symbol(g, r));
     let map = places::word_of(f);
     let mut l = NONE;
-    let mut k: u64 = 0;
-    while k < rank {
+    for k in 0..rank {
         let x = layout::rule_external(g, r, k);
         l = places::with_node(l, k, places::node_at(map, x));
-        k += 1;
     }
     places::nodes_of(l)
 }
@@ -75,56 +57,41 @@ pub fn edge_nodes(g: &[u64], h: &[u64], e: u64) -> [u8; PLACES]
 {
     let rank = joins::rank_of(g, layout::graph_label_in(h, e));
     let mut l = NONE;
-    let mut k: u64 = 0;
-    while k < rank {
+    for k in 0..rank {
         l = places::with_node(l, k, layout::graph_node_in(h, e, k));
-        k += 1;
     }
     places::nodes_of(l)
 }
 
 // ---- the rules of two premises
-// The map of the second of two items: none where ok is false.
-#[derive(Clone, Copy)]
-struct SecondMap {
-    nodes: [u8; PLACES],
-    ok: bool,
-}
-
 // Whether y can be the second at plan node q of rule `of`, of which w tells what it asks for, and its map. By the
 // nonterminal rule q introduces an edge and y is passive and has the edge's symbol; by the join rule y is active and at
 // the second child.
-fn second_map(g: &[u64], of: u64, q: u64, w: u64, y: ChartItem) -> SecondMap
+fn second_map(g: &[u64], of: u64, q: u64, w: u64, y: ChartItem) -> Option<[u8; PLACES]>
     requires { Asks g.now of q w × (y.kind ≡ 0 → BareFrom (rule_nodes g.now y.of) y.nodes) }
-    ensures { Second g.now of q y result.nodes result.ok }
+    ensures { Second g.now of q y result }
 {
-    let l = y.nodes;
-    let none = SecondMap {
-        nodes: l,
-        ok: false,
-    };
     let asked = w / 4;
     if w % 4 == 1 {
         if y.kind == 0 {
-            return none;
+            return None;
         }
         if asked % 64 != y.of as u64 {
-            return none;
+            return None;
         }
         let i = layout::plan_second_in(g, of, q);
-        let nodes = joins::attach_by(g, of, i, asked / 64, l);
-        return SecondMap { nodes, ok: true };
+        return Some(joins::attach_by(g, of, i, asked / 64, y.nodes));
     }
     if y.kind != 0 {
-        return none;
+        return None;
     }
     if y.of as u64 != of {
-        return none;
+        return None;
     }
     if asked != y.plan as u64 {
-        return none;
+        return None;
     }
-    SecondMap { nodes: l, ok: true }
+    Some(y.nodes)
 }
 
 // What x first and y second make, with the count `count`. Items may have any numbers: an unknown rule or plan node
@@ -138,42 +105,35 @@ pub fn combined(
     y: ChartItem,
     count: u32,
     sure: bool,
-) -> Made
+) -> Option<ChartItem>
     requires { RunTables g.now h.now plans.now graph.now × Usable g.now h.now sure x × Usable g.now h.now sure y }
     ensures { Gives g.now h.now sure (pair_items g.now h.now x y) count result }
 {
-    let none = Made { item: x, ok: false };
     if x.kind != 0 {
-        return none;
+        return None;
     }
     let r = x.of as u64;
     let above = plans::parent_in(g, plans, r, x.plan as u64);
     let q = above.word % 32;
-    if q >= 16 {
-        return none;
+    if q >= PER_RULE {
+        return None;
     }
     let w = above.word / 32;
     if w % 4 == 3 {
-        return none;
+        return None;
     }
-    let second = second_map(g, r, q, w, y);
-    if !second.ok {
-        return none;
-    }
+    let t = second_map(g, r, q, w, y)?;
     let f = x.nodes;
-    let t = second.nodes;
     let stays = above.stays;
-    let joint = joins::combine(g, h, graph, r, q, stays, x.edges, y.edges, sure, f, t);
-    let nodes = joint.nodes;
-    let item = ChartItem {
+    let nodes = joins::combine(g, h, graph, r, q, stays, x.edges, y.edges, sure, f, t)?;
+    Some(ChartItem {
         kind: 0,
         of: x.of,
         plan: q as u8,
         count,
         edges: x.edges | y.edges,
         nodes,
-    };
-    Made { item, ok: joint.ok }
+    })
 }
 
 // ---- the rules of one premise
@@ -196,39 +156,29 @@ pub fn edge_item(g: &[u64], h: &[u64], e: u64) -> ChartItem
 }
 
 // The passive item of x where that is at the root of its rule's plan, the last plan node.
-pub fn root(g: &[u64], x: ChartItem) -> Made
+pub fn root(g: &[u64], x: ChartItem) -> Option<ChartItem>
     requires { check_grammar g.now ≡ true }
     ensures { GivesRoot g.now x result }
 {
-    let none = Made { item: x, ok: false };
     if x.kind != 0 {
-        return none;
+        return None;
     }
     let r = x.of as u64;
     if r >= layout::rule_count(g) {
-        return none;
+        return None;
     }
-    let n = layout::rule_plan(g, r);
-    let p = x.plan as u64;
-    if p >= n {
-        return none;
-    }
-    if p + 1 != n {
-        return none;
+    if x.plan as u64 + 1 != layout::rule_plan(g, r) {
+        return None;
     }
     let of = layout::rule_symbol(g, r);
-    let count = plus(x.count, 1);
-    let f = x.nodes;
-    let nodes = root_nodes(g, r, f);
-    let item = ChartItem {
+    Some(ChartItem {
         kind: 1,
         of: of as u8,
         plan: 0,
-        count,
+        count: plus(x.count, 1),
         edges: x.edges,
-        nodes,
-    };
-    Made { item, ok: true }
+        nodes: root_nodes(g, r, x.nodes),
+    })
 }
 
 // ---- the graph edges worth a try
@@ -261,11 +211,9 @@ fn fitting(
     let map = places::word_of(f);
     let rank = layout::rank_at(g, want);
     let mut rest = m;
-    let mut k: u64 = 0;
-    while k < rank {
+    for k in 0..rank {
         let y = layout::edge_node_in(g, of, i, k);
         rest = with_node(graph, k, places::node_at(map, y), rest);
-        k += 1;
     }
     rest
 }
@@ -291,7 +239,7 @@ pub fn candidates(
     }
     let of = x.of as u64;
     let q = plans::parent_in(g, plans, of, x.plan as u64).word % 32;
-    if q >= 16 {
+    if q >= PER_RULE {
         return 0;
     }
     let i = layout::plan_second_in(g, of, q);

@@ -7,8 +7,6 @@ ghost use Rattle.rules.specs.Rules.{Above};
 ghost use Rattle.rules.specs.Plans.{plan_table_words, edge_word, second_word, ParentAt, PlanTable};
 ghost use Rattle.rules.specs.Filling.{Placed, Put, ToldTo};
 
-use crate::Place;
-
 // A plan node as one number (`join_word`), which has 16 for its number where there is none, and the rule nodes that
 // are open there.
 #[derive(Clone, Copy)]
@@ -82,13 +80,11 @@ fn fill_rule(g: &[u64], r: u64, t: &mut [u32])
 {
     let n = layout::rule_plan(g, r);
     let mut ms = [0u64; 16];
-    let mut q: u64 = 0;
-    while q < n {
+    for q in 0..n {
         let m = joins::node_below(g, r, q, &ms);
         ms[q as usize] = m;
         let o = joins::open_at(g, r, q, m);
         put_children(g, r, q, o, t);
-        q += 1;
     }
 }
 
@@ -98,11 +94,8 @@ pub fn fill(g: &[u64], t: &mut [u32])
     requires { (check_grammar g.now ≡ true) × (t.old ≡ replicate plan_table_words 0) }
     ensures { PlanTable g.now t.new }
 {
-    let n = layout::rule_count(g);
-    let mut r: u64 = 0;
-    while r < n {
+    for r in 0..layout::rule_count(g) {
         fill_rule(g, r, t);
-        r += 1;
     }
 }
 
@@ -135,15 +128,12 @@ pub fn parent_in(g: &[u64], t: &[u32; PLAN_TABLE_WORDS], r: u64, p: u64) -> Pare
 }
 
 // The plan node above p in rule r: any rule and a plan node that may not be there.
-pub fn place_above(g: &[u64], t: &[u32; PLAN_TABLE_WORDS], r: u64, p: u64) -> Place
+pub fn place_above(g: &[u64], t: &[u32; PLAN_TABLE_WORDS], r: u64, p: u64) -> Option<u64>
     requires { (check_grammar g.now ≡ true) × PlanTable g.now t.now }
     ensures { Above g.now r p result }
 {
     let node = parent_in(g, t, r, p).word % 32;
-    Place {
-        found: node < PER_RULE,
-        node,
-    }
+    if node < PER_RULE { Some(node) } else { None }
 }
 
 // The open rule nodes at plan node p: those that its first child is told of, and none at a leaf.

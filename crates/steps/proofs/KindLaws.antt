@@ -6,7 +6,6 @@ use mathlib.Core.Bool.{Bool, true, false, not}
 use mathlib.Core.List.{List, ◌++◌}
 use native.Mathlib.Omega.{arith}
 use lib.Dec.{eqb}
-use borrow.Author.Tests.{le-ltb}
 use Rattle.hrg.specs.Grammars.{Graph, Grammar}
 use Rattle.agenda.specs.declared.ChartItem.{ChartItem}
 use Rattle.agenda.specs.declared.Record.{Record}
@@ -17,6 +16,7 @@ use Rattle.joins.proofs.Known.{graph_size}
 use Rattle.rules.specs.declared.plans.Parent.{Parent}
 use Rattle.rules.specs.Plans.{ParentAt, Leads}
 use Rattle.rules.specs.Wants.{want_of}
+use Rattle.rules.proofs.Parents.{above_far}
 use Rattle.rules.proofs.WantLaws.{want_missing}
 use Rattle.rules.proofs.Leading.{leads_passive, leads_first}
 use Rattle.rules.proofs.RootLaws.{root_passive, root_none, root_child}
@@ -76,7 +76,7 @@ module _ {g h plans keys graph w ix ls : List ℕ} {j : ℕ} (P : Tables g h pla
     pub alone_passive : (y.kind ≡ 0 → ⊥) → Alone g h keys w j w ix ls false
     alone_passive k = record {
       is =
-          alone_added G H w w w x j P.1.fits by_root_is with_edges_is (nothing_added w _ P.1.fits (root_none g x.item j _ (root_passive g x.item other) refl))
+          alone_added G H w w w x j P.1.fits by_root_is with_edges_is (nothing_added w _ P.1.fits (root_none g x.item j (root_passive g x.item other)))
           (edges_none g h x.item 0 (candidates_passive g h P.0.accepted x.item other) w P.1.fits j refl _ (graph_size g h));
       ready = P.1;
       leads = leads_passive g checked x.item other;
@@ -107,7 +107,7 @@ module _ {g h plans keys graph w ix ls : List ℕ} {j : ℕ} (P : Tables g h pla
           → (v ≡ grown_by w (consequences G H (chart_of w).records j)) × Ready g h keys v jx ms
       all_root far {v} made =
           let o = made.1.fits in
-          let want : 80 ≡ want_of G x.item.of x.item.plan = want_missing g x.item.of x.item.plan _ above.above (le-ltb (up.word % 32) 16 far) in (
+          let want : 80 ≡ want_of G x.item.of x.item.plan = want_missing g x.item.of x.item.plan (above_far g x.item.of x.item.plan (up.word % 32) far above.above) in (
             all_added G H w j P.2.there v v P.1.fits alone_whole with_records
                 (alone_added G H w v v x j P.1.fits by_root_is with_edges_is made.0 (edges_none g h x.item 0 (candidates_none g h P.0.accepted x.item kind 80 want (omega arith)) v o j refl _ (graph_size g h)))
                 (item_count w) refl

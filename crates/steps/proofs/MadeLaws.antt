@@ -16,10 +16,10 @@ use Rattle.questions.specs.Layout.{graph_edges}
 use Rattle.questions.specs.Abstract.{grammar_of, graph_of}
 use Rattle.joins.specs.Joins.{Accepted}
 use Rattle.joins.proofs.Known.{graph_size}
-use Rattle.rules.specs.declared.Made.{Made}
+use Rattle.std.specs.Prelude.{Option, Some, None, IfSome, IfNone}
 use Rattle.rules.specs.Coverage.{Covering}
 use Rattle.rules.specs.Rules.{pair_items, terminal_items, StandsFor, Gives, GivesRoot}
-use Rattle.rules.proofs.RuleAnswers.{gives_same, pair_none, pair_one, terminal_none, terminal_one}
+use Rattle.rules.proofs.RuleAnswers.{gives_same, records_by, pair_records, terminal_records}
 use Rattle.rules.proofs.RootLaws.{root_none, root_one}
 use Rattle.records.specs.Words.{item_count, record_at, chart_of, grown_by}
 use Rattle.records.proofs.Grown.{grown_one}
@@ -59,18 +59,25 @@ module _ {g h keys w ix ls : List ℕ} (accepted : Accepted g h) (R : Ready g h 
       )
 
   -- ---- the root rule
-  module _ (j : ℕ) {x : ChartItem} (own : x ≡ (record_at w j).item) {m : Made} (answer : GivesRoot g x m) where
+  module _ (j : ℕ) {x : ChartItem} (own : x ≡ (record_at w j).item) where
     abbrev root_records_lem : ChartItem → List Record
     root_records_lem y = at_root G (item_of G y) y.count j
 
-    pub root_missed : m.ok ≡ false → Grows w ix ls (root_records_lem (record_at w j).item)
-    root_missed not_made = none (ap root_records_lem (sym own) ∙ root_none g x j m answer not_made)
+    pub root_missed : GivesRoot g x None → Grows w ix ls (root_records_lem (record_at w j).item)
+    root_missed answer = none (ap root_records_lem (sym own) ∙ root_none g x j answer)
 
-    pub root_added : m.ok ≡ true → j < item_count w → {v jx ms : List ℕ} → Adds keys w ix v jx ms (new_record m.item j 0)
+    pub root_added : {m : ChartItem} → GivesRoot g x (Some m) → j < item_count w → {v jx ms : List ℕ} → Adds keys w ix v jx ms (new_record m j 0)
         → Grows v jx ms (root_records_lem (record_at w j).item)
-    root_added made l added =
-        one added (ap root_records_lem (sym own) ∙ root_one g x j m answer made)
-        (λ d. answer.covering h (subst (Covering g h) (sym own) (covering_at g h w ix j R.covered l d)) made) l (among_root G H w j l)
+    root_added {m} answer l added =
+        one added (ap root_records_lem (sym own) ∙ root_one g x j m answer)
+        (λ d. answer.covering h (subst (Covering g h) (sym own) (covering_at g h w ix j R.covered l d))) l (among_root G H w j l)
+
+  -- ---- what was made, if it was: the record of that item was added
+  grown : {v jx ms : List ℕ} {ys : List Record} {j : ℕ} (a b : ℕ) (m : Option ChartItem) → IfNone m ((v ≡ w) × (jx ≡ ix) × (ms ≡ ls))
+      → IfSome m (λ x. Adds keys w ix v jx ms (new_record x a b)) → ys ≡ records_by g h m a b
+      → (doubt_of ix ≡ 0 → IfSome m (Covering g h)) → j < item_count w → ((y : Record) → In y ys → In y (consequences G H (chart_of w).records j)) → Grows v jx ms ys
+  grown a b None missed added is covers l among = kept missed is
+  grown a b (Some x) missed added is covers l among = one added is covers l among
 
   -- ---- the rules that may be sure
   module _ {sure : Bool} (known : sure ≡ eqb (doubt_of ix) 0) {v jx ms : List ℕ} where
@@ -84,13 +91,9 @@ module _ {g h keys w ix ls : List ℕ} (accepted : Accepted g h) (R : Ready g h 
       of_edge = gives_same g h sure (pair_items g h x y) (terminal_items G H (item_of G x) e) x.count joined.made (edge.pairs x) joined.gives
 
       pub edge_grown : j < item_count w → e < graph_edges h → Grows v jx ms (edge_records (record_at w j).item)
-      edge_grown l d = by joined.made.ok refl
-        where
-          by : (b : Bool) → joined.made.ok ≡ b → Grows v jx ms (edge_records (record_at w j).item)
-          by false p = kept (joined.missed p) (ap edge_records (sym own) ∙ terminal_none g h sure joined.made x x.count j e of_edge p)
-          by true p =
-              one (joined.added p) (ap edge_records (sym own) ∙ terminal_one g h sure joined.made x x.count j e of_edge p)
-              (λ z. of_edge.covering (known ∙ eq-eqb (doubt_of ix) 0 z) p) l (among_edges G H w j l e (omega (arith, graph_size g h)))
+      edge_grown l d =
+          grown j e joined.made joined.missed joined.added (ap edge_records (sym own) ∙ terminal_records g h sure joined.made x x.count j e of_edge)
+          (λ z. of_edge.covering (known ∙ eq-eqb (doubt_of ix) 0 z)) l (among_edges G H w j l e (omega (arith, graph_size g h)))
 
     -- with another record
     module _ (j k : ℕ) {x y : ChartItem} (first : x ≡ (record_at w j).item) (second : y ≡ (record_at w k).item)
@@ -98,7 +101,7 @@ module _ {g h keys w ix ls : List ℕ} (accepted : Accepted g h) (R : Ready g h 
       abbrev both : List Record
       both = pair G H (record_at w j) j (record_at w k) k
 
-      abbrev m : Made
+      abbrev m : Option ChartItem
       m = joined.made
 
       of_records : Gives g h sure (pair_items g h (record_at w j).item (record_at w k).item) (plus (record_at w j).item.count (record_at w k).item.count) m
@@ -107,10 +110,6 @@ module _ {g h keys w ix ls : List ℕ} (accepted : Accepted g h) (R : Ready g h 
           (subst (λ (s : ChartItem). Gives g h sure (pair_items g h s y) (plus s.count y.count) m) first joined.gives)
 
       pub pair_grown : Handled w j → Handled w k → Grows v jx ms both
-      pair_grown at other = by m.ok refl
-        where
-          by : (b : Bool) → m.ok ≡ b → Grows v jx ms both
-          by false p = kept (joined.missed p) (pair_none g h sure m (record_at w j) (record_at w k) j k of_records p)
-          by true p =
-              one (joined.added p) (pair_one g h sure m (record_at w j) (record_at w k) j k of_records p)
-              (λ d. of_records.covering (known ∙ eq-eqb (doubt_of ix) 0 d) p) at.there (among_records G H w j at.there k other.there other.done)
+      pair_grown at other =
+          grown j k m joined.missed joined.added (pair_records g h sure m (record_at w j) (record_at w k) j k of_records)
+          (λ d. of_records.covering (known ∙ eq-eqb (doubt_of ix) 0 d)) at.there (among_records G H w j at.there k other.there other.done)

@@ -1,12 +1,12 @@
 -- What the functions of a step know of the tables, of what was worked out from them, and of a chart's words and their
 -- index.
-use Rattle.std.specs.Prelude.{List, Bool, true, false, ◌≡◌, ℕ, ◌≤◌, ◌<◌}
+use Rattle.std.specs.Prelude.{Option, IfSome, IfNone, List, Bool, true, false, ◌≡◌, ℕ, ◌≤◌, ◌<◌}
 use Rattle.hrg.specs.Items.{Item}
+use Rattle.agenda.specs.declared.ChartItem.{ChartItem}
 use Rattle.agenda.specs.Records.{is_handled, new_record}
 use Rattle.questions.specs.Abstract.{grammar_of, graph_of}
 use Rattle.joins.specs.Joins.{Accepted}
 use Rattle.joins.specs.Graphs.{GraphTable}
-use Rattle.rules.specs.declared.Made.{Made}
 use Rattle.rules.specs.Rules.{Gives}
 use Rattle.rules.specs.Plans.{PlanTable, Leads}
 use Rattle.keys.specs.Keys.{KeyTable}
@@ -55,7 +55,7 @@ pub record Joining (g h plans keys graph w ix ls : List ℕ) (lead : Bool) (j : 
 -- of a list of at most one item, which a rule gives with the count n: the record of it, made of the partners a and b,
 -- was added to the words w, or there is no item and all is as it was
 pub record Joined (g h : List ℕ) (sure : Bool) (l : List Item) (n a b : ℕ) (keys w ix ls v jx ms : List ℕ) : Type 0 where
-  pub made : Made
+  pub made : Option ChartItem
   pub gives : Gives g h sure l n made
-  pub missed : made.ok ≡ false → (v ≡ w) × (jx ≡ ix) × (ms ≡ ls)
-  pub added : made.ok ≡ true → Adds keys w ix v jx ms (new_record made.item a b)
+  pub missed : IfNone made ((v ≡ w) × (jx ≡ ix) × (ms ≡ ls))
+  pub added : IfSome made (λ x. Adds keys w ix v jx ms (new_record x a b))

@@ -30,11 +30,9 @@ fn add_root(t: &Lookups, chart: &mut [u64], index: &mut Index, j: u64)
     requires { Accepted t.now.g.now t.now.h.now × Ready t.now.g.now t.now.h.now t.now.keys.now chart.old index.old.words index.old.lists × Handled chart.old j }
     ensures { (chart.new ≡ grown_by chart.old (at_root (grammar_of t.now.g.now) (item_of (grammar_of t.now.g.now) (record_at chart.old j).item) (record_at chart.old j).item.count j)) × Ready t.now.g.now t.now.h.now t.now.keys.now chart.new index.new.words index.new.lists }
 {
-    let made = rules::root(t.g, records::item_at(chart, j));
-    if !made.ok {
+    let Some(item) = rules::root(t.g, records::item_at(chart, j)) else {
         return;
-    }
-    let item = made.item;
+    };
     let hash = chains::hash(item);
     index.add(t.keys, chart, item, hash, j, 0);
 }
@@ -54,11 +52,9 @@ fn add_joined(
     requires { RunTables t.now.g.now t.now.h.now t.now.plans.now t.now.graph.now × Usable t.now.g.now t.now.h.now sure x × Usable t.now.g.now t.now.h.now sure y × Indexed t.now.keys.now index.old.words index.old.lists (chart_of chart.old).records × Fits chart.old × (capacity chart.old ≤ 4096) × (first < 65536) × (second < 65536) }
     ensures { Joined t.now.g.now t.now.h.now sure (pair_items t.now.g.now t.now.h.now x y) count first second t.now.keys.now chart.old index.old.words index.old.lists chart.new index.new.words index.new.lists }
 {
-    let made = rules::combined(t.g, t.h, t.plans, t.graph, x, y, count, sure);
-    if !made.ok {
+    let Some(item) = rules::combined(t.g, t.h, t.plans, t.graph, x, y, count, sure) else {
         return;
-    }
-    let item = made.item;
+    };
     let hash = chains::hash(item);
     index.add(t.keys, chart, item, hash, first, second);
 }
@@ -246,12 +242,10 @@ fn add_each(t: &Lookups, chart: &mut [u64], index: &mut Index, lead: bool, j: u6
     requires { Joining t.now.g.now t.now.h.now t.now.plans.now t.now.keys.now t.now.graph.now chart.old index.old.words index.old.lists lead j × (n ≤ item_count chart.old) }
     ensures { (chart.new ≡ grown_by chart.old (gather n (λ k. with_record (grammar_of t.now.g.now) (graph_of t.now.g.now t.now.h.now) (record_at chart.old j) j (record_at chart.old k) k))) × Ready t.now.g.now t.now.h.now t.now.keys.now chart.new index.new.words index.new.lists }
 {
-    let asked = pivots::asked(t.keys, records::item_at(chart, j));
-    if asked.single {
-        add_listed(t, chart, index, lead, j, n, asked.key);
-        return;
+    match pivots::asked(t.keys, records::item_at(chart, j)) {
+        Some(key) => add_listed(t, chart, index, lead, j, n, key),
+        None => add_many(t, chart, index, lead, j, n),
     }
-    add_many(t, chart, index, lead, j, n);
 }
 
 // All that the record at place j makes. Its kind and the plan node above it are read once, here, and tell what it is

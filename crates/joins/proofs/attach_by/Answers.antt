@@ -19,22 +19,20 @@ loop-k-init c =
     let edge = c.requires.0 in
     let word = c.requires.1 in (
       attach_none _ _ _ edge _ (length_places _) _ _ _ none_places refl (word_rank _ _ _ edge _ word).0,
-      omega arith,
       digits_from _ _ _ edge _ word,
     )
 
 pub node_at-requires : goal.node_at-requires
-node_at-requires c = omega (arith, c.loop-k.invariant.1)
+node_at-requires c = omega arith
 
 pub loop-k-preserved : goal.loop-k-preserved
 loop-k-preserved c =
     let edge = c.requires.0 in
     let before = c.loop-k.invariant in
     let more = c.loop-k-test.true in
-    let last = digits_last _ _ _ edge _ _ more before.0.0 before.2 in
+    let last = digits_last _ _ _ edge _ _ more before.0.0 before.1 in
     let next = attach_next _ _ _ edge _ (length_places _) _ _ _ more last.0 before.0 in (
       (next.0, rw (c.with_node-t.ensures, c.node_at.ensures.0) next.1),
-      omega (arith, before.1),
       last.1,
     )
 

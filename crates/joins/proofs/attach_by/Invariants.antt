@@ -1,5 +1,5 @@
 use mathlib.Core.Path.{◌≡◌}
-use Prim.Native.Nat.{◌≤◌, ◌<◌}
+use Prim.Native.Nat.{◌≤◌}
 use lib.ListN.{take}
 use Rattle.places.specs.Words.{places_of}
 use Rattle.questions.specs.Layout.{rank_at, edge_label, edge_node}
@@ -11,8 +11,4 @@ abbrev pub invariant-loop-k : goal.invariant-loop-k
 invariant-loop-k l =
     ((l.k ≤ rank_at l.g (edge_label l.g l.r l.i)) × MapFrom (edge_nodes l.g l.r l.i) (take (rank_at l.g (edge_label l.g l.r l.i)) (places_of l.nodes))
     l.k (places_of l.t))
-    × (l.k < 8)
     × (l.rest ≡ octal (λ k. edge_node l.g l.r l.i k) l.k)
-
-abbrev pub decreases-loop-k : goal.decreases-loop-k
-decreases-loop-k l = l.k

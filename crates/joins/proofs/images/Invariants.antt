@@ -1,4 +1,3 @@
-use Prim.Native.Nat.{◌-◌, ◌≤◌}
 use lib.ListN.{get_or}
 use Rattle.hrg.specs.Counts.{tabulate}
 use Rattle.places.specs.Words.{places_of}
@@ -6,7 +5,4 @@ use Rattle.joins.specs.Joins.{NodesIn}
 use Rattle.joins.proofs.images.Given as goal
 
 abbrev pub invariant-loop-k : goal.invariant-loop-k
-invariant-loop-k l = (l.k ≤ 8) × NodesIn l.mask (tabulate l.k (λ i. get_or (places_of l.w) i 0))
-
-abbrev pub decreases-loop-k : goal.decreases-loop-k
-decreases-loop-k l = 8 - l.k
+invariant-loop-k l = NodesIn l.mask (tabulate l.k (λ i. get_or (places_of l.w) i 0))

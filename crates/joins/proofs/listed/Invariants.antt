@@ -1,11 +1,8 @@
-use Prim.Native.Nat.{◌+◌, ◌-◌, ◌≤◌}
+use Prim.Native.Nat.{◌+◌}
 use Rattle.hrg.specs.Counts.{tabulate}
 use Rattle.questions.specs.Layout.{line_field}
 use Rattle.joins.specs.Joins.{NodesIn}
 use Rattle.joins.proofs.listed.Given as goal
 
 abbrev pub invariant-loop-k : goal.invariant-loop-k
-invariant-loop-k l = (l.k ≤ l.n) × NodesIn l.mask (tabulate l.k (λ j. line_field l.t l.p (l.from + j)))
-
-abbrev pub decreases-loop-k : goal.decreases-loop-k
-decreases-loop-k l = l.n - l.k
+invariant-loop-k l = NodesIn l.mask (tabulate l.k (λ j. line_field l.t l.p (l.from + j)))

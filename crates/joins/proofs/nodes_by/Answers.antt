@@ -1,18 +1,14 @@
 -- The two masks have the nodes on the edges passed.
-use native.Mathlib.Omega.{arith}
 use Rattle.joins.proofs.Touching.{sides_none, sides_next, sides_done}
 use Rattle.joins.proofs.nodes_by.Goals as goal
 
 pub loop-i-init : goal.loop-i-init
-loop-i-init c = (omega arith, sides_none _ _ _ _)
+loop-i-init c = sides_none _ _ _ _
 
 pub loop-i-preserved : goal.loop-i-preserved
-loop-i-preserved c = (
-  omega arith,
-  sides_next _ _ _ _ _ _ _ _ _ _ _ c.field_at.ensures
-      c.rank_at-rank.ensures.0 c.listed-on.ensures c.has.ensures.value
-      c.with_edge-s.ensures c.loop-i.invariant.1,
-)
+loop-i-preserved c = sides_next _ _ _ _ _ _ _ _ _ _ _ c.field_at.ensures
+    c.rank_at-rank.ensures.0 c.listed-on.ensures c.has.ensures.value
+    c.with_edge-s.ensures c.loop-i.invariant
 
 pub returns : goal.returns
-returns c = sides_done _ _ _ _ _ _ _ c.loop-i.invariant.0 c.loop-i-test.false c.loop-i.invariant.1
+returns c = sides_done _ _ _ _ _ _ _ c.loop-i.auto.i-end c.loop-i-test.false c.loop-i.invariant

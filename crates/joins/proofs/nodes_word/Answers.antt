@@ -16,7 +16,6 @@ rank_of-rank-requires c =
 
 pub loop-k-init : goal.loop-k-init
 loop-k-init c = (
-  omega arith,
   c.rank_of-rank.ensures.0 ∙ ap (rank_at _) c.edge_label_in.ensures,
   digits_none _ _ _ c.requires,
 )
@@ -25,9 +24,8 @@ pub overflow_mul-w : goal.overflow_mul-w
 overflow_mul-w c =
     let loop = c.loop-k in omega (
       arith,
-      loop.invariant.2,
-      digits_few _ _ _ c.requires loop.k
-          (omega (arith, loop.invariant.0, loop.invariant.1)),
+      loop.invariant.1,
+      digits_few _ _ _ c.requires loop.k (omega (arith, loop.invariant.0)),
     )
 
 pub edge_node_in-requires : goal.edge_node_in-requires
@@ -42,27 +40,23 @@ overflow_add-w c =
     let pre = c.requires in
     omega (
       arith,
-      loop.invariant.2,
-      digits_few _ _ _ pre loop.k (omega (arith, loop.invariant.0, loop.invariant.1)),
-      edge_node_few _ _ _ pre _ _ (omega (arith, loop.invariant.1, c.loop-k-test.true))
+      loop.invariant.1,
+      digits_few _ _ _ pre loop.k (omega (arith, loop.invariant.0)),
+      edge_node_few _ _ _ pre _ _ (omega (arith, loop.invariant.0, c.loop-k-test.true))
           c.edge_node_in.ensures,
     )
-
-pub overflow_add-k : goal.overflow_add-k
-overflow_add-k c = omega (arith, c.rank_of-rank.ensures.1)
 
 pub loop-k-preserved : goal.loop-k-preserved
 loop-k-preserved c =
     let loop = c.loop-k in
-    (omega arith, loop.invariant.1, digits_next _ _ _ c.requires _ _ _ loop.invariant.2 c.edge_node_in.ensures)
+    (loop.invariant.0, digits_next _ _ _ c.requires _ _ _ loop.invariant.1 c.edge_node_in.ensures)
 
 pub overflow_mul-result : goal.overflow_mul-result
 overflow_mul-result c =
     let loop = c.loop-k in omega (
       arith,
-      loop.invariant.2,
-      digits_few _ _ _ c.requires loop.k
-          (omega (arith, loop.invariant.0, loop.invariant.1)),
+      loop.invariant.1,
+      digits_few _ _ _ c.requires loop.k (omega (arith, loop.invariant.0)),
     )
 
 pub overflow_add-result : goal.overflow_add-result
@@ -70,12 +64,11 @@ overflow_add-result c =
     let loop = c.loop-k in omega (
       arith,
       c.rank_of-rank.ensures.1,
-      loop.invariant.2,
-      digits_few _ _ _ c.requires loop.k
-          (omega (arith, loop.invariant.0, loop.invariant.1)),
+      loop.invariant.1,
+      digits_few _ _ _ c.requires loop.k (omega (arith, loop.invariant.0)),
     )
 
 pub returns : goal.returns
 returns c =
     let loop = c.loop-k in digits_all _ _ _ c.requires
-    _ _ _ loop.invariant.0 loop.invariant.1 c.loop-k-test.false loop.invariant.2
+    _ _ _ loop.auto.k-end loop.invariant.0 c.loop-k-test.false loop.invariant.1

@@ -1,11 +1,7 @@
 use mathlib.Core.Path.{◌≡◌}
-use Prim.Native.Nat.{◌-◌, ◌≤◌}
 use Rattle.questions.specs.Layout.{rank_at, edge_label, edge_node}
 use Rattle.joins.specs.Joins.{octal}
 use Rattle.joins.proofs.nodes_word.Given as goal
 
 abbrev pub invariant-loop-k : goal.invariant-loop-k
-invariant-loop-k l = (l.k ≤ l.rank) × (l.rank ≡ rank_at l.g (edge_label l.g l.r l.i)) × (l.w ≡ octal (λ k. edge_node l.g l.r l.i k) l.k)
-
-abbrev pub decreases-loop-k : goal.decreases-loop-k
-decreases-loop-k l = l.rank - l.k
+invariant-loop-k l = (l.rank ≡ rank_at l.g (edge_label l.g l.r l.i)) × (l.w ≡ octal (λ k. edge_node l.g l.r l.i k) l.k)

@@ -1,10 +1,7 @@
-use Prim.Native.Nat.{◌-◌, ◌≤◌}
+use Prim.Native.Nat.{◌≤◌}
+use Rattle.questions.specs.Layout.{graph_edges}
 use Rattle.joins.proofs.GraphLaws.{TouchedTo}
 use Rattle.joins.proofs.touched.Given as goal
 
 abbrev pub invariant-loop-b : goal.invariant-loop-b
-invariant-loop-b l = (l.b ≤ 16) × (l.n ≤ 64) × TouchedTo l.g l.h l.m l.b l.rest
-    l.inside l.outside
-
-abbrev pub decreases-loop-b : goal.decreases-loop-b
-decreases-loop-b l = 16 - l.b
+invariant-loop-b l = (graph_edges l.h ≤ 64) × TouchedTo l.g l.h l.m l.b l.rest l.inside l.outside

@@ -28,18 +28,5 @@ returns-then-has c = edge_pivot _ _ _ c.requires.1 _ _ c.edge_label.ensures c.ra
     _ _ c.open_at-nodes.ensures _ _ _ c.loop-k-test.true
     c.edge_node-v.ensures c.has.ensures.value c.if-has.true
 
-pub overflow_add-k : goal.overflow_add-k
-overflow_add-k c = omega (
-  arith,
-  c.rank_at-rank.ensures.1,
-  c.loop-k-test.true,
-)
-
-pub loop-k-smaller : goal.loop-k-smaller
-loop-k-smaller c = omega (arith, c.loop-k-test.true)
-
-pub loop-k-preserved : goal.loop-k-preserved
-loop-k-preserved c = omega (arith, c.loop-k-test.true)
-
 pub returns : goal.returns
 returns c = no_edge_pivot _ _ _

@@ -7,15 +7,11 @@ use Rattle.pivots.proofs.TableLaws.{Filled, filled_none, filled_idle, filled_mor
 use Rattle.pivots.proofs.fill.Goals as goal
 use Rattle.pivots.proofs.fill.Goals.{then-want-ne80, else-want-ne80}
 
-pub overflow_mul-n : goal.overflow_mul-n
-overflow_mul-n c = omega (arith, rules_few _ c.requires.0, c.rule_count-n.ensures)
+pub overflow_mul-i-end : goal.overflow_mul-i-end
+overflow_mul-i-end c = omega (arith, rules_few _ c.requires.0, c.rule_count-i-end.ensures)
 
 pub loop-i-init : goal.loop-i-init
-loop-i-init c = (
-  omega arith,
-  subst (λ t. Filled c.args.g.now t 0)
-      (sym c.requires.2) (filled_none _),
-)
+loop-i-init c = subst (λ t. Filled c.args.g.now t 0) (sym c.requires.2) (filled_none _)
 
 pub want_of-want-requires : goal.want_of-want-requires
 want_of-want-requires c = (
@@ -28,45 +24,32 @@ pivot-w-requires c = (c.requires.0, c.requires.1)
 
 pub enter-requires : goal.enter-requires
 enter-requires c = (
-  c.loop-i.invariant.1.size,
+  c.loop-i.invariant.size,
   omega (
     arith,
     rules_few _ c.requires.0,
-    c.rule_count-n.ensures,
+    c.rule_count-i-end.ensures,
     c.loop-i-test.true,
   ),
   c.pivot-w.ensures.small,
 )
 
-pub overflow_add-i : goal.overflow_add-i
-overflow_add-i c = omega (arith, rules_few _ c.requires.0, c.rule_count-n.ensures, c.loop-i-test.true)
-
-pub loop-i-smaller : goal.loop-i-smaller
-loop-i-smaller c = omega (arith, c.loop-i-test.true)
-
 pub loop-i-preserved : goal.loop-i-preserved
-loop-i-preserved c = (
-  omega (arith, c.loop-i-test.true),
-  let low : c.loop-i.i < 1024 = omega (
-    arith,
-    rules_few _ c.requires.0,
-    c.rule_count-n.ensures,
-    c.loop-i-test.true,
-  ) in
-      elim c.if-want-ne80.branch [
-        | then-want-ne80 w ↦ subst (λ t. Filled c.args.g.now t (c.loop-i.i + 1)) (sym w.t-is)
-            (filled_more _ _ _ _ c.loop-i.invariant.1 low (omega arith) _ c.want_of-want.ensures
-            _ w.pivot-w.ensures _ w.enter.ensures)
-        | else-want-ne80 w ↦ subst (λ t. Filled c.args.g.now t (c.loop-i.i + 1)) (sym w.t-is)
-            (filled_idle _ _ _ _ c.loop-i.invariant.1 low (omega arith) _ c.want_of-want.ensures
-            w.if-want-ne80.false)
-      ],
-)
+loop-i-preserved c =
+    let low : c.loop-i.i < 1024 = omega (arith, rules_few _ c.requires.0, c.rule_count-i-end.ensures, c.loop-i-test.true) in
+    elim c.if-want-ne80.branch [
+      | then-want-ne80 w ↦ subst (λ t. Filled c.args.g.now t (c.loop-i.i + 1)) (sym w.t-is)
+          (filled_more _ _ _ _ c.loop-i.invariant low (omega arith) _ c.want_of-want.ensures
+          _ w.pivot-w.ensures _ w.enter.ensures)
+      | else-want-ne80 w ↦ subst (λ t. Filled c.args.g.now t (c.loop-i.i + 1)) (sym w.t-is)
+          (filled_idle _ _ _ _ c.loop-i.invariant low (omega arith) _ c.want_of-want.ensures
+          w.if-want-ne80.false)
+    ]
 
 pub fill_places-requires : goal.fill_places-requires
-fill_places-requires c = c.loop-i.invariant.1.size
+fill_places-requires c = c.loop-i.invariant.size
 
 pub returns : goal.returns
-returns c = filled_all _ c.requires.0 _ (16 * c.rule_count-n.result)
-    _ (ap (λ k. 16 * k) c.rule_count-n.ensures) c.loop-i-test.false
-    c.loop-i.invariant.1 _ c.fill_places.ensures
+returns c = filled_all _ c.requires.0 _ (16 * c.rule_count-i-end.result)
+    _ (ap (λ k. 16 * k) c.rule_count-i-end.ensures) c.loop-i-test.false
+    c.loop-i.invariant _ c.fill_places.ensures

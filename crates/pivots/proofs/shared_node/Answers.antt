@@ -18,9 +18,6 @@ returns-then-has c = search_hit _ _ _ _ _ _ c.requires.0 c.open_at-here.ensures 
     _ c.loop-v.invariant c.loop-v-test.true _ _ c.has.ensures.value
     c.has-in-loop-v.ensures.value c.if-has.true
 
-pub loop-v-smaller : goal.loop-v-smaller
-loop-v-smaller c = omega (arith, c.loop-v-test.true)
-
 pub loop-v-preserved : goal.loop-v-preserved
 loop-v-preserved c = search_miss _ _ _ _ _ _ c.requires.0 c.open_at-here.ensures c.open_at-there.ensures
     _ c.loop-v.invariant c.loop-v-test.true _ _ c.has.ensures.value

@@ -3,6 +3,3 @@ use Rattle.pivots.proofs.shared_node.Given as goal
 
 abbrev pub invariant-loop-v : goal.invariant-loop-v
 invariant-loop-v l = Searched l.g l.r l.p l.q l.v
-
-abbrev pub decreases-loop-v : goal.decreases-loop-v
-decreases-loop-v l = l.v

@@ -1,9 +1,9 @@
 -- A passive item and one that wants no symbol have none; the others those of the label outside their set, place by
 -- place.
 use Prim.Native.Nat.{◌<◌, ◌^◌}
-use borrow.Author.Tests.{lt-ltb}
 use borrow.Author.Rules.{rules}
 use Rattle.rules.proofs.Inside.{node_inside}
+use Rattle.rules.proofs.Parents.{above_near}
 use Rattle.rules.proofs.CandidateLaws.{candidates_passive, candidates_none, candidates_nowhere, introduces, candidates_first}
 use Rattle.rules.proofs.candidates.Goals as goal
 
@@ -15,17 +15,16 @@ returns-then-want-ge64 c =
     let pre = c.requires in
     candidates_none _ _ pre.0.accepted _ c.if-x-ne0.false _ pre.1 c.if-want-ge64.true
 
-pub returns-then-q-ge16 : goal.returns-then-q-ge16
-returns-then-q-ge16 c =
+pub returns-then-q-ge-PER_RULE : goal.returns-then-q-ge-PER_RULE
+returns-then-q-ge-PER_RULE c =
     let pre = c.requires in
     let is_active = c.if-x-ne0.false in
     let near = c.if-want-ge64.false in
     candidates_nowhere _ _ pre.0.accepted _ is_active _ pre.1 near _ c.parent_in-q.ensures
-    c.if-q-ge16.true
+    c.if-q-ge-PER_RULE.true
 
 pub plan_second_in-i-requires : goal.plan_second_in-i-requires
-plan_second_in-i-requires c = node_inside (c.parent_in-q.ensures.above.known
-    (lt-ltb _ _ c.if-q-ge16.false))
+plan_second_in-i-requires c = node_inside (above_near _ _ _ _ c.if-q-ge-PER_RULE.false c.parent_in-q.ensures.above).known
 
 pub fitting-requires : goal.fitting-requires
 fitting-requires c =
@@ -35,7 +34,7 @@ fitting-requires c =
     let is_active = c.if-x-ne0.false in
     let near = c.if-want-ge64.false in
     let up = c.parent_in-q.ensures in
-    let found = c.if-q-ge16.false in (
+    let found = c.if-q-ge-PER_RULE.false in (
       introduces _ _ pre.0.accepted _ is_active _ pre.1 near _ up found
           _ c.plan_second_in-i.ensures,
       pre.0.graphed,

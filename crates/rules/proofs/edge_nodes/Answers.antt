@@ -23,7 +23,6 @@ pub loop-k-init : goal.loop-k-init
 loop-k-init c = (
   c.rank_of-rank.ensures.0 ∙ ap (rank_at c.args.g.now)
       c.graph_label_in.ensures,
-  omega arith,
   placed_bare _,
 )
 
@@ -49,11 +48,10 @@ pub loop-k-preserved : goal.loop-k-preserved
 loop-k-preserved c =
     let inv = c.loop-k.invariant in (
       inv.0,
-      omega (arith, inv.0, c.loop-k-test.true),
       placed_put _ _ _ _ _ (omega (arith, c.rank_of-rank.ensures.1)) c.graph_node_in.ensures
-          c.with_node-l.ensures inv.2,
+          c.with_node-l.ensures inv.1,
     )
 
 pub returns : goal.returns
-returns c = c.nodes_of.ensures ∙ edge_all _ _ _ c.requires.1 _ _ c.loop-k.invariant.1
-    (omega (arith, c.loop-k.invariant.0, c.loop-k-test.false)) c.loop-k.invariant.2
+returns c = c.nodes_of.ensures ∙ edge_all _ _ _ c.requires.1 _ _ (omega (arith, c.loop-k.invariant.0))
+    (omega (arith, c.loop-k.invariant.0, c.loop-k-test.false)) c.loop-k.invariant.1

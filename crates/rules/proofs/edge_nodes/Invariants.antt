@@ -1,4 +1,3 @@
-use Prim.Native.Nat.{◌-◌, ◌≤◌}
 use mathlib.Core.Path.{◌≡◌}
 use Rattle.places.specs.Words.{places_of}
 use Rattle.questions.specs.Layout.{rank_at, graph_label, graph_node}
@@ -6,8 +5,4 @@ use Rattle.joins.proofs.MapLaws.{Placed}
 use Rattle.rules.proofs.edge_nodes.Given as goal
 
 abbrev pub invariant-loop-k : goal.invariant-loop-k
-invariant-loop-k l =
-    (l.rank ≡ rank_at l.g (graph_label l.h l.e)) × (l.k ≤ rank_at l.g (graph_label l.h l.e)) × Placed (λ k. graph_node l.h l.e k) l.k (places_of l.l)
-
-abbrev pub decreases-loop-k : goal.decreases-loop-k
-decreases-loop-k l = l.rank - l.k
+invariant-loop-k l = (l.rank ≡ rank_at l.g (graph_label l.h l.e)) × Placed (λ k. graph_node l.h l.e k) l.k (places_of l.l)

@@ -13,7 +13,7 @@ use Rattle.rules.proofs.fitting.Goals as goal
 
 pub loop-k-init : goal.loop-k-init
 unfolding fitted
-loop-k-init c = (omega arith, refl)
+loop-k-init c = refl
 
 pub edge_node_in-y-requires : goal.edge_node_in-y-requires
 edge_node_in-y-requires c =
@@ -33,15 +33,15 @@ pub loop-k-preserved : goal.loop-k-preserved
 loop-k-preserved c =
     let image = c.node_at.ensures.0 ∙ ap (λ y. get_or (places_of c.word_of-map.result) y 0)
     c.edge_node_in-y.ensures in
-    (omega arith, fitted_next _ _ _ _ _ _ _ c.loop-k.invariant.1 image c.with_node-rest.ensures)
+    fitted_next _ _ _ _ _ _ _ c.loop-k.invariant image c.with_node-rest.ensures
 
 pub returns : goal.returns
 returns c =
     let args = c.args in
     let nodes = places_packed c.word_of-map.ensures in
     let passed : c.loop-k.k ≤ rank_at args.g.now
-    args.want = omega (arith, c.loop-k.invariant.0, c.rank_at-rank.ensures.0) in
-    let rest = c.loop-k.invariant.1 ∙ ap (λ l. fitted args.graph.now
+    args.want = omega (arith, c.rank_at-rank.ensures.0) in
+    let rest = c.loop-k.invariant ∙ ap (λ l. fitted args.graph.now
     (λ k. get_or l (edge_node args.g.now args.x.of args.i k) 0) c.loop-k.k args.m) nodes in
     candidates_fitted _ _ _ _ _ c.requires.0 c.word_of-map.ensures.places.size _ c.requires.1
     _ _ _ passed c.requires.2 rest

@@ -1,4 +1,3 @@
-use Prim.Native.Nat.{◌-◌, ◌≤◌}
 use mathlib.Core.Path.{◌≡◌}
 use lib.ListN.{get_or}
 use Rattle.places.specs.Words.{places_of}
@@ -7,8 +6,4 @@ use Rattle.rules.proofs.CandidateLaws.{fitted}
 use Rattle.rules.proofs.fitting.Given as goal
 
 abbrev pub invariant-loop-k : goal.invariant-loop-k
-invariant-loop-k l =
-    (l.k ≤ l.rank) × (l.rest ≡ fitted l.graph (λ k. get_or (places_of l.map) (edge_node l.g l.of l.i k) 0) l.k l.m)
-
-abbrev pub decreases-loop-k : goal.decreases-loop-k
-decreases-loop-k l = l.rank - l.k
+invariant-loop-k l = l.rest ≡ fitted l.graph (λ k. get_or (places_of l.map) (edge_node l.g l.of l.i k) 0) l.k l.m

@@ -12,28 +12,18 @@ returns-then-x-ne0 c = root_passive _ _ c.if-x-ne0.true
 pub returns-then-r-rule_count : goal.returns-then-r-rule_count
 returns-then-r-rule_count c = root_unknown _ _ _ c.if-x-ne0.false c.rule_count.ensures c.if-r-rule_count.true
 
-pub returns-then-p-n : goal.returns-then-p-n
-returns-then-p-n c =
+pub returns-then-x-rule_plan : goal.returns-then-x-rule_plan
+returns-then-x-rule_plan c =
     let known : c.args.x.of < rule_count c.args.g.now = omega (
       arith,
       c.rule_count.ensures,
       c.if-r-rule_count.false,
     ) in
-    root_inner _ _ c.if-x-ne0.false c.requires known _ c.rule_plan-n.ensures
-    (λ e. omega (arith, c.if-p-n.true))
+    root_inner _ _ c.if-x-ne0.false c.requires known _ c.rule_plan.ensures
+    (λ e. c.if-x-rule_plan.true (omega arith))
 
-pub returns-then-p-n-2 : goal.returns-then-p-n-2
-returns-then-p-n-2 c =
-    let known : c.args.x.of < rule_count c.args.g.now = omega (
-      arith,
-      c.rule_count.ensures,
-      c.if-r-rule_count.false,
-    ) in
-    root_inner _ _ c.if-x-ne0.false c.requires known _ c.rule_plan-n.ensures
-    (λ e. c.if-p-n-2.true (omega arith))
-
-pub overflow_cast-item : goal.overflow_cast-item
-overflow_cast-item c = omega (arith, symbol_byte _ _ _ c.rule_symbol-of.ensures)
+pub overflow_cast-result : goal.overflow_cast-result
+overflow_cast-result c = omega (arith, symbol_byte _ _ _ c.rule_symbol-of.ensures)
 
 pub returns : goal.returns
 returns c =
@@ -42,7 +32,7 @@ returns c =
       c.rule_count.ensures,
       c.if-r-rule_count.false,
     ) in
-    let plan = c.rule_plan-n in
-    let last : suc c.args.x.plan ≡ plan.result = omega (arith, c.if-p-n-2.false) in
+    let plan = c.rule_plan in
+    let last : suc c.args.x.plan ≡ plan.result = omega (arith, c.if-x-rule_plan.false) in
     root_made _ _ c.if-x-ne0.false c.requires known _ plan.ensures _ _ _ last
-    c.rule_symbol-of.ensures c.plus-count.ensures c.root_nodes-nodes.ensures
+    c.rule_symbol-of.ensures c.plus.ensures c.root_nodes.ensures

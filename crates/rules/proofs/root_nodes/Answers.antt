@@ -17,7 +17,6 @@ pub loop-k-init : goal.loop-k-init
 loop-k-init c = (
   c.rank_at-rank.ensures.0 ∙ ap (rank_at c.args.g.now)
       c.rule_symbol.ensures,
-  omega arith,
   placed_bare _,
 )
 
@@ -45,16 +44,15 @@ loop-k-preserved c =
     let inside : c.loop-k.k < rank_at g (rule_symbol g r) = omega arith in
     let few : rank_at g (rule_symbol g r) ≤ 4 = omega (arith, c.rank_at-rank.ensures.1) in (
       c.loop-k.invariant.0,
-      omega arith,
       subst (λ l. Placed (λ k. at (take (rule_nodes g r) f) (rule_external g r k)) (c.loop-k.k + 1) l)
           (sym c.with_node-l.ensures)
           (image_next _ _ c.requires.0 c.requires.1 f (length_places _) _ _ _ _ inside few
-          c.node_at.ensures.0 c.rule_external-x.ensures c.loop-k.invariant.2),
+          c.node_at.ensures.0 c.rule_external-x.ensures c.loop-k.invariant.1),
     )
 
 pub returns : goal.returns
 returns c = c.nodes_of.ensures
     ∙ image_all _ _ c.requires.0 c.requires.1 _ (length_places c.word_of-map.result)
-    _ _ c.loop-k.invariant.1 (omega (arith, c.loop-k.invariant.0, c.loop-k-test.false))
-    c.loop-k.invariant.2
+    _ _ (omega (arith, c.loop-k.invariant.0)) (omega (arith, c.loop-k.invariant.0, c.loop-k-test.false))
+    c.loop-k.invariant.1
     ∙ ap (root_list c.args.g.now c.args.r) (places_packed c.word_of-map.ensures)

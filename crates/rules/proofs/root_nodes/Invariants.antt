@@ -1,4 +1,3 @@
-use Prim.Native.Nat.{◌-◌, ◌≤◌}
 use mathlib.Core.Path.{◌≡◌}
 use lib.ListN.{take}
 use Rattle.hrg.specs.Trees.{at}
@@ -9,9 +8,4 @@ use Rattle.rules.proofs.root_nodes.Given as goal
 
 abbrev pub invariant-loop-k : goal.invariant-loop-k
 invariant-loop-k l =
-    (l.rank ≡ rank_at l.g (rule_symbol l.g l.r))
-    × (l.k ≤ rank_at l.g (rule_symbol l.g l.r))
-    × Placed (λ k. at (take (rule_nodes l.g l.r) (places_of l.map)) (rule_external l.g l.r k)) l.k (places_of l.l)
-
-abbrev pub decreases-loop-k : goal.decreases-loop-k
-decreases-loop-k l = l.rank - l.k
+    (l.rank ≡ rank_at l.g (rule_symbol l.g l.r)) × Placed (λ k. at (take (rule_nodes l.g l.r) (places_of l.map)) (rule_external l.g l.r k)) l.k (places_of l.l)

@@ -5,22 +5,15 @@ use Rattle.joins.proofs.GraphLaws.{sets_none, sets_next, sets_all}
 use Rattle.joins.proofs.graphs.edge_sets.Goals as goal
 
 pub loop-e-init : goal.loop-e-init
-loop-e-init c = (omega arith, omega (arith, c.graph_edges-n.ensures, c.requires), sets_none _ _)
+loop-e-init c = sets_none _ _
 
 pub bounds-t-e : goal.bounds-t-e
-bounds-t-e c =
-    let loop = c.loop-e in
-    omega (arith, loop.invariant.1, loop.invariant.2.size)
+bounds-t-e c = omega (arith, c.loop-e.invariant.size)
 
 pub loop-e-preserved : goal.loop-e-preserved
 loop-e-preserved c =
-    let loop = c.loop-e in (
-      omega arith,
-      loop.invariant.1,
-      sets_next _ _ _ _ _ _ _ (omega (arith, c.graph_edges-n.ensures))
-          (omega (arith, loop.invariant.1)) c.graph_label.ensures c.rank_at-rank.ensures.0
-          (listed_at _ _ _ _ _ _ c.graph_edge_place.ensures c.listed-on.ensures) loop.invariant.2,
-    )
+    sets_next _ _ _ _ _ _ _ (omega arith) (omega arith) c.graph_label.ensures c.rank_at-rank.ensures.0
+    (listed_at _ _ _ _ _ _ c.graph_edge_place.ensures c.listed-on.ensures) c.loop-e.invariant
 
 pub returns : goal.returns
-returns c = sets_all _ _ _ _ _ c.graph_edges-n.ensures c.loop-e-test.false c.loop-e.invariant.2
+returns c = sets_all _ _ _ _ _ c.graph_edges-n.ensures c.loop-e-test.false c.loop-e.invariant

@@ -36,12 +36,9 @@ bounds-t-first-2 c = omega (
 )
 
 pub loop-k-init : goal.loop-k-init
-loop-k-init c = (
-  omega arith,
-  marked_label _ _ _ _ _ _ (label_few _ _ c.requires.0 _ c.requires.1
-      _ c.graph_label-label.ensures) c.graph_label-label.ensures
-      c.with-w.ensures c.requires.2,
-)
+loop-k-init c = marked_label _ _ _ _ _ _ (label_few _ _ c.requires.0 _ c.requires.1
+    _ c.graph_label-label.ensures) c.graph_label-label.ensures
+    c.with-w.ensures c.requires.2
 
 pub overflow_mul-i : goal.overflow_mul-i
 overflow_mul-i c = omega (arith, c.rank_at-rank.ensures.1)
@@ -71,7 +68,7 @@ pub bounds-t-i : goal.bounds-t-i
 bounds-t-i c = omega (
   arith,
   c.rank_at-rank.ensures.1,
-  c.loop-k.invariant.1.size,
+  c.loop-k.invariant.size,
   node_few _ _ c.requires.0 _ c.requires.1 _ _ (place_in_lem
       _ _ _ _ _ _ c.graph_label-label.ensures c.rank_at-rank.ensures.0
       c.loop-k-test.true) c.graph_node.ensures,
@@ -90,22 +87,19 @@ pub bounds-t-i-in-loop-k : goal.bounds-t-i-in-loop-k
 bounds-t-i-in-loop-k c = omega (
   arith,
   c.rank_at-rank.ensures.1,
-  c.loop-k.invariant.1.size,
+  c.loop-k.invariant.size,
   node_few _ _ c.requires.0 _ c.requires.1 _ _ (place_in_lem
       _ _ _ _ _ _ c.graph_label-label.ensures c.rank_at-rank.ensures.0
       c.loop-k-test.true) c.graph_node.ensures,
 )
 
 pub loop-k-preserved : goal.loop-k-preserved
-loop-k-preserved c = (
-  omega arith,
-  marked_place _ _ _ _ _ _ _ (omega (arith, c.rank_at-rank.ensures.1))
-      (node_few _ _ c.requires.0 _ c.requires.1 _ _ (place_in_lem
-      _ _ _ _ _ _ c.graph_label-label.ensures c.rank_at-rank.ensures.0
-      c.loop-k-test.true) c.graph_node.ensures)
-      c.graph_node.ensures c.with-v.ensures c.loop-k.invariant.1,
-)
+loop-k-preserved c = marked_place _ _ _ _ _ _ _ (omega (arith, c.rank_at-rank.ensures.1))
+    (node_few _ _ c.requires.0 _ c.requires.1 _ _ (place_in_lem
+    _ _ _ _ _ _ c.graph_label-label.ensures c.rank_at-rank.ensures.0
+    c.loop-k-test.true) c.graph_node.ensures)
+    c.graph_node.ensures c.with-v.ensures c.loop-k.invariant
 
 pub returns : goal.returns
 returns c = marked_edge _ _ _ _ _ _ _ c.graph_label-label.ensures
-    c.rank_at-rank.ensures.0 c.loop-k.invariant.0 c.loop-k-test.false c.loop-k.invariant.1
+    c.rank_at-rank.ensures.0 c.loop-k.auto.k-end c.loop-k-test.false c.loop-k.invariant

@@ -4,18 +4,14 @@ use Rattle.joins.proofs.GraphLaws.{indexed_all}
 use Rattle.joins.proofs.graphs.mark_edges.Goals as goal
 
 pub loop-e-init : goal.loop-e-init
-loop-e-init c = (omega arith, c.requires.1)
+loop-e-init c = c.requires.1
 
 pub mark_edge-requires : goal.mark_edge-requires
-mark_edge-requires c = (
-  c.requires.0,
-  omega (arith, c.graph_edges-n.ensures, c.loop-e-test.true),
-  c.loop-e.invariant.1,
-)
+mark_edge-requires c = (c.requires.0, omega arith, c.loop-e.invariant)
 
 pub loop-e-preserved : goal.loop-e-preserved
-loop-e-preserved c = (omega arith, c.mark_edge.ensures)
+loop-e-preserved c = c.mark_edge.ensures
 
 pub returns : goal.returns
-returns c = indexed_all _ _ _ _ _ c.graph_edges-n.ensures c.loop-e.invariant.0
-    c.loop-e-test.false c.loop-e.invariant.1
+returns c = indexed_all _ _ _ _ _ c.graph_edges-e-end.ensures c.loop-e.auto.e-end
+    c.loop-e-test.false c.loop-e.invariant

@@ -4,13 +4,11 @@ use mathlib.Core.Path.{sym, subst}
 use mathlib.Core.List.{List}
 use Prim.Native.Nat.{ℕ}
 use Rattle.rules.specs.Filling.{ToldTo}
-use Rattle.rules.proofs.WantLaws.{rules_few}
 use Rattle.rules.proofs.PlanLaws.{told_none, told_all}
 use Rattle.rules.proofs.plans.fill.Goals as goal
 
 pub loop-r-init : goal.loop-r-init
 loop-r-init c = (
-  omega arith,
   subst (λ (t : List ℕ). ToldTo c.args.g.now t 0 0)
       (sym c.requires.1) (told_none c.args.g.now),
   λ k. omega (arith, c.slice_known-1.given k),
@@ -19,17 +17,14 @@ loop-r-init c = (
 pub fill_rule-requires : goal.fill_rule-requires
 fill_rule-requires c = (
   c.requires.0,
-  omega (arith, c.rule_count-n.ensures, c.loop-r-test.true),
-  c.loop-r.invariant.1,
+  omega (arith, c.rule_count-r-end.ensures, c.loop-r-test.true),
+  c.loop-r.invariant.0,
 )
 
-pub overflow_add-r : goal.overflow_add-r
-overflow_add-r c = omega (arith, c.rule_count-n.ensures, c.loop-r-test.true, rules_few _ c.requires.0)
-
 pub loop-r-preserved : goal.loop-r-preserved
-loop-r-preserved c = (omega arith, c.fill_rule.ensures, λ k. omega (arith, c.slice_known-in-loop-r-1.given k))
+loop-r-preserved c = (c.fill_rule.ensures, λ k. omega (arith, c.slice_known-in-loop-r-1.given k))
 
 pub returns : goal.returns
 returns c = told_all _ c.requires.0
-    _ _ _ c.rule_count-n.ensures c.loop-r-test.false c.loop-r.invariant.0
-    c.loop-r.invariant.1 c.loop-r.invariant.2
+    _ _ _ c.rule_count-r-end.ensures c.loop-r-test.false c.loop-r.auto.r-end
+    c.loop-r.invariant.0 c.loop-r.invariant.1

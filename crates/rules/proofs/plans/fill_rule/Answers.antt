@@ -7,7 +7,7 @@ use Rattle.rules.proofs.PlanLaws.{open_small, told_next, told_rule}
 use Rattle.rules.proofs.plans.fill_rule.Goals as goal
 
 pub loop-q-init : goal.loop-q-init
-loop-q-init c = (omega arith, masks_none _ _ _, refl, c.requires.2)
+loop-q-init c = (masks_none _ _ _, refl, c.requires.2)
 
 pub node_below-m-requires : goal.node_below-m-requires
 node_below-m-requires c = (
@@ -16,7 +16,7 @@ node_below-m-requires c = (
     rule = c.requires.1;
     node = omega (arith, c.rule_plan-n.ensures, c.loop-q-test.true);
   },
-  c.loop-q.invariant.1,
+  c.loop-q.invariant.0,
 )
 
 pub offset_bounds-ms-q : goal.offset_bounds-ms-q
@@ -52,7 +52,7 @@ put_children-requires c = (
     rule = c.requires.1;
     node = omega (arith, c.rule_plan-n.ensures, c.loop-q-test.true);
   },
-  c.loop-q.invariant.3.size,
+  c.loop-q.invariant.2.size,
   open_small _ _ _ _ (record {
     grammar = c.requires.0;
     rule = c.requires.1;
@@ -64,36 +64,27 @@ put_children-requires c = (
   }) c.open_at-o.ensures c.open_at-o.type_inv,
 )
 
-pub overflow_add-q : goal.overflow_add-q
-overflow_add-q c = omega (
-  arith,
-  c.rule_plan-n.ensures,
-  c.loop-q-test.true,
-  plan_few _ _ c.requires.0 c.requires.1,
-)
-
 pub loop-q-preserved : goal.loop-q-preserved
 loop-q-preserved c = (
-  omega arith,
   masks_more _ _ _ _ _ (omega (
     arith,
-    c.loop-q.invariant.2,
+    c.loop-q.invariant.1,
     c.rule_plan-n.ensures,
     c.loop-q-test.true,
     plan_few _ _ c.requires.0 c.requires.1,
-  )) c.loop-q.invariant.1
+  )) c.loop-q.invariant.0
       c.node_below-m.ensures,
   set_size c.loop-q.ms c.loop-q.q
-      c.node_below-m.result _ c.loop-q.invariant.2,
+      c.node_below-m.result _ c.loop-q.invariant.1,
   told_next _ _ _ _ _ _ (record {
     grammar = c.requires.0;
     rule = c.requires.1;
     node = omega (arith, c.rule_plan-n.ensures, c.loop-q-test.true);
   })
-      c.open_at-o.ensures c.loop-q.invariant.3 c.put_children.ensures,
+      c.open_at-o.ensures c.loop-q.invariant.2 c.put_children.ensures,
 )
 
 pub returns : goal.returns
 returns c = told_rule _ c.requires.0
     _ _ _ _ c.requires.1 c.rule_plan-n.ensures
-    c.loop-q.invariant.0 c.loop-q-test.false c.loop-q.invariant.3
+    c.loop-q.auto.q-end c.loop-q-test.false c.loop-q.invariant.2

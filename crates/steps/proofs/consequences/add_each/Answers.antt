@@ -11,6 +11,6 @@ pub add_listed-requires : goal.add_listed-requires
 add_listed-requires c = (
   c.requires.0,
   c.requires.1,
-  c.asked-asked.ensures c.if-asked.true ∙ ap
+  c.in-Some.ensures ∙ ap
       (query_of c.args.t.now.keys.now) c.item_at.ensures,
 )

@@ -1,6 +1,5 @@
 -- What the root rule answers is added, or nothing.
 use native.Mathlib.Omega.{arith}
-use borrow.Author.Tests.{not-true, not-false}
 use Rattle.records.proofs.WordLaws.{item_inside}
 use Rattle.steps.proofs.ReadyLaws.{place_few}
 use Rattle.steps.proofs.MadeLaws.{root_missed, root_added}
@@ -9,9 +8,8 @@ use Rattle.steps.proofs.consequences.add_root.Goals as goal
 pub item_at-requires : goal.item_at-requires
 item_at-requires c = item_inside _ _ c.requires.2.there
 
-pub returns-then-not-made : goal.returns-then-not-made
-returns-then-not-made c = root_missed c.requires.0 c.requires.1 _ c.item_at.ensures c.root-made.ensures
-    (not-true _ c.if-not-made.true)
+pub returns-in_default : goal.returns-in_default
+returns-in_default c = root_missed c.requires.0 c.requires.1 _ c.item_at.ensures c.in_default.ensures
 
 pub add-requires : goal.add-requires
 add-requires c =
@@ -20,5 +18,5 @@ add-requires c =
     (ready.indexed, ready.fits, ready.small, hash, small, place_few ready c.requires.2.there, omega arith)
 
 pub returns : goal.returns
-returns c = root_added c.requires.0 c.requires.1 _ c.item_at.ensures c.root-made.ensures
-    (not-false _ c.if-not-made.false) c.requires.2.there c.add.ensures
+returns c = root_added c.requires.0 c.requires.1 _ c.item_at.ensures c.in-Some.ensures
+    c.requires.2.there c.add.ensures
