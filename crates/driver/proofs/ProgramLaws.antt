@@ -1,7 +1,8 @@
 -- Laws of the two programs' definitions: one for each way that they can go.
-use Rattle.std.specs.Prelude.{Ok, Err}
+use Rattle.std.specs.Prelude.{Ok, Err, is_err}
+use mathlib.Core.Bool.{true, false, true≢false}
 use mathlib.Core.Path.{◌≡◌, refl, sym, ap, ◌∙◌}
-use mathlib.Core.List.{List, [], ◌∷◌, ◌++◌}
+use mathlib.Core.List.{List, ◌++◌}
 use Prim.Native.Nat.{ℕ, ◌≤◌, ◌<◌}
 use native.Mathlib.Omega.{arith}
 use lib.ListN.{length, take, replicate, length-replicate}
@@ -62,19 +63,32 @@ not_done UnfitChart next = refl
 not_done TooSmallChart next = refl
 not_done (UnfinishedChart k) next = refl
 
+-- an outcome has a number other than 0 where it is an error
+error_some : (o : Outcome) → is_err o ≡ true → chart_number o ≡ 0 → ⊥
+error_some (Ok k) e z = true≢false (sym e)
+error_some (Err UnfitChart) e z = omega (arith, z)
+error_some (Err TooSmallChart) e z = omega (arith, z)
+error_some (Err (UnfinishedChart k)) e z = omega (arith, z)
+
+started_none : (o : Outcome) → is_err o ≡ false → chart_number o ≡ 0
+started_none (Ok k) e = refl
+started_none (Err u) e = absurd (true≢false e)
+
 -- a start that answered o with the number k and left v
 module _ (g h : List ℕ) (o : Outcome) (k : ℕ) (e : o ≡ (start_of g h (cleared chart_words)).answer) (z : k ≡ chart_number o) (former now : List ℕ) (r : ℕ) where
   number : k ≡ chart_number (start_of g h (cleared chart_words)).answer
   number = z ∙ ap chart_number e
 
-  pub prints_unstarted : (k ≡ 0 → ⊥) → Prints (refusal_line k) former now r → Prints (derived_text (derive_tables g h)) former now r
+  pub prints_unstarted : is_err o ≡ true → Prints (refusal_line k) former now r → Prints (derived_text (derive_tables g h)) former now r
   unfolding derive_tables
-  prints_unstarted n p = prints_as (derive_tables g h) (refused k) former now r (rw (← number, ne_eqb k 0 n)) p
+  prints_unstarted n p =
+      prints_as (derive_tables g h) (refused k) former now r
+      (rw (← number, ne_eqb k 0 (λ y. error_some o n (sym z ∙ y)))) p
 
-  module _ (started : k ≡ 0) (v : List ℕ) (left : v ≡ (start_of g h (cleared chart_words)).words) (a : Outcome) (f : a ≡ (run_of g h v items).answer) where
+  module _ (started : is_err o ≡ false) (v : List ℕ) (left : v ≡ (start_of g h (cleared chart_words)).words) (a : Outcome) (f : a ≡ (run_of g h v items).answer) where
     ran : derive_tables g h ≡ when_ran a (λ steps. write_chart g h (run_of g h v items).words steps)
     unfolding derive_tables
-    ran = rw (← number, eq-eqb k 0 started, ← left, ← f)
+    ran = rw (← number, eq-eqb k 0 (z ∙ started_none o started), ← left, ← f)
 
     pub prints_unrun : (j : ℕ) (u : Unready) → a ≡ Err u → j ≡ chart_number a → Prints (refusal_line j) former now r
         → Prints (derived_text (derive_tables g h)) former now r

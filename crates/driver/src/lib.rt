@@ -138,9 +138,9 @@ fn derive_tables(grammar: &[u64], graph: &[u64], out: &mut [u8; 32774]) -> usize
     ensures { Prints (derived_text (derive_tables grammar.now graph.now)) out.old out.new result }
 {
     let mut chart = [0u64; records::telling::WORDS_FOR_2048];
-    let k = chart_number(chart::start(grammar, graph, &mut chart));
-    if k != 0 {
-        return put_refusal(k, out);
+    let started = chart::start(grammar, graph, &mut chart);
+    if started.is_err() {
+        return put_refusal(chart_number(started), out);
     }
     let outcome = chart::run(grammar, graph, &mut chart, 2048);
     match outcome {

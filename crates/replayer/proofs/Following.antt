@@ -5,7 +5,7 @@ use mathlib.Core.List.{List, [], ◌∷◌, ◌++◌}
 use Prim.Native.Nat.{ℕ, zero, suc, ◌+◌, ◌≤◌, ◌<◌}
 use native.Mathlib.Omega.{arith}
 use native.Mathlib.Numerals.{add-one}
-use lib.ListN.{length, get_or, set, drop, length-drop, drop_of_length-le}
+use lib.ListN.{length, get_or, drop, length-drop, drop_of_length-le}
 use lib.Seq.{drop-cons}
 use borrow.Author.Tests.{lt-ltb, le-ltb, eq-eqb, ne_eqb}
 use Rattle.masks.specs.Masks.{◌∪◌, single}
@@ -17,6 +17,7 @@ use Rattle.hrg.specs.Grammars.{Kind, Edge, Graph, Grammar, no_edge, kind_of, rig
 use Rattle.hrg.specs.Trees.{images}
 use Rattle.preorder.specs.Replay.{State, reached, failed, check, by_kind, rule_in, place_in, fields_in, new_nodes, row_test, edge_test, part_test, replay_at, replay_edges}
 use Rattle.preorder.proofs.Sound.{stays_failed}
+use Rattle.replayer.specs.declared.Progress.{Progress as Kept}
 use Rattle.replayer.specs.declared.Part.TheVariants.{End, GraphEdge, Application}
 use Rattle.std.specs.Prelude.{Option, Some, None}
 use Rattle.replayer.specs.Fitting.{with_all, taken_if, row_passes, edge_passes, SizedRow}
@@ -41,28 +42,16 @@ of_with : (b : Bool) (m k : ℕ) → taken_if b m ≡ Some k → (b ≡ true) ×
 of_with true m k e = (refl, cc)
 of_with false m k e = absurd (let z : ◌≡◌ {A = ℕ} 0 1 = cc in omega arith)
 
--- ---- what the steps make of the four words
-four_words : (T : List ℕ → Type 0) → ((a b c d : ℕ) → T (a ∷ b ∷ c ∷ d ∷ [])) → (l : List ℕ) → length l ≡ 4 → T l
-four_words T t [] e = absurd (omega arith)
-four_words T t (a ∷ []) e = absurd (omega arith)
-four_words T t (a ∷ b ∷ []) e = absurd (omega arith)
-four_words T t (a ∷ b ∷ c ∷ []) e = absurd (omega arith)
-four_words T t (a ∷ b ∷ c ∷ d ∷ []) e = t a b c d
-four_words T t (a ∷ b ∷ c ∷ d ∷ f ∷ l) e = absurd (omega arith)
-
-module _ (st : List ℕ) (four : length st ≡ 4) (st' : List ℕ) where
+-- ---- what the steps make of the progress kept
+module _ (st st' : Kept) where
   abbrev p : Progress
   p = progress_in true st
 
-  pub edge_used : (m : ℕ) → st' ≡ set st 2 m → progress_in true st' ≡ record { ok = true; next = p.next; at = p.at; edges = m; nodes = p.nodes }
-  edge_used m e =
-      ap (progress_in true) e
-      ∙ four_words (λ (l : List ℕ). progress_in true (set l 2 m) ≡ record { ok = true; next = get_or l 0 0; at = get_or l 1 0; edges = m; nodes = get_or l 3 0 }) (λ a b c d. refl) st four
+  pub edge_used : (m : ℕ) → st' ≡ record st { edges = m } → progress_in true st' ≡ record { ok = true; next = p.next; at = p.at; edges = m; nodes = p.nodes }
+  edge_used m e = ap (progress_in true) e
 
-  pub row_opened : (n a m : ℕ) → st' ≡ set (set (set st 0 n) 1 a) 3 m → progress_in true st' ≡ record { ok = true; next = n; at = a; edges = p.edges; nodes = m }
-  row_opened n a m e =
-      ap (progress_in true) e
-      ∙ four_words (λ (l : List ℕ). progress_in true (set (set (set l 0 n) 1 a) 3 m) ≡ record { ok = true; next = n; at = a; edges = get_or l 2 0; nodes = m }) (λ a b c d. refl) st four
+  pub row_opened : (n a m : ℕ) → st' ≡ record st { next = n; at = a; nodes = m } → progress_in true st' ≡ record { ok = true; next = n; at = a; edges = p.edges; nodes = m }
+  row_opened n a m e = ap (progress_in true) e
 
 -- where the next row then stands
 pub opened_rows : (text : List ℕ) (p : Progress) → RowsAt text p.next p.at → p.at < length text → (m : ℕ) (o : Progress)
@@ -214,7 +203,7 @@ module _ (G : Grammar) (H : Graph) (text : List ℕ) (s : ℕ) (L : List ℕ) (p
                     ∙ ap (λ (j : ℕ). edges_with k (reached j es (vs ++ new))) (sym (ap (λ (x : Progress). x.next) q)))
                     (d.stands k (omega (arith, opened_falls)) es (vs ++ new) (opened_reaches es vs w))
 
-  pub applied_passing : (b : Bool) (st : List ℕ) → b ≡ true
+  pub applied_passing : (b : Bool) (st : Kept) → b ≡ true
       → Applied G H text s L p (progress_in b st) → Applied G H text s L p (progress_in true st)
   applied_passing b st e a = subst (λ (x : Bool). Applied G H text s L p (progress_in x st)) e a
 

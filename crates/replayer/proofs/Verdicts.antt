@@ -6,7 +6,7 @@ use mathlib.Core.Bool.{Bool, true, false, true≢false, cond, ◌&&◌}
 use mathlib.Core.List.{List, []}
 use Prim.Native.Nat.{ℕ, zero, suc, ◌≤◌, ◌<◌}
 use native.Mathlib.Omega.{arith}
-use lib.ListN.{length, get_or, set, take, replicate}
+use lib.ListN.{length, get_or, take}
 use lib.Dec.{eqb}
 use borrow.Author.Tests.{le-leb}
 use Rattle.masks.specs.Masks.{full}
@@ -32,7 +32,7 @@ use Rattle.replayer.specs.Verdicts.{Verdict, number_of, fit_tables, replay_of, E
 use Rattle.replayer.specs.declared.ReplayError.TheVariants.{Unfit, NoDerivation}
 use Rattle.std.proofs.lemmas.Option.{none-some}
 use Rattle.replayer.specs.Fitting.{count_in, with_all}
-use Rattle.replayer.specs.Following.{text_rows, RowsAt, Progress, progress_in, Marks, Reaches, Stands, Applied}
+use Rattle.replayer.specs.Following.{text_rows, RowsAt, Progress, progress_of, Marks, Reaches, Stands, Applied}
 use Rattle.questions.proofs.StoredLaws.{take_tabulate}
 use Rattle.replayer.proofs.MaskTests.{marks_none, marks_append, marks_all}
 use Rattle.replayer.proofs.PlacedRows.{text_count, text_some, text_few, place_start}
@@ -114,22 +114,14 @@ module _ (g h : List ℕ) (ok : Accepted g h) (s : ℕ) (e : s ≡ start_symbol 
           ∙ ap₂ (λ (y : ℕ) (L : List ℕ). from y L 0) (e ∙ sym (start_is g)) listed_are)
           (a.stands (calls (text_rows text)) (omega arith) [] (graph_of g h).externals start_reaches)
 
--- the four words at the start
-module _ (st : List ℕ) (none : st ≡ replicate 4 0) (place m : ℕ) where
-  pub start_length : length (set (set st 1 place) 3 m) ≡ 4
-  start_length = ap (λ (l : List ℕ). length (set (set l 1 place) 3 m)) none
-
-  pub start_progress : progress_in true (set (set st 1 place) 3 m) ≡ record { ok = true; next = 0; at = place; edges = 0; nodes = m }
-  start_progress = ap (λ (l : List ℕ). progress_in true (set (set l 1 place) 3 m)) none
+-- a replay that failed, whatever else is said of it
+pub stands_failed : (H : Graph) (p : Progress) (st : State) → p.ok ≡ false → Stands H p st → Stands H (progress_of None) st
+stands_failed H p failed f s = refl
+stands_failed H p (reached n es vs) f s = absurd (true≢false (sym s.passing ∙ f))
 
 -- the first row
-pub start_rows : (text : List ℕ) → 0 < length (text_rows text) → (place : ℕ) → place ≡ after_line text 0
-    → (p : Progress) (m : ℕ) → p ≡ record { ok = true; next = 0; at = place; edges = 0; nodes = m }
-    → RowsAt text p.next p.at
-start_rows text some place e p m d =
-    let first = place_start text some in
-    subst (λ (p : Progress). RowsAt text p.next p.at) (sym d)
-    (subst (λ (y : ℕ). RowsAt text 0 y) (sym e) first)
+pub start_rows : (text : List ℕ) → 0 < length (text_rows text) → (place : ℕ) → place ≡ after_line text 0 → RowsAt text 0 place
+start_rows text some place e = subst (λ (y : ℕ). RowsAt text 0 y) (sym e) (place_start text some)
 
 -- ---- the end
 whole_stands : (H : Graph) (R : List (List ℕ)) (p : Progress) (st : State) → Stands H p st
@@ -154,19 +146,19 @@ module _ (G : Grammar) (H : Graph) (text : List ℕ) where
       replay_rows G H text (text_rows text) (text_some text some)
       ∙ rw (le-leb 1 (length (text_rows text)) some, le-leb (length (text_rows text)) 4096 (text_few text))
 
-module _ (g h text : List ℕ) (n : ℕ) (c : Some n ≡ count_in (rows_in text)) (ok : Bool) (st : List ℕ)
-    (k : Stands (graph_of g h) (progress_in ok st) (replayed (grammar_of g) (graph_of g h) (text_rows text))) where
-  answer_by_is : replay_text (grammar_of g) (graph_of g h) text ≡ (ok && eqb (get_or st 0 0) n && eqb (get_or st 2 0) (full (graph_edges h)) && eqb (get_or st 3 0) (full (graph_nodes h)))
+module _ (g h text : List ℕ) (n : ℕ) (c : Some n ≡ count_in (rows_in text)) (p : Progress)
+    (k : Stands (graph_of g h) p (replayed (grammar_of g) (graph_of g h) (text_rows text))) where
+  answer_by_is : replay_text (grammar_of g) (graph_of g h) text ≡ (p.ok && eqb p.next n && eqb p.edges (full (graph_edges h)) && eqb p.nodes (full (graph_nodes h)))
   answer_by_is =
       let counted = text_count text n c in
       whole_passes (grammar_of g) (graph_of g h) text (omega arith)
-      ∙ whole_stands (graph_of g h) (text_rows text) (progress_in ok st) _ k
+      ∙ whole_stands (graph_of g h) (text_rows text) p _ k
       ∙ rw (sym counted.0, graph_size g h, graph_nodes_lem g h)
 
-  pub failed_answer : ok ≡ false → replay_text (grammar_of g) (graph_of g h) text ≡ false
+  pub failed_answer : p.ok ≡ false → replay_text (grammar_of g) (graph_of g h) text ≡ false
   failed_answer f = answer_by_is ∙ rw f
 
-  pub whole_answer : ok ≡ true → (b : Bool) → b ≡ (eqb (get_or st 0 0) n && eqb (get_or st 2 0) (full (graph_edges h)) && eqb (get_or st 3 0) (full (graph_nodes h))) → replay_text (grammar_of g) (graph_of g h) text ≡ b
+  pub whole_answer : p.ok ≡ true → (b : Bool) → b ≡ (eqb p.next n && eqb p.edges (full (graph_edges h)) && eqb p.nodes (full (graph_nodes h))) → replay_text (grammar_of g) (graph_of g h) text ≡ b
   whole_answer y b t = answer_by_is ∙ rw y (sym t)
 
 -- ---- the answer

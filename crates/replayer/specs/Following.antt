@@ -1,6 +1,6 @@
 -- What the functions promise: a replay with masks for the lists of used numbers, and with places in the text for the
 -- rows.
-use Rattle.std.specs.Prelude.{◌≡◌, Bool, true, false, cond, List, [], ℕ, ◌+◌, ◌-◌, ◌*◌, ◌^◌, ◌≤◌, ◌<◌, length, get_or, drop, ltb}
+use Rattle.std.specs.Prelude.{◌≡◌, Bool, true, false, cond, Option, Some, None, List, [], ℕ, ◌+◌, ◌-◌, ◌*◌, ◌^◌, ◌≤◌, ◌<◌, length, get_or, drop, ltb}
 use Rattle.masks.specs.Masks.{member}
 use Rattle.format.specs.Lines.{lines_of}
 use Rattle.scripts.specs.Scripts.{Script, bad, rows, rows_from, rows_in}
@@ -8,6 +8,7 @@ use Rattle.hrg.specs.Counts.{occurs}
 use Rattle.hrg.specs.Grammars.{Kind, terminal, nonterminal, Graph, Grammar, kind_of, right_of, edge_at}
 use Rattle.preorder.specs.Replay.{State, reached, failed, rule_in, place_in, fields_in, replay_at, replay_edges}
 use Rattle.replayer.specs.declared.Part.{Part}
+use Rattle.replayer.specs.declared.Progress.{Progress as Kept}
 use Rattle.replayer.specs.declared.Part.TheVariants.{End, GraphEdge, Application}
 
 -- ---- rows and places
@@ -33,9 +34,14 @@ pub record Progress : Type 0 where
   pub edges : ℕ
   pub nodes : ℕ
 
--- what an answer and the four words kept say
-abbrev pub progress_in : Bool → List ℕ → Progress
-progress_in b st = record { ok = b; next = get_or st 0 0; at = get_or st 1 0; edges = get_or st 2 0; nodes = get_or st 3 0 }
+-- what an answer and the progress kept say
+abbrev pub progress_in : Bool → Kept → Progress
+progress_in b st = record { ok = b; next = st.next; at = st.at; edges = st.edges; nodes = st.nodes }
+
+-- what the progress at the end says, where there is one
+abbrev pub progress_of : Option Kept → Progress
+progress_of (Some st) = progress_in true st
+progress_of None = record { ok = false; next = 0; at = 0; edges = 0; nodes = 0 }
 
 -- ---- masks
 -- The mask has just the numbers of the list as members, and all are below n.

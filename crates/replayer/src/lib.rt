@@ -2,7 +2,7 @@
 
 #![tactic(auto)]
 
-ghost use Rattle.std.specs.Prelude.{◌≡◌, true, ◌&&◌, ℕ, ◌+◌, ◌≤◌, ◌<◌, length, get_or, set, take, drop, replicate, eqb};
+ghost use Rattle.std.specs.Prelude.{◌≡◌, true, ◌&&◌, ℕ, ◌+◌, ◌≤◌, ◌<◌, length, get_or, take, drop, eqb};
 ghost use Rattle.masks.specs.Masks.{◌∪◌, single, full};
 ghost use Rattle.format.specs.Lines.{line_of, after_line};
 ghost use Rattle.hrg.specs.Counts.{tabulate};
@@ -14,7 +14,7 @@ ghost use Rattle.joins.specs.Joins.{Accepted};
 ghost use Rattle.preorder.specs.Replay.{replayed};
 ghost use Rattle.derivation.specs.Derivations.{replay_text};
 ghost use Rattle.replayer.specs.Fitting.{with_all, SizedRow};
-ghost use Rattle.replayer.specs.Following.{text_rows, RowsAt, progress_in, Stands, Applied, Followed, RuledRow, part_of};
+ghost use Rattle.replayer.specs.Following.{text_rows, RowsAt, progress_in, progress_of, Stands, Applied, Followed, RuledRow, part_of};
 ghost use Rattle.replayer.specs.Verdicts.{replay_of, Exact};
 
 mod fitting;
@@ -36,27 +36,32 @@ enum Part {
 }
 
 // ---- steps of a replay
-// How far it came is kept in four words that are lent all the way down, since a copy for each call is slow: the
-// number of the next row, the place of its line, and the graph edges and the graph nodes used.
+// How far a replay came: the number of the next row, the place of its line, and the graph edges and the graph nodes
+// used. It is lent all the way down, since a copy for each call is slow.
+#[derive(Clone, Copy)]
+struct Progress {
+    next: u64,
+    at: usize,
+    edges: u64,
+    nodes: u64,
+}
 
 // One graph edge more is used.
-fn use_edge(st: &mut [u64], g: u64)
-    requires { (g < 64) × (length st.old ≡ 4) }
-    ensures { st.new ≡ set st.old 2 (get_or st.old 2 0 ∪ single g) }
+fn use_edge(st: &mut Progress, g: u64)
+    requires { g < 64 }
+    ensures { st.new ≡ record st.old { edges = st.old.edges ∪ single g } }
 {
-    st[2] = masks::with(st[2], g);
+    st.edges = masks::with(st.edges, g);
 }
 
 // The row of the line is taken: these nodes are used, and the next row is due.
-fn open_row(text: &[u8], line: &[u8], nodes: u64, st: &mut [u64])
-    requires { (length st.old ≡ 4) × (get_or st.old 0 0 < 4096) × (get_or st.old 1 0 ≤ length text.now) × (line.now ≡ line_of (drop (get_or st.old 1 0) text.now)) }
-    ensures { st.new ≡ set (set (set st.old 0 (get_or st.old 0 0 + 1)) 1 (after_line text.now (get_or st.old 1 0))) 3 nodes }
+fn open_row(text: &[u8], line: &[u8], nodes: u64, st: &mut Progress)
+    requires { (st.old.next < 4096) × (st.old.at ≤ length text.now) × (line.now ≡ line_of (drop st.old.at text.now)) }
+    ensures { st.new ≡ record st.old { next = st.old.next + 1; at = after_line text.now st.old.at; nodes = nodes } }
 {
-    let next = st[0] + 1;
-    let at = lines::behind(text, st[1] as usize, line);
-    st[0] = next;
-    st[1] = at as u64;
-    st[3] = nodes;
+    st.next += 1;
+    st.at = lines::behind(text, st.at, line);
+    st.nodes = nodes;
 }
 
 // What the row says of edge i of its rule.
@@ -71,9 +76,10 @@ fn part_at(grammar: &[u64], row: &[u64], i: u64) -> Part
     let at = 2 + layout::rule_nodes(grammar, rule) + i;
     let field = row[at as usize];
     let s = layout::edge_label(grammar, rule, i);
-    match layout::kind_of(grammar, s) {
-        0 => Part::GraphEdge(field),
-        _ => Part::Application(s, field),
+    if layout::kind_of(grammar, s) == 0 {
+        Part::GraphEdge(field)
+    } else {
+        Part::Application(s, field)
     }
 }
 
@@ -87,20 +93,19 @@ fn application(
     text: &[u8],
     s: u64,
     listed: &[u64; 4],
-    st: &mut [u64],
+    st: &mut Progress,
 ) -> bool
-    requires { Accepted grammar.now graph.now × RowsAt text.now (get_or st.old 0 0) (get_or st.old 1 0) × (length listed.now ≡ 4) × (length st.old ≡ 4) }
+    requires { Accepted grammar.now graph.now × RowsAt text.now st.old.next st.old.at × (length listed.now ≡ 4) }
     ensures { Applied (grammar_of grammar.now) (graph_of grammar.now graph.now) text.now s (take (rank_of (grammar_of grammar.now) s) listed.now) (progress_in true st.old) (progress_in result st.new) }
 {
-    let at = st[1] as usize;
-    if text.len() <= at {
+    if text.len() <= st.at {
         return false;
     }
-    let line = lines::next_line(text, at);
+    let line = lines::next_line(text, st.at);
     let mut fields = [0u64; 18];
     let count = lines::read_row(line, &mut fields);
     let row = &fields[..count];
-    let taken = fitting::taken(grammar, graph, row, st[0], s, listed, st[3]);
+    let taken = fitting::taken(grammar, graph, row, st.next, s, listed, st.nodes);
     match taken {
         None => false,
         Some(nodes) => {
@@ -118,23 +123,23 @@ fn edge_list(
     text: &[u8],
     row: &[u64],
     i: u64,
-    st: &mut [u64],
+    st: &mut Progress,
 ) -> bool
-    requires { Accepted grammar.now graph.now × SizedRow (grammar_of grammar.now) (graph_of grammar.now graph.now) row.now × RowsAt text.now (get_or st.old 0 0) (get_or st.old 1 0) × (length st.old ≡ 4) }
+    requires { Accepted grammar.now graph.now × SizedRow (grammar_of grammar.now) (graph_of grammar.now graph.now) row.now × RowsAt text.now st.old.next st.old.at }
     ensures { Followed (grammar_of grammar.now) (graph_of grammar.now graph.now) text.now row.now i (progress_in true st.old) (progress_in result st.new) }
 {
     let part = part_at(grammar, row, i);
     match part {
         Part::End => true,
         Part::GraphEdge(g) => {
-            if !fitting::edge_passes(grammar, graph, row, i, g, st[2]) {
+            if !fitting::edge_passes(grammar, graph, row, i, g, st.edges) {
                 return false;
             }
             use_edge(st, g);
             edge_list(grammar, graph, text, row, i + 1, st)
         }
         Part::Application(s, number) => {
-            if number != st[0] {
+            if number != st.next {
                 return false;
             }
             let mut listed = [64u64; 4];
@@ -172,26 +177,35 @@ fn mask_of(listed: [u64; 4], n: u64) -> u64
     mask
 }
 
-// The replay of the rows of the text, from one edge with the start symbol on the external nodes.
-fn from_start(grammar: &[u64], graph: &[u64], text: &[u8], st: &mut [u64]) -> bool
-    requires { Accepted grammar.now graph.now × (0 < length (text_rows text.now)) × (st.old ≡ replicate 4 0) }
-    ensures { Stands (graph_of grammar.now graph.now) (progress_in result st.new) (replayed (grammar_of grammar.now) (graph_of grammar.now graph.now) (text_rows text.now)) }
+// The replay of the rows of the text, from one edge with the start symbol on the external nodes: how far it came,
+// where all its tests passed.
+fn from_start(grammar: &[u64], graph: &[u64], text: &[u8]) -> Option<Progress>
+    requires { Accepted grammar.now graph.now × (0 < length (text_rows text.now)) }
+    ensures { Stands (graph_of grammar.now graph.now) (progress_of result) (replayed (grammar_of grammar.now) (graph_of grammar.now graph.now) (text_rows text.now)) }
 {
     let s = layout::start_symbol(grammar);
     let listed = externals(graph);
-    st[1] = lines::after_line(text, 0) as u64;
-    st[3] = mask_of(listed, layout::rank_at(grammar, s));
-    application(grammar, graph, text, s, &listed, st)
+    let mut st = Progress {
+        next: 0,
+        at: lines::after_line(text, 0),
+        edges: 0,
+        nodes: mask_of(listed, layout::rank_at(grammar, s)),
+    };
+    if application(grammar, graph, text, s, &listed, &mut st) {
+        Some(st)
+    } else {
+        None
+    }
 }
 
 // Whether all n rows, graph edges and graph nodes are used.
-fn is_whole(graph: &[u64], n: u64, st: &[u64]) -> bool
-    requires { (graph_nodes graph.now ≤ 64) × (graph_edges graph.now ≤ 64) × (length st.now ≡ 4) }
-    ensures { result ≡ (eqb (get_or st.now 0 0) n && eqb (get_or st.now 2 0) (full (graph_edges graph.now)) && eqb (get_or st.now 3 0) (full (graph_nodes graph.now))) }
+fn is_whole(graph: &[u64], n: u64, st: &Progress) -> bool
+    requires { (graph_nodes graph.now ≤ 64) × (graph_edges graph.now ≤ 64) }
+    ensures { result ≡ (eqb st.now.next n && eqb st.now.edges (full (graph_edges graph.now)) && eqb st.now.nodes (full (graph_nodes graph.now))) }
 {
     let edges = masks::full(layout::graph_edges(graph));
     let nodes = masks::full(layout::graph_nodes(graph));
-    (st[0] == n) & (st[2] == edges) & (st[3] == nodes)
+    (st.next == n) & (st.edges == edges) & (st.nodes == nodes)
 }
 
 // Question 13 for accepted tables: is the text a derivation of the graph?
@@ -202,11 +216,10 @@ pub fn passes(grammar: &[u64], graph: &[u64], text: &[u8]) -> bool
     let Some(n) = fitting::row_count(text) else {
         return false;
     };
-    let mut st = [0u64; 4];
-    if !from_start(grammar, graph, text, &mut st) {
-        return false;
+    match from_start(grammar, graph, text) {
+        Some(st) => is_whole(graph, n, &st),
+        None => false,
     }
-    is_whole(graph, n, &st)
 }
 
 // Questions 8 and 13.

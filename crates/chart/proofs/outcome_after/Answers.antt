@@ -15,11 +15,6 @@ handled_steps-requires c = omega (
   c.item_count-n.ensures,
 )
 
-pub outcome_of-requires : goal.outcome_of-requires
-outcome_of-requires c = c.handled_steps.ensures ∙ ap
-    (λ (k : ℕ). handled_count (records_at c.args.chart.now k))
-    c.item_count-n.ensures
-
 pub returns-then-not-all : goal.returns-then-not-all
 returns-then-not-all c = c.outcome_of.ensures
 

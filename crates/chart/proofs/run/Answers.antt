@@ -36,9 +36,6 @@ advance-all-requires c =
     c.if-not-is_fit.false _ c.known.ensures.0 (not-false _ c.if-not-known.false)
     _ c.fill.ensures
 
-pub outcome_after-requires : goal.outcome_after-requires
-outcome_after-requires c = c.advance-all.ensures.1
-
 pub returns : goal.returns
 returns c =
     let s = c.args in

@@ -28,9 +28,6 @@ returns-then-not-tested c = standing_unknown c.args.grammar.now c.args.graph.now
     _ c.is_fit.ensures c.if-not-is_fit.false _ c.known-tested.ensures.0
     (not-true _ c.if-not-tested.true)
 
-pub outcome_of-requires : goal.outcome_of-requires
-outcome_of-requires c = c.known-tested.ensures.1 (not-false _ c.if-not-tested.false)
-
 pub returns : goal.returns
 returns c = standing_is c.args.grammar.now c.args.graph.now c.args.chart.now
     _ c.is_fit.ensures c.if-not-is_fit.false _ c.known-tested.ensures.0

@@ -11,23 +11,20 @@ use Rattle.replayer.proofs.RowParts.{of_edge, of_row, edges_small, listed_take}
 use Rattle.replayer.proofs.Following.{fields_few, row_few, applied_past, applied_refused, taken_sized, row_opened, edge_used, applied_passing, opened_rows, opened_falls, applied_opened, followed_end, followed_refused, used_rows, used_falls, followed_edge, under_falls, followed_unnumbered, followed_under_failed, after_falls, followed_under}
 use Rattle.replayer.proofs.+application_edge_list.Goals as goal
 
-pub application-bounds-st-1 : goal.application-bounds-st-1
-application-bounds-st-1 t c = omega (arith, c.requires.3)
-
-pub application-returns-then-text-at : goal.application-returns-then-text-at
-application-returns-then-text-at t c =
-    applied_past _ _ _ _ _ _ _ c.requires.1 c.if-text-at.true refl
+pub application-returns-then-text-st : goal.application-returns-then-text-st
+application-returns-then-text-st t c =
+    applied_past _ _ _ _ _ _ _ c.requires.1 c.if-text-st.true refl
 
 pub application-read_row-count-requires : goal.application-read_row-count-requires
 application-read_row-count-requires t c =
-    fields_few _ _ _ c.requires.1 c.if-text-at.false _ c.next_line-line.ensures.contents
+    fields_few _ _ _ c.requires.1 c.if-text-st.false _ c.next_line-line.ensures.contents
 
 pub application-slice_bounds-fields-end : goal.application-slice_bounds-fields-end
 application-slice_bounds-fields-end t c =
     omega (
       arith,
       c.read_row-count.ensures.0,
-      fields_few _ _ _ c.requires.1 c.if-text-at.false _
+      fields_few _ _ _ c.requires.1 c.if-text-st.false _
           c.next_line-line.ensures.contents,
     )
 
@@ -36,14 +33,6 @@ application-slice_bounds-row-end t c =
     let read = c.read_row-count.ensures in
     read.0 ∙ sym (ap length read.1 ∙ fields_length _)
 
-pub application-bounds-st-0 : goal.application-bounds-st-0
-application-bounds-st-0 t c =
-    omega (arith, c.requires.3)
-
-pub application-bounds-st-3 : goal.application-bounds-st-3
-application-bounds-st-3 t c =
-    omega (arith, c.requires.3)
-
 pub application-taken-taken-requires : goal.application-taken-taken-requires
 application-taken-taken-requires t c =
     (c.requires.0, c.requires.2)
@@ -51,44 +40,44 @@ application-taken-taken-requires t c =
 pub application-open_row-requires : goal.application-open_row-requires
 application-open_row-requires t c =
     let pre = c.requires in
-    let inside = c.if-text-at.false in
-    (pre.3, row_few _ _ _ pre.1 inside, omega (arith, inside), c.next_line-line.ensures.contents)
+    let inside = c.if-text-st.false in
+    (row_few _ _ _ pre.1 inside, omega (arith, inside), c.next_line-line.ensures.contents)
 
 pub application-edge_list-requires : goal.application-edge_list-requires
 application-edge_list-requires t c =
     let given = c.requires in
     let pre = given in
-    let inside = c.if-text-at.false in
+    let inside = c.if-text-st.false in
     let p = progress_in true c.args.st.now in
     let line = c.next_line-line.ensures.contents in
     let fields = c.read_row-count.ensures.1 in
     let answer = c.taken-taken.ensures in
     let taken = c.in-Some.is in
-    let opened = row_opened c.args.st.now pre.3 c.open_row.new.st _ _ _
+    let opened = row_opened c.args.st.now c.open_row.new.st _ _ _
     c.open_row.ensures in
     let sized = taken_sized _ _ _ _ _ p pre.1 inside _ line _ fields _ answer _ taken in
     let few = edges_small _ _ pre.0.grammar (ruled _ _ _ sized) in (
       omega (arith, opened_falls _ _ _ _ _ p pre.1 inside _ line _ fields _ answer _ taken _ opened few),
-      (pre.0, sized, opened_rows _ p pre.1 inside _ _ opened, c.open_row.auto.st ∙ pre.3),
+      (pre.0, sized, opened_rows _ p pre.1 inside _ _ opened),
     )
 
 pub application-returns-in-None : goal.application-returns-in-None
 application-returns-in-None t c =
     let pre = c.requires in
-    applied_refused _ _ _ _ _ (progress_in true c.args.st.now) pre.1 c.if-text-at.false _
+    applied_refused _ _ _ _ _ (progress_in true c.args.st.now) pre.1 c.if-text-st.false _
     c.next_line-line.ensures.contents _ c.read_row-count.ensures.1 _
     c.taken-taken.ensures _ c.in-None.is refl
 
 pub application-returns-in-Some : goal.application-returns-in-Some
 application-returns-in-Some t c =
     let pre = c.requires in
-    let inside = c.if-text-at.false in
+    let inside = c.if-text-st.false in
     let p = progress_in true c.args.st.now in
     let line = c.next_line-line.ensures.contents in
     let fields = c.read_row-count.ensures.1 in
     let answer = c.taken-taken.ensures in
     let taken = c.in-Some.is in
-    let opened = row_opened c.args.st.now pre.3 c.open_row.new.st _ _ _
+    let opened = row_opened c.args.st.now c.open_row.new.st _ _ _
     c.open_row.ensures in
     let sized = taken_sized _ _ _ _ _ p pre.1 inside _ line _ fields _ answer _ taken in
     let few = edges_small _ _ pre.0.grammar (ruled _ _ _ sized) in
@@ -98,10 +87,6 @@ application-returns-in-Some t c =
 pub edge_list-part_at-part-requires : goal.edge_list-part_at-part-requires
 edge_list-part_at-part-requires t c =
     (c.requires.0.grammar, ruled _ _ _ c.requires.1)
-
-pub edge_list-bounds-st-2 : goal.edge_list-bounds-st-2
-edge_list-bounds-st-2 t c =
-    omega (arith, c.requires.3)
 
 pub edge_list-edge_passes-requires : goal.edge_list-edge_passes-requires
 edge_list-edge_passes-requires t c =
@@ -117,7 +102,7 @@ pub edge_list-use_edge-requires : goal.edge_list-use_edge-requires
 edge_list-use_edge-requires t c =
     let pre = c.requires in
     let passed = sym c.edge_passes.ensures ∙ c.if-not-edge_passes.false in
-    (omega (arith, edge_known _ _ _ _ _ passed, (graph_ok _ _ pre.0).side.edge_count.upper), pre.3)
+    omega (arith, edge_known _ _ _ _ _ passed, (graph_ok _ _ pre.0).side.edge_count.upper)
 
 pub edge_list-overflow_add-i : goal.edge_list-overflow_add-i
 edge_list-overflow_add-i t c =
@@ -131,18 +116,14 @@ edge_list-edge_list-requires t c =
     let pre = given in
     let st = c.args.st.now in
     let part = sym c.part_at-part.ensures ∙ c.in-GraphEdge.is in
-    let used = edge_used st pre.3 c.use_edge.new.st _ c.use_edge.ensures in (
+    let used = edge_used st c.use_edge.new.st _ c.use_edge.ensures in (
       omega (
         arith,
         used_falls _ _ c.args.text.now _ pre.1 _ (progress_in true st) _ part _
             c.edge_passes.ensures c.if-not-edge_passes.false _ used,
       ),
-      (pre.0, pre.1, used_rows _ (progress_in true st) _ pre.2 _ used, c.use_edge.auto.st ∙ pre.3),
+      (pre.0, pre.1, used_rows _ (progress_in true st) _ pre.2 _ used),
     )
-
-pub edge_list-bounds-st-0 : goal.edge_list-bounds-st-0
-edge_list-bounds-st-0 t c =
-    omega (arith, c.requires.3)
 
 pub edge_list-returns-then-number-st : goal.edge_list-returns-then-number-st
 edge_list-returns-then-number-st t c =
@@ -164,7 +145,7 @@ edge_list-application-requires t c =
         under_falls _ _ c.args.text.now _ pre.1 _
             (progress_in true c.args.st.now) _ _ part,
       ),
-      (pre.0, pre.2, four_length _ _ c.list_nodes.ensures, pre.3),
+      (pre.0, pre.2, four_length _ _ c.list_nodes.ensures),
     )
 
 pub edge_list-returns-then-not-application : goal.edge_list-returns-then-not-application
@@ -199,7 +180,6 @@ edge_list-edge_list-requires-in-Application t c =
         pre.0,
         pre.1,
         c.application.ensures.onward passed,
-        c.application.auto.st ∙ pre.3,
       ),
     )
 
@@ -213,7 +193,7 @@ edge_list-returns-else-not-edge_passes t c =
     let pre = c.requires in
     let st = c.args.st.now in
     let part = sym c.part_at-part.ensures ∙ c.in-GraphEdge.is in
-    let used = edge_used st pre.3 c.use_edge.new.st _ c.use_edge.ensures in
+    let used = edge_used st c.use_edge.new.st _ c.use_edge.ensures in
     followed_edge _ _ _ _ pre.1 _ (progress_in true st) _ part _ c.edge_passes.ensures
     c.if-not-edge_passes.false _ used _ c.edge_list.ensures
 

@@ -38,12 +38,12 @@ bounds-row-at c = omega (
       c.if-rule_edges-i.false _ c.rule_nodes.ensures,
 )
 
-pub returns-in-0 : goal.returns-in-0
-returns-in-0 c = part_edge _ _ c.requires.0 c.requires.1 _ _ c.rule_edges.ensures c.if-rule_edges-i.false
+pub returns-then-kind_of-eq0 : goal.returns-then-kind_of-eq0
+returns-then-kind_of-eq0 c = part_edge _ _ c.requires.0 c.requires.1 _ _ c.rule_edges.ensures c.if-rule_edges-i.false
     _ c.rule_nodes.ensures _ c.edge_label-s.ensures
-    _ c.kind_of.ensures c.in-0.is
+    _ c.kind_of.ensures c.if-kind_of-eq0.true
 
-pub returns-in_default : goal.returns-in_default
-returns-in_default c = part_row _ _ c.requires.0 c.requires.1 _ _ c.rule_edges.ensures c.if-rule_edges-i.false
+pub returns-else-kind_of-eq0 : goal.returns-else-kind_of-eq0
+returns-else-kind_of-eq0 c = part_row _ _ c.requires.0 c.requires.1 _ _ c.rule_edges.ensures c.if-rule_edges-i.false
     _ c.rule_nodes.ensures _ c.edge_label-s.ensures
-    _ c.kind_of.ensures c.in_default.in_default-own.rest.1
+    _ c.kind_of.ensures c.if-kind_of-eq0.false

@@ -10,23 +10,17 @@ pub returns-in_default : goal.returns-in_default
 returns-in_default c = sym (none_refused _ _ _ c.in_default.ensures)
 
 pub from_start-requires : goal.from_start-requires
-from_start-requires c = let count = text_count _ _ c.in-Some.ensures in (c.requires, omega arith, refl)
-
-pub returns-then-not-from_start : goal.returns-then-not-from_start
-returns-then-not-from_start c = sym (failed_answer _ _ _ _ c.in-Some.ensures _
-    c.from_start.new.st c.from_start.ensures
-    c.if-not-from_start.true)
+from_start-requires c = let count = text_count _ _ c.in-Some.ensures in (c.requires, omega arith)
 
 pub is_whole-requires : goal.is_whole-requires
 is_whole-requires c =
     let args = c.args in
-    let accepted = c.requires in (
-      graph_nodes_few args.grammar.now args.graph.now accepted,
-      graph_edges_few args.grammar.now args.graph.now accepted,
-      c.from_start.auto.st,
-    )
+    let accepted = c.requires in
+    (graph_nodes_few args.grammar.now args.graph.now accepted, graph_edges_few args.grammar.now args.graph.now accepted)
 
-pub returns : goal.returns
-returns c = sym (whole_answer _ _ _ _ c.in-Some.ensures _
-    c.from_start.new.st c.from_start.ensures
-    c.if-not-from_start.false _ c.is_whole.ensures)
+pub returns-in-None : goal.returns-in-None
+returns-in-None c = sym (failed_answer _ _ _ _ c.in-Some.ensures _ c.in-None.ensures refl)
+
+pub returns-in-Some-from_start : goal.returns-in-Some-from_start
+returns-in-Some-from_start c =
+    sym (whole_answer _ _ _ _ c.in-Some.ensures _ c.in-Some-from_start.ensures refl _ c.is_whole.ensures)
