@@ -78,11 +78,10 @@ pub fn standing(grammar: &[u64], graph: &[u64], chart: &[u64]) -> Result<u64, Un
     }
     let mut plans = [0u32; PLAN_TABLE_WORDS];
     rules::plans::fill(grammar, &mut plans);
-    let tested = validator::known(grammar, graph, &plans, chart);
-    if !tested.known {
-        return Err(Unready::Unfit);
+    match validator::known(grammar, graph, &plans, chart) {
+        None => Err(Unready::Unfit),
+        Some(handled) => outcome_of(chart, handled),
     }
-    outcome_of(chart, tested.handled)
 }
 
 // Does the steps given, or as many as are left.
@@ -94,7 +93,7 @@ pub fn run(grammar: &[u64], graph: &[u64], chart: &mut [u64], steps: u64) -> Res
     }
     let mut plans = [0u32; PLAN_TABLE_WORDS];
     rules::plans::fill(grammar, &mut plans);
-    if !validator::known(grammar, graph, &plans, chart).known {
+    if validator::known(grammar, graph, &plans, chart).is_none() {
         return Err(Unready::Unfit);
     }
     let all = steps::advance(grammar, graph, &plans, chart, steps);

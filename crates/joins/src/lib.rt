@@ -65,14 +65,15 @@ fn with_edge(s: Sides, here: bool, on: u64) -> Sides
     ensures { result ≡ side_with s here on }
 {
     if here {
-        return Sides {
+        Sides {
             inside: s.inside | on,
-            outside: s.outside,
-        };
-    }
-    Sides {
-        inside: s.inside,
-        outside: s.outside | on,
+            ..s
+        }
+    } else {
+        Sides {
+            outside: s.outside | on,
+            ..s
+        }
     }
 }
 
@@ -210,10 +211,8 @@ fn loses(graph: &[u64; graphs::GRAPH_TABLE_WORDS], m: u64, w: u64) -> bool
     let mut rest = w;
     while rest != 0 {
         let v = (rest % 256) ^ 64;
-        if v < 64 {
-            if lost(graph, m, v) {
-                return true;
-            }
+        if v < 64 && lost(graph, m, v) {
+            return true;
         }
         rest /= 256;
     }

@@ -25,9 +25,6 @@ unfoldable pub places_of : ℕ → List ℕ
 unfolding bytes_and
 places_of w = bytes_and 7 w
 
-abbrev pub low4 : ℕ → ℕ → ℕ → ℕ → ℕ
-low4 a b c d = ((d * 256 + c) * 256 + b) * 256 + a
-
 -- eight places of a byte each
 pub record Places (l : List ℕ) : Type 0 where
   pub size : length l ≡ 8

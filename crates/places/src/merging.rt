@@ -6,10 +6,15 @@ ghost use Rattle.places.specs.Maps.{Merges};
 
 use crate::{NONE, PLACES};
 
-// 127 and 128 in each byte.
-pub(crate) const LOW: u64 = 9187201950435737471;
+// 1, 127 and 128 in each byte.
+pub(crate) const ONES: u64 = 0x0101_0101_0101_0101;
 
-pub(crate) const HIGH: u64 = 9259542123273814144;
+pub(crate) const LOW: u64 = 0x7f7f_7f7f_7f7f_7f7f;
+
+pub(crate) const HIGH: u64 = 0x8080_8080_8080_8080;
+
+// Bit i in byte i.
+const STEPS: u64 = 0x8040_2010_0804_0201;
 
 // The joined map at the places that stay; its nodes at the others, each xor 64, so that a place with none has 0.
 #[derive(Clone, Copy)]
@@ -43,7 +48,7 @@ pub(crate) fn differs(a: u64, b: u64) -> u64
 fn turn(w: u64) -> u64
     ensures { result ≡ turn_of w }
 {
-    w % 256 * 72057594037927936 + w / 256
+    w.rotate_right(8)
 }
 
 // 128 at each place of which no other has the same node, else 0: four turns bring each two places together.
@@ -69,7 +74,7 @@ fn agrees(j: u64, t: u64) -> u64
 pub(crate) fn spread(m: u64) -> u64
     ensures { result ≡ spread_of m }
 {
-    ((m % 256 * 72340172838076673 & 9241421688590303745) + LOW & HIGH) / 128 * 255
+    ((m % 256 * ONES & STEPS) + LOW & HIGH) / 128 * 255
 }
 
 // Two maps as one, if they agree and that is one to one: the node of f at each place, and where that has none, the node

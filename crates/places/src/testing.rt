@@ -5,14 +5,14 @@ ghost use Rattle.places.specs.Swar.{over_of};
 ghost use Rattle.places.specs.Maps.{fits};
 
 use crate::NONE;
-use crate::merging::{HIGH, LOW};
+use crate::merging::{HIGH, LOW, ONES};
 
 // 128 at each place whose byte, but for bit 7, is n or more, else 0.
 fn over(w: u64, n: u64) -> u64
     requires { n ≤ 128 }
     ensures { result ≡ over_of w n }
 {
-    (w & LOW) + 72340172838076673 * (128 - n) & HIGH
+    (w & LOW) + ONES * (128 - n) & HIGH
 }
 
 // Whether each place in `used` has a node below n, and each other none. A byte of 128 or more is neither.

@@ -10,7 +10,7 @@ use lib.ListN.{length, get_or, take}
 use lib.Seq.{get_or-take}
 use lib.Bits.{bit_and}
 use lib.Dec.{eqb, ltb}
-use borrow.Author.Tests.{eq-eqb, ne_eqb, eqb-true, eqb-false, lt-ltb, le-ltb, ltb-true, not-false}
+use borrow.Author.Tests.{eq-eqb, ne_eqb, eqb-true, eqb-false, lt-ltb, ltb-true, not-false}
 use Rattle.masks.specs.Masks.{member, disjoint, single}
 use Rattle.masks.proofs.Laws.{member_true, bit_single_self, disjoint_holds, disjoint_sum}
 use Rattle.hrg.specs.Grammars.{Edge, Graph, Grammar, Rule, PlanNode, leaf, introduce, join, rule_of, right_of, plan_of, plan_node, kind_of, edge_at}

@@ -6,7 +6,7 @@ use Prim.Native.Nat.{ℕ, zero, suc, ◌+◌, ◌/◌, ◌%◌, ◌≤◌, ◌<�
 use native.Mathlib.Omega.{arith}
 use lib.ListN.{length, take}
 use lib.Dec.{eqb}
-use borrow.Author.Tests.{eq-eqb, ne_eqb, eqb-true, eqb-false, lt-ltb, not-true, not-false}
+use borrow.Author.Tests.{eq-eqb, ne_eqb, eqb-true, eqb-false, not-true, not-false}
 use Rattle.std.specs.Prelude.{Some}
 use Rattle.hrg.specs.Counts.{hit, occurs}
 use Rattle.hrg.specs.Grammars.{Graph, PlanNode, leaf, introduce, join, Rule, Grammar, rule_of, right_of, plan_of, plan_node}

@@ -1,6 +1,6 @@
 -- A plan node is a child at most once: what the search for its parent shows.
 use mathlib.Core.Path.{◌≡◌, sym, ap, ◌∙◌, subst}
-use mathlib.Core.Bool.{Bool, true, false, ◌||◌, cond, false≢true}
+use mathlib.Core.Bool.{Bool, true, false, ◌||◌, cond}
 use mathlib.Core.List.{List, [], ◌∷◌}
 use Prim.Native.Nat.{ℕ, zero, suc, ◌≤◌, ◌<◌}
 use native.Mathlib.Omega.{arith}
@@ -17,7 +17,7 @@ use Rattle.questions.specs.Checking.{check_grammar}
 use Rattle.questions.specs.Abstract.{grammar_of}
 use Rattle.questions.proofs.WellFormedAccepted.{rules_length}
 use Rattle.joins.specs.Joins.{KnownNode}
-use Rattle.std.specs.Prelude.{Option, Some, None}
+use Rattle.std.specs.Prelude.{Some, None}
 use Rattle.rules.specs.Rules.{ParentOf, Childless, Above}
 use Rattle.rules.specs.Plans.{numbered}
 use Rattle.joins.proofs.Known.{plan_ok, plan_size}

@@ -33,12 +33,11 @@ fn shown(g: &[u64], plans: &[u32; PLAN_TABLE_WORDS], x: ChartItem) -> u64
     ensures { (v : ℕ) → v < 64 → member result v ≡ true → Shown g.now x v }
 {
     let of = x.of as u64;
-    let l = x.nodes;
     if of >= 64 {
         return 0;
     }
     if x.kind != 0 {
-        return images(joins::rank_of(g, of), 255, l);
+        return images(joins::rank_of(g, of), 255, x.nodes);
     }
     if of >= layout::rule_count(g) {
         return 0;
@@ -50,7 +49,7 @@ fn shown(g: &[u64], plans: &[u32; PLAN_TABLE_WORDS], x: ChartItem) -> u64
     images(
         layout::rule_nodes(g, of),
         plans::open_at(g, plans, of, p),
-        l,
+        x.nodes,
     )
 }
 

@@ -142,16 +142,14 @@ pub fn edge_item(g: &[u64], h: &[u64], e: u64) -> ChartItem
     requires { Accepted g.now h.now × (e < graph_edges h.now) }
     ensures { StandsFor g.now h.now e result }
 {
-    let edges = masks::with(0, e);
     let of = layout::graph_label(h, e);
-    let nodes = edge_nodes(g, h, e);
     ChartItem {
         kind: 1,
         of: of as u8,
         plan: 0,
         count: 0,
-        edges,
-        nodes,
+        edges: masks::with(0, e),
+        nodes: edge_nodes(g, h, e),
     }
 }
 
@@ -187,10 +185,11 @@ fn with_node(graph: &[u64; GRAPH_TABLE_WORDS], k: u64, a: u64, m: u64) -> u64
     requires { k < 4 }
     ensures { result ≡ cond (ltb a 64) (bit_and m (get_or graph.now (321 + 64 * k + a) 0)) m }
 {
-    if a >= 64 {
-        return m;
+    if a < 64 {
+        m & graph[(321 + 64 * k + a) as usize]
+    } else {
+        m
     }
-    m & graph[(321 + 64 * k + a) as usize]
 }
 
 // Those of the candidates m whose nodes are the images that x has for the nodes of rule edge i, place by place.
@@ -207,8 +206,7 @@ fn fitting(
     ensures { Candidates g.now h.now x result }
 {
     let of = x.of as u64;
-    let f = x.nodes;
-    let map = places::word_of(f);
+    let map = places::word_of(x.nodes);
     let rank = layout::rank_at(g, want);
     let mut rest = m;
     for k in 0..rank {

@@ -1,6 +1,6 @@
 -- What the functions of a step know of the tables, of what was worked out from them, and of a chart's words and their
 -- index.
-use Rattle.std.specs.Prelude.{Option, IfSome, IfNone, List, Bool, true, false, ◌≡◌, ℕ, ◌≤◌, ◌<◌}
+use Rattle.std.specs.Prelude.{Option, IfSome, IfNone, List, Bool, true, ◌≡◌, ℕ, ◌≤◌, ◌<◌}
 use Rattle.hrg.specs.Items.{Item}
 use Rattle.agenda.specs.declared.ChartItem.{ChartItem}
 use Rattle.agenda.specs.Records.{is_handled, new_record}

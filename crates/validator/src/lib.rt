@@ -3,7 +3,7 @@
 
 #![tactic(auto)]
 
-ghost use Rattle.std.specs.Prelude.{◌≡◌, true, false, ◌≤◌};
+ghost use Rattle.std.specs.Prelude.{◌≡◌, is_some, IfSome, ◌≤◌};
 ghost use Rattle.masks.specs.Masks.{member, full};
 ghost use Rattle.hrg.specs.Grammars.{plan_of, plan_node};
 ghost use Rattle.questions.specs.Abstract.{grammar_of, graph_of};
@@ -27,13 +27,6 @@ struct Sizes {
     nodes: u64,
     edges: u64,
     all: u64,
-}
-
-// What question 8 says of a chart's items; of a known chart, how many of them are handled.
-#[derive(Clone, Copy)]
-pub struct Tested {
-    pub known: bool,
-    pub handled: u64,
 }
 
 // Does the chart hold 1 to 4,096 items?
@@ -188,36 +181,26 @@ fn known_record(
 // ---- the chart
 // Is each record the image of an item that names a rule, plan node, symbol, graph nodes, edges and partner items that
 // exist, with no more items than the chart holds? The plan table is that of the grammar (`rules::plans::fill`). The
-// handled ones are counted in the same walk, so that whoever asks how the chart stands needs no other.
-pub fn known(g: &[u64], h: &[u64], plans: &[u32; PLAN_TABLE_WORDS], chart: &[u64]) -> Tested
+// handled ones are counted in the same walk, so that whoever asks how the chart stands needs no other: their number,
+// if each record is known.
+pub fn known(g: &[u64], h: &[u64], plans: &[u32; PLAN_TABLE_WORDS], chart: &[u64]) -> Option<u64>
     requires { Accepted g.now h.now × PlanTable g.now plans.now }
-    ensures { (result.known ≡ known_chart (grammar_of g.now) (graph_of g.now h.now) chart.now) × (result.known ≡ true → result.handled ≡ handled_count (records_at chart.now (item_count chart.now))) × (result.known ≡ false → result.handled ≡ 0) }
+    ensures { (is_some result ≡ known_chart (grammar_of g.now) (graph_of g.now h.now) chart.now) × IfSome result (λ handled. handled ≡ handled_count (records_at chart.now (item_count chart.now))) }
 {
     let n = records::telling::number_of(chart);
     if records::capacity_of(chart) < n {
-        return Tested {
-            known: false,
-            handled: 0,
-        };
+        return None;
     }
     let s = sizes_of(g, h);
-    let mut handled: u64 = 0;
-    let mut j: u64 = 0;
-    while j < n {
+    let mut handled = 0;
+    for j in 0..n {
         let x = records::load(chart, j);
         if !known_record(g, h, plans, s, n, x) {
-            return Tested {
-                known: false,
-                handled: 0,
-            };
+            return None;
         }
         if x.handled != 0 {
             handled += 1;
         }
-        j += 1;
     }
-    Tested {
-        known: true,
-        handled,
-    }
+    Some(handled)
 }

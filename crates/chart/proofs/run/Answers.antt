@@ -1,5 +1,5 @@
-use mathlib.Core.Path.{refl}
-use borrow.Author.Tests.{not-true, not-false}
+use mathlib.Core.Path.{refl, ap, ◌∙◌}
+use mathlib.Core.Bool.{not}
 use Rattle.chart.proofs.CallSteps.{fit_accepted, fit_runnable, run_refuses, run_unknown, run_ran}
 use Rattle.chart.proofs.run.Goals as goal
 
@@ -23,17 +23,17 @@ known-requires c = (
   c.fill.ensures,
 )
 
-pub returns-then-not-known : goal.returns-then-not-known
-returns-then-not-known c =
+pub returns-then-is_none : goal.returns-then-is_none
+returns-then-is_none c =
     let s = c.args in
     run_unknown s.grammar.now s.graph.now s.chart.now s.steps _ c.is_fit.ensures
-    c.if-not-is_fit.false _ c.known.ensures.0 (not-true _ c.if-not-known.true)
+    c.if-not-is_fit.false _ c.known.ensures.0 (c.is_none.ensures ∙ ap not c.if-is_none.true)
 
 pub advance-all-requires : goal.advance-all-requires
 advance-all-requires c =
     let s = c.args in
     fit_runnable s.grammar.now s.graph.now s.chart.now _ c.is_fit.ensures
-    c.if-not-is_fit.false _ c.known.ensures.0 (not-false _ c.if-not-known.false)
+    c.if-not-is_fit.false _ c.known.ensures.0 (c.is_none.ensures ∙ ap not c.if-is_none.false)
     _ c.fill.ensures
 
 pub returns : goal.returns
@@ -41,4 +41,4 @@ returns c =
     let s = c.args in
     run_ran s.grammar.now s.graph.now s.chart.now s.steps _ c.is_fit.ensures
     c.if-not-is_fit.false _ c.known.ensures.0
-    _ _ (not-false _ c.if-not-known.false) c.advance-all.ensures.0 c.outcome_after.ensures
+    _ _ (c.is_none.ensures ∙ ap not c.if-is_none.false) c.advance-all.ensures.0 c.outcome_after.ensures

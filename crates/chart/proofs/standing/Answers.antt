@@ -1,5 +1,4 @@
 use mathlib.Core.Path.{refl}
-use borrow.Author.Tests.{not-true, not-false}
 use Rattle.chart.proofs.CallSteps.{fit_accepted, standing_refuses, standing_unknown, standing_is}
 use Rattle.chart.proofs.standing.Goals as goal
 
@@ -16,19 +15,21 @@ fill-requires c = (
   refl,
 )
 
-pub known-tested-requires : goal.known-tested-requires
-known-tested-requires c = (
+pub known-requires : goal.known-requires
+known-requires c = (
   fit_accepted c.args.grammar.now c.args.graph.now c.args.chart.now
       _ c.is_fit.ensures c.if-not-is_fit.false,
   c.fill.ensures,
 )
 
-pub returns-then-not-tested : goal.returns-then-not-tested
-returns-then-not-tested c = standing_unknown c.args.grammar.now c.args.graph.now c.args.chart.now
-    _ c.is_fit.ensures c.if-not-is_fit.false _ c.known-tested.ensures.0
-    (not-true _ c.if-not-tested.true)
+pub returns-in-None : goal.returns-in-None
+returns-in-None c = standing_unknown c.args.grammar.now c.args.graph.now c.args.chart.now
+    _ c.is_fit.ensures c.if-not-is_fit.false _ c.in-None.ensures.0 refl
 
-pub returns : goal.returns
-returns c = standing_is c.args.grammar.now c.args.graph.now c.args.chart.now
-    _ c.is_fit.ensures c.if-not-is_fit.false _ c.known-tested.ensures.0
-    _ (not-false _ c.if-not-tested.false) c.outcome_of.ensures
+pub outcome_of-requires : goal.outcome_of-requires
+outcome_of-requires c = c.in-Some.ensures.1
+
+pub returns-in-Some : goal.returns-in-Some
+returns-in-Some c = standing_is c.args.grammar.now c.args.graph.now c.args.chart.now
+    _ c.is_fit.ensures c.if-not-is_fit.false _ c.in-Some.ensures.0
+    _ refl c.outcome_of.ensures

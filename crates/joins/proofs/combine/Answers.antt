@@ -1,6 +1,5 @@
 -- The tests in the order of the definition.
 use native.Mathlib.Omega.{arith}
-use borrow.Author.Tests.{not-true, not-false}
 use Rattle.joins.proofs.Combining.{first_plain, second_plain, combine_apart, combine_clash, combine_lost, combine_sure, combine_open, combine_covered}
 use Rattle.joins.proofs.combine.Goals as goal
 

@@ -3,7 +3,7 @@ use mathlib.Core.Path.{refl, sym, ◌∙◌}
 use native.Mathlib.Omega.{arith}
 use Rattle.joins.proofs.Dropping.{passed_none, passed_next, passed_bare, passed_lost, passed_all}
 use Rattle.joins.proofs.loses.Goals as goal
-use Rattle.joins.proofs.loses.Goals.{then-v-lt64+else-lost, else-v-lt64}
+use Rattle.joins.proofs.loses.Goals.{else-v-lt64-via-then-v-lt64+else-lost, else-v-lt64-via-else-v-lt64}
 
 pub loop-rest-init : goal.loop-rest-init
 loop-rest-init c = passed_none _ _ _
@@ -20,10 +20,10 @@ pub loop-rest-preserved : goal.loop-rest-preserved
 loop-rest-preserved c =
     let small = c.ranges.w.fits in
     let before = c.loop-rest.invariant in
-    elim c.if-v-lt64.branch [
-      | then-v-lt64+else-lost w ↦
+    elim c.else-v-lt64.branch [
+      | else-v-lt64-via-then-v-lt64+else-lost w ↦
           passed_next _ _ _ _ small before _ refl (sym w.lost.ensures ∙ w.if-lost.false)
-      | else-v-lt64 w ↦ passed_bare _ _ _ _ small before _ refl w.if-v-lt64.false
+      | else-v-lt64-via-else-v-lt64 w ↦ passed_bare _ _ _ _ small before _ refl w.if-v-lt64.false
     ]
 
 pub returns : goal.returns

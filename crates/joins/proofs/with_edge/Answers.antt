@@ -6,6 +6,6 @@ pub returns-then-here : goal.returns-then-here
 unfolding ◌∪◌
 returns-then-here c = rw c.if-here.true
 
-pub returns : goal.returns
+pub returns-else-here : goal.returns-else-here
 unfolding ◌∪◌
-returns c = rw c.if-here.false
+returns-else-here c = rw c.if-here.false

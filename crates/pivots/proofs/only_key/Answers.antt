@@ -1,5 +1,5 @@
 -- By the word of the item; where it has none, by its uses.
-use mathlib.Core.Path.{refl, sym, ◌∙◌}
+use mathlib.Core.Path.{refl}
 use Rattle.pivots.proofs.Answers.{by_word, by_none, keys_from_lem}
 use Rattle.pivots.proofs.only_key.Goals as goal
 

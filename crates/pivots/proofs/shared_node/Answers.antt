@@ -1,5 +1,4 @@
 -- From the last node on: the nodes passed are not open at both.
-use native.Mathlib.Omega.{arith}
 use Rattle.pivots.proofs.TableLaws.{search_start, search_hit, search_miss, search_end}
 use Rattle.pivots.proofs.shared_node.Goals as goal
 

@@ -64,7 +64,7 @@ returns-in_err-nodes c =
     let near = c.if-q-ge-PER_RULE.false in
     let first = join_first _ _ _ _ (up.join near) c.if-w-eq3.false in
     rw c.from_residual-in_err-nodes.ensures (gives_none _ _ _ _ _ (pair_unmade _ _ _ _ c.if-x-ne0.false _ (above_near _ _ _ _ near up.above)
-        _ c.in_ok-t.ensures first.0 c.in_err-nodes.ensures.makes))
+    _ c.in_ok-t.ensures first.0 c.in_err-nodes.ensures.makes))
 
 pub returns : goal.returns
 returns c =

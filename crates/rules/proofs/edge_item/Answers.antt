@@ -13,5 +13,5 @@ overflow_cast-result c = omega (
 
 pub returns : goal.returns
 returns c = edge_stands _ _ _ c.requires.0
-    c.requires.1 _ c.with-edges.ensures
-    _ _ c.graph_label-of.ensures c.edge_nodes-nodes.ensures
+    c.requires.1 _ c.with.ensures
+    _ _ c.graph_label-of.ensures c.edge_nodes.ensures

@@ -1,4 +1,4 @@
-use Prim.Native.Nat.{◌-◌, ◌≤◌}
+use Prim.Native.Nat.{◌≤◌}
 use mathlib.Core.Path.{◌≡◌}
 use Rattle.agenda.specs.Steps.{handled_count}
 use Rattle.records.specs.Words.{records_at}
@@ -7,7 +7,4 @@ use Rattle.validator.proofs.known.Given as goal
 
 abbrev pub invariant-loop-j : goal.invariant-loop-j
 invariant-loop-j l =
-    (l.j ≤ l.n) × (l.handled ≤ l.j) × Passed (record_test l.g l.h l.n l.chart) l.j × (l.handled ≡ handled_count (records_at l.chart l.j))
-
-abbrev pub decreases-loop-j : goal.decreases-loop-j
-decreases-loop-j l = l.n - l.j
+    (l.handled ≤ l.j) × Passed (record_test l.g l.h l.n l.chart) l.j × (l.handled ≡ handled_count (records_at l.chart l.j))
