@@ -38,9 +38,6 @@ cleared n = replicate n 0
 length_cleared : (n : ℕ) → length (cleared n) ≡ n
 length_cleared n = length-replicate n _
 
-pub grammar_room : Room (length (cleared grammar_words)) Grammar
-grammar_room = omega (arith, length_cleared grammar_words)
-
 -- a table of the largest size was filled from the cleared one
 filled : (size : ℕ) (v : Verdict) (t former table : List ℕ) (a : Answer) → length t ≡ size → accepted t ≡ v → Gives (delivered (length t) (accepted t) former) a table
     → Gives (delivered size v former) a table

@@ -20,6 +20,7 @@ use questions::{Due, Refusal};
 
 // ---- question 2
 // The letter of the line that is due.
+#[tactic(auto, unfolding(questions::specs::Layout::letter_due))]
 fn letter_of(due: Due) -> Letter
     ensures { result ≡ letter_due due }
 {

@@ -33,18 +33,6 @@ use Rattle.tables.proofs.Listing.{listed_top}
 use Rattle.tables.proofs.Covering.{marks_append, marks_union, marks_covered}
 use Rattle.tables.proofs.Leading.{lines_start, lines_end, lines_no, lines_next, next_edge, next_graph_edge}
 
--- ---- the nodes of a line, and what is behind them
-module _ (nodes : ℕ) (t : List ℕ) (p n : ℕ) where
-  pub attached_no : listed nodes (nodes_at t p n) ≡ false → Attached nodes t p n None
-  attached_no f l z = false≢true (sym f ∙ l)
-
-  module _ (z : Bool) (zs : z ≡ eqb (behind t p (1 + n)) 0) where
-    pub behind_no : not z ≡ true → Attached nodes t p n None
-    behind_no h l r = ends_no t p (1 + n) z zs (not-true z h) r
-
-    pub attached_yes : (seen : ℕ) → Listed nodes (nodes_at t p n) seen → not z ≡ false → Ending nodes t p n seen
-    attached_yes seen k h = record { kept = k; rest = ends_yes t p (1 + n) z zs (not-false z h) }
-
 -- a line that stands, and one that does not
 does : {g t : List ℕ} (due : Due) → Standing g t due → Stands g t due true
 does due s = record { yes = λ y. s; no = λ y. absurd (false≢true (sym y)) }

@@ -225,6 +225,7 @@ pub(crate) fn judge_graph_edge(g: &[u64], h: &[u64], e: u64, f: &[u64]) -> Resul
 
 // Questions 3 to 7 for the line that is due in the table t; a graph's lines are judged with the grammar table g. A
 // line that is in no table is refused 2.
+#[tactic(auto, unfolding(questions::specs::Questions::judge))]
 pub fn judge(g: &[u64], t: &[u64], due: Due, f: &[u64]) -> Result<(), Refusal>
     requires { Room (length t.now) due }
     ensures { number_in result ≡ cond (in_table due) (judge g.now t.now due f.now) 2 }
