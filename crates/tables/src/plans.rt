@@ -167,6 +167,7 @@ fn with_leaf(named: PlanMarks, first: u64, second: u64) -> Option<PlanMarks>
 }
 
 // With line q, which introduces the edge `second` over the child `first`.
+#[tactic(auto, unfolding(crate::specs::Plans::introduce_fits))]
 fn with_introduce(
     q: u64,
     edges: u64,
@@ -195,6 +196,7 @@ fn with_introduce(
 }
 
 // With line q, which joins the children `first` and `second`.
+#[tactic(auto, using(crate::proofs::Covering::marked_by_lem), unfolding(crate::specs::Plans::join_fits))]
 fn with_join(q: u64, named: PlanMarks, first: u64, second: u64) -> Option<PlanMarks>
     ensures { Takes (join_fits q named.children first second) 2 first second named result }
 {

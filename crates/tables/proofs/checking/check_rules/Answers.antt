@@ -5,7 +5,7 @@ use mathlib.Core.List.{[]}
 use Rattle.questions.specs.declared.Due.TheVariants.{Rule}
 use Rattle.questions.specs.Layout.{plan_place, grammar_words}
 use Rattle.tables.proofs.Gaps.{zeros_at}
-use Rattle.tables.proofs.Leading.{concludes_on, concludes_last, lines_start, lines_end, rules_gap_no, rules_no, rules_next}
+use Rattle.tables.proofs.Leading.{concludes_on, concludes_last, lines_end, rules_gap_no, rules_no, rules_next}
 use Rattle.tables.proofs.checking.check_rules.Goals as goal
 
 pub returns-then-not-zeros : goal.returns-then-not-zeros

@@ -4,7 +4,7 @@ use mathlib.Core.Path.{refl}
 use mathlib.Core.List.{[]}
 use Rattle.questions.specs.declared.Due.TheVariants.{Symbol}
 use Rattle.questions.specs.Layout.{grammar_words, place_of}
-use Rattle.tables.proofs.Leading.{reaches_no, reaches_yes, lines_start, lines_end, lines_no, lines_next, next_symbol}
+use Rattle.tables.proofs.Leading.{lines_next, next_symbol}
 use Rattle.tables.proofs.checking.check_symbols.Goals as goal
 
 pub loop-s-preserved : goal.loop-s-preserved
