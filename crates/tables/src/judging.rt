@@ -18,10 +18,10 @@ pub(crate) fn judge_grammar(f: &[u64]) -> Result<(), Refusal>
     let symbols = layout::field(f, 0);
     let rules = layout::field(f, 1);
     let start = layout::field(f, 2);
-    let fixed = (3 <= n)
-        & ((1 <= symbols) & (symbols <= 64))
-        & ((1 <= rules) & (rules <= 64))
-        & (start < symbols);
+    let fixed = 3 <= n
+        && (1 <= symbols && symbols <= 64)
+        && (1 <= rules && rules <= 64)
+        && start < symbols;
     if !fixed {
         return Err(Refusal::Fields);
     }
@@ -41,12 +41,12 @@ pub(crate) fn judge_symbol(g: &[u64], s: u64, f: &[u64]) -> Result<(), Refusal>
     let kind = layout::field(f, 1);
     let rank = layout::field(f, 2);
     let start = layout::start_symbol(g);
-    let fixed = (3 <= n)
-        & (number == s)
-        & (kind <= 1)
-        & (rank <= 4)
-        & ((1 <= rank) | (s == start))
-        & ((kind == 1) | (s != start));
+    let fixed = 3 <= n
+        && number == s
+        && kind <= 1
+        && rank <= 4
+        && (1 <= rank || s == start)
+        && (kind == 1 || s != start);
     if !fixed {
         return Err(Refusal::Fields);
     }
@@ -69,14 +69,14 @@ pub(crate) fn judge_rule(g: &[u64], r: u64, f: &[u64]) -> Result<(), Refusal>
     let plan = layout::field(f, 4);
     let symbols = layout::symbol_count(g);
     let kind = layout::kind_of(g, symbol);
-    let fixed = (5 <= n)
-        & (number == r)
-        & (symbol < symbols)
-        & (kind == 1)
-        & ((1 <= nodes) & (nodes <= 8))
-        & ((1 <= edges) & (edges <= 8))
-        & ((2 <= plan) & (plan <= 16));
-    if !fixed {
+    let known = 5 <= n && number == r && symbol < symbols && kind == 1;
+    if !known {
+        return Err(Refusal::Fields);
+    }
+    let counted = (1 <= nodes && nodes <= 8)
+        && (1 <= edges && edges <= 8)
+        && (2 <= plan && plan <= 16);
+    if !counted {
         return Err(Refusal::Fields);
     }
     let due = 5 + layout::rank_at(g, symbol);
@@ -99,7 +99,7 @@ pub(crate) fn judge_rule_edge(g: &[u64], r: u64, i: u64, f: &[u64]) -> Result<()
     let label = layout::field(f, 0);
     let symbols = layout::symbol_count(g);
     let rank = layout::rank_at(g, label);
-    let fixed = (1 <= n) & (label < symbols) & (1 <= rank);
+    let fixed = 1 <= n && label < symbols && 1 <= rank;
     if !fixed {
         return Err(Refusal::Fields);
     }
@@ -163,7 +163,7 @@ pub(crate) fn judge_plan(g: &[u64], r: u64, q: u64, f: &[u64]) -> Result<(), Ref
     }
     match kind {
         0 => {
-            let kept = (first == 0) & (second == 0);
+            let kept = first == 0 && second == 0;
             judge_known_plan(g, r, q, n, 0, first, second, kept)
         }
         1 => {
@@ -186,7 +186,7 @@ pub(crate) fn judge_graph(g: &[u64], f: &[u64]) -> Result<(), Refusal>
     let n = f.len() as u64;
     let nodes = layout::field(f, 0);
     let edges = layout::field(f, 1);
-    let fixed = (2 <= n) & ((1 <= nodes) & (nodes <= 64)) & ((1 <= edges) & (edges <= 64));
+    let fixed = 2 <= n && (1 <= nodes && nodes <= 64) && (1 <= edges && edges <= 64);
     if !fixed {
         return Err(Refusal::Fields);
     }
@@ -210,7 +210,7 @@ pub(crate) fn judge_graph_edge(g: &[u64], h: &[u64], e: u64, f: &[u64]) -> Resul
     let label = layout::field(f, 0);
     let symbols = layout::symbol_count(g);
     let kind = layout::kind_of(g, label);
-    let fixed = (1 <= n) & (label < symbols) & (kind == 0);
+    let fixed = 1 <= n && label < symbols && kind == 0;
     if !fixed {
         return Err(Refusal::Fields);
     }
