@@ -86,7 +86,7 @@ pub(crate) fn introduce_so_far(g: &[u64], r: u64, q: u64, first: u64, second: u6
     let times = child_times(g, r, q, 1, first, second, first);
     let edges = layout::rule_edges(g, r);
     let before = named_before(g, r, q, Named::Edge(second));
-    (first < q) & (times == 1) & ((second < edges) & (before == 0))
+    first < q && times == 1 && second < edges && before == 0
 }
 
 pub(crate) fn join_so_far(g: &[u64], r: u64, q: u64, first: u64, second: u64) -> bool
@@ -95,7 +95,7 @@ pub(crate) fn join_so_far(g: &[u64], r: u64, q: u64, first: u64, second: u64) ->
 {
     let one = child_times(g, r, q, 2, first, second, first);
     let other = child_times(g, r, q, 2, first, second, second);
-    ((first < q) & (second < q)) & ((one == 1) & (other == 1))
+    first < q && second < q && one == 1 && other == 1
 }
 
 // ---- the plan is whole at its last line
