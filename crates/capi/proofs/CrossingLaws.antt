@@ -7,6 +7,7 @@ use lib.Dec.{leb}
 use borrow.Author.Tests.{le-leb, lt-leb}
 use Rattle.records.specs.Words.{words_for}
 use Rattle.questions.specs.Reading.{Outcome as Reading, Answer as ReadingAnswer}
+use Rattle.questions.specs.Refusing.{reading_number}
 use Rattle.readers.specs.Readers.{Gives}
 use Rattle.charting.specs.Calls.{number_of as chart_number, start_of, run_of, Outcome}
 use Rattle.charting.specs.Facts.{StartChoices, RunChoices}
@@ -15,7 +16,7 @@ use Rattle.writing.specs.Filling.{fill_of}
 use Rattle.writing.specs.Demand.{WriteChoices, FillChoices}
 use Rattle.writing.specs.declared.Application.{Application}
 use Rattle.replayer.specs.Verdicts.{number_of as verdict_number, replay_of, Exact, Verdict}
-use Rattle.programs.specs.Files.{FileGives, numbered, reading_number}
+use Rattle.programs.specs.Files.{FileGives, numbered}
 use Rattle.capi.specs.Crossing.{steps_told, bytes_told, Started, Ran, Written, FilledRow, Replayed}
 
 abbrev words : ℕ → ℕ

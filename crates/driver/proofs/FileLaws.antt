@@ -6,11 +6,11 @@ use lib.ListN.{length}
 use borrow.Author.Tests.{eq-eqb, ne_eqb}
 use Rattle.std.specs.Prelude.{⊤, Result, Ok, Err}
 use Rattle.questions.specs.Reading.{read_grammar}
-use Rattle.questions.specs.Refusing.{number_in, answer_of}
+use Rattle.questions.specs.Refusing.{number_in, answer_of, reading_number}
 use Rattle.questions.specs.declared.Refusal.{Refusal}
 use Rattle.questions.specs.Checking.{read_graph}
 use Rattle.readers.specs.Readers.{Gives}
-use Rattle.programs.specs.Files.{reading_number, file_bytes, grammar_file, graph_file, files_of, FileGives, FilesGive}
+use Rattle.programs.specs.Files.{file_bytes, grammar_file, graph_file, files_of, FileGives, FilesGive}
 use Rattle.programs.proofs.Limits.{grammar_oversize, grammar_within, graph_oversize, graph_within}
 
 pub grammar_over : (text former : List ℕ) → file_bytes < length text → FileGives (grammar_file text former) 1 former

@@ -6,11 +6,11 @@
 ghost use Rattle.std.specs.Prelude.{◌≡◌, [], ◌∷◌, ◌++◌, ◌+◌, ◌≤◌, length};
 ghost use Rattle.std.proofs.lemmas.List.Edits.{sets};
 ghost use Rattle.format.specs.Writing.{line_text};
-ghost use Rattle.questions.specs.Refusing.{number_in, answer_of};
+ghost use Rattle.questions.specs.Refusing.{number_in, answer_of, reading_number};
 ghost use Rattle.charting.specs.Calls.{number_of as chartNumber};
 ghost use Rattle.writing.specs.Writing.{number_of as writingNumber};
 ghost use Rattle.replayer.specs.Verdicts.{number_of as verdictNumber};
-ghost use Rattle.programs.specs.Files.{reading_number, grammar_file, graph_file, files_of, FileGives, FilesGive};
+ghost use Rattle.programs.specs.Files.{grammar_file, graph_file, files_of, FileGives, FilesGive};
 ghost use Rattle.programs.specs.Programs.{refusal_line, steps_line, Prints, derived_text, write_chart, derive_tables, derive_files, replay_tables, replay_files};
 
 use charting::Unready;

@@ -11,12 +11,13 @@ use Rattle.format.specs.Lines.{Line, lines_of}
 use Rattle.format.specs.Fields.{fields_of}
 use Rattle.questions.specs.Layout.{place_of, stored, grammar_words, graph_words}
 use Rattle.questions.specs.Reading.{next, judge_line, Verdict, refused, accepted, when_done, go_on, Outcome, read_lines, grammar_verdict, graph_verdict, delivered, read_grammar, Done, Refused}
+use Rattle.questions.specs.Refusing.{reading_number}
 use Rattle.questions.specs.Checking.{check_grammar, check_graph, read_graph}
 use Rattle.questions.proofs.Refusals.{grammar_passed_first}
 use Rattle.questions.proofs.Filled.{grammar_filled_check, graph_filled_check}
 use Rattle.questions.specs.declared.Due.{Due}
 use Rattle.questions.specs.declared.Due.TheVariants.{Grammar, Symbol, Rule, RuleEdge, PlanLine, Graph, GraphEdge, Nothing}
-use Rattle.programs.specs.Files.{reading_number, file_bytes, numbered, FileRead, FilesRead, grammar_file, graph_file, files_of}
+use Rattle.programs.specs.Files.{file_bytes, numbered, FileRead, FilesRead, grammar_file, graph_file, files_of}
 
 -- ---- no text is refused 0
 data Judged : Verdict → Type 0 where

@@ -1,12 +1,8 @@
 -- The programs' grammar and graph files: above 32,768 bytes refused 1, each in its turn; else the readers' answers.
 use Rattle.std.specs.Prelude.{◌≡◌, cond, List, ℕ, length, eqb, leb}
-use Rattle.questions.specs.Reading.{Outcome, read_grammar, Answer, Done, Refused}
+use Rattle.questions.specs.Reading.{Outcome, read_grammar}
+use Rattle.questions.specs.Refusing.{reading_number}
 use Rattle.questions.specs.Checking.{read_graph}
-
--- 01's number of a reader's answer, 0 where the text is accepted
-abbrev pub reading_number : Answer → ℕ
-reading_number Done = 0
-reading_number (Refused k) = k
 
 -- the most bytes of a file
 abbrev pub file_bytes : ℕ

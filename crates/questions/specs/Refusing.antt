@@ -23,3 +23,8 @@ number_in (Err r) = number_of r
 abbrev pub answer_of : Result ⊤ Refusal → Answer
 answer_of (Ok x) = Done
 answer_of (Err r) = Refused (number_of r)
+
+-- 01's number of a reader's answer, 0 where the text is accepted
+abbrev pub reading_number : Answer → ℕ
+reading_number Done = 0
+reading_number (Refused k) = k

@@ -3,7 +3,6 @@ use mathlib.Core.Path.{◌≡◌, refl, sym, ◌∙◌}
 use mathlib.Core.Bool.{Bool, true, false, cond}
 use mathlib.Core.List.{List, [], ◌++◌}
 use Prim.Native.Nat.{ℕ, zero, suc, ◌≤◌, ◌<◌}
-use native.Mathlib.Omega.{arith}
 use lib.ListN.{length, drop, replicate, length-replicate}
 use borrow.Author.Tests.{le-leb, lt-leb}
 use Rattle.format.specs.Lines.{counting_lines}
@@ -11,7 +10,6 @@ use Rattle.questions.specs.Layout.{grammar_words, graph_words}
 use Rattle.questions.specs.Reading.{Verdict, accepted, read_lines, grammar_verdict, graph_verdict, delivered, read_grammar, Answer, Done, Refused}
 use Rattle.questions.specs.Checking.{check_grammar, read_graph}
 use Rattle.questions.specs.Refusing.{number_of}
-use Rattle.questions.specs.Walk.{Room}
 use Rattle.questions.specs.declared.Refusal.{Refusal}
 use Rattle.questions.proofs.Refusals.{number_some}
 use Rattle.questions.specs.declared.Due.TheVariants.{Grammar, Graph}
@@ -37,9 +35,6 @@ cleared n = replicate n 0
 
 length_cleared : (n : ℕ) → length (cleared n) ≡ n
 length_cleared n = length-replicate n _
-
-pub grammar_room : Room (length (cleared grammar_words)) Grammar
-grammar_room = omega (arith, length_cleared grammar_words)
 
 -- a table of the largest size was filled from the cleared one
 filled : (size : ℕ) (v : Verdict) (t former table : List ℕ) (a : Answer) → length t ≡ size → accepted t ≡ v → Gives (delivered (length t) (accepted t) former) a table

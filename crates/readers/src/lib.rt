@@ -20,6 +20,7 @@ use questions::{Due, Refusal};
 
 // ---- question 2
 // The letter of the line that is due.
+#[tactic(auto, unfolding(questions::specs::Layout::letter_due))]
 fn letter_of(due: Due) -> Letter
     ensures { result ≡ letter_due due }
 {
@@ -120,9 +121,8 @@ fn deliver(t: &[u64], table: &mut [u64]) -> Result<(), Refusal>
 pub fn read_grammar(text: &[u8], table: &mut [u64]) -> Result<(), Refusal>
     ensures { Gives (read_grammar text.now table.old) (answer_of result) table.new }
 {
-    let none = [0u64; 0];
     let mut t = [0u64; layout::GRAMMAR_WORDS];
-    read_lines(&none, &mut t, Due::Grammar, text)?;
+    read_lines(&[], &mut t, Due::Grammar, text)?;
     deliver(&t, table)
 }
 

@@ -24,26 +24,12 @@ use Rattle.questions.specs.Checking.{fields_due, stored_fields}
 use Rattle.questions.proofs.StoredLaws.{get_d_tabulate}
 use Rattle.questions.proofs.WellFormedAccepted.{fields_listed}
 use Rattle.questions.proofs.WellFormedWalk.{IsLine}
-use Rattle.tables.specs.Marks.{marks, nodes_at, Listed}
-use Rattle.tables.specs.Concluding.{behind, Standing, Stands, Ending, Attached, Nearly, NearlyWith, NearlyStands, Rest, Leads, Reaches, Count}
-use Rattle.tables.proofs.Asking.{EdgeAsked}
-use Rattle.tables.proofs.LineAnswers.{rule_edge_asked, graph_edge_asked}
-use Rattle.tables.proofs.LineFields.{ends_yes, ends_no}
+use Rattle.tables.specs.Marks.{marks, nodes_at}
+use Rattle.tables.specs.Concluding.{behind, Standing, Stands, Attached, Nearly, NearlyWith, NearlyStands, Rest, Leads, Reaches, Count}
+use Rattle.tables.proofs.LineAnswers.{EdgeAsked, rule_edge_asked, graph_edge_asked}
 use Rattle.tables.proofs.Listing.{listed_top}
 use Rattle.tables.proofs.Covering.{marks_append, marks_union, marks_covered}
 use Rattle.tables.proofs.Leading.{lines_start, lines_end, lines_no, lines_next, next_edge, next_graph_edge}
-
--- ---- the nodes of a line, and what is behind them
-module _ (nodes : ℕ) (t : List ℕ) (p n : ℕ) where
-  pub attached_no : listed nodes (nodes_at t p n) ≡ false → Attached nodes t p n None
-  attached_no f l z = false≢true (sym f ∙ l)
-
-  module _ (z : Bool) (zs : z ≡ eqb (behind t p (1 + n)) 0) where
-    pub behind_no : not z ≡ true → Attached nodes t p n None
-    behind_no h l r = ends_no t p (1 + n) z zs (not-true z h) r
-
-    pub attached_yes : (seen : ℕ) → Listed nodes (nodes_at t p n) seen → not z ≡ false → Ending nodes t p n seen
-    attached_yes seen k h = record { kept = k; rest = ends_yes t p (1 + n) z zs (not-false z h) }
 
 -- a line that stands, and one that does not
 does : {g t : List ℕ} (due : Due) → Standing g t due → Stands g t due true
@@ -161,7 +147,7 @@ module _ (g t : List ℕ) (due : Due) (a b : Bool) (rank nodes j edges : ℕ) (b
     count = count;
     own = sym own_nodes;
     answer =
-        A.asked.so
+        A.so
         ∙ ap (λ x. asks x (eqb (length fs) (1 + rank)) (drop 1 fs)) (le-leb 1 (length fs) (omega (arith, long)))
         ∙ ap (λ x. asks true x (drop 1 fs)) (eq-eqb (length fs) (1 + rank) long)
         ∙ ap (asks true true) (sym own_nodes);

@@ -20,9 +20,6 @@ module _ (t : List ℕ) (a : ℕ) where
   pub zeros_at : (b c d : ℕ) (z : Bool) → a ≡ c → b ≡ d → Zeros t a b z → Zeros t c d z
   zeros_at b c d z e f zs = rw (← e, ← f) zs
 
-  pub zeros_all : (b i : ℕ) → Zero t a i → i ≡ b → Zeros t a b true
-  zeros_all b i z e = record { yes = λ y. subst (Zero t a) e z; no = λ y. absurd (false≢true (sym y)) }
-
   -- each is tested
   pub zeros_by : (b : ℕ) → a ≤ b → b ≤ length t → (r : Bool)
       → MatchBool r (AllWithin (λ x. x ≡ 0) (take (b - a) (drop a t)) 0 (length (take (b - a) (drop a t))))
@@ -102,18 +99,3 @@ pub halves : (t : List ℕ) (a n half i p q : ℕ) → half ≡ a + 16 * n → i
 halves t a n half i p q h e G K =
     gathered_both t a half (a + 32 * n) p q (omega arith) (omega arith)
     (subst (λ k. Gathered t a k p) (let s : a + 16 * i ≡ half = omega arith in s) G) (subst (λ k. Gathered t half k q) (let s : half + 16 * i ≡ a + 32 * n = omega arith in s) K)
-
--- the words behind those that one word was made of
-module _ (t : List ℕ) (a b i any : ℕ) (G : Gathered t a i any) (l : i ≤ b) where
-  pub gathered_some : (any ≡ 0 → ⊥) → Zeros t a b false
-  gathered_some n = record { yes = λ y. absurd (false≢true y); no = λ e z. n (G.no (λ k p q. z k p (omega arith))) }
-
-  pub gathered_rest : any ≡ 0 → a ≤ i → (r : Bool) → Zeros t i b r → Zeros t a b r
-  gathered_rest e m r zs = record {
-    yes = λ y k p q. go y k p q (dec_lt k i);
-    no = λ y z. zs.no y (λ k p q. z k (omega arith) q);
-  }
-    where
-      go : r ≡ true → (k : ℕ) → a ≤ k → k < b → Dec (k < i) → get_or t k 0 ≡ 0
-      go y k p q (yes d) = G.yes e k p d
-      go y k p q (no d) = zs.yes y k (omega arith) q

@@ -1,5 +1,4 @@
 -- The root of the laws: words and questions, as the functions' proofs cite them.
-pub mod Asking
 pub mod Listing
 pub mod Covering
 pub mod Planning

@@ -14,18 +14,11 @@ use Rattle.hrg.specs.WellFormedTest.{each, every}
 use Rattle.hrg.proofs.Sums.{occurs_append}
 use Rattle.questions.specs.Layout.{plan_kind, plan_first, plan_second, rule_edges}
 use Rattle.questions.specs.Questions.{covered, children_of, introduced_by, children_before, introduced_before, plan_so_far, plan_whole}
-use Rattle.questions.specs.Walk.{Room}
-use Rattle.questions.specs.declared.Due.{Due}
-use Rattle.questions.specs.declared.Due.TheVariants.{PlanLine}
 use Rattle.tables.specs.Marks.{marked, marks}
 use Rattle.tables.specs.Plans.{named_in, named_before, Marked}
 use Rattle.tables.specs.declared.plans.Named.{Named}
 use Rattle.tables.specs.declared.plans.Named.TheVariants.{Child, Edge}
 use Rattle.tables.proofs.Covering.{marked_by_lem, marks_append, marks_covered, covered_by}
-
--- ---- the places of plan lines
-pub room_lines : (n : ℕ) (due : Due) (r q : ℕ) → Room n due → due ≡ PlanLine r q → Room n (PlanLine r q)
-room_lines n due r q h e = subst (Room n) e h
 
 -- whether two numbers are the same, as a number
 module _ (a b x : ℕ) (e : x ≡ bool_byte (eqb a b)) where

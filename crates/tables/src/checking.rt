@@ -66,6 +66,7 @@ fn zeros(t: &[u64], a: u64, b: u64) -> bool
 
 // ---- a line's word
 // Whether it has nothing behind its first n fields.
+#[tactic(auto, unfolding(crate::specs::Concluding::behind))]
 fn ends(t: &[u64], p: u64, n: u64) -> bool
     requires { (p < length t.now) × (n ≤ 9) }
     ensures { result ≡ eqb (behind t.now p n) 0 }

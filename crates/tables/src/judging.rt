@@ -10,6 +10,7 @@ use crate::{marks, plans};
 use questions::{Due, Refusal};
 
 // `G`: symbols (1-64), rules (1-64), start symbol.
+#[tactic(auto, unfolding(questions::specs::Questions::judge_grammar))]
 pub(crate) fn judge_grammar(f: &[u64]) -> Result<(), Refusal>
     ensures { number_in result ≡ judge_grammar f.now }
 {
@@ -17,10 +18,10 @@ pub(crate) fn judge_grammar(f: &[u64]) -> Result<(), Refusal>
     let symbols = layout::field(f, 0);
     let rules = layout::field(f, 1);
     let start = layout::field(f, 2);
-    let fixed = (3 <= n)
-        & ((1 <= symbols) & (symbols <= 64))
-        & ((1 <= rules) & (rules <= 64))
-        & (start < symbols);
+    let fixed = 3 <= n
+        && (1 <= symbols && symbols <= 64)
+        && (1 <= rules && rules <= 64)
+        && start < symbols;
     if !fixed {
         return Err(Refusal::Fields);
     }
@@ -31,6 +32,7 @@ pub(crate) fn judge_grammar(f: &[u64]) -> Result<(), Refusal>
 }
 
 // `S`: its number, kind, rank.
+#[tactic(auto, unfolding(questions::specs::Questions::judge_symbol))]
 pub(crate) fn judge_symbol(g: &[u64], s: u64, f: &[u64]) -> Result<(), Refusal>
     ensures { number_in result ≡ judge_symbol g.now s f.now }
 {
@@ -39,12 +41,12 @@ pub(crate) fn judge_symbol(g: &[u64], s: u64, f: &[u64]) -> Result<(), Refusal>
     let kind = layout::field(f, 1);
     let rank = layout::field(f, 2);
     let start = layout::start_symbol(g);
-    let fixed = (3 <= n)
-        & (number == s)
-        & (kind <= 1)
-        & (rank <= 4)
-        & ((1 <= rank) | (s == start))
-        & ((kind == 1) | (s != start));
+    let fixed = 3 <= n
+        && number == s
+        && kind <= 1
+        && rank <= 4
+        && (1 <= rank || s == start)
+        && (kind == 1 || s != start);
     if !fixed {
         return Err(Refusal::Fields);
     }
@@ -55,6 +57,7 @@ pub(crate) fn judge_symbol(g: &[u64], s: u64, f: &[u64]) -> Result<(), Refusal>
 }
 
 // `R`: its number, its nonterminal, nodes (1-8), edges (1-8), plan nodes (2-16), then its external nodes.
+#[tactic(auto, unfolding(questions::specs::Questions::judge_rule))]
 pub(crate) fn judge_rule(g: &[u64], r: u64, f: &[u64]) -> Result<(), Refusal>
     ensures { number_in result ≡ judge_rule g.now r f.now }
 {
@@ -66,14 +69,14 @@ pub(crate) fn judge_rule(g: &[u64], r: u64, f: &[u64]) -> Result<(), Refusal>
     let plan = layout::field(f, 4);
     let symbols = layout::symbol_count(g);
     let kind = layout::kind_of(g, symbol);
-    let fixed = (5 <= n)
-        & (number == r)
-        & (symbol < symbols)
-        & (kind == 1)
-        & ((1 <= nodes) & (nodes <= 8))
-        & ((1 <= edges) & (edges <= 8))
-        & ((2 <= plan) & (plan <= 16));
-    if !fixed {
+    let known = 5 <= n && number == r && symbol < symbols && kind == 1;
+    if !known {
+        return Err(Refusal::Fields);
+    }
+    let counted = (1 <= nodes && nodes <= 8)
+        && (1 <= edges && edges <= 8)
+        && (2 <= plan && plan <= 16);
+    if !counted {
         return Err(Refusal::Fields);
     }
     let due = 5 + layout::rank_at(g, symbol);
@@ -87,6 +90,7 @@ pub(crate) fn judge_rule(g: &[u64], r: u64, f: &[u64]) -> Result<(), Refusal>
 }
 
 // `E` of a rule: symbol of rank 1 or more, then that many nodes; with the last one, is every node on an edge?
+#[tactic(auto, unfolding(questions::specs::Questions::judge_rule_edge))]
 pub(crate) fn judge_rule_edge(g: &[u64], r: u64, i: u64, f: &[u64]) -> Result<(), Refusal>
     requires { (r ≤ 63) × (i ≤ 7) }
     ensures { number_in result ≡ judge_rule_edge g.now r i f.now }
@@ -95,7 +99,7 @@ pub(crate) fn judge_rule_edge(g: &[u64], r: u64, i: u64, f: &[u64]) -> Result<()
     let label = layout::field(f, 0);
     let symbols = layout::symbol_count(g);
     let rank = layout::rank_at(g, label);
-    let fixed = (1 <= n) & (label < symbols) & (1 <= rank);
+    let fixed = 1 <= n && label < symbols && 1 <= rank;
     if !fixed {
         return Err(Refusal::Fields);
     }
@@ -145,6 +149,7 @@ fn judge_known_plan(
 }
 
 // `P`: kind, first, second.
+#[tactic(auto, unfolding(questions::specs::Questions::judge_plan))]
 pub(crate) fn judge_plan(g: &[u64], r: u64, q: u64, f: &[u64]) -> Result<(), Refusal>
     requires { PlanRoom g.now r q }
     ensures { number_in result ≡ judge_plan g.now r q f.now }
@@ -158,7 +163,7 @@ pub(crate) fn judge_plan(g: &[u64], r: u64, q: u64, f: &[u64]) -> Result<(), Ref
     }
     match kind {
         0 => {
-            let kept = (first == 0) & (second == 0);
+            let kept = first == 0 && second == 0;
             judge_known_plan(g, r, q, n, 0, first, second, kept)
         }
         1 => {
@@ -174,13 +179,14 @@ pub(crate) fn judge_plan(g: &[u64], r: u64, q: u64, f: &[u64]) -> Result<(), Ref
 }
 
 // `H`: nodes (1-64), edges (1-64), then external nodes, as many as the start's rank.
+#[tactic(auto, unfolding(questions::specs::Questions::judge_graph))]
 pub(crate) fn judge_graph(g: &[u64], f: &[u64]) -> Result<(), Refusal>
     ensures { number_in result ≡ judge_graph g.now f.now }
 {
     let n = f.len() as u64;
     let nodes = layout::field(f, 0);
     let edges = layout::field(f, 1);
-    let fixed = (2 <= n) & ((1 <= nodes) & (nodes <= 64)) & ((1 <= edges) & (edges <= 64));
+    let fixed = 2 <= n && (1 <= nodes && nodes <= 64) && (1 <= edges && edges <= 64);
     if !fixed {
         return Err(Refusal::Fields);
     }
@@ -195,6 +201,7 @@ pub(crate) fn judge_graph(g: &[u64], f: &[u64]) -> Result<(), Refusal>
 }
 
 // `E` of a graph: a terminal symbol, then as many nodes as its rank; with the last one, is every node on an edge?
+#[tactic(auto, unfolding(questions::specs::Questions::judge_graph_edge))]
 pub(crate) fn judge_graph_edge(g: &[u64], h: &[u64], e: u64, f: &[u64]) -> Result<(), Refusal>
     requires { e ≤ 63 }
     ensures { number_in result ≡ judge_graph_edge g.now h.now e f.now }
@@ -203,7 +210,7 @@ pub(crate) fn judge_graph_edge(g: &[u64], h: &[u64], e: u64, f: &[u64]) -> Resul
     let label = layout::field(f, 0);
     let symbols = layout::symbol_count(g);
     let kind = layout::kind_of(g, label);
-    let fixed = (1 <= n) & (label < symbols) & (kind == 0);
+    let fixed = 1 <= n && label < symbols && kind == 0;
     if !fixed {
         return Err(Refusal::Fields);
     }
@@ -225,6 +232,7 @@ pub(crate) fn judge_graph_edge(g: &[u64], h: &[u64], e: u64, f: &[u64]) -> Resul
 
 // Questions 3 to 7 for the line that is due in the table t; a graph's lines are judged with the grammar table g. A
 // line that is in no table is refused 2.
+#[tactic(auto, unfolding(questions::specs::Questions::judge))]
 pub fn judge(g: &[u64], t: &[u64], due: Due, f: &[u64]) -> Result<(), Refusal>
     requires { Room (length t.now) due }
     ensures { number_in result ≡ cond (in_table due) (judge g.now t.now due f.now) 2 }

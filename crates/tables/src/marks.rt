@@ -88,7 +88,7 @@ pub(crate) fn has_all(m: u64, nodes: u64) -> bool
     ensures { result ≡ (leb nodes 64 && eqb (m ∪ full (min nodes 64)) m) }
 {
     let all = masks::union(m, masks::full(nodes));
-    (nodes <= 64) & (all == m)
+    nodes <= 64 && all == m
 }
 
 // Whether every node of rule r is on one of the first n edges, or in the fields of the next edge's line.

@@ -86,7 +86,7 @@ pub(crate) fn introduce_so_far(g: &[u64], r: u64, q: u64, first: u64, second: u6
     let times = child_times(g, r, q, 1, first, second, first);
     let edges = layout::rule_edges(g, r);
     let before = named_before(g, r, q, Named::Edge(second));
-    (first < q) & (times == 1) & ((second < edges) & (before == 0))
+    first < q && times == 1 && second < edges && before == 0
 }
 
 pub(crate) fn join_so_far(g: &[u64], r: u64, q: u64, first: u64, second: u64) -> bool
@@ -95,7 +95,7 @@ pub(crate) fn join_so_far(g: &[u64], r: u64, q: u64, first: u64, second: u64) ->
 {
     let one = child_times(g, r, q, 2, first, second, first);
     let other = child_times(g, r, q, 2, first, second, second);
-    ((first < q) & (second < q)) & ((one == 1) & (other == 1))
+    first < q && second < q && one == 1 && other == 1
 }
 
 // ---- the plan is whole at its last line
@@ -167,6 +167,7 @@ fn with_leaf(named: PlanMarks, first: u64, second: u64) -> Option<PlanMarks>
 }
 
 // With line q, which introduces the edge `second` over the child `first`.
+#[tactic(auto, unfolding(crate::specs::Plans::introduce_fits))]
 fn with_introduce(
     q: u64,
     edges: u64,
@@ -195,6 +196,7 @@ fn with_introduce(
 }
 
 // With line q, which joins the children `first` and `second`.
+#[tactic(auto, using(crate::proofs::Covering::marked_by_lem), unfolding(crate::specs::Plans::join_fits))]
 fn with_join(q: u64, named: PlanMarks, first: u64, second: u64) -> Option<PlanMarks>
     ensures { Takes (join_fits q named.children first second) 2 first second named result }
 {

@@ -10,6 +10,7 @@ use Rattle.hrg.specs.Grammars.{Grammar, Graph}
 use Rattle.hrg.specs.ClosureRun.{same_list}
 use Rattle.questions.specs.Layout.{grammar_words, graph_words}
 use Rattle.questions.specs.Reading.{Outcome, read_grammar, Answer, Done}
+use Rattle.questions.specs.Refusing.{reading_number}
 use Rattle.questions.specs.Checking.{check_grammar, check_graph, read_graph}
 use Rattle.questions.specs.Abstract.{grammar_of, graph_of}
 use Rattle.agenda.specs.Steps.{run_chart, start_chart}
@@ -18,7 +19,7 @@ use Rattle.validity.specs.Checking.{holds, known_chart}
 use Rattle.charting.specs.Calls.{Called, number_of, steps_of, refused, fit, fit_chart, answer_of, start_answer, start_of, run_of, standing_of, runs_of, Outcome as Standing}
 use Rattle.charting.specs.declared.Unready.TheVariants.{Unfit}
 use Rattle.writing.specs.Writing.{Wrote, number_of as writing_number, write_by, write_goal, goal_in, write_of}
-use Rattle.trials.specs.Trials.{Trial, Told, reading_number, written_bytes, answers, told}
+use Rattle.trials.specs.Trials.{Trial, Told, written_bytes, answers, told}
 
 -- ---- the calls
 unfoldable pub start_by : Grammar → List ℕ → Called

@@ -4,7 +4,8 @@ use Rattle.std.specs.Prelude.{Bool, List, [], ◌∷◌, ℕ, take, replicate, O
 use Rattle.records.specs.Words.{words_for}
 use Rattle.hrg.specs.ClosureRun.{same_list}
 use Rattle.questions.specs.Layout.{grammar_words, graph_words}
-use Rattle.questions.specs.Reading.{read_grammar, Answer, Done, Refused}
+use Rattle.questions.specs.Reading.{read_grammar}
+use Rattle.questions.specs.Refusing.{reading_number}
 use Rattle.questions.specs.Checking.{read_graph}
 use Rattle.charting.specs.Calls.{number_of, steps_of, start_of, run_of, runs_of}
 use Rattle.writing.specs.Writing.{number_of as writing_number, write_of, Answer as Writing}
@@ -28,10 +29,6 @@ pub record Told : Type 0 where
   -- the number of the writing, and the bytes that are written
   pub writing : ℕ
   pub bytes : List ℕ
-
-abbrev pub reading_number : Answer → ℕ
-reading_number Done = 0
-reading_number (Refused k) = k
 
 abbrev pub written_bytes : Writing → ℕ
 written_bytes (Err Unfit) = 0

@@ -1,10 +1,7 @@
 -- Lines read into a cleared table, and the answer given.
 use Rattle.std.proofs.lemmas.Result.{err_from_is_err_and}
-use Rattle.readers.proofs.Delivery.{grammar_room, grammar_refused, gives_grammar}
+use Rattle.readers.proofs.Delivery.{grammar_refused, gives_grammar}
 use Rattle.readers.proofs.read_grammar.Goals as goal
-
-pub read_lines-requires : goal.read_lines-requires
-read_lines-requires c = grammar_room
 
 pub returns-in_err-read_lines : goal.returns-in_err-read_lines
 returns-in_err-read_lines c =

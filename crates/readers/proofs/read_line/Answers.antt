@@ -25,9 +25,6 @@ returns-then-not-letter_due c = (
   tt,
 )
 
-pub store_line-requires : goal.store_line-requires
-store_line-requires c = (c.requires, sym c.shape.ensures ∙ c.if-not-shape.false)
-
 pub returns : goal.returns
 returns c = (
   judged_rest _ _ _ _ _ c.if-not-ended.false _ c.shape.ensures

@@ -6,12 +6,6 @@ use Rattle.questions.proofs.Refusals.{number_some}
 use Rattle.readers.proofs.Turns.{reads_done, turn_no, turn_on, turn_less}
 use Rattle.readers.proofs.read_lines.Goals as goal
 
-pub loop-at-init : goal.loop-at-init
-loop-at-init c = record { within = omega arith; size = refl; room = c.requires; rest = refl }
-
-pub read_line-requires : goal.read_line-requires
-read_line-requires c = c.loop-at.invariant.room
-
 pub returns-in_err-read_line : goal.returns-in_err-read_line
 returns-in_err-read_line c =
     let p = err_from_is_err_and c.from_residual.result c.from_residual.ensures.1 in rw (p.1, p.2)

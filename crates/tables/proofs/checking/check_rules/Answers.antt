@@ -5,15 +5,8 @@ use mathlib.Core.List.{[]}
 use Rattle.questions.specs.declared.Due.TheVariants.{Rule}
 use Rattle.questions.specs.Layout.{plan_place, grammar_words}
 use Rattle.tables.proofs.Gaps.{zeros_at}
-use Rattle.tables.proofs.Leading.{concludes_on, concludes_last, lines_start, lines_end, rules_gap_no, rules_no, rules_next}
+use Rattle.tables.proofs.Leading.{concludes_on, concludes_last, lines_end, rules_gap_no, rules_no, rules_next}
 use Rattle.tables.proofs.checking.check_rules.Goals as goal
-
-pub loop-r-init : goal.loop-r-init
-loop-r-init c = (
-  omega arith,
-  lines_start grammar_words [] _ Rule _ _ _ _ (omega arith)
-      c.requires.1.some,
-)
 
 pub returns-then-not-zeros : goal.returns-then-not-zeros
 returns-then-not-zeros c = rules_gap_no grammar_words _ _ _ _ _ _ c.loop-r.invariant.1
@@ -24,14 +17,6 @@ pub returns-then-not-check_rule : goal.returns-then-not-check_rule
 returns-then-not-check_rule c = rules_no grammar_words _ _ _ _ _ _ c.loop-r.invariant.1 c.loop-r-test.true
     _ (zeros_at _ _ _ _ _ _ refl c.rule_place.ensures c.zeros.ensures)
     c.if-not-zeros.false-raw _ _ c.check_rule.ensures.1 c.if-not-check_rule.true-raw
-
-pub plan_place-from-requires : goal.plan_place-from-requires
-plan_place-from-requires c = omega (
-  arith,
-  c.check_rule.ensures.0
-      c.if-not-check_rule.false,
-  c.rule_plan_in.ensures,
-)
 
 pub loop-r-preserved : goal.loop-r-preserved
 loop-r-preserved c =

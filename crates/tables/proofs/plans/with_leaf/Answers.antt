@@ -1,7 +1,8 @@
--- A leaf has 0 and 0 (proofs/Carrying).
-use borrow.Author.Tests.{eq-eqb}
+-- A leaf has 0 and 0, and adds nothing (proofs/Carrying).
+use native.Mathlib.Omega.{arith}
+use Rattle.std.proofs.lemmas.Grind.{common_steps}
 use Rattle.tables.proofs.Carrying.{with_none}
 use Rattle.tables.proofs.plans.with_leaf.Goals as goal
 
 pub returns-then-second-eq0 : goal.returns-then-second-eq0
-returns-then-second-eq0 c = (simp (eq-eqb _ _ c.if-first-eq0.true, eq-eqb _ _ c.if-second-eq0.true), with_none _ _ _ _)
+returns-then-second-eq0 c = (grind (arith, common_steps), with_none _ _ _ _)
