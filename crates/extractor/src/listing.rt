@@ -17,9 +17,8 @@ fn push_part(grammar: &[u64], r: u64, i: u64, b: u64, list: &mut [u64], top: usi
     if !crate::lookup::is_nonterminal(grammar, r, i) {
         return top;
     }
-    let t = top - 1;
-    list[t] = b;
-    t
+    list[top - 1] = b;
+    top - 1
 }
 
 // The partners of all nonterminal edges of rule r: from the last edge on, so that the first one's comes on top.
@@ -28,9 +27,8 @@ fn push_parts(grammar: &[u64], r: u64, bs: &[u64], list: &mut [u64], top: usize)
     ensures { Pushed (children_from (grammar_of grammar.now) bs.now (right_of (grammar_of grammar.now) r).edges 0) list.old top list.new result × (top ≤ result + 8) }
 {
     let mut t = top;
-    let mut i = crate::lookup::edge_count(grammar, r);
-    while 0 < i {
-        i -= 1;
+    let edges = crate::lookup::edge_count(grammar, r);
+    for i in (0..edges).rev() {
         t = push_part(grammar, r, i, bs[i as usize], list, t);
     }
     t

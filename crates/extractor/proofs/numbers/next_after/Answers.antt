@@ -8,5 +8,5 @@ overflow_add-result c = omega (arith, c.requires.0.each _ c.requires.1)
 pub returns-then-tree : goal.returns-then-tree
 returns-then-tree c = (simp c.if-tree.true, omega arith, c.requires.0.each _ c.requires.1)
 
-pub returns : goal.returns
-returns c = (simp c.if-tree.false, omega arith, c.requires.1)
+pub returns-else-tree : goal.returns-else-tree
+returns-else-tree c = (simp c.if-tree.false, omega arith, c.requires.1)

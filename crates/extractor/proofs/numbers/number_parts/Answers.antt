@@ -28,12 +28,6 @@ bounds-fields-at c = omega (arith, c.loop-i-test.true, c.requires.6, c.loop-i.in
 pub next_after-next-requires : goal.next_after-next-requires
 next_after-next-requires c = (c.requires.4, c.loop-i.invariant.few)
 
-pub overflow_add-i : goal.overflow_add-i
-overflow_add-i c = omega (arith, c.loop-i-test.true, c.requires.2)
-
-pub loop-i-smaller : goal.loop-i-smaller
-loop-i-smaller c = omega (arith, c.loop-i-test.true)
-
 pub loop-i-preserved : goal.loop-i-preserved
 loop-i-preserved c = numbering_next _ _ _ _ _ _ _ _ _ _ _ _ _ (omega (arith, c.loop-i-test.true, c.requires.1))
     (omega (arith, c.loop-i-test.true, c.requires.6)) c.loop-i.invariant

@@ -7,6 +7,3 @@ use Rattle.extractor.proofs.numbers.number_parts.Given as goal
 abbrev pub invariant-loop-i : goal.invariant-loop-i
 invariant-loop-i l = Numbering (grammar_of l.grammar) l.bs l.sizes
     (right_of (grammar_of l.grammar) l.r).edges l.from l.initial.fields l.at l.fields l.next l.i
-
-abbrev pub decreases-loop-i : goal.decreases-loop-i
-decreases-loop-i l = l.edges - l.i

@@ -14,9 +14,6 @@ loop-k-init c = (
   refl,
 )
 
-pub overflow_sub-k : goal.overflow_sub-k
-overflow_sub-k c = omega (arith, c.loop-k-test.true)
-
 pub offset_bounds-list-k : goal.offset_bounds-list-k
 offset_bounds-list-k c = omega (arith, c.loop-k.invariant.0.inside, c.loop-k.invariant.0.few)
 
@@ -62,9 +59,6 @@ write_row-at-requires c = (
   omega (arith, c.loop-k.invariant.0.low, c.loop-k-test.true),
   c.loop-k.invariant.0.high,
 )
-
-pub loop-k-smaller : goal.loop-k-smaller
-loop-k-smaller c = omega (arith, c.loop-k-test.true)
 
 pub loop-k-preserved : goal.loop-k-preserved
 loop-k-preserved c = (
