@@ -1,6 +1,6 @@
 -- Where an application places its nodes: an edge's nodes by its partner, put over the map where they have no place
 -- yet, and one edge more.
-use mathlib.Core.Path.{◌≡◌, refl, sym, ap, ap₂, ◌∙◌, subst}
+use mathlib.Core.Path.{◌≡◌, refl, sym, ap, ap₂, ◌∙◌}
 use mathlib.Core.Bool.{Bool, true, false}
 use mathlib.Core.List.{List, [], ◌∷◌}
 use Prim.Native.Nat.{ℕ, zero, suc, ◌+◌, ◌-◌, ◌≤◌, ◌<◌, min}
@@ -16,7 +16,6 @@ use Rattle.hrg.specs.Grammars.{Kind, terminal, nonterminal, Edge, Graph, Grammar
 use Rattle.hrg.specs.Trees.{unplaced, at, padded}
 use Rattle.hrg.specs.Items.{either, or_else, joined, node_for, attach}
 use Rattle.hrg.proofs.Sums.{hit_self, length_tabulate, at_tabulate, tabulate_ext, occurs_around, none_left}
-use Rattle.places.specs.Laws.{tabulated}
 use Rattle.questions.specs.Layout.{rank_at, rule_nodes, edge_label, edge_node, graph_edges, graph_label, graph_node}
 use Rattle.questions.specs.Abstract.{grammar_of, graph_of}
 use Rattle.questions.proofs.StoredLaws.{take_tabulate}

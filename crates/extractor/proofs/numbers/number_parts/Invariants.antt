@@ -1,4 +1,3 @@
-use Prim.Native.Nat.{◌-◌}
 use Rattle.hrg.specs.Grammars.{right_of}
 use Rattle.questions.specs.Abstract.{grammar_of}
 use Rattle.extractor.proofs.NumberLaws.{Numbering}

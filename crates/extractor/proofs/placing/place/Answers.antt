@@ -4,17 +4,11 @@ use mathlib.Core.Path.{sym, ap, ◌∙◌}
 use lib.ListN.{replicate}
 use Rattle.joins.proofs.Known.{right_nodes, nodes_few}
 use Rattle.extractor.proofs.RuleLookup.{known_by_edge, known_edge}
-use Rattle.extractor.proofs.PlaceLaws.{placed_start, placed_long, placed_bare, placed_more, placed_all}
+use Rattle.extractor.proofs.PlaceLaws.{placed_start, placed_long, placed_bare, placed_more}
 use Rattle.extractor.proofs.placing.place.Goals as goal
 
 pub loop-i-init : goal.loop-i-init
 loop-i-init c = placed_start _ _ _ _ _ _ (c.fill.ensures.after (λ y h. h) ∙ ap (λ n. replicate n 64) c.requires.4)
-
-pub offset_bounds-bs-i : goal.offset_bounds-bs-i
-offset_bounds-bs-i c = omega (arith, c.loop-i-test.true, c.requires.2)
-
-pub bounds-bs-i : goal.bounds-bs-i
-bounds-bs-i c = omega (arith, c.loop-i-test.true, c.requires.2, c.requires.3)
 
 pub place_part-requires : goal.place_part-requires
 place_part-requires c = (
@@ -36,6 +30,3 @@ loop-i-preserved c = placed_more
       (known_by_edge c.args.grammar.now c.args.r c.loop-i.i
       (omega (arith, c.loop-i-test.true, c.requires.1)))) c.loop-i.invariant
       c.place_part.ensures
-
-pub returns : goal.returns
-returns c = placed_all _ _ _ _ _ _ _ _ (omega arith) c.loop-i-test.false c.loop-i.invariant

@@ -1,4 +1,3 @@
-use Prim.Native.Nat.{◌-◌, ◌≤◌}
 use mathlib.Core.Path.{◌≡◌}
 use Rattle.hrg.specs.Grammars.{right_of}
 use Rattle.hrg.specs.Trees.{padded}

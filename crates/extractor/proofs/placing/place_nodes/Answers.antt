@@ -46,32 +46,6 @@ bounds-f-x c =
     let few = node_few _ _ _ pre.0 _ _ pre.1 _ _ _ some before node in
     omega (arith, before.merged.size, few)
 
-pub offset_bounds-l-k : goal.offset_bounds-l-k
-offset_bounds-l-k c = omega (arith, c.loop-k.invariant.low)
-
-pub bounds-l-k : goal.bounds-l-k
-bounds-l-k c =
-    let before = c.loop-k.invariant in
-    omega (arith, before.inside, c.loop-k-test.true)
-
-pub offset_bounds-f-x-then-f-x-eq64 : goal.offset_bounds-f-x-then-f-x-eq64
-offset_bounds-f-x-then-f-x-eq64 c =
-    let pre = c.requires in
-    let before = c.loop-k.invariant in
-    let some = c.loop-k-test.true in
-    let node = c.edge_node_in-x.ensures in
-    let few = node_few _ _ _ pre.0 _ _ pre.1 _ _ _ some before node in
-    omega (arith, few)
-
-pub bounds-f-x-then-f-x-eq64 : goal.bounds-f-x-then-f-x-eq64
-bounds-f-x-then-f-x-eq64 c =
-    let pre = c.requires in
-    let before = c.loop-k.invariant in
-    let some = c.loop-k-test.true in
-    let node = c.edge_node_in-x.ensures in
-    let few = node_few _ _ _ pre.0 _ _ pre.1 _ _ _ some before node in
-    omega (arith, before.merged.size, few)
-
 pub loop-k-preserved-then-f-x-eq64 : goal.loop-k-preserved-then-f-x-eq64
 loop-k-preserved-then-f-x-eq64 c =
     let pre = c.requires in
