@@ -45,9 +45,10 @@ fn push_children(grammar: &[u64], chart: &[u64], j: u64, list: &mut [u64], top: 
     push_parts(grammar, r, &bs, list, top)
 }
 
-// Lists the applications under the passive record at j and answers how many; 0 where they are more than the list has
-// places but eight, which are always free.
-pub fn list_applications(grammar: &[u64], chart: &[u64], j: u64, list: &mut [u64]) -> usize
+// Lists the applications under the passive record at j and answers how many, unless they are more than the list has
+// places but eight, which are always free. The list holds what is due besides: a worklist, so that the loop is a
+// `while`.
+pub fn list_applications(grammar: &[u64], chart: &[u64], j: u64, list: &mut [u64]) -> Option<usize>
     requires { (check_grammar grammar.now ≡ true) × (9 ≤ length list.old) }
     ensures { ListedIn (length list.old - 8) (listing (λ k. record_at chart.now k) (grammar_of grammar.now) (length list.old - 8) (j ∷ [])) list.new result }
 {
@@ -61,8 +62,8 @@ pub fn list_applications(grammar: &[u64], chart: &[u64], j: u64, list: &mut [u64
         count += 1;
         top = push_children(grammar, chart, x, list, top + 1);
         if top < count + 8 {
-            return 0;
+            return None;
         }
     }
-    count
+    Some(count)
 }

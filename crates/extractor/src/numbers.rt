@@ -18,7 +18,11 @@ fn next_after(tree: bool, sizes: &[u64], next: u64) -> u64
     requires { SizesFit sizes.now × (next < length sizes.now) }
     ensures { (result ≡ cond tree (next + get_or sizes.now next 0) next) × (next ≤ result) × (result < length sizes.now) }
 {
-    if tree { next + sizes[next as usize] } else { next }
+    if tree {
+        next + sizes[next as usize]
+    } else {
+        next
+    }
 }
 
 // Puts the numbers for all edges of rule r into the fields from `at` on, where the application `from` is next, and

@@ -23,10 +23,10 @@ place_part-requires c = (
 
 pub loop-i-preserved : goal.loop-i-preserved
 loop-i-preserved c = placed_more
-      _ _ _ _ _ _ _ _ _ (sym (right_nodes c.args.grammar.now c.args.r c.requires.0.grammar
-      (known_by_edge c.args.grammar.now c.args.r c.loop-i.i
-      (omega (arith, c.loop-i-test.true, c.requires.1)))))
-      (nodes_few c.args.grammar.now c.args.r c.requires.0.grammar
-      (known_by_edge c.args.grammar.now c.args.r c.loop-i.i
-      (omega (arith, c.loop-i-test.true, c.requires.1)))) c.loop-i.invariant
-      c.place_part.ensures
+    _ _ _ _ _ _ _ _ _ (sym (right_nodes c.args.grammar.now c.args.r c.requires.0.grammar
+    (known_by_edge c.args.grammar.now c.args.r c.loop-i.i
+    (omega (arith, c.loop-i-test.true, c.requires.1)))))
+    (nodes_few c.args.grammar.now c.args.r c.requires.0.grammar
+    (known_by_edge c.args.grammar.now c.args.r c.loop-i.i
+    (omega (arith, c.loop-i-test.true, c.requires.1)))) c.loop-i.invariant
+    c.place_part.ensures
