@@ -2,7 +2,7 @@
 
 #![tactic(auto)]
 
-ghost use Rattle.std.specs.Prelude.{◌≡◌, true, [], ◌∷◌, ◌++◌, ◌≤◌, length, drop};
+ghost use Rattle.std.specs.Prelude.{Some, ◌≡◌, true, [], ◌∷◌, ◌++◌, ◌≤◌, length, drop};
 ghost use Rattle.hrg.specs.Trees.{padded};
 ghost use Rattle.hrg.specs.Items.{goal};
 ghost use Rattle.agenda.specs.Records.{chart_item};
@@ -118,7 +118,7 @@ fn write_brief(
     n: usize,
     out: &mut [u8],
 ) -> Answer
-    requires { Accepted grammar.now graph.now × ListedIn 4096 (listing (λ k. record_at chart.now k) (grammar_of grammar.now) 4096 (j ∷ [])) list.now n × (n ≤ length list.now) × (n ≤ 40) }
+    requires { Accepted grammar.now graph.now × ListedIn 4096 (listing (λ k. record_at chart.now k) (grammar_of grammar.now) 4096 (j ∷ [])) list.now (Some n) × (n ≤ length list.now) × (n ≤ 40) }
     ensures { Leaves (write_spelt (grammar_of grammar.now) (graph_of grammar.now graph.now) out.old (tree_at (λ k. record_at chart.now k) (grammar_of grammar.now) (graph_of grammar.now graph.now) 4096 j)) result out.new }
 {
     let mut sizes = [0u64; 48];
@@ -137,7 +137,7 @@ fn write_short(
     n: usize,
     out: &mut [u8],
 ) -> Answer
-    requires { Accepted grammar.now graph.now × ListedIn 4096 (listing (λ k. record_at chart.now k) (grammar_of grammar.now) 4096 (j ∷ [])) list.now n × (n ≤ length list.now) × (n ≤ 256) }
+    requires { Accepted grammar.now graph.now × ListedIn 4096 (listing (λ k. record_at chart.now k) (grammar_of grammar.now) 4096 (j ∷ [])) list.now (Some n) × (n ≤ length list.now) × (n ≤ 256) }
     ensures { Leaves (write_spelt (grammar_of grammar.now) (graph_of grammar.now graph.now) out.old (tree_at (λ k. record_at chart.now k) (grammar_of grammar.now) (graph_of grammar.now graph.now) 4096 j)) result out.new }
 {
     let mut sizes = [0u64; 264];
@@ -156,7 +156,7 @@ fn write_middle(
     n: usize,
     out: &mut [u8],
 ) -> Answer
-    requires { Accepted grammar.now graph.now × ListedIn 4096 (listing (λ k. record_at chart.now k) (grammar_of grammar.now) 4096 (j ∷ [])) list.now n × (n ≤ length list.now) × (n ≤ 1024) }
+    requires { Accepted grammar.now graph.now × ListedIn 4096 (listing (λ k. record_at chart.now k) (grammar_of grammar.now) 4096 (j ∷ [])) list.now (Some n) × (n ≤ length list.now) × (n ≤ 1024) }
     ensures { Leaves (write_spelt (grammar_of grammar.now) (graph_of grammar.now graph.now) out.old (tree_at (λ k. record_at chart.now k) (grammar_of grammar.now) (graph_of grammar.now graph.now) 4096 j)) result out.new }
 {
     let mut sizes = [0u64; 1032];
@@ -171,7 +171,9 @@ fn write_long(grammar: &[u64], graph: &[u64], chart: &[u64], j: u64, out: &mut [
     ensures { Leaves (write_spelt (grammar_of grammar.now) (graph_of grammar.now graph.now) out.old (tree_at (λ k. record_at chart.now k) (grammar_of grammar.now) (graph_of grammar.now graph.now) 4096 j)) result out.new }
 {
     let mut list = [0u64; 4104];
-    let n = extractor::listing::list_applications(grammar, chart, j, &mut list);
+    let Some(n) = extractor::listing::list_applications(grammar, chart, j, &mut list) else {
+        return deliver(grammar, graph, &[], out);
+    };
     let mut sizes = [0u64; 4104];
     let mut buffer = [0u8; 303110];
     let start = extractor::extract(grammar, graph, chart, j, &list, n, &mut sizes, &mut buffer);
@@ -185,10 +187,9 @@ fn write_many(grammar: &[u64], graph: &[u64], chart: &[u64], j: u64, out: &mut [
     ensures { Leaves (write_spelt (grammar_of grammar.now) (graph_of grammar.now graph.now) out.old (tree_at (λ k. record_at chart.now k) (grammar_of grammar.now) (graph_of grammar.now graph.now) 4096 j)) result out.new }
 {
     let mut list = [0u64; 1032];
-    let n = extractor::listing::list_applications(grammar, chart, j, &mut list);
-    if n == 0 {
+    let Some(n) = extractor::listing::list_applications(grammar, chart, j, &mut list) else {
         return write_long(grammar, graph, chart, j, out);
-    }
+    };
     write_middle(grammar, graph, chart, j, &list, n, out)
 }
 
@@ -199,10 +200,9 @@ fn write_item(grammar: &[u64], graph: &[u64], chart: &[u64], j: u64, out: &mut [
     ensures { Leaves (write_spelt (grammar_of grammar.now) (graph_of grammar.now graph.now) out.old (tree_at (λ k. record_at chart.now k) (grammar_of grammar.now) (graph_of grammar.now graph.now) 4096 j)) result out.new }
 {
     let mut list = [0u64; 264];
-    let n = extractor::listing::list_applications(grammar, chart, j, &mut list);
-    if n == 0 {
+    let Some(n) = extractor::listing::list_applications(grammar, chart, j, &mut list) else {
         return write_many(grammar, graph, chart, j, out);
-    }
+    };
     if n <= 40 {
         return write_brief(grammar, graph, chart, j, &list, n, out);
     }

@@ -9,13 +9,13 @@ use Rattle.writer.proofs.write_item.Goals as goal
 pub write_brief-requires : goal.write_brief-requires
 write_brief-requires c = (
   c.requires,
-  listed_more _ _ 256 4096 _ _ _ (omega arith) c.if-n-eq0.false
+  listed_more _ _ 256 4096 _ _ _ (omega arith)
       (listed_in _ _ _ 256 _ _ _ (length-replicate {A = ℕ} 264 0)
-      c.list_applications-n.ensures),
+      c.in-Some.ensures),
   omega (
     arith,
-    c.list_applications-n.ensures.few,
-    c.list_applications-n.auto.list,
+    c.in-Some.ensures.few,
+    c.list_applications.auto.list,
     length-replicate {A = ℕ} 264 0,
   ),
   c.if-n-le40.true,
@@ -24,13 +24,13 @@ write_brief-requires c = (
 pub write_short-requires : goal.write_short-requires
 write_short-requires c = (
   c.requires,
-  listed_more _ _ 256 4096 _ _ _ (omega arith) c.if-n-eq0.false
+  listed_more _ _ 256 4096 _ _ _ (omega arith)
       (listed_in _ _ _ 256 _ _ _ (length-replicate {A = ℕ} 264 0)
-      c.list_applications-n.ensures),
+      c.in-Some.ensures),
   omega (
     arith,
-    c.list_applications-n.ensures.few,
-    c.list_applications-n.auto.list,
+    c.in-Some.ensures.few,
+    c.list_applications.auto.list,
     length-replicate {A = ℕ} 264 0,
   ),
   c.if-n-le256.true,

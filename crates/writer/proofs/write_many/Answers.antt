@@ -9,14 +9,14 @@ use Rattle.writer.proofs.write_many.Goals as goal
 pub write_middle-requires : goal.write_middle-requires
 write_middle-requires c = (
   c.requires,
-  listed_more _ _ 1024 4096 _ _ _ (omega arith) c.if-n-eq0.false
+  listed_more _ _ 1024 4096 _ _ _ (omega arith)
       (listed_in _ _ _ 1024 _ _ _ (length-replicate {A = ℕ} 1032 0)
-      c.list_applications-n.ensures),
+      c.in-Some.ensures),
   omega (
     arith,
-    c.list_applications-n.ensures.few,
-    c.list_applications-n.auto.list,
+    c.in-Some.ensures.few,
+    c.list_applications.auto.list,
     length-replicate {A = ℕ} 1032 0,
   ),
-  omega (arith, c.list_applications-n.ensures.few, length-replicate {A = ℕ} 1032 0),
+  omega (arith, c.in-Some.ensures.few, length-replicate {A = ℕ} 1032 0),
 )
