@@ -7,7 +7,6 @@ use native.Mathlib.Numerals.{add-one}
 use native.Mathlib.Omega.{arith}
 use lib.ListN.{length, get_or, set, take, drop, length-set, length-append, length-drop, drop_of_length-le}
 use lib.Seq.{drop-cons, drop-length, get_or-set_same, take-set-le, drop-set-lt, take-suc-set, take-take}
-use borrow.Author.Tests.{ne_eqb}
 use Rattle.hrg.specs.Grammars.{Kind, terminal, nonterminal, Edge, Grammar, no_edge, kind_of, right_of, edge_at}
 use Rattle.questions.specs.Abstract.{grammar_of}
 use Rattle.agenda.specs.declared.Record.{Record}
@@ -15,7 +14,8 @@ use Rattle.records.specs.Words.{record_at}
 use Rattle.extraction.specs.Extraction.{rule_at, partners_at}
 use Rattle.extraction.specs.Listing.{Listing, endless, listed, listed_with, cons_if, children_from, children_at, listing}
 use Rattle.extractor.specs.Reading.{is_nonterminal}
-use Rattle.extractor.specs.Lists.{Pushed, first_of, ListedIn}
+use Rattle.std.specs.Prelude.{Some, None}
+use Rattle.extractor.specs.Lists.{Pushed, ListedIn}
 
 -- ---- one record pushed
 pub pushed_none : (list : List ℕ) (top : ℕ) → Pushed [] list top list top
@@ -171,22 +171,18 @@ module _ (w : List ℕ) where
         go endless d q ih = absurd (endless_not xs q)
         go (listed ys) d q ih = ap (listed_with j) (ih ys d) ∙ q
 
-    pub listed_more : (k m n : ℕ) (js list : List ℕ) → k ≤ m → (n ≡ 0 → ⊥) → ListedIn k (listing look G k js) list n → ListedIn m (listing look G m js) list n
-    listed_more k m n js list h some p = record {
+    pub listed_more : (k m n : ℕ) (js list : List ℕ) → k ≤ m → ListedIn k (listing look G k js) list (Some n) → ListedIn m (listing look G m js) list (Some n)
+    listed_more k m n js list h p = record {
       few = omega (arith, p.few);
-      whole = more_listed k m js (take n list) h (p.whole ∙ all) ∙ sym all;
+      whole = more_listed k m js (take n list) h p.whole;
     }
-      where
-        all : first_of list n ≡ listed (take n list)
-        all = rw (ne_eqb n 0 some)
 
     module _ (j limit : ℕ) where
-      -- what is listed and what is due, and that something is
+      -- what is listed and what is due
       pub record Going (list : List ℕ) (count top : ℕ) : Type 0 where
         pub size : length list ≡ limit + 8
         pub free : count + 8 ≤ top
         pub low : top ≤ limit + 8
-        pub some : top < limit + 8 + count
         pub whole : listing look G limit (j ∷ []) ≡ prefixed (take count list) (listing look G (limit - count) (drop top list))
 
       pub going_start : (list : List ℕ) (top : ℕ) → length list ≡ limit + 8 → 1 ≤ limit → top ≡ limit + 7 → Going (set list top j) 0 top
@@ -194,7 +190,6 @@ module _ (w : List ℕ) where
         size = length-set list top j ∙ size;
         free = omega arith;
         low = omega arith;
-        some = omega arith;
         whole = ap (λ (js : List ℕ). listing look G limit js) (sym due) ∙ sym (prefixed_none (listing look G limit (drop top (set list top j))))
             ∙ ap (λ (k : ℕ). prefixed [] (listing look G k (drop top (set list top j)))) (let e : limit ≡ limit - 0 = omega arith in e);
       }
@@ -232,20 +227,19 @@ module _ (w : List ℕ) where
         sized = pushed.same ∙ length-set list count x ∙ before.size
 
         pub going_on : count + 1 + 8 ≤ t → Going now (count + 1) t
-        going_on l = record { size = sized; free = l; low = omega (arith, pushed.place); some = omega (arith, pushed.place); whole = turn }
+        going_on l = record { size = sized; free = l; low = omega (arith, pushed.place); whole = turn }
 
-        pub going_over : t < count + 1 + 8 → ListedIn limit (listing look G limit (j ∷ [])) now 0
+        pub going_over : t < count + 1 + 8 → ListedIn limit (listing look G limit (j ∷ [])) now None
         going_over l = record {
-          few = omega arith;
+          few = tt;
           whole = turn ∙ ap (prefixed (take (count + 1) now)) (too_many (limit - (count + 1)) (drop t now) (omega (arith, length-drop t now, sized, before.free, before.low)));
         }
 
-      pub going_done : (list : List ℕ) (count top : ℕ) → limit + 8 ≤ top → Going list count top → ListedIn limit (listing look G limit (j ∷ [])) list count
+      pub going_done : (list : List ℕ) (count top : ℕ) → limit + 8 ≤ top → Going list count top → ListedIn limit (listing look G limit (j ∷ [])) list (Some count)
       going_done list count top h p = record {
         few = omega (arith, p.free, p.low);
         whole = p.whole
             ∙ ap (λ (js : List ℕ). prefixed (take count list) (listing look G (limit - count) js)) (drop_of_length-le list {i = top} (omega (arith, p.size)))
             ∙ ap (prefixed (take count list)) (listing_end (limit - count))
-            ∙ ap listed (append-nil (take count list))
-            ∙ sym (rw (ne_eqb count 0 (λ z. omega (arith, p.some))) refl);
+            ∙ ap listed (append-nil (take count list));
       }

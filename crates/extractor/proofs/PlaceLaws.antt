@@ -1,6 +1,6 @@
 -- Where an application places its nodes: an edge's nodes by its partner, put over the map where they have no place
 -- yet, and one edge more.
-use mathlib.Core.Path.{◌≡◌, refl, sym, ap, ap₂, ◌∙◌, subst}
+use mathlib.Core.Path.{◌≡◌, refl, sym, ap, ap₂, ◌∙◌}
 use mathlib.Core.Bool.{Bool, true, false}
 use mathlib.Core.List.{List, [], ◌∷◌}
 use Prim.Native.Nat.{ℕ, zero, suc, ◌+◌, ◌-◌, ◌≤◌, ◌<◌, min}
@@ -16,7 +16,6 @@ use Rattle.hrg.specs.Grammars.{Kind, terminal, nonterminal, Edge, Graph, Grammar
 use Rattle.hrg.specs.Trees.{unplaced, at, padded}
 use Rattle.hrg.specs.Items.{either, or_else, joined, node_for, attach}
 use Rattle.hrg.proofs.Sums.{hit_self, length_tabulate, at_tabulate, tabulate_ext, occurs_around, none_left}
-use Rattle.places.specs.Laws.{tabulated}
 use Rattle.questions.specs.Layout.{rank_at, rule_nodes, edge_label, edge_node, graph_edges, graph_label, graph_node}
 use Rattle.questions.specs.Abstract.{grammar_of, graph_of}
 use Rattle.questions.proofs.StoredLaws.{take_tabulate}
@@ -30,13 +29,6 @@ use Rattle.records.specs.Words.{record_at}
 use Rattle.extraction.specs.Extraction.{nodes_by, part_nodes, placed_by}
 use Rattle.extractor.specs.Reading.{is_nonterminal}
 use Rattle.extractor.proofs.RuleLookup.{label_rank}
-
--- ---- eight stores
-pub set_eight : (t : List ℕ) (a b c d e f g h : ℕ) → length t ≡ 8 → set (set (set (set (set (set (set (set t 0 a) 1 b) 2 c) 3 d) 4 e) 5 f) 6 g) 7 h ≡ a ∷ b ∷ c ∷ d ∷ e ∷ f ∷ g ∷ h ∷ []
-unfolding tabulate
-set_eight t a b c d e f g h size =
-    let same : tabulate 8 (λ k. get_or t k 0) ≡ t = ap (λ n. tabulate n (λ k. get_or t k 0)) (sym size) ∙ tabulated t 0 in
-    subst (λ (t : List ℕ). set (set (set (set (set (set (set (set t 0 a) 1 b) 2 c) 3 d) 4 e) 5 f) 6 g) 7 h ≡ a ∷ b ∷ c ∷ d ∷ e ∷ f ∷ g ∷ h ∷ []) same refl
 
 -- ---- the node of L for a rule node
 node_first : (x a b : ℕ) (A L : List ℕ) → x ≡ a → node_for x (a ∷ A) (b ∷ L) ≡ b
@@ -164,7 +156,7 @@ module _ (g : List ℕ) (r i : ℕ) (known : KnownEdge g r i) (l start : List �
   abbrev rank : ℕ
   rank = rank_at g (edge_label g r i)
 
-  pub placing_start : (label m k : ℕ) → label ≡ edge_label g r i → m ≡ rank_at g label → k ≡ min (length l) m → Placing g r i l start k start
+  pub placing_start : (label m k : ℕ) → label ≡ edge_label g r i → m ≡ rank_at g label → k ≡ min m (length l) → Placing g r i l start k start
   placing_start label m k a b e =
       let whole : m ≡ rank = b ∙ ap (rank_at g) a in
       record {

@@ -14,9 +14,10 @@ use Rattle.scripts.specs.Scripts.{row_lines, rows_text}
 use Rattle.hrg.specs.Grammars.{Graph, Grammar}
 use Rattle.agenda.specs.declared.Record.{Record}
 use Rattle.records.specs.Words.{record_at}
-use Rattle.extraction.specs.Listing.{endless, listed, listing, row_at, span_at, sizes_from, rows_from}
+use Rattle.extraction.specs.Listing.{listing, row_at, span_at, sizes_from, rows_from}
 use Rattle.extractor.specs.declared.rows.Row.{Row}
 use Rattle.extractor.specs.Texts.{text_by, text_at, EndsWith}
+use Rattle.std.specs.Prelude.{Some, None}
 use Rattle.extractor.specs.Lists.{ListedIn}
 use Rattle.extractor.specs.RowFacts.{SizesFit, RowOf, LineAt}
 use Rattle.extractor.proofs.RowLaws.{drop_sets}
@@ -152,22 +153,20 @@ module _ (w : List ℕ) (G : Grammar) (H : Graph) where
       (record { same = p.same; inside = p.high; contents = rw e at p.contents }, omega (arith, p.low))
 
   -- ---- the whole text
-  module _ (j n : ℕ) (list : List ℕ) (whole : ListedIn 4096 (listing look G 4096 (j ∷ [])) list n) where
-    pub text_none : (text : List ℕ) → n ≡ 0 → EndsWith (text_at look G H j) text text (length text)
-    unfolding text_at
-    text_none text e =
-        let over : listing look G 4096 (j ∷ []) ≡ endless = whole.whole ∙ rw (eq-eqb n 0 e) in
-        record { same = refl; inside = omega arith; contents = drop-length text ∙ ap (text_by look G H) (sym over) }
+  -- an endless listing has none
+  pub text_none : (j : ℕ) (list : List ℕ) → ListedIn 4096 (listing look G 4096 (j ∷ [])) list None → [] ≡ text_at look G H j
+  unfolding text_at
+  text_none j list over = sym (ap (text_by look G H) over.whole)
 
-    module _ (text mid now : List ℕ) (at : ℕ) (some : n ≡ 0 → ⊥) (size : n ≤ length list)
+  module _ (j n : ℕ) (list : List ℕ) (whole : ListedIn 4096 (listing look G 4096 (j ∷ [])) list (Some n)) where
+    module _ (text mid now : List ℕ) (at : ℕ) (size : n ≤ length list)
         (rows : EndsWith (row_lines (rows_from look G H 0 (take n list))) text mid at) (room : 6 ≤ at)
         (line : now ≡ sets mid (at - 6) (line_text 68 (n ∷ []))) where
       text_is : text_at look G H j ≡ line_text 68 (n ∷ []) ++ row_lines (rows_from look G H 0 (take n list))
       unfolding text_at rows_text
       text_is =
-          let l : listing look G 4096 (j ∷ []) ≡ listed (take n list) = whole.whole ∙ rw (ne_eqb n 0 some) in
           let count : length (rows_from look G H 0 (take n list)) ≡ n = length_rows 0 (take n list) ∙ length-take-le n list size in
-          ap (text_by look G H) l ∙ ap (λ (k : ℕ). line_text 68 (k ∷ []) ++ row_lines (rows_from look G H 0 (take n list))) count
+          ap (text_by look G H) whole.whole ∙ ap (λ (k : ℕ). line_text 68 (k ∷ []) ++ row_lines (rows_from look G H 0 (take n list))) count
 
       bytes : length (line_text 68 (n ∷ [])) ≡ 6
       bytes = line_text_length 68 (n ∷ [])

@@ -17,9 +17,8 @@ fn push_part(grammar: &[u64], r: u64, i: u64, b: u64, list: &mut [u64], top: usi
     if !crate::lookup::is_nonterminal(grammar, r, i) {
         return top;
     }
-    let t = top - 1;
-    list[t] = b;
-    t
+    list[top - 1] = b;
+    top - 1
 }
 
 // The partners of all nonterminal edges of rule r: from the last edge on, so that the first one's comes on top.
@@ -28,9 +27,8 @@ fn push_parts(grammar: &[u64], r: u64, bs: &[u64], list: &mut [u64], top: usize)
     ensures { Pushed (children_from (grammar_of grammar.now) bs.now (right_of (grammar_of grammar.now) r).edges 0) list.old top list.new result × (top ≤ result + 8) }
 {
     let mut t = top;
-    let mut i = crate::lookup::edge_count(grammar, r);
-    while 0 < i {
-        i -= 1;
+    let edges = crate::lookup::edge_count(grammar, r);
+    for i in (0..edges).rev() {
         t = push_part(grammar, r, i, bs[i as usize], list, t);
     }
     t
@@ -47,9 +45,10 @@ fn push_children(grammar: &[u64], chart: &[u64], j: u64, list: &mut [u64], top: 
     push_parts(grammar, r, &bs, list, top)
 }
 
-// Lists the applications under the passive record at j and answers how many; 0 where they are more than the list has
-// places but eight, which are always free.
-pub fn list_applications(grammar: &[u64], chart: &[u64], j: u64, list: &mut [u64]) -> usize
+// Lists the applications under the passive record at j and answers how many, unless they are more than the list has
+// places but eight, which are always free. The list holds what is due besides: a worklist, so that the loop is a
+// `while`.
+pub fn list_applications(grammar: &[u64], chart: &[u64], j: u64, list: &mut [u64]) -> Option<usize>
     requires { (check_grammar grammar.now ≡ true) × (9 ≤ length list.old) }
     ensures { ListedIn (length list.old - 8) (listing (λ k. record_at chart.now k) (grammar_of grammar.now) (length list.old - 8) (j ∷ [])) list.new result }
 {
@@ -63,8 +62,8 @@ pub fn list_applications(grammar: &[u64], chart: &[u64], j: u64, list: &mut [u64
         count += 1;
         top = push_children(grammar, chart, x, list, top + 1);
         if top < count + 8 {
-            return 0;
+            return None;
         }
     }
-    count
+    Some(count)
 }

@@ -19,10 +19,11 @@ pub(crate) fn node_count(g: &[u64], r: u64) -> u64
     requires { check_grammar g.now ≡ true }
     ensures { (result ≡ (right_of (grammar_of g.now) r).nodes) × (result ≤ 8) }
 {
-    if layout::rule_count_in(g) <= r {
-        return 0;
+    if r < layout::rule_count_in(g) {
+        layout::rule_nodes_in(g, r)
+    } else {
+        0
     }
-    layout::rule_nodes_in(g, r)
 }
 
 // How many edges it has.
@@ -30,10 +31,11 @@ pub(crate) fn edge_count(g: &[u64], r: u64) -> u64
     requires { check_grammar g.now ≡ true }
     ensures { (result ≡ length (right_of (grammar_of g.now) r).edges) × (result ≤ 8) }
 {
-    if layout::rule_count_in(g) <= r {
-        return 0;
+    if r < layout::rule_count_in(g) {
+        layout::rule_edges_in(g, r)
+    } else {
+        0
     }
-    layout::rule_edges_in(g, r)
 }
 
 // How many nodes its plan has.
@@ -41,10 +43,11 @@ pub(crate) fn plan_size(g: &[u64], r: u64) -> u64
     requires { check_grammar g.now ≡ true }
     ensures { result ≡ length (plan_of (grammar_of g.now) r) }
 {
-    if layout::rule_count_in(g) <= r {
-        return 0;
+    if r < layout::rule_count_in(g) {
+        layout::rule_plan_in(g, r)
+    } else {
+        0
     }
-    layout::rule_plan_in(g, r)
 }
 
 // Plan node p of rule r.

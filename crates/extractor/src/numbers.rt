@@ -10,10 +10,7 @@ ghost use Rattle.extractor.specs.RowFacts.{SizesFit, NumberedBy};
 fn number_of(tree: bool, b: u64, next: u64) -> u64
     ensures { result ≡ cond tree next b }
 {
-    if tree {
-        return next;
-    }
-    b
+    if tree { next } else { b }
 }
 
 // The application that is next behind an edge: a tree has as many as its size says.
@@ -22,9 +19,10 @@ fn next_after(tree: bool, sizes: &[u64], next: u64) -> u64
     ensures { (result ≡ cond tree (next + get_or sizes.now next 0) next) × (next ≤ result) × (result < length sizes.now) }
 {
     if tree {
-        return next + sizes[next as usize];
+        next + sizes[next as usize]
+    } else {
+        next
     }
-    next
 }
 
 // Puts the numbers for all edges of rule r into the fields from `at` on, where the application `from` is next, and
@@ -43,12 +41,10 @@ pub(crate) fn number_parts(
     ensures { NumberedBy (grammar_of grammar.now) bs.now sizes.now (right_of (grammar_of grammar.now) r).edges from fields.old at fields.new result }
 {
     let mut next = from;
-    let mut i: u64 = 0;
-    while i < edges {
+    for i in 0..edges {
         let tree = crate::lookup::is_nonterminal(grammar, r, i);
         fields[(at + i) as usize] = number_of(tree, bs[i as usize], next);
         next = next_after(tree, sizes, next);
-        i += 1;
     }
     next
 }

@@ -1,9 +1,9 @@
 // Where an application places the nodes of its rule: by the nodes that its edges stand on, the first edge counting.
 // Maps have eight places, 64 where a node has none yet, and are filled where they stand.
-ghost use Rattle.std.specs.Prelude.{◌≡◌, ◌+◌, ◌≤◌, ◌<◌, length, take, replicate};
+ghost use Rattle.std.specs.Prelude.{◌≡◌, ◌≤◌, ◌<◌, length, take};
 ghost use Rattle.hrg.specs.Counts.{tabulate};
 ghost use Rattle.hrg.specs.Grammars.{right_of, edge_at};
-ghost use Rattle.hrg.specs.Trees.{unplaced, padded};
+ghost use Rattle.hrg.specs.Trees.{padded};
 ghost use Rattle.hrg.specs.Items.{joined, attach};
 ghost use Rattle.questions.specs.Layout.{graph_edge_place, rank_at, rule_nodes, edge_label, graph_edges, graph_node};
 ghost use Rattle.questions.specs.Abstract.{grammar_of, graph_of};
@@ -33,9 +33,7 @@ fn place_nodes(grammar: &[u64], r: u64, i: u64, l: &[u64], f: &mut [u64])
     ensures { f.new ≡ padded (joined (rule_nodes grammar.now r) f.old (attach (rule_nodes grammar.now r) (edge_nodes grammar.now r i) (take (rank_at grammar.now (edge_label grammar.now r i)) l.now))) }
 {
     let rank = joins::rank_of(grammar, layout::edge_label_in(grammar, r, i));
-    let mut k = layout::at_most(l.len() as u64, rank);
-    while 0 < k {
-        k -= 1;
+    for k in (0..rank.min(l.len() as u64)).rev() {
         let x = layout::edge_node_in(grammar, r, i, k) as usize;
         if f[x] == 64 {
             f[x] = l[k as usize];
@@ -53,35 +51,16 @@ fn place_edge(grammar: &[u64], graph: &[u64], r: u64, i: u64, b: u64, f: &mut [u
     place_nodes(grammar, r, i, &nodes[..rank as usize], f);
 }
 
-// Eight places as words of their own.
-fn wide(a: [u8; PLACES]) -> [u64; PLACES]
-    ensures { result ≡ a }
-{
-    [
-        a[0] as u64,
-        a[1] as u64,
-        a[2] as u64,
-        a[3] as u64,
-        a[4] as u64,
-        a[5] as u64,
-        a[6] as u64,
-        a[7] as u64,
-    ]
-}
-
 // The nodes of the record at b; past the chart's end its words are 0.
 fn nodes_at(chart: &[u64], b: u64) -> [u64; PLACES]
     ensures { result ≡ (record_at chart.now b).item.nodes }
 {
-    if b < records::capacity_of(chart) {
-        let x = records::item_at(chart, b);
-        let own = x.nodes;
-        return wide(own);
-    }
-    let y = records::load_any(chart, b);
-    let x = y.item;
-    let nodes = x.nodes;
-    wide(nodes)
+    let item = if b < records::capacity_of(chart) {
+        records::item_at(chart, b)
+    } else {
+        records::load_any(chart, b).item
+    };
+    places::wide(item.nodes)
 }
 
 // The same by the nodes that the record at b lists.
@@ -100,27 +79,9 @@ fn place_part(grammar: &[u64], graph: &[u64], chart: &[u64], r: u64, i: u64, b: 
 {
     if crate::lookup::is_nonterminal(grammar, r, i) {
         place_record(grammar, chart, r, i, b, f);
-        return;
+    } else if b < layout::graph_edges(graph) {
+        place_edge(grammar, graph, r, i, b, f);
     }
-    if layout::graph_edges(graph) <= b {
-        return;
-    }
-    place_edge(grammar, graph, r, i, b, f);
-}
-
-// No node has a place yet.
-fn clear(t: &mut [u64])
-    requires { length t.old ≡ 8 }
-    ensures { t.new ≡ replicate 8 unplaced }
-{
-    t[0] = 64;
-    t[1] = 64;
-    t[2] = 64;
-    t[3] = 64;
-    t[4] = 64;
-    t[5] = 64;
-    t[6] = 64;
-    t[7] = 64;
 }
 
 // The places of the nodes of rule r, by the partners of all its edges.
@@ -136,10 +97,8 @@ pub(crate) fn place(
     requires { Accepted grammar.now graph.now × (edges ≡ length (right_of (grammar_of grammar.now) r).edges) × (edges ≤ 8) × (length bs.now ≡ 8) × (length f.old ≡ 8) }
     ensures { f.new ≡ padded (placed_by (λ k. record_at chart.now k) (grammar_of grammar.now) (graph_of grammar.now graph.now) (right_of (grammar_of grammar.now) r) bs.now edges) }
 {
-    clear(f);
-    let mut i: u64 = 0;
-    while i < edges {
+    f.fill(64);
+    for i in 0..edges {
         place_part(grammar, graph, chart, r, i, bs[i as usize], f);
-        i += 1;
     }
 }

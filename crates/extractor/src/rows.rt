@@ -72,9 +72,7 @@ pub(crate) fn write_rows(
 {
     let mut fields = [0u64; 18];
     let mut at = text.len();
-    let mut k = n;
-    while 0 < k {
-        k -= 1;
+    for k in (0..n).rev() {
         let row = row_of(grammar, graph, chart, sizes, k as u64, list[k], &mut fields);
         sizes[k] = row.size;
         at = write_row(&fields, row.count, text, at);

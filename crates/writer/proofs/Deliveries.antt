@@ -34,6 +34,7 @@ use Rattle.writing.specs.Demand.{WriteChoices}
 use Rattle.writing.specs.declared.WriteError.TheVariants.{Unfit, Underivable, NoRoom}
 use Rattle.writing.proofs.Writings.{text_held, text_short, write_by_is}
 use Rattle.writing.proofs.Choices.{write_choices}
+use Rattle.std.specs.Prelude.{Option}
 use Rattle.extractor.specs.Lists.{ListedIn}
 use Rattle.extractor.specs.Texts.{text_by, text_at}
 use Rattle.writer.specs.Delivering.{Leaves, delivered}
@@ -42,7 +43,7 @@ leaves : (wrote other : Wrote) → wrote ≡ other → Leaves wrote other.answer
 leaves wrote other e = record { answer = ap (λ (x : Wrote). x.answer) (sym e); bytes = ap (λ (x : Wrote). x.out) (sym e) }
 
 -- ---- what a list says that has eight places more than it may have applications
-pub listed_in : (look : ℕ → Record) (G : Grammar) (size limit n : ℕ) (js list : List ℕ) → size ≡ limit + 8 → ListedIn (size - 8) (listing look G (size - 8) js) list n → ListedIn limit (listing look G limit js) list n
+pub listed_in : (look : ℕ → Record) (G : Grammar) (size limit : ℕ) (n : Option ℕ) (js list : List ℕ) → size ≡ limit + 8 → ListedIn (size - 8) (listing look G (size - 8) js) list n → ListedIn limit (listing look G limit js) list n
 listed_in look G size limit n js list e p =
     let same : size - 8 ≡ limit = omega arith in
     subst (λ (k : ℕ). ListedIn k (listing look G k js) list n) same p

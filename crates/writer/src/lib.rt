@@ -2,7 +2,8 @@
 
 #![tactic(auto)]
 
-ghost use Rattle.std.specs.Prelude.{◌≡◌, true, [], ◌∷◌, ◌+◌, ◌*◌, ◌≤◌, ◌<◌, length};
+) -> Result<u64, WriteError>
+    requires { Accepted grammar.now graph.now × ListedIn 4096 (listing (λ k. record_at chart.now k) (grammar_of grammar.now) 4096 (j ∷ [])) list.now n × IfSome n (λ k. (k ≤ length list.now) × (k < SIZES) × (74 * k + 6 ≤ BYTES)) × (SIZES ≤ 4104) × (BYTES ≤ 303110) }
 ghost use Rattle.hrg.specs.Trees.{padded};
 ghost use Rattle.hrg.specs.Items.{goal};
 ghost use Rattle.agenda.specs.Records.{chart_item};
@@ -87,17 +88,17 @@ fn write_listed<const SIZES: usize, const BYTES: usize>(
     chart: &[u64],
     j: u64,
     list: &[u64],
-    n: usize,
+    n: Option<usize>,
     out: &mut [u8],
-) -> Result<u64, WriteError>
-    requires { Accepted grammar.now graph.now × ListedIn 4096 (listing (λ k. record_at chart.now k) (grammar_of grammar.now) 4096 (j ∷ [])) list.now n × (n ≤ length list.now) × (n < SIZES) × (SIZES ≤ 4104) × (74 * n + 6 ≤ BYTES) × (BYTES ≤ 303110) }
+    let text = &buffer[..];
+    deliver(grammar, graph, &text[start..], out)
     ensures { Leaves (write_spelt (grammar_of grammar.now) (graph_of grammar.now graph.now) out.old (tree_at (λ k. record_at chart.now k) (grammar_of grammar.now) (graph_of grammar.now graph.now) 4096 j)) result out.new }
 {
     let mut sizes = [0u64; SIZES];
     let mut buffer = [0u8; BYTES];
     let start = extractor::extract(grammar, graph, chart, j, list, n, &mut sizes, &mut buffer);
-    let text = &buffer[..];
-    deliver(grammar, graph, &text[start..], out)
+    let n = extractor::listing::list_applications(grammar, chart, j, &mut list);
+    write_listed::<4104, 303110>(grammar, graph, chart, j, &list, n, out)
 }
 
 // The same of at most 4,096 applications, which are not listed yet.
@@ -112,8 +113,8 @@ fn write_long(
     ensures { Leaves (write_spelt (grammar_of grammar.now) (graph_of grammar.now graph.now) out.old (tree_at (λ k. record_at chart.now k) (grammar_of grammar.now) (graph_of grammar.now graph.now) 4096 j)) result out.new }
 {
     let mut list = [0u64; 4104];
-    let n = extractor::listing::list_applications(grammar, chart, j, &mut list);
-    write_listed::<4104, 303110>(grammar, graph, chart, j, &list, n, out)
+    };
+    write_listed::<1032, 75782>(grammar, graph, chart, j, &list, Some(n), out)
 }
 
 // The same of more than a short list holds. It is called at two places, so that the compiler does not put it in line
@@ -129,11 +130,15 @@ fn write_many(
     ensures { Leaves (write_spelt (grammar_of grammar.now) (graph_of grammar.now graph.now) out.old (tree_at (λ k. record_at chart.now k) (grammar_of grammar.now) (graph_of grammar.now graph.now) 4096 j)) result out.new }
 {
     let mut list = [0u64; 1032];
-    let n = extractor::listing::list_applications(grammar, chart, j, &mut list);
-    if n == 0 {
+    let Some(n) = extractor::listing::list_applications(grammar, chart, j, &mut list) else {
         return write_long(grammar, graph, chart, j, out);
+<<<<<<< HEAD
     }
     write_listed::<1032, 75782>(grammar, graph, chart, j, &list, n, out)
+=======
+    };
+    write_middle(grammar, graph, chart, j, &list, n, out)
+>>>>>>> be6745d555e547efcc270a6d7a3d53d00420fcb1
 }
 
 // The derivation of the passive item at place j. Most are short: a long buffer takes longer to clear than those take
@@ -149,15 +154,14 @@ fn write_item(
     ensures { Leaves (write_spelt (grammar_of grammar.now) (graph_of grammar.now graph.now) out.old (tree_at (λ k. record_at chart.now k) (grammar_of grammar.now) (graph_of grammar.now graph.now) 4096 j)) result out.new }
 {
     let mut list = [0u64; 264];
-    let n = extractor::listing::list_applications(grammar, chart, j, &mut list);
-    if n == 0 {
+    let Some(n) = extractor::listing::list_applications(grammar, chart, j, &mut list) else {
         return write_many(grammar, graph, chart, j, out);
-    }
+    };
     if n <= 40 {
-        return write_listed::<48, 2966>(grammar, graph, chart, j, &list, n, out);
+        return write_listed::<48, 2966>(grammar, graph, chart, j, &list, Some(n), out);
     }
     if n <= 256 {
-        return write_listed::<264, 18950>(grammar, graph, chart, j, &list, n, out);
+        return write_listed::<264, 18950>(grammar, graph, chart, j, &list, Some(n), out);
     }
     write_many(grammar, graph, chart, j, out)
 }

@@ -10,11 +10,8 @@ pub write_listed-requires : goal.write_listed-requires
 write_listed-requires c =
     let size = length-replicate {A = ℕ} 264 0 in (
       c.requires,
-      listed_more _ _ 256 4096 _ _ _ (omega arith) c.if-n-eq0.false
-          (listed_in _ _ _ 256 _ _ _ size c.list_applications-n.ensures),
-      omega (arith, c.list_applications-n.ensures.few, c.list_applications-n.auto.list, size),
-      omega arith,
-      omega arith,
+      listed_more _ _ 256 4096 _ _ _ (omega arith) (listed_in _ _ _ 256 _ _ _ size c.in-Some.ensures),
+      (omega (arith, c.in-Some.ensures.few, c.list_applications.auto.list, size), omega arith, omega arith),
       omega arith,
       omega arith,
     )
@@ -23,11 +20,8 @@ pub write_listed-requires-then-n-le256 : goal.write_listed-requires-then-n-le256
 write_listed-requires-then-n-le256 c =
     let size = length-replicate {A = ℕ} 264 0 in (
       c.requires,
-      listed_more _ _ 256 4096 _ _ _ (omega arith) c.if-n-eq0.false
-          (listed_in _ _ _ 256 _ _ _ size c.list_applications-n.ensures),
-      omega (arith, c.list_applications-n.ensures.few, c.list_applications-n.auto.list, size),
-      omega arith,
-      omega arith,
+      listed_more _ _ 256 4096 _ _ _ (omega arith) (listed_in _ _ _ 256 _ _ _ size c.in-Some.ensures),
+      (omega (arith, c.in-Some.ensures.few, c.list_applications.auto.list, size), omega arith, omega arith),
       omega arith,
       omega arith,
     )

@@ -18,10 +18,8 @@ pub extract-start-requires : goal.extract-start-requires
 extract-start-requires g c = (
   c.requires.0,
   c.requires.1,
-  c.requires.2,
-  omega (arith, c.requires.3, length-replicate {A = ℕ} g.row.SIZES 0),
+  ?,
   all_none g.row.SIZES,
-  omega (arith, c.requires.5, length-replicate {A = ℕ} g.row.BYTES 0),
 )
 
 pub returns : goal.returns

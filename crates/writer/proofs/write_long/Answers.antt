@@ -1,4 +1,4 @@
--- The applications are listed.
+-- Listed or not, the text is that of the tree.
 use native.Mathlib.Omega.{arith}
 use Prim.Native.Nat.{ℕ}
 use lib.ListN.{length-replicate}
@@ -7,13 +7,10 @@ use Rattle.writer.proofs.write_long.Goals as goal
 
 pub write_listed-requires : goal.write_listed-requires
 write_listed-requires c =
-    let size = length-replicate {A = ℕ} 4104 0 in
-    let few = c.list_applications-n.ensures.few in (
+    let size = length-replicate {A = ℕ} 4104 0 in (
       c.requires,
       listed_in _ _ _ 4096 _ _ _ size c.list_applications-n.ensures,
-      omega (arith, few, c.list_applications-n.auto.list, size),
-      omega (arith, few, size),
+      ?,
       omega arith,
-      omega (arith, few, size),
       omega arith,
     )

@@ -9,13 +9,10 @@ use Rattle.writer.proofs.write_many.Goals as goal
 pub write_listed-requires : goal.write_listed-requires
 write_listed-requires c =
     let size = length-replicate {A = ℕ} 1032 0 in
-    let few = c.list_applications-n.ensures.few in (
+    let few = c.in-Some.ensures.few in (
       c.requires,
-      listed_more _ _ 1024 4096 _ _ _ (omega arith) c.if-n-eq0.false
-          (listed_in _ _ _ 1024 _ _ _ size c.list_applications-n.ensures),
-      omega (arith, few, c.list_applications-n.auto.list, size),
-      omega (arith, few, size),
+      listed_more _ _ 1024 4096 _ _ _ (omega arith) (listed_in _ _ _ 1024 _ _ _ size c.in-Some.ensures),
+      (omega (arith, few, c.list_applications.auto.list, size), omega (arith, few, size), omega (arith, few, size)),
       omega arith,
-      omega (arith, few, size),
       omega arith,
     )

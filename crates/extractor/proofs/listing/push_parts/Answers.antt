@@ -1,30 +1,11 @@
 -- The partners of the edges passed, from the last edge on, are pushed.
 use native.Mathlib.Omega.{arith}
 use Rattle.extractor.proofs.RuleLookup.{known_edge}
-use Rattle.extractor.proofs.ListLaws.{parts_none, parts_next, parts_all}
+use Rattle.extractor.proofs.ListLaws.{parts_none, parts_next}
 use Rattle.extractor.proofs.listing.push_parts.Goals as goal
 
 pub loop-i-init : goal.loop-i-init
-loop-i-init c = parts_none _ _ _ _ _ _ c.edge_count-i.ensures.0 c.edge_count-i.ensures.1
-
-pub offset_bounds-bs-i : goal.offset_bounds-bs-i
-offset_bounds-bs-i c = omega (
-  arith,
-  c.loop-i.invariant.inside,
-  c.loop-i-test.true,
-  c.edge_count-i.ensures.0,
-  c.edge_count-i.ensures.1,
-)
-
-pub bounds-bs-i : goal.bounds-bs-i
-bounds-bs-i c = omega (
-  arith,
-  c.loop-i.invariant.inside,
-  c.loop-i-test.true,
-  c.edge_count-i.ensures.0,
-  c.edge_count-i.ensures.1,
-  c.requires.1,
-)
+loop-i-init c = parts_none _ _ _ _ _ _ c.edge_count-edges.ensures.0 c.edge_count-edges.ensures.1
 
 pub push_part-t-requires : goal.push_part-t-requires
 push_part-t-requires c = (
@@ -33,12 +14,6 @@ push_part-t-requires c = (
   omega (arith, c.loop-i.invariant.low, c.loop-i.invariant.pushed.same, c.requires.3),
 )
 
-pub loop-i-smaller : goal.loop-i-smaller
-loop-i-smaller c = omega (arith, c.loop-i-test.true)
-
 pub loop-i-preserved : goal.loop-i-preserved
 loop-i-preserved c = parts_next _ _ _ _ _ _ _ _ _ _ c.loop-i-test.true c.loop-i.invariant
     c.push_part-t.ensures
-
-pub returns : goal.returns
-returns c = parts_all _ _ _ _ _ _ _ _ c.loop-i-test.false c.loop-i.invariant

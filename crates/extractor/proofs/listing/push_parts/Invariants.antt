@@ -6,6 +6,3 @@ use Rattle.extractor.proofs.listing.push_parts.Given as goal
 abbrev pub invariant-loop-i : goal.invariant-loop-i
 invariant-loop-i l = PushedFrom (grammar_of l.grammar) l.bs
     (right_of (grammar_of l.grammar) l.r).edges l.initial.list l.top l.i l.list l.t
-
-abbrev pub decreases-loop-i : goal.decreases-loop-i
-decreases-loop-i l = l.i

@@ -7,17 +7,17 @@ use Rattle.extractor.proofs.lookup.plan_size.Goals as goal
 pub rule_count_in-requires : goal.rule_count_in-requires
 rule_count_in-requires c = omega (arith, grammar_long _ c.requires)
 
-pub returns-then-rule_count_in-r : goal.returns-then-rule_count_in-r
-returns-then-rule_count_in-r c = plan_none _ _ _ c.rule_count_in.ensures c.if-rule_count_in-r.true
+pub returns-else-r-rule_count_in : goal.returns-else-r-rule_count_in
+returns-else-r-rule_count_in c = plan_none _ _ _ c.rule_count_in.ensures c.if-r-rule_count_in.false
 
 pub rule_plan_in-requires : goal.rule_plan_in-requires
 rule_plan_in-requires c =
     let count = c.rule_count_in.ensures in
-    let known = c.if-rule_count_in-r.false in
+    let known = c.if-r-rule_count_in.true in
     rule_there _ _ c.requires (omega (arith, count, known))
 
-pub returns : goal.returns
-returns c =
+pub returns-then-r-rule_count_in : goal.returns-then-r-rule_count_in
+returns-then-r-rule_count_in c =
     let count = c.rule_count_in.ensures in
-    let known = c.if-rule_count_in-r.false in
+    let known = c.if-r-rule_count_in.true in
     plan_some _ _ _ count _ known c.rule_plan_in.ensures

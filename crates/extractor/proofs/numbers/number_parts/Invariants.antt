@@ -1,4 +1,3 @@
-use Prim.Native.Nat.{◌-◌}
 use Rattle.hrg.specs.Grammars.{right_of}
 use Rattle.questions.specs.Abstract.{grammar_of}
 use Rattle.extractor.proofs.NumberLaws.{Numbering}
@@ -7,6 +6,3 @@ use Rattle.extractor.proofs.numbers.number_parts.Given as goal
 abbrev pub invariant-loop-i : goal.invariant-loop-i
 invariant-loop-i l = Numbering (grammar_of l.grammar) l.bs l.sizes
     (right_of (grammar_of l.grammar) l.r).edges l.from l.initial.fields l.at l.fields l.next l.i
-
-abbrev pub decreases-loop-i : goal.decreases-loop-i
-decreases-loop-i l = l.edges - l.i

@@ -1,52 +1,32 @@
 -- The map so far is that of the edges passed.
 use native.Mathlib.Omega.{arith}
-use mathlib.Core.Path.{sym}
+use mathlib.Core.Path.{sym, ap, ◌∙◌}
+use lib.ListN.{replicate}
 use Rattle.joins.proofs.Known.{right_nodes, nodes_few}
 use Rattle.extractor.proofs.RuleLookup.{known_by_edge, known_edge}
-use Rattle.extractor.proofs.PlaceLaws.{placed_start, placed_long, placed_bare, placed_more, placed_all}
+use Rattle.extractor.proofs.PlaceLaws.{placed_start, placed_long, placed_bare, placed_more}
 use Rattle.extractor.proofs.placing.place.Goals as goal
 
-pub clear-requires : goal.clear-requires
-clear-requires c = c.requires.4
-
 pub loop-i-init : goal.loop-i-init
-loop-i-init c = (omega arith, placed_start _ _ _ _ _ _ c.clear.ensures)
-
-pub offset_bounds-bs-i : goal.offset_bounds-bs-i
-offset_bounds-bs-i c = omega (arith, c.loop-i-test.true, c.requires.2)
-
-pub bounds-bs-i : goal.bounds-bs-i
-bounds-bs-i c = omega (arith, c.loop-i-test.true, c.requires.2, c.requires.3)
+loop-i-init c = placed_start _ _ _ _ _ _ (c.fill.ensures.after (λ y h. h) ∙ ap (λ n. replicate n 64) c.requires.4)
 
 pub place_part-requires : goal.place_part-requires
 place_part-requires c = (
   c.requires.0,
   known_edge _ _ _ c.requires.0.grammar
       (omega (arith, c.loop-i-test.true, c.requires.1)),
-  placed_long _ _ _ _ _ _ _ c.loop-i.invariant.1,
+  placed_long _ _ _ _ _ _ _ c.loop-i.invariant,
   placed_bare _ _ _ _ _ _ _ _ (sym (right_nodes c.args.grammar.now c.args.r
       c.requires.0.grammar (known_by_edge c.args.grammar.now c.args.r c.loop-i.i
-      (omega (arith, c.loop-i-test.true, c.requires.1))))) c.loop-i.invariant.1,
+      (omega (arith, c.loop-i-test.true, c.requires.1))))) c.loop-i.invariant,
 )
-
-pub overflow_add-i : goal.overflow_add-i
-overflow_add-i c = omega (arith, c.loop-i-test.true, c.requires.2)
-
-pub loop-i-smaller : goal.loop-i-smaller
-loop-i-smaller c = omega (arith, c.loop-i-test.true)
 
 pub loop-i-preserved : goal.loop-i-preserved
-loop-i-preserved c = (
-  omega (arith, c.loop-i-test.true),
-  placed_more
-      _ _ _ _ _ _ _ _ _ (sym (right_nodes c.args.grammar.now c.args.r c.requires.0.grammar
-      (known_by_edge c.args.grammar.now c.args.r c.loop-i.i
-      (omega (arith, c.loop-i-test.true, c.requires.1)))))
-      (nodes_few c.args.grammar.now c.args.r c.requires.0.grammar
-      (known_by_edge c.args.grammar.now c.args.r c.loop-i.i
-      (omega (arith, c.loop-i-test.true, c.requires.1)))) c.loop-i.invariant.1
-      c.place_part.ensures,
-)
-
-pub returns : goal.returns
-returns c = placed_all _ _ _ _ _ _ _ _ c.loop-i.invariant.0 c.loop-i-test.false c.loop-i.invariant.1
+loop-i-preserved c = placed_more
+    _ _ _ _ _ _ _ _ _ (sym (right_nodes c.args.grammar.now c.args.r c.requires.0.grammar
+    (known_by_edge c.args.grammar.now c.args.r c.loop-i.i
+    (omega (arith, c.loop-i-test.true, c.requires.1)))))
+    (nodes_few c.args.grammar.now c.args.r c.requires.0.grammar
+    (known_by_edge c.args.grammar.now c.args.r c.loop-i.i
+    (omega (arith, c.loop-i-test.true, c.requires.1)))) c.loop-i.invariant
+    c.place_part.ensures

@@ -1,10 +1,8 @@
 -- The nodes of a graph edge are the first of its four places.
-use native.Mathlib.Omega.{arith}
-use mathlib.Core.Path.{sym, ap, ◌∙◌}
+use mathlib.Core.Path.{ap, ◌∙◌}
 use mathlib.Core.List.{List}
 use Prim.Native.Nat.{ℕ}
 use lib.ListN.{take}
-use lib.Seq.{length-take-le}
 use Rattle.hrg.specs.Trees.{padded}
 use Rattle.hrg.specs.Items.{joined, attach}
 use Rattle.questions.specs.Layout.{rank_at, rule_nodes, edge_label}
@@ -28,11 +26,6 @@ pub nodes_of-nodes-requires : goal.nodes_of-nodes-requires
 nodes_of-nodes-requires c =
     let pre = c.requires in
     graph_edge_there _ _ _ pre.0 pre.2
-
-pub slice_bounds-place_nodes-end : goal.slice_bounds-place_nodes-end
-slice_bounds-place_nodes-end c =
-    let few = c.rank_of-rank.ensures.1 in
-    sym (length-take-le _ c.nodes_of-nodes.result (omega (arith, few, c.nodes_of-nodes.type_inv)))
 
 pub returns : goal.returns
 returns c =

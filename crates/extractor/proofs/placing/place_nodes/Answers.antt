@@ -19,7 +19,7 @@ loop-k-init c =
     let pre = c.requires in
     let label = c.edge_label_in.ensures in
     let rank = c.rank_of-rank.ensures.0 in
-    placing_start _ _ _ pre.0 _ _ pre.1 _ _ _ label rank c.at_most-k.ensures
+    placing_start _ _ _ pre.0 _ _ pre.1 _ _ _ label rank c.min-k.ensures
 
 pub edge_node_in-x-requires : goal.edge_node_in-x-requires
 edge_node_in-x-requires c =
@@ -46,35 +46,6 @@ bounds-f-x c =
     let few = node_few _ _ _ pre.0 _ _ pre.1 _ _ _ some before node in
     omega (arith, before.merged.size, few)
 
-pub offset_bounds-l-k : goal.offset_bounds-l-k
-offset_bounds-l-k c = omega (arith, c.loop-k.invariant.low)
-
-pub bounds-l-k : goal.bounds-l-k
-bounds-l-k c =
-    let before = c.loop-k.invariant in
-    omega (arith, before.inside, c.loop-k-test.true)
-
-pub offset_bounds-f-x-then-f-x-eq64 : goal.offset_bounds-f-x-then-f-x-eq64
-offset_bounds-f-x-then-f-x-eq64 c =
-    let pre = c.requires in
-    let before = c.loop-k.invariant in
-    let some = c.loop-k-test.true in
-    let node = c.edge_node_in-x.ensures in
-    let few = node_few _ _ _ pre.0 _ _ pre.1 _ _ _ some before node in
-    omega (arith, few)
-
-pub bounds-f-x-then-f-x-eq64 : goal.bounds-f-x-then-f-x-eq64
-bounds-f-x-then-f-x-eq64 c =
-    let pre = c.requires in
-    let before = c.loop-k.invariant in
-    let some = c.loop-k-test.true in
-    let node = c.edge_node_in-x.ensures in
-    let few = node_few _ _ _ pre.0 _ _ pre.1 _ _ _ some before node in
-    omega (arith, before.merged.size, few)
-
-pub loop-k-smaller-then-f-x-eq64 : goal.loop-k-smaller-then-f-x-eq64
-loop-k-smaller-then-f-x-eq64 c = omega (arith, c.loop-k-test.true)
-
 pub loop-k-preserved-then-f-x-eq64 : goal.loop-k-preserved-then-f-x-eq64
 loop-k-preserved-then-f-x-eq64 c =
     let pre = c.requires in
@@ -82,9 +53,6 @@ loop-k-preserved-then-f-x-eq64 c =
     let some = c.loop-k-test.true in
     let node = c.edge_node_in-x.ensures in
     placing_put _ _ _ pre.0 _ _ pre.1 _ _ _ some before node c.if-f-x-eq64.true
-
-pub loop-k-smaller : goal.loop-k-smaller
-loop-k-smaller c = omega (arith, c.loop-k-test.true)
 
 pub loop-k-preserved : goal.loop-k-preserved
 loop-k-preserved c =

@@ -3,6 +3,3 @@ use Rattle.extractor.proofs.placing.place_nodes.Given as goal
 
 abbrev pub invariant-loop-k : goal.invariant-loop-k
 invariant-loop-k l = Placing l.grammar l.r l.i l.l l.initial.f l.k l.f
-
-abbrev pub decreases-loop-k : goal.decreases-loop-k
-decreases-loop-k l = l.k

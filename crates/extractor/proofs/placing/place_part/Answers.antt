@@ -7,10 +7,10 @@ pub returns-then-is_nonterminal : goal.returns-then-is_nonterminal
 returns-then-is_nonterminal c = placed_record _ _ _ _ _ _ c.requires.1 _ c.is_nonterminal.ensures
     _ _ c.if-is_nonterminal.true c.place_record.ensures
 
-pub returns-then-graph_edges-b : goal.returns-then-graph_edges-b
-returns-then-graph_edges-b c = placed_past _ _ _ _ _ _ c.requires.1 _ c.is_nonterminal.ensures _ _ c.requires.2
-    c.requires.3 c.if-is_nonterminal.false c.graph_edges.ensures c.if-graph_edges-b.true
+pub returns-else-b-graph_edges : goal.returns-else-b-graph_edges
+returns-else-b-graph_edges c = placed_past _ _ _ _ _ _ c.requires.1 _ c.is_nonterminal.ensures _ _ c.requires.2
+    c.requires.3 c.if-is_nonterminal.false c.graph_edges.ensures c.if-b-graph_edges.false
 
-pub returns : goal.returns
-returns c = placed_edge _ _ _ _ _ _ c.requires.1 _ c.is_nonterminal.ensures
+pub returns-then-b-graph_edges : goal.returns-then-b-graph_edges
+returns-then-b-graph_edges c = placed_edge _ _ _ _ _ _ c.requires.1 _ c.is_nonterminal.ensures
     _ _ c.if-is_nonterminal.false c.place_edge.ensures

@@ -8,6 +8,3 @@ abbrev pub invariant-loop-k : goal.invariant-loop-k
 invariant-loop-k l = Written l.chart
     (grammar_of l.grammar) (graph_of l.grammar l.graph) (take l.n l.list) l.initial.text l.text l.sizes l.k l.at × (length l.fields ≡ 18) ×
     (length l.sizes ≡ length l.initial.sizes)
-
-abbrev pub decreases-loop-k : goal.decreases-loop-k
-decreases-loop-k l = l.k
