@@ -2,8 +2,7 @@
 
 #![tactic(auto)]
 
-) -> Result<u64, WriteError>
-    requires { Accepted grammar.now graph.now × ListedIn 4096 (listing (λ k. record_at chart.now k) (grammar_of grammar.now) 4096 (j ∷ [])) list.now n × IfSome n (λ k. (k ≤ length list.now) × (k < SIZES) × (74 * k + 6 ≤ BYTES)) × (SIZES ≤ 4104) × (BYTES ≤ 303110) }
+ghost use Rattle.std.specs.Prelude.{◌≡◌, true, [], ◌∷◌, ◌+◌, ◌*◌, ◌≤◌, ◌<◌, length, IfSome};
 ghost use Rattle.hrg.specs.Trees.{padded};
 ghost use Rattle.hrg.specs.Items.{goal};
 ghost use Rattle.agenda.specs.Records.{chart_item};
@@ -90,15 +89,15 @@ fn write_listed<const SIZES: usize, const BYTES: usize>(
     list: &[u64],
     n: Option<usize>,
     out: &mut [u8],
-    let text = &buffer[..];
-    deliver(grammar, graph, &text[start..], out)
+) -> Result<u64, WriteError>
+    requires { Accepted grammar.now graph.now × ListedIn 4096 (listing (λ k. record_at chart.now k) (grammar_of grammar.now) 4096 (j ∷ [])) list.now n × IfSome n (λ k. (k ≤ length list.now) × (k < SIZES) × (74 * k + 6 ≤ BYTES)) × (SIZES ≤ 4104) × (BYTES ≤ 303110) }
     ensures { Leaves (write_spelt (grammar_of grammar.now) (graph_of grammar.now graph.now) out.old (tree_at (λ k. record_at chart.now k) (grammar_of grammar.now) (graph_of grammar.now graph.now) 4096 j)) result out.new }
 {
     let mut sizes = [0u64; SIZES];
     let mut buffer = [0u8; BYTES];
     let start = extractor::extract(grammar, graph, chart, j, list, n, &mut sizes, &mut buffer);
-    let n = extractor::listing::list_applications(grammar, chart, j, &mut list);
-    write_listed::<4104, 303110>(grammar, graph, chart, j, &list, n, out)
+    let text = &buffer[..];
+    deliver(grammar, graph, &text[start..], out)
 }
 
 // The same of at most 4,096 applications, which are not listed yet.
@@ -113,8 +112,8 @@ fn write_long(
     ensures { Leaves (write_spelt (grammar_of grammar.now) (graph_of grammar.now graph.now) out.old (tree_at (λ k. record_at chart.now k) (grammar_of grammar.now) (graph_of grammar.now graph.now) 4096 j)) result out.new }
 {
     let mut list = [0u64; 4104];
-    };
-    write_listed::<1032, 75782>(grammar, graph, chart, j, &list, Some(n), out)
+    let n = extractor::listing::list_applications(grammar, chart, j, &mut list);
+    write_listed::<4104, 303110>(grammar, graph, chart, j, &list, n, out)
 }
 
 // The same of more than a short list holds. It is called at two places, so that the compiler does not put it in line
@@ -132,13 +131,8 @@ fn write_many(
     let mut list = [0u64; 1032];
     let Some(n) = extractor::listing::list_applications(grammar, chart, j, &mut list) else {
         return write_long(grammar, graph, chart, j, out);
-<<<<<<< HEAD
-    }
-    write_listed::<1032, 75782>(grammar, graph, chart, j, &list, n, out)
-=======
     };
-    write_middle(grammar, graph, chart, j, &list, n, out)
->>>>>>> be6745d555e547efcc270a6d7a3d53d00420fcb1
+    write_listed::<1032, 75782>(grammar, graph, chart, j, &list, Some(n), out)
 }
 
 // The derivation of the passive item at place j. Most are short: a long buffer takes longer to clear than those take

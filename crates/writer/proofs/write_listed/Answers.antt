@@ -2,6 +2,7 @@
 use native.Mathlib.Omega.{arith}
 use Prim.Native.Nat.{ℕ, ◌-◌}
 use lib.ListN.{length, length-replicate}
+use Rattle.std.proofs.lemmas.Option.{IfSome_then}
 use Rattle.writer.proofs.Deliveries.{all_none, part_delivered, item_written}
 use Rattle.writer.proofs.write_listed.Goals as goal
 
@@ -18,7 +19,11 @@ pub extract-start-requires : goal.extract-start-requires
 extract-start-requires g c = (
   c.requires.0,
   c.requires.1,
-  ?,
+  IfSome_then c.args.n c.requires.2 (λ k p. (
+    p.0,
+    omega (arith, p.1, length-replicate {A = ℕ} g.row.SIZES 0),
+    omega (arith, p.2, length-replicate {A = ℕ} g.row.BYTES 0),
+  )),
   all_none g.row.SIZES,
 )
 
