@@ -3,7 +3,7 @@
 
 #![tactic(auto)]
 
-ghost use Rattle.std.specs.Prelude.{[], ◌∷◌, ◌≡◌, ◌+◌, ◌*◌, ◌≤◌, ◌<◌, Some, length, replicate};
+ghost use Rattle.std.specs.Prelude.{[], ◌∷◌, ◌≡◌, ◌+◌, ◌*◌, ◌≤◌, ◌<◌, IfSome, length, replicate};
 ghost use Rattle.questions.specs.Abstract.{grammar_of, graph_of};
 ghost use Rattle.joins.specs.Joins.{Accepted};
 ghost use Rattle.records.specs.Words.{record_at};
@@ -19,21 +19,25 @@ mod placing;
 mod rows;
 
 // Writes the text of the n applications listed under the passive record at j to the end of the buffer and answers
-// where it starts. A line has at most 74 bytes, the first one six. The sizes of the trees are worked out in a part that
-// is lent, all 0, with more places than there are applications.
+// where it starts; the buffer's end where none are listed: they are more than 4,096. A line has at most 74 bytes, the
+// first one six. The sizes of the trees are worked out in a part that is lent, all 0, with more places than there are
+// applications.
 pub fn extract(
     grammar: &[u64],
     graph: &[u64],
     chart: &[u64],
     j: u64,
     list: &[u64],
-    n: usize,
+    n: Option<usize>,
     sizes: &mut [u64],
     text: &mut [u8],
 ) -> usize
-    requires { Accepted grammar.now graph.now × ListedIn 4096 (listing (λ k. record_at chart.now k) (grammar_of grammar.now) 4096 (j ∷ [])) list.now (Some n) × (n ≤ length list.now) × (n < length sizes.old) × (sizes.old ≡ replicate (length sizes.old) 0) × (74 * n + 6 ≤ length text.old) }
+    requires { Accepted grammar.now graph.now × ListedIn 4096 (listing (λ k. record_at chart.now k) (grammar_of grammar.now) 4096 (j ∷ [])) list.now n × (sizes.old ≡ replicate (length sizes.old) 0) × IfSome n (λ k. (k ≤ length list.now) × (k < length sizes.old) × (74 * k + 6 ≤ length text.old)) }
     ensures { EndsWith (text_at (λ k. record_at chart.now k) (grammar_of grammar.now) (graph_of grammar.now graph.now) j) text.old text.new result }
 {
+    let Some(n) = n else {
+        return text.len();
+    };
     let at = rows::write_rows(grammar, graph, chart, list, n, sizes, text);
     let head = [n as u64];
     let start = at - 6;
