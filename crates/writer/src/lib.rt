@@ -123,7 +123,16 @@ fn write_brief(
 {
     let mut sizes = [0u64; 48];
     let mut buffer = [0u8; 2966];
-    let start = extractor::extract(grammar, graph, chart, j, list, n, &mut sizes, &mut buffer);
+    let start = extractor::extract(
+        grammar,
+        graph,
+        chart,
+        j,
+        list,
+        Some(n),
+        &mut sizes,
+        &mut buffer,
+    );
     deliver_from(grammar, graph, &buffer, start, out)
 }
 
@@ -142,7 +151,16 @@ fn write_short(
 {
     let mut sizes = [0u64; 264];
     let mut buffer = [0u8; 18950];
-    let start = extractor::extract(grammar, graph, chart, j, list, n, &mut sizes, &mut buffer);
+    let start = extractor::extract(
+        grammar,
+        graph,
+        chart,
+        j,
+        list,
+        Some(n),
+        &mut sizes,
+        &mut buffer,
+    );
     deliver_from(grammar, graph, &buffer, start, out)
 }
 
@@ -161,7 +179,16 @@ fn write_middle(
 {
     let mut sizes = [0u64; 1032];
     let mut buffer = [0u8; 75782];
-    let start = extractor::extract(grammar, graph, chart, j, list, n, &mut sizes, &mut buffer);
+    let start = extractor::extract(
+        grammar,
+        graph,
+        chart,
+        j,
+        list,
+        Some(n),
+        &mut sizes,
+        &mut buffer,
+    );
     deliver_from(grammar, graph, &buffer, start, out)
 }
 
@@ -176,7 +203,16 @@ fn write_long(grammar: &[u64], graph: &[u64], chart: &[u64], j: u64, out: &mut [
     };
     let mut sizes = [0u64; 4104];
     let mut buffer = [0u8; 303110];
-    let start = extractor::extract(grammar, graph, chart, j, &list, n, &mut sizes, &mut buffer);
+    let start = extractor::extract(
+        grammar,
+        graph,
+        chart,
+        j,
+        &list,
+        Some(n),
+        &mut sizes,
+        &mut buffer,
+    );
     deliver_from(grammar, graph, &buffer, start, out)
 }
 

@@ -9,10 +9,8 @@ pub extract-start-requires : goal.extract-start-requires
 extract-start-requires c = (
   c.requires.0,
   c.requires.1,
-  c.requires.2,
-  omega (arith, c.requires.3, length-replicate {A = ℕ} 1032 0),
   all_none 1032,
-  omega (arith, c.requires.3, length-replicate {A = ℕ} 75782 0),
+  (c.requires.2, omega (arith, c.requires.3, length-replicate {A = ℕ} 1032 0), omega (arith, c.requires.3, length-replicate {A = ℕ} 75782 0)),
 )
 
 pub returns : goal.returns

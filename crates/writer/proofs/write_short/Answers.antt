@@ -9,10 +9,8 @@ pub extract-start-requires : goal.extract-start-requires
 extract-start-requires c = (
   c.requires.0,
   c.requires.1,
-  c.requires.2,
-  omega (arith, c.requires.3, length-replicate {A = ℕ} 264 0),
   all_none 264,
-  omega (arith, c.requires.3, length-replicate {A = ℕ} 18950 0),
+  (c.requires.2, omega (arith, c.requires.3, length-replicate {A = ℕ} 264 0), omega (arith, c.requires.3, length-replicate {A = ℕ} 18950 0)),
 )
 
 pub returns : goal.returns
