@@ -154,9 +154,9 @@ module _ (w : List ℕ) (G : Grammar) (H : Graph) where
 
   -- ---- the whole text
   -- an endless listing has none
-  pub text_none : (j : ℕ) (list : List ℕ) → ListedIn 4096 (listing look G 4096 (j ∷ [])) list None → [] ≡ text_at look G H j
+  pub text_none : (j : ℕ) (list text : List ℕ) → ListedIn 4096 (listing look G 4096 (j ∷ [])) list None → EndsWith (text_at look G H j) text text (length text)
   unfolding text_at
-  text_none j list over = sym (ap (text_by look G H) over.whole)
+  text_none j list text over = record { same = refl; inside = omega arith; contents = drop-length text ∙ sym (ap (text_by look G H) over.whole) }
 
   module _ (j n : ℕ) (list : List ℕ) (whole : ListedIn 4096 (listing look G 4096 (j ∷ [])) list (Some n)) where
     module _ (text mid now : List ℕ) (at : ℕ) (size : n ≤ length list)

@@ -138,7 +138,7 @@ fn value(a: u8, b: u8, c: u8, d: u8) -> u64
     ((digit(a) * 10 + digit(b)) * 10 + digit(c)) * 10 + digit(d)
 }
 
-// The text of n, which is at most 9,999.
+// The text of n in four columns.
 #[tactic(auto, unfolding(format::specs::Fields::field_text))]
 fn field_bytes(n: u64) -> [u8; 4]
     ensures { result ≡ field_text n }

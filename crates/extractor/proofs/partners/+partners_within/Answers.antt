@@ -1,4 +1,6 @@
 -- One level of a plan: the levels left fall with each call.
+use native.Mathlib.Omega.{arith}
+use mathlib.Core.Path.{◌≡◌}
 use Rattle.extractor.proofs.PartnerLaws.{within_end, within_leaf, within_introduce, within_join}
 use Rattle.extractor.proofs.partners.+partners_within.Goals as goal
 
@@ -18,7 +20,9 @@ returns-in-1 t c =
 pub returns-in_default : goal.returns-in_default
 returns-in_default t c =
     let node = c.plan_line-line.ensures.node in
-    let joins = c.in_default.in_default-own.rest in
+    let kind = c.plan_line-line.result.kind in
+    let above : kind ≡ 0 → ⊥ = λ e. omega arith in
+    let joining : kind ≡ 1 → ⊥ = λ e. omega arith in
     within_join _ _ _ _ _ _ c.if-left-eq0.false _ _ _ node
-    _ _ c.first_at-first-in_default.ensures c.second_at-second.ensures _ _ joins.0.1 joins.1
+    _ _ c.first_at-first-in_default.ensures c.second_at-second.ensures _ _ above joining
     c.partners_within-in_default.ensures c.partners_within-in_default-2.ensures
