@@ -180,7 +180,8 @@ fn rule_edge_stands(t: &[u64], r: u64, i: u64, symbols: u64, nodes: u64) -> Opti
     attached(t, p, rank, nodes)
 }
 
-// ---- the lines in their order. They stand in the order of their places, so one pass is enough, and a line reads only those before it.
+// ---- the lines in their order. They stand in the order of their places, so one pass is enough, and a line reads only
+// those before it.
 // The lines of the n symbols.
 fn check_symbols(t: &[u64], n: u64) -> bool
     requires { Room (length t.now) Grammar × Count n (symbol_count t.now) 64 }
@@ -231,7 +232,7 @@ fn check_plan(t: &[u64], r: u64, n: u64, edges: u64) -> bool
         }
         named = more;
     }
-    marks::has_all(named.children, n - 1) & marks::has_all(named.introduced, edges)
+    marks::has_all(named.children, n - 1) && marks::has_all(named.introduced, edges)
 }
 
 // The lines of rule r, and the words between its edges and its plan.
