@@ -158,7 +158,7 @@ fn graph_edge_stands(g: &[u64], t: &[u64], e: u64, symbols: u64, nodes: u64) -> 
     let p = layout::graph_edge_place(e);
     let label = layout::graph_label_in(t, e);
     let kind = layout::kind_of(g, label);
-    let fixed = (label < symbols) & (kind == 0);
+    let fixed = label < symbols && kind == 0;
     if !fixed {
         return None;
     }
@@ -173,7 +173,7 @@ fn rule_edge_stands(t: &[u64], r: u64, i: u64, symbols: u64, nodes: u64) -> Opti
     let p = layout::edge_place(r, i);
     let label = layout::edge_label_in(t, r, i);
     let rank = layout::rank_at(t, label);
-    let fixed = (label < symbols) & (1 <= rank);
+    let fixed = label < symbols && 1 <= rank;
     if !fixed {
         return None;
     }
