@@ -15,8 +15,8 @@ pub enum Due {
     Nothing,
 }
 
-// Why a text or a table is refused, with 01's numbers (docs/REFUSALS.md): the shape of a line, the letter due, the fixed
-// fields, how many nodes are listed and which, nodes on no edge, the plan, and what is lent.
+// Why a text or a table is refused, with 01's numbers (docs/REFUSALS.md): the shape of a line, the letter due, the
+// fixed fields, how many nodes are listed and which, nodes on no edge, the plan, and what is lent.
 #[derive(Clone, Copy, PartialEq, Eq, Debug)]
 pub enum Refusal {
     Shape = 1,

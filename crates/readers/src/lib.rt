@@ -96,6 +96,7 @@ fn read_lines(g: &[u64], t: &mut [u64], first: Due, text: &[u8]) -> Result<(), R
 {
     let mut due = first;
     let mut at = 0;
+    // The next line begins where this one ends, so there is no count of lines to go through.
     while at < text.len() {
         let line = lines::next_counting(text, at);
         let start = lines::counting_start(text, at);

@@ -158,7 +158,7 @@ fn graph_edge_stands(g: &[u64], t: &[u64], e: u64, symbols: u64, nodes: u64) -> 
     let p = layout::graph_edge_place(e);
     let label = layout::graph_label_in(t, e);
     let kind = layout::kind_of(g, label);
-    let fixed = (label < symbols) & (kind == 0);
+    let fixed = label < symbols && kind == 0;
     if !fixed {
         return None;
     }
@@ -173,14 +173,15 @@ fn rule_edge_stands(t: &[u64], r: u64, i: u64, symbols: u64, nodes: u64) -> Opti
     let p = layout::edge_place(r, i);
     let label = layout::edge_label_in(t, r, i);
     let rank = layout::rank_at(t, label);
-    let fixed = (label < symbols) & (1 <= rank);
+    let fixed = label < symbols && 1 <= rank;
     if !fixed {
         return None;
     }
     attached(t, p, rank, nodes)
 }
 
-// ---- the lines in their order. They stand in the order of their places, so one pass is enough, and a line reads only those before it.
+// ---- the lines in their order. They stand in the order of their places, so one pass is enough, and a line reads only
+// those before it.
 // The lines of the n symbols.
 fn check_symbols(t: &[u64], n: u64) -> bool
     requires { Room (length t.now) Grammar × Count n (symbol_count t.now) 64 }
@@ -231,7 +232,7 @@ fn check_plan(t: &[u64], r: u64, n: u64, edges: u64) -> bool
         }
         named = more;
     }
-    marks::has_all(named.children, n - 1) & marks::has_all(named.introduced, edges)
+    marks::has_all(named.children, n - 1) && marks::has_all(named.introduced, edges)
 }
 
 // The lines of rule r, and the words between its edges and its plan.

@@ -1,4 +1,5 @@
-// Questions 3 to 7, one function for each kind of line: the first no is the refusal.
+// Questions 3 to 7, one function for each kind of line: the first no is the refusal. Many tests are joined by `&`,
+// which takes no longer here, and gives the proof one value in place of a case for each.
 ghost use Rattle.std.specs.Prelude.{◌≡◌, cond, ◌&&◌, ◌||◌, ◌+◌, ◌≤◌, length, eqb, ltb};
 ghost use Rattle.questions.specs.Layout.{in_table, rule_plan};
 ghost use Rattle.questions.specs.Questions.{ask, plan_whole, judge_grammar, judge_symbol, judge_rule, judge_rule_edge, judge_plan, judge_graph, judge_graph_edge, judge};
@@ -18,10 +19,10 @@ pub(crate) fn judge_grammar(f: &[u64]) -> Result<(), Refusal>
     let symbols = layout::field(f, 0);
     let rules = layout::field(f, 1);
     let start = layout::field(f, 2);
-    let fixed = 3 <= n
-        && (1 <= symbols && symbols <= 64)
-        && (1 <= rules && rules <= 64)
-        && start < symbols;
+    let fixed = (3 <= n)
+        & ((1 <= symbols) & (symbols <= 64))
+        & ((1 <= rules) & (rules <= 64))
+        & (start < symbols);
     if !fixed {
         return Err(Refusal::Fields);
     }
@@ -41,12 +42,12 @@ pub(crate) fn judge_symbol(g: &[u64], s: u64, f: &[u64]) -> Result<(), Refusal>
     let kind = layout::field(f, 1);
     let rank = layout::field(f, 2);
     let start = layout::start_symbol(g);
-    let fixed = 3 <= n
-        && number == s
-        && kind <= 1
-        && rank <= 4
-        && (1 <= rank || s == start)
-        && (kind == 1 || s != start);
+    let fixed = (3 <= n)
+        & (number == s)
+        & (kind <= 1)
+        & (rank <= 4)
+        & ((1 <= rank) | (s == start))
+        & ((kind == 1) | (s != start));
     if !fixed {
         return Err(Refusal::Fields);
     }
@@ -69,14 +70,14 @@ pub(crate) fn judge_rule(g: &[u64], r: u64, f: &[u64]) -> Result<(), Refusal>
     let plan = layout::field(f, 4);
     let symbols = layout::symbol_count(g);
     let kind = layout::kind_of(g, symbol);
-    let known = 5 <= n && number == r && symbol < symbols && kind == 1;
-    if !known {
-        return Err(Refusal::Fields);
-    }
-    let counted = (1 <= nodes && nodes <= 8)
-        && (1 <= edges && edges <= 8)
-        && (2 <= plan && plan <= 16);
-    if !counted {
+    let fixed = (5 <= n)
+        & (number == r)
+        & (symbol < symbols)
+        & (kind == 1)
+        & ((1 <= nodes) & (nodes <= 8))
+        & ((1 <= edges) & (edges <= 8))
+        & ((2 <= plan) & (plan <= 16));
+    if !fixed {
         return Err(Refusal::Fields);
     }
     let due = 5 + layout::rank_at(g, symbol);

@@ -146,13 +146,9 @@ pub(crate) fn whole(g: &[u64], r: u64, q: u64, kind: u64, first: u64, second: u6
     ensures { result ≡ plan_whole g.now r q kind first second }
 {
     let before = marks_before(g, r, q);
-    let children = has_all(mark_children(before.children, kind, first, second), q);
-    let edges = layout::rule_edges(g, r).min(8);
-    let introduced = has_all(
-        mark_introduced(before.introduced, kind, first, second),
-        edges,
-    );
-    children & introduced
+    let children = mark_children(before.children, kind, first, second);
+    let introduced = mark_introduced(before.introduced, kind, first, second);
+    has_all(children, q) && has_all(introduced, layout::rule_edges(g, r).min(8))
 }
 
 // ---- a line judged by the sets of the lines before it: where a table is checked they are carried from line to line
