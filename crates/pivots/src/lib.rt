@@ -38,7 +38,7 @@ const JOIN_TAG: u64 = 3;
 // A pivot or a word of keys is one number of a rule node below this and a number beside it.
 const NODE_END: u64 = 16;
 
-// A pivot of no position and no node.
+// A pivot of no position and no node: a number and no option, since words of the table are made of it.
 const NO_PIVOT: u64 = 72;
 
 // ---- pivots
@@ -58,7 +58,7 @@ fn edge_pivot(g: &[u64], plans: &[u32; PLAN_TABLE_WORDS], r: u64, p: u64, i: u64
     NO_PIVOT
 }
 
-// At the two children of a join: the last rule node that is open at both.
+// At the two children of a join: the last rule node that is open at both, 8 for none, as a pivot has it.
 fn shared_node(g: &[u64], plans: &[u32; PLAN_TABLE_WORDS], r: u64, p: u64, q: u64) -> u64
     requires { KnownNode g.now r p × KnownNode g.now r q × PlanTable g.now plans.now }
     ensures { (result ≡ shared_node (grammar_of g.now) r p q) × (result ≤ 8) }
@@ -280,8 +280,7 @@ fn image(w: u64, x: ChartItem) -> u64
     if v >= 8 {
         return 64;
     }
-    let nodes = x.nodes;
-    places::node_at(places::word_of(nodes), v)
+    places::node_at(places::word_of(x.nodes), v)
 }
 
 // The key of position i of a passive item, if that is used.
@@ -294,8 +293,8 @@ fn place_key(used: u64, tag: u64, s: u64, i: u64, a: u64) -> u64
     mix(base(tag, s, i), a)
 }
 
-// An item's keys by its words from `rules` and `symbols` on, 0 for none: the one by its word, which comes first, or
-// one for each place that is used.
+// An item's keys by its words from `rules` and `symbols` on: the one by its word, which comes first, or one for each
+// place that is used. A key is 0 for none, since the words of the table and the lists have it so.
 fn keys_by(
     keys: &[u32; KEY_TABLE_WORDS],
     rules: u64,
@@ -315,8 +314,7 @@ fn keys_by(
         return [0, 0, 0, 0, 0];
     }
     let s = x.of as u64;
-    let nodes = x.nodes;
-    let map = places::word_of(nodes);
+    let map = places::word_of(x.nodes);
     [
         place_key(u % 2, tag, s, 0, places::node_at(map, 0)),
         place_key(u / 2 % 2, tag, s, 1, places::node_at(map, 1)),

@@ -40,7 +40,6 @@ use Rattle.rules.specs.Rules.{terminal_items}
 use Rattle.rules.specs.Wants.{wants_at, want_of}
 use Rattle.rules.specs.Plans.{ParentAt}
 use Rattle.rules.specs.Candidates.{Introduces, Candidates}
-use Rattle.rules.proofs.Parents.{above_near, above_far}
 use Rattle.rules.proofs.NodeLists.{label_is}
 use Rattle.rules.proofs.RuleItems.{guard_none, terminal_place, with_terminal_lem, item_active, item_edges, binary_apart, edge_pair}
 use Rattle.rules.proofs.RuleAnswers.{terminal_passive}
@@ -132,11 +131,11 @@ module _ (g h : List ℕ) (accepted : Accepted g h) (x : ChartItem) where
         q = up.word % 32
 
         pub candidates_nowhere : 16 ≤ q → Candidates g h x 0
-        candidates_nowhere far = absurd (omega (arith, is, want_missing g x.of x.plan (above_far g x.of x.plan q far there.above)))
+        candidates_nowhere far = absurd (omega (arith, is, want_missing g x.of x.plan (there.nowhere far)))
 
         pub introduces : q < 16 → (i : ℕ) → i ≡ plan_second g x.of q → Introduces g h x want i
         introduces l i second =
-            let above = above_near g x.of x.plan q l there.above in
+            let above = there.above l in
             let k = above.known in
             let node = plan_node (plan_of G x.of) q in
             let told : want ≡ get_or (wants_at G x.of x.plan node) 0 80 = is ∙ sym (want_found g x.of x.plan q above (get_or (wants_at G x.of x.plan node) 0 80) refl) in

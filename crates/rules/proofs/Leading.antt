@@ -25,7 +25,7 @@ use Rattle.joins.proofs.PlanMasks.{node_is}
 use Rattle.rules.specs.declared.plans.Parent.{Parent}
 use Rattle.rules.specs.Plans.{ParentAt, Leads}
 use Rattle.rules.specs.Rules.{Above}
-use Rattle.rules.proofs.Parents.{above_near, child_lower}
+use Rattle.rules.proofs.Parents.{child_lower}
 use Rattle.rules.proofs.RuleItems.{guard_none, each_none, item_active, pair_passive}
 use Rattle.rules.proofs.Meeting.{rule_or_none}
 use Rattle.rules.proofs.JoinWords.{join_first, join_later as word_later}
@@ -129,7 +129,7 @@ module _ (g : List ℕ) (checked : check_grammar g ≡ true) (x : ChartItem) whe
       c = plan_first g x.of up
 
       near : Above g x.of x.plan (Some up)
-      near = above_near g x.of x.plan up l is.above
+      near = is.above l
 
       known : KnownNode g x.of up
       known = near.known

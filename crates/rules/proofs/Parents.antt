@@ -1,13 +1,13 @@
 -- A plan node is a child at most once: what the search for its parent shows.
-use mathlib.Core.Path.{◌≡◌, sym, ap, ◌∙◌, subst}
-use mathlib.Core.Bool.{Bool, true, false, ◌||◌, cond}
+use mathlib.Core.Path.{◌≡◌, sym, ap, ◌∙◌}
+use mathlib.Core.Bool.{Bool, true, false, ◌||◌}
 use mathlib.Core.List.{List, [], ◌∷◌}
 use Prim.Native.Nat.{ℕ, zero, suc, ◌≤◌, ◌<◌}
 use native.Mathlib.Omega.{arith}
 use native.Mathlib.Decide.{dec_lt}
 use lib.ListN.{length, get_or-eq_default}
 use lib.Dec.{eqb, ltb}
-use borrow.Author.Tests.{ltb-true, lt-ltb, le-ltb}
+use borrow.Author.Tests.{ltb-true}
 use Rattle.hrg.specs.Counts.{occurs}
 use Rattle.hrg.specs.Grammars.{Rule, no_rule, PlanNode, leaf, introduce, join, plan_of, plan_node}
 use Rattle.hrg.specs.WellFormed.{children, all_children, PlanOk}
@@ -17,9 +17,8 @@ use Rattle.questions.specs.Checking.{check_grammar}
 use Rattle.questions.specs.Abstract.{grammar_of}
 use Rattle.questions.proofs.WellFormedAccepted.{rules_length}
 use Rattle.joins.specs.Joins.{KnownNode}
-use Rattle.std.specs.Prelude.{Some, None}
+use Rattle.std.specs.Prelude.{None}
 use Rattle.rules.specs.Rules.{ParentOf, Childless, Above}
-use Rattle.rules.specs.Plans.{numbered}
 use Rattle.joins.proofs.Known.{plan_ok, plan_size}
 use Rattle.joins.proofs.PlanMasks.{some_one, some_append, node_is, introduced_is, joined_is}
 
@@ -87,19 +86,6 @@ module _ (g : List ℕ) (r p : ℕ) (checked : check_grammar g ≡ true) (rule :
 -- ---- for any rule and plan node
 pub above_none : (g : List ℕ) (r p : ℕ) → Childless g r p → Above g r p None
 above_none g r p none = record { known = tt; parent = tt; nowhere = none }
-
--- .. of the number that stands in a word
-pub above_near : (g : List ℕ) (r p q : ℕ) → q < 16 → Above g r p (numbered q) → Above g r p (Some q)
-above_near g r p q l above = subst (Above g r p) (ap (λ b. cond b (Some q) None) (lt-ltb q 16 l)) above
-
-pub above_far : (g : List ℕ) (r p q : ℕ) → 16 ≤ q → Above g r p (numbered q) → Above g r p None
-above_far g r p q l above = subst (Above g r p) (ap (λ b. cond b (Some q) None) (le-ltb q 16 l)) above
-
-pub numbered_near : (g : List ℕ) (r p q : ℕ) → q < 16 → Above g r p (Some q) → Above g r p (numbered q)
-numbered_near g r p q l above = subst (Above g r p) (sym (ap (λ b. cond b (Some q) None) (lt-ltb q 16 l))) above
-
-pub numbered_far : (g : List ℕ) (r p q : ℕ) → 16 ≤ q → Above g r p None → Above g r p (numbered q)
-numbered_far g r p q l above = subst (Above g r p) (sym (ap (λ b. cond b (Some q) None) (le-ltb q 16 l))) above
 
 pub above_unknown : (g : List ℕ) (r p : ℕ) → rule_count g ≤ r → Above g r p None
 above_unknown g r p h =

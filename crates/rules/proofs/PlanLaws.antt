@@ -30,7 +30,7 @@ use Rattle.rules.specs.declared.plans.Parent.{Parent}
 use Rattle.rules.specs.Rules.{ParentOf, Childless}
 use Rattle.rules.specs.Plans.{plan_table_words, edge_word, second_word, join_word, ParentAt, WordsAt, PlacedAt, PlanTable}
 use Rattle.rules.specs.Filling.{ChildOf, Placed, Put, ToldTo}
-use Rattle.rules.proofs.Parents.{above_near, above_far, above_none, numbered_near, numbered_far, child_leaf, child_introduce, child_join, child_lower, once, parent_found, above_unknown, above_past}
+use Rattle.rules.proofs.Parents.{above_none, child_leaf, child_introduce, child_join, child_lower, once, parent_found, above_unknown, above_past}
 use Rattle.rules.proofs.Leading.{child_some}
 use Rattle.rules.proofs.JoinWords.{second_known}
 use Rattle.rules.proofs.WantLaws.{rules_few}
@@ -38,7 +38,8 @@ use Rattle.rules.proofs.WantLaws.{rules_few}
 -- ---- one plan node
 missing : (g : List ℕ) (r p w o : ℕ) → 16 ≤ w % 32 → Childless g r p → ParentAt g r p (record { word = w; stays = o })
 missing g r p w o h none = record {
-  above = numbered_far g r p (w % 32) h (above_none g r p none);
+  above = λ l. absurd (omega arith);
+  nowhere = λ _. above_none g r p none;
   opened = λ l. absurd (omega arith);
   join = λ l. absurd (omega arith);
 }
@@ -71,11 +72,12 @@ module _ (g : List ℕ) (r p q w o : ℕ) (known : KnownNode g r q) (child : Chi
 
   there : ParentAt g r p (record { word = w; stays = o })
   there = record {
-    above = numbered_near g r p (w % 32) (omega (arith, node, below_few g r q known)) (record {
+    above = λ l. record {
       known = subst (KnownNode g r) (sym node) known;
       parent = subst (ParentOf g r p) (sym node) (parent_found g r p known.grammar known.rule q known.node (lt-ltb 0 _ child));
       nowhere = tt;
-    });
+    };
+    nowhere = λ l. absurd (omega (arith, node, below_few g r q known));
     opened = λ l. subst (λ q. OpenAt g r q o) (sym node) opened;
     join = λ l. record { child = subst (ChildOf g r p) (sym node) child; word = word ∙ ap (join_word g r p) (sym node) };
   }
@@ -125,8 +127,8 @@ module _ (g : List ℕ) (r q : ℕ) (known : KnownNode g r q) (kind first : ℕ)
   open_above above is = go (dec_lt (above.word % 32) 16)
     where
       go : Dec (above.word % 32 < 16) → OpenAt g r q above.stays
-      go (yes l) = subst (λ q. OpenAt g r q above.stays) (sym ((above_near g r first (above.word % 32) l is.above).parent.only q known.node first_child)) (is.opened l)
-      go (no l) = absurd (omega (arith, first_child, (above_far g r first (above.word % 32) (omega arith) is.above).nowhere.none q (omega (arith, known.node, plan_size g r known.grammar known.rule))))
+      go (yes l) = subst (λ q. OpenAt g r q above.stays) (sym ((is.above l).parent.only q known.node first_child)) (is.opened l)
+      go (no l) = absurd (omega (arith, first_child, (is.nowhere (omega arith)).nowhere.none q (omega (arith, known.node, plan_size g r known.grammar known.rule))))
 
 pub open_leaf : (g : List ℕ) (r q : ℕ) → KnownNode g r q → (kind : ℕ) → kind ≡ plan_kind g r q → kind ≡ 0 → OpenAt g r q 0
 open_leaf g r q known kind a e = open_none g r q (leaf_mask g r q known kind a e)

@@ -26,7 +26,7 @@ use Rattle.joins.proofs.Known.{plan_size, right_nodes}
 use Rattle.rules.specs.declared.plans.Parent.{Parent}
 use Rattle.rules.specs.Plans.{ParentAt}
 use Rattle.rules.specs.Rules.{root_items, GivesRoot, made_of}
-use Rattle.rules.proofs.Parents.{above_near, child_lower}
+use Rattle.rules.proofs.Parents.{child_lower}
 use Rattle.rules.proofs.Covering.{root_covering}
 
 -- ---- the symbol of a rule, a field of a line, is a byte
@@ -137,6 +137,6 @@ module _ (g : List ℕ) (x : ChartItem) (j : ℕ) where
   -- a plan node that is a child is below its parent, so it is not the root, which is the last one
   pub root_child : x.kind ≡ 0 → check_grammar g ≡ true → (up : Parent) → ParentAt g x.of x.plan up → up.word % 32 < 16 → made_records ≡ []
   root_child e checked up is l =
-      let known = (above_near g x.of x.plan (up.word % 32) l is.above).known in
+      let known = (is.above l).known in
       let lower = child_lower g x.of x.plan checked known.rule (up.word % 32) known.node (is.join l).child in
       records_of_is [] (not_root g x e checked known.rule (rule_plan g x.of) refl (λ q. omega (arith, lower, known.node)))

@@ -28,7 +28,7 @@ use Rattle.rules.specs.Rules.{Above}
 use Rattle.rules.specs.declared.plans.Parent.{Parent}
 use Rattle.rules.specs.Plans.{JoinAt, ParentAt}
 use Rattle.rules.specs.Wants.{wants_at, want_of, want_by}
-use Rattle.rules.proofs.Parents.{above_near, above_far, child_join, above_unknown, above_past}
+use Rattle.rules.proofs.Parents.{child_join, above_unknown, above_past}
 use Rattle.rules.proofs.JoinWords.{child_kind, second_edge, second_other, join_first, join_later, later_joins}
 use Rattle.rules.proofs.RuleItems.{each_none, each_only}
 
@@ -122,7 +122,7 @@ module _ (g : List ℕ) (r p : ℕ) (x : Parent) (is : ParentAt g r p x) where
 
   module _ (l : q < 16) where
     near : Above g r p (Some q)
-    near = above_near g r p q l is.above
+    near = is.above l
 
     above : KnownNode g r q
     above = near.known
@@ -168,7 +168,7 @@ module _ (g : List ℕ) (r p : ℕ) (x : Parent) (is : ParentAt g r p x) where
 
       go : Dec (q < 16) → cond (ltb q 16) (cond (eqb (w / 32 % 4) 1) (w / 32 / 4 % 64) (64 + w / 32 / 4)) 80 ≡ want_of (grammar_of g) r p
       go (yes l) = rw (lt-ltb q 16 l) (kinds l (eqb (w / 32 % 4) 1) (eqb (w / 32 % 4) 3) refl refl)
-      go (no l) = rw (le-ltb q 16 (omega arith)) (want_missing g r p (above_far g r p q (omega arith) is.above))
+      go (no l) = rw (le-ltb q 16 (omega arith)) (want_missing g r p (is.nowhere (omega arith)))
 
 -- what a function reads off a word
 pub by_none : (w : ℕ) → 16 ≤ w % 32 → 80 ≡ want_by w

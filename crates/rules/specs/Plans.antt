@@ -1,6 +1,6 @@
 -- The plan node above each, what it makes of an item there, and the rule nodes that are open there, in a table of two
 -- halves.
-use Rattle.std.specs.Prelude.{◌≡◌, Option, Some, None, Bool, true, false, cond, List, [], ℕ, ◌+◌, ◌*◌, ◌%◌, ◌<◌, get_or, eqb, ltb}
+use Rattle.std.specs.Prelude.{◌≡◌, Some, None, Bool, true, false, cond, List, [], ℕ, ◌+◌, ◌*◌, ◌%◌, ◌≤◌, ◌<◌, get_or, eqb}
 use Rattle.hrg.specs.Counts.{occurs}
 use Rattle.hrg.specs.Grammars.{Graph, plan_of, plan_node}
 use Rattle.hrg.specs.WellFormed.{children}
@@ -40,14 +40,11 @@ pub record JoinAt (g : List ℕ) (r p w : ℕ) : Type 0 where
   pub word : w ≡ join_word g r p (w % 32)
 
 -- ---- the plan node above each
--- the plan node of this number, which is 16 or more where there is none
-abbrev pub numbered : ℕ → Option ℕ
-numbered q = cond (ltb q 16) (Some q) None
-
 -- x is the word of the one plan node of rule r that p may be a child of, and the open rule nodes there; that node's
 -- number is 16 or more where there is none
 pub record ParentAt (g : List ℕ) (r p : ℕ) (x : Parent) : Type 0 where
-  pub above : Above g r p (numbered (x.word % 32))
+  pub above : x.word % 32 < 16 → Above g r p (Some (x.word % 32))
+  pub nowhere : 16 ≤ x.word % 32 → Above g r p None
   pub opened : x.word % 32 < 16 → OpenAt g r (x.word % 32) x.stays
   pub join : x.word % 32 < 16 → JoinAt g r p x.word
 

@@ -16,7 +16,6 @@ use Rattle.joins.proofs.Known.{graph_size}
 use Rattle.rules.specs.declared.plans.Parent.{Parent}
 use Rattle.rules.specs.Plans.{ParentAt, Leads}
 use Rattle.rules.specs.Wants.{want_of}
-use Rattle.rules.proofs.Parents.{above_far}
 use Rattle.rules.proofs.WantLaws.{want_missing}
 use Rattle.rules.proofs.Leading.{leads_passive, leads_first}
 use Rattle.rules.proofs.RootLaws.{root_passive, root_none, root_child}
@@ -107,7 +106,7 @@ module _ {g h plans keys graph w ix ls : List ℕ} {j : ℕ} (P : Tables g h pla
           → (v ≡ grown_by w (consequences G H (chart_of w).records j)) × Ready g h keys v jx ms
       all_root far {v} made =
           let o = made.1.fits in
-          let want : 80 ≡ want_of G x.item.of x.item.plan = want_missing g x.item.of x.item.plan (above_far g x.item.of x.item.plan (up.word % 32) far above.above) in (
+          let want : 80 ≡ want_of G x.item.of x.item.plan = want_missing g x.item.of x.item.plan (above.nowhere far) in (
             all_added G H w j P.2.there v v P.1.fits alone_whole with_records
                 (alone_added G H w v v x j P.1.fits by_root_is with_edges_is made.0 (edges_none g h x.item 0 (candidates_none g h P.0.accepted x.item kind 80 want (omega arith)) v o j refl _ (graph_size g h)))
                 (item_count w) refl

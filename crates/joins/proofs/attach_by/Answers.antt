@@ -1,6 +1,5 @@
 -- From the last node on: the map so far is that of the rest of the edge, and the digits left are those of the nodes
 -- before.
-use native.Mathlib.Omega.{arith}
 use mathlib.Core.Path.{refl, ap, ◌∙◌}
 use mathlib.Core.List.{List}
 use Prim.Native.Nat.{ℕ}
@@ -21,9 +20,6 @@ loop-k-init c =
       attach_none _ _ _ edge _ (length_places _) _ _ _ none_places refl (word_rank _ _ _ edge _ word).0,
       digits_from _ _ _ edge _ word,
     )
-
-pub node_at-requires : goal.node_at-requires
-node_at-requires c = omega arith
 
 pub loop-k-preserved : goal.loop-k-preserved
 loop-k-preserved c =

@@ -1,20 +1,13 @@
 -- No place passed has an open node.
 use mathlib.Core.Path.{refl, sym, ◌∙◌}
-use native.Mathlib.Omega.{arith}
-use Rattle.joins.proofs.Dropping.{passed_none, passed_next, passed_bare, passed_lost, passed_all}
+use Rattle.joins.proofs.Dropping.{passed_next, passed_bare, passed_lost, passed_all}
 use Rattle.joins.proofs.loses.Goals as goal
 use Rattle.joins.proofs.loses.Goals.{else-v-lt64-via-then-v-lt64+else-lost, else-v-lt64-via-else-v-lt64}
-
-pub loop-rest-init : goal.loop-rest-init
-loop-rest-init c = passed_none _ _ _
 
 pub returns-then-lost : goal.returns-then-lost
 returns-then-lost c = passed_lost _ _ _ _ c.ranges.w.fits
     c.loop-rest.invariant c.loop-rest-test.true _ refl
     _ c.lost.ensures c.if-lost.true
-
-pub loop-rest-smaller : goal.loop-rest-smaller
-loop-rest-smaller c = let t = c.loop-rest-test.true in omega arith
 
 pub loop-rest-preserved : goal.loop-rest-preserved
 loop-rest-preserved c =

@@ -1,17 +1,7 @@
 -- Any position of the edge whose node is open will do.
 use native.Mathlib.Omega.{arith}
-use Rattle.pivots.proofs.TableLaws.{no_edge_pivot, node_few, edge_pivot}
+use Rattle.pivots.proofs.TableLaws.{node_few, edge_pivot}
 use Rattle.pivots.proofs.edge_pivot.Goals as goal
-
-pub open_at-nodes-requires : goal.open_at-nodes-requires
-open_at-nodes-requires c = (c.requires.0, c.requires.2)
-
-pub overflow_mul-result : goal.overflow_mul-result
-overflow_mul-result c = omega (
-  arith,
-  c.rank_at-rank.ensures.1,
-  c.loop-k-test.true,
-)
 
 pub overflow_add-result : goal.overflow_add-result
 overflow_add-result c = omega (
@@ -27,6 +17,3 @@ pub returns-then-has : goal.returns-then-has
 returns-then-has c = edge_pivot _ _ _ c.requires.1 _ _ c.edge_label.ensures c.rank_at-rank.ensures.0
     _ _ c.open_at-nodes.ensures _ _ _ c.loop-k-test.true
     c.edge_node-v.ensures c.has.ensures.value c.if-has.true
-
-pub returns : goal.returns
-returns c = no_edge_pivot _ _ _

@@ -13,15 +13,6 @@ overflow_mul-i-end c = omega (arith, rules_few _ c.requires.0, c.rule_count-i-en
 pub loop-i-init : goal.loop-i-init
 loop-i-init c = subst (λ t. Filled c.args.g.now t 0) (sym c.requires.2) (filled_none _)
 
-pub want_of-want-requires : goal.want_of-want-requires
-want_of-want-requires c = (
-  c.requires.0,
-  c.requires.1,
-)
-
-pub pivot-w-requires : goal.pivot-w-requires
-pivot-w-requires c = (c.requires.0, c.requires.1)
-
 pub enter-requires : goal.enter-requires
 enter-requires c = (
   c.loop-i.invariant.size,
@@ -45,9 +36,6 @@ loop-i-preserved c =
           (filled_idle _ _ _ _ c.loop-i.invariant low (omega arith) _ c.want_of-want.ensures
           w.if-want-ne80.false)
     ]
-
-pub fill_places-requires : goal.fill_places-requires
-fill_places-requires c = c.loop-i.invariant.size
 
 pub returns : goal.returns
 returns c = filled_all _ c.requires.0 _ (16 * c.rule_count-i-end.result)

@@ -5,8 +5,5 @@ use Rattle.pivots.proofs.pivot.Goals as goal
 pub returns-in-None : goal.returns-in-None
 returns-in-None c = pivot_missing _ _ _ c.in-None.ensures
 
-pub pivot_below-requires : goal.pivot_below-requires
-pivot_below-requires c = (c.in-Some.ensures.known, c.requires.1)
-
 pub returns-in-Some : goal.returns-in-Some
 returns-in-Some c = pivot_found _ _ _ _ c.in-Some.ensures _ c.pivot_below.ensures

@@ -10,11 +10,6 @@ returns-then-r-ge64 c = (rule_far _ _ _ _ c.if-r-ge64.true, omega arith)
 pub returns-then-p-ge-PER_RULE : goal.returns-then-p-ge-PER_RULE
 returns-then-p-ge-PER_RULE c = (rule_past _ _ _ _ (omega (arith, c.if-r-ge64.false)) c.if-p-ge-PER_RULE.true, omega arith)
 
-pub overflow_cast-result : goal.overflow_cast-result
-overflow_cast-result c =
-    let args = c.args in
-    omega (arith, c.shared_slice_known-2-1.given (args.from + c.place.result))
-
 pub returns : goal.returns
 returns c =
     let args = c.args in (

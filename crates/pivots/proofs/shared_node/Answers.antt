@@ -2,12 +2,6 @@
 use Rattle.pivots.proofs.TableLaws.{search_start, search_hit, search_miss, search_end}
 use Rattle.pivots.proofs.shared_node.Goals as goal
 
-pub open_at-here-requires : goal.open_at-here-requires
-open_at-here-requires c = (c.requires.0, c.requires.2)
-
-pub open_at-there-requires : goal.open_at-there-requires
-open_at-there-requires c = (c.requires.1, c.requires.2)
-
 pub loop-v-init : goal.loop-v-init
 loop-v-init c = search_start _ _ _ _ _ _ c.requires.0
     c.open_at-here.ensures c.open_at-there.ensures _ c.rule_nodes-v.ensures

@@ -3,7 +3,6 @@
 use Prim.Native.Nat.{◌<◌, ◌^◌}
 use borrow.Author.Rules.{rules}
 use Rattle.rules.proofs.Inside.{node_inside}
-use Rattle.rules.proofs.Parents.{above_near}
 use Rattle.rules.proofs.CandidateLaws.{candidates_passive, candidates_none, candidates_nowhere, introduces, candidates_first}
 use Rattle.rules.proofs.candidates.Goals as goal
 
@@ -24,7 +23,7 @@ returns-then-q-ge-PER_RULE c =
     c.if-q-ge-PER_RULE.true
 
 pub plan_second_in-i-requires : goal.plan_second_in-i-requires
-plan_second_in-i-requires c = node_inside (above_near _ _ _ _ c.if-q-ge-PER_RULE.false c.parent_in-q.ensures.above).known
+plan_second_in-i-requires c = node_inside (c.parent_in-q.ensures.above c.if-q-ge-PER_RULE.false).known
 
 pub fitting-requires : goal.fitting-requires
 fitting-requires c =

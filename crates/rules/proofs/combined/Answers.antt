@@ -1,5 +1,4 @@
 -- The one plan node above the first item, the map of the second, and what two sets and maps make there.
-use Rattle.rules.proofs.Parents.{above_near, above_far}
 use Rattle.rules.proofs.JoinWords.{child_kind, join_first, join_later}
 use Rattle.rules.proofs.RuleAnswers.{gives_none, pair_not, pair_nowhere, pair_other, pair_neither, pair_unmade, pair_made}
 use Rattle.rules.proofs.Covering.{first_holds, second_holds}
@@ -8,25 +7,22 @@ use Rattle.rules.proofs.combined.Goals as goal
 pub returns-then-x-ne0 : goal.returns-then-x-ne0
 returns-then-x-ne0 c = gives_none _ _ _ _ _ (pair_not _ _ _ _ c.if-x-ne0.true)
 
-pub parent_in-above-requires : goal.parent_in-above-requires
-parent_in-above-requires c = (c.requires.0.accepted.grammar, c.requires.0.planned)
-
 pub returns-then-q-ge-PER_RULE : goal.returns-then-q-ge-PER_RULE
 returns-then-q-ge-PER_RULE c = gives_none _ _ _ _ _ (pair_nowhere _ _ _ _ c.if-x-ne0.false
-    (above_far _ _ _ _ c.if-q-ge-PER_RULE.true c.parent_in-above.ensures.above))
+    (c.parent_in-above.ensures.nowhere c.if-q-ge-PER_RULE.true))
 
 pub returns-then-w-eq3 : goal.returns-then-w-eq3
 returns-then-w-eq3 c =
     let up = c.parent_in-above.ensures in
     let near = c.if-q-ge-PER_RULE.false in
     let later = join_later _ _ _ _ (up.join near) c.if-w-eq3.true in
-    gives_none _ _ _ _ _ (pair_other _ _ _ _ c.if-x-ne0.false _ (above_near _ _ _ _ near up.above) later.0)
+    gives_none _ _ _ _ _ (pair_other _ _ _ _ c.if-x-ne0.false _ (up.above near) later.0)
 
 pub second_map-requires : goal.second_map-requires
 second_map-requires c =
     let up = c.parent_in-above.ensures in
     let near = c.if-q-ge-PER_RULE.false in
-    let known = (above_near _ _ _ _ near up.above).known in (
+    let known = (up.above near).known in (
       record {
         node = known;
         inner = child_kind _ _ _ known _ (up.join near).child;
@@ -37,7 +33,7 @@ second_map-requires c =
 
 pub returns-in_err-t : goal.returns-in_err-t
 returns-in_err-t c =
-    let above = above_near _ _ _ _ c.if-q-ge-PER_RULE.false c.parent_in-above.ensures.above in
+    let above = c.parent_in-above.ensures.above c.if-q-ge-PER_RULE.false in
     rw c.from_residual.ensures (gives_none _ _ _ _ _ (pair_neither _ _ _ _ c.if-x-ne0.false _ above c.in_err-t.ensures))
 
 pub combine-requires : goal.combine-requires
@@ -47,7 +43,7 @@ combine-requires c =
     let second = c.in_ok-t.ensures in
     record {
       accepted = c.requires.0.accepted;
-      node = (above_near _ _ _ _ near up.above).known;
+      node = (up.above near).known;
       table = c.requires.0.graphed;
       opened = up.opened near;
       first_holds = λ s. first_holds _ _ _ c.if-x-ne0.false (c.requires.1.covering s);
@@ -63,7 +59,7 @@ returns-in_err-nodes c =
     let up = c.parent_in-above.ensures in
     let near = c.if-q-ge-PER_RULE.false in
     let first = join_first _ _ _ _ (up.join near) c.if-w-eq3.false in
-    rw c.from_residual-in_err-nodes.ensures (gives_none _ _ _ _ _ (pair_unmade _ _ _ _ c.if-x-ne0.false _ (above_near _ _ _ _ near up.above)
+    rw c.from_residual-in_err-nodes.ensures (gives_none _ _ _ _ _ (pair_unmade _ _ _ _ c.if-x-ne0.false _ (up.above near)
     _ c.in_ok-t.ensures first.0 c.in_err-nodes.ensures.makes))
 
 pub returns : goal.returns
@@ -71,5 +67,5 @@ returns c =
     let up = c.parent_in-above.ensures in
     let near = c.if-q-ge-PER_RULE.false in
     let first = join_first _ _ _ _ (up.join near) c.if-w-eq3.false in
-    pair_made _ _ _ _ c.if-x-ne0.false _ (above_near _ _ _ _ near up.above)
+    pair_made _ _ _ _ c.if-x-ne0.false _ (up.above near)
     _ c.in_ok-t.ensures first.0 _ _ _ c.in_ok-nodes.ensures.makes c.requires.0.accepted

@@ -4,7 +4,7 @@ use Prim.Native.Nat.{◌<◌}
 use mathlib.Core.Path.{ap, ◌∙◌}
 use Rattle.questions.specs.Layout.{rank_at, graph_label}
 use Rattle.joins.proofs.GraphLaws.{label_few, node_few}
-use Rattle.joins.proofs.MapLaws.{placed_bare, placed_put}
+use Rattle.joins.proofs.MapLaws.{placed_bare}
 use Rattle.rules.proofs.Inside.{graph_edge_inside}
 use Rattle.rules.proofs.NodeLists.{edge_all}
 use Rattle.rules.proofs.edge_nodes.Goals as goal
@@ -42,14 +42,6 @@ with_node-l-requires c =
     ) in (
       omega (arith, c.rank_of-rank.ensures.1, c.loop-k-test.true),
       omega (arith, node_few _ _ c.requires.0 _ c.requires.1 _ _ inside c.graph_node_in.ensures),
-    )
-
-pub loop-k-preserved : goal.loop-k-preserved
-loop-k-preserved c =
-    let inv = c.loop-k.invariant in (
-      inv.0,
-      placed_put _ _ _ _ _ (omega (arith, c.rank_of-rank.ensures.1)) c.graph_node_in.ensures
-          c.with_node-l.ensures inv.1,
     )
 
 pub returns : goal.returns

@@ -26,16 +26,6 @@ node_at-requires c =
     (rule_symbol c.args.g.now c.args.r) = omega arith in
     external_few _ _ c.requires.0 c.requires.1 _ _ inside c.rule_external-x.ensures
 
-pub with_node-l-requires : goal.with_node-l-requires
-with_node-l-requires c = (
-  omega (
-    arith,
-    c.rank_at-rank.ensures.1,
-    c.loop-k-test.true,
-  ),
-  c.node_at.ensures.1,
-)
-
 pub loop-k-preserved : goal.loop-k-preserved
 loop-k-preserved c =
     let g = c.args.g.now in

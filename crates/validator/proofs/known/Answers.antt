@@ -2,7 +2,7 @@
 use native.Mathlib.Omega.{arith}
 use mathlib.Core.Path.{◌∙◌}
 use Rattle.records.proofs.WordLaws.{handled_start}
-use Rattle.validator.proofs.WordTests.{passed_none, chart_over, chart_not, chart_next, chart_all, count_all, count_more, count_same, below_capacity}
+use Rattle.validator.proofs.WordTests.{passed_none, chart_over, chart_not, chart_next, chart_all, count_all, count_more, count_same}
 use Rattle.validator.proofs.known.Goals as goal
 use Rattle.validator.proofs.known.Goals.{then-x-ne0, else-x-ne0}
 
@@ -15,12 +15,6 @@ returns-then-capacity_of-n c =
 
 pub loop-j-init : goal.loop-j-init
 loop-j-init c = (omega arith, passed_none _, handled_start c.args.chart.now)
-
-pub load-x-requires : goal.load-x-requires
-load-x-requires c = below_capacity _ _ _ _ c.capacity_of.ensures c.if-capacity_of-n.false c.loop-j-test.true
-
-pub known_record-requires : goal.known_record-requires
-known_record-requires c = (c.sizes_of-s.ensures, c.requires.1)
 
 pub returns-then-not-known_record : goal.returns-then-not-known_record
 returns-then-not-known_record c =

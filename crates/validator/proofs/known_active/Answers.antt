@@ -1,5 +1,5 @@
 -- The tests in the order of the definition.
-use Rattle.validator.proofs.WordTests.{rule_inside, node_known, in_sizes, active_no_rule, active_no_node, active_outside, active_by}
+use Rattle.validator.proofs.WordTests.{rule_inside, in_sizes, active_no_rule, active_no_node, active_outside, active_by}
 use Rattle.validator.proofs.known_active.Goals as goal
 
 pub returns-then-s-of : goal.returns-then-s-of
@@ -13,11 +13,6 @@ returns-then-rule_plan_in-plan c = active_no_node _ _ _ c.requires.0 _ _ c.if-s-
     _ c.rule_plan_in.ensures
     c.if-rule_plan_in-plan.true
 
-pub open_at-open-requires : goal.open_at-open-requires
-open_at-open-requires c =
-    let pre = c.requires in
-    (node_known _ _ _ pre.0 _ _ _ c.if-s-of.false c.rule_plan_in.ensures c.if-rule_plan_in-plan.false, pre.1)
-
 pub in_graph-requires : goal.in_graph-requires
 in_graph-requires c = in_sizes _ _ _ c.requires.0
 
@@ -27,11 +22,6 @@ returns-then-not-in_graph c =
     active_outside _ _ _ sized _ _ c.if-s-of.false _ c.rule_plan_in.ensures c.if-rule_plan_in-plan.false
     _ c.open_at-open.ensures _
     c.in_graph.ensures c.if-not-in_graph.true
-
-pub known_partners-requires : goal.known_partners-requires
-known_partners-requires c =
-    let sized = c.requires.0 in
-    (sized, node_known _ _ _ sized _ _ _ c.if-s-of.false c.rule_plan_in.ensures c.if-rule_plan_in-plan.false)
 
 pub returns : goal.returns
 returns c =

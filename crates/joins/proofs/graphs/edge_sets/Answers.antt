@@ -7,9 +7,6 @@ use Rattle.joins.proofs.graphs.edge_sets.Goals as goal
 pub loop-e-init : goal.loop-e-init
 loop-e-init c = sets_none _ _
 
-pub bounds-t-e : goal.bounds-t-e
-bounds-t-e c = omega (arith, c.loop-e.invariant.size)
-
 pub loop-e-preserved : goal.loop-e-preserved
 loop-e-preserved c =
     sets_next _ _ _ _ _ _ _ (omega arith) (omega arith) c.graph_label.ensures c.rank_at-rank.ensures.0

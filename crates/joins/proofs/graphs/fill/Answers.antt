@@ -1,5 +1,4 @@
 -- First the words of edges, then those of groups, and the one of external nodes.
-use native.Mathlib.Omega.{arith}
 use mathlib.Core.Path.{sym, subst}
 use mathlib.Core.List.{List}
 use Prim.Native.Nat.{ℕ}
@@ -22,9 +21,6 @@ edge_sets-sets-requires c = graph_edges_few _ _ c.requires.0
 
 pub put_groups-requires : goal.put_groups-requires
 put_groups-requires c = (graph_edges_few _ _ c.requires.0, c.mark_edges.ensures.size)
-
-pub bounds-t-256 : goal.bounds-t-256
-bounds-t-256 c = omega (arith, c.put_groups.ensures.size)
 
 pub returns : goal.returns
 returns c = table_is _ _ _ _ _ _ c.requires.0 c.mark_edges.ensures c.edge_sets-sets.ensures

@@ -40,12 +40,6 @@ loop-k-init c = marked_label _ _ _ _ _ _ (label_few _ _ c.requires.0 _ c.require
     _ c.graph_label-label.ensures) c.graph_label-label.ensures
     c.with-w.ensures c.requires.2
 
-pub overflow_mul-i : goal.overflow_mul-i
-overflow_mul-i c = omega (arith, c.rank_at-rank.ensures.1)
-
-pub overflow_add-i : goal.overflow_add-i
-overflow_add-i c = omega (arith, c.rank_at-rank.ensures.1)
-
 pub overflow_add-i-in-loop-k : goal.overflow_add-i-in-loop-k
 overflow_add-i-in-loop-k c = omega (
   arith,

@@ -2,13 +2,9 @@
 use lib.Bits.{bit_and, bit_xor}
 use Rattle.places.specs.Swar.{differs_of, low_bits, high_bits}
 use lib.Bits.{and_le_r}
-use native.Mathlib.Omega.{arith}
 use Prim.Native.Nat.{◌+◌}
 use mathlib.Core.Path.{refl}
 use Rattle.places.proofs.merging.differs.Goals as goal
-
-pub overflow_add-result : goal.overflow_add-result
-overflow_add-result c = omega (arith, and_le_r (bit_xor c.args.a c.args.b) low_bits)
 
 pub returns : goal.returns
 unfolding differs_of

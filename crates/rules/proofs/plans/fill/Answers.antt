@@ -14,16 +14,6 @@ loop-r-init c = (
   λ k. omega (arith, c.slice_known-1.given k),
 )
 
-pub fill_rule-requires : goal.fill_rule-requires
-fill_rule-requires c = (
-  c.requires.0,
-  omega (arith, c.rule_count-r-end.ensures, c.loop-r-test.true),
-  c.loop-r.invariant.0,
-)
-
-pub loop-r-preserved : goal.loop-r-preserved
-loop-r-preserved c = (c.fill_rule.ensures, λ k. omega (arith, c.slice_known-in-loop-r-1.given k))
-
 pub returns : goal.returns
 returns c = told_all _ c.requires.0
     _ _ _ c.rule_count-r-end.ensures c.loop-r-test.false c.loop-r.auto.r-end

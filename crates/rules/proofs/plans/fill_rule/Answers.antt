@@ -1,23 +1,9 @@
 -- The children of the plan nodes passed are told; the masks are those of what lies below them.
 use native.Mathlib.Omega.{arith}
-use mathlib.Core.Path.{refl}
 use Rattle.joins.proofs.Known.{plan_few}
-use Rattle.joins.proofs.PlanMasks.{masks_none, masks_more, set_size}
+use Rattle.joins.proofs.PlanMasks.{masks_more, set_size}
 use Rattle.rules.proofs.PlanLaws.{open_small, told_next, told_rule}
 use Rattle.rules.proofs.plans.fill_rule.Goals as goal
-
-pub loop-q-init : goal.loop-q-init
-loop-q-init c = (masks_none _ _ _, refl, c.requires.2)
-
-pub node_below-m-requires : goal.node_below-m-requires
-node_below-m-requires c = (
-  record {
-    grammar = c.requires.0;
-    rule = c.requires.1;
-    node = omega (arith, c.rule_plan-n.ensures, c.loop-q-test.true);
-  },
-  c.loop-q.invariant.0,
-)
 
 pub offset_bounds-ms-q : goal.offset_bounds-ms-q
 offset_bounds-ms-q c = omega (
@@ -33,16 +19,6 @@ bounds-ms-q c = omega (
   c.rule_plan-n.ensures,
   c.loop-q-test.true,
   plan_few _ _ c.requires.0 c.requires.1,
-)
-
-pub open_at-o-requires : goal.open_at-o-requires
-open_at-o-requires c = (
-  record {
-    grammar = c.requires.0;
-    rule = c.requires.1;
-    node = omega (arith, c.rule_plan-n.ensures, c.loop-q-test.true);
-  },
-  c.node_below-m.ensures,
 )
 
 pub put_children-requires : goal.put_children-requires
