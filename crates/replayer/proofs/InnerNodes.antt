@@ -71,13 +71,6 @@ module _ (g : List ℕ) (r : ℕ) (checked : check_grammar g ≡ true) (known : 
 abbrev pub inner_at : List ℕ → ℕ → ℕ → ℕ
 inner_at row outer x = keep_if (not (member outer x)) (node_in row x)
 
-module _ (row : List ℕ) (outer x : ℕ) (b : Bool) (found : Found outer x b) where
-  pub node_outer : b ≡ true → 64 ≡ inner_at row outer x
-  node_outer e = rw (sym found.value ∙ e)
-
-  pub node_inner : b ≡ false → node_in row x ≡ inner_at row outer x
-  node_inner e = rw (sym found.value ∙ e)
-
 -- ---- masks of numbers below 64
 pub added_lt : (m v k : ℕ) → Added m v k → m < 2 ^ 64 → k < 2 ^ 64
 unfolding single

@@ -2,14 +2,14 @@
 use mathlib.Core.Path.{◌≡◌, refl, sym, ap, ap₂, subst, ◌∙◌}
 use mathlib.Core.Bool.{Bool, true, false, not, ◌&&◌}
 use mathlib.Core.List.{List, [], ◌∷◌, ◌++◌, append_assoc, append-nil}
-use Prim.Native.Nat.{ℕ, zero, suc, ◌+◌, ◌≤◌, ◌<◌, min}
+use Prim.Native.Nat.{ℕ, zero, suc, ◌+◌, ◌≤◌, ◌<◌}
 use native.Mathlib.Omega.{arith}
 use native.Mathlib.Numerals.{add-one}
 use lib.ListN.{length, get_or, take, drop, length-drop}
 use lib.Seq.{length-take-le, take-suc}
 use lib.Dec.{eqb, ltb}
 use borrow.Author.Tests.{eqb-true, ltb-true}
-use Rattle.masks.specs.Masks.{member, ◌∪◌, single, full, Added, Filled}
+use Rattle.masks.specs.Masks.{member, ◌∪◌, single, full, Added}
 use Rattle.masks.proofs.Laws.{bit_empty, bits_lt, bit_single_other, union_lt}
 use Rattle.hrg.specs.Counts.{hit, occurs, tabulate}
 use Rattle.hrg.specs.Grammars.{Graph, Grammar, lhs_of, right_of, edge_at}
@@ -65,9 +65,6 @@ mask_next l k m r h small e a =
 
 pub with_done : (l : List ℕ) (n k m : ℕ) → k ≤ n → n ≤ k → m ≡ with_all 0 (take k l) → m ≡ with_all 0 (take n l)
 with_done l n k m h i e = e ∙ ap (λ (j : ℕ). with_all 0 (take j l)) (let q : k ≡ n = omega arith in q)
-
-pub full_is : (n k m : ℕ) → n ≡ k → k ≤ 64 → Filled n m → m ≡ full k
-full_is n k m e h f = f.value ∙ ap full (let q : min n 64 ≡ k = omega arith in q)
 
 pub marks_all : {n m : ℕ} {l : List ℕ} → Marks n m l → every n (λ v. ltb 0 (occurs v l)) ≡ eqb m (full n)
 marks_all {n} {m} {l} k = holds_all n m l (held k) k.below

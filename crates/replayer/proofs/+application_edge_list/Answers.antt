@@ -6,9 +6,9 @@ use lib.ListN.{length}
 use Rattle.format.proofs.FieldLaws.{fields_length}
 use Rattle.joins.proofs.Known.{graph_ok}
 use Rattle.replayer.specs.Following.{progress_in}
-use Rattle.replayer.proofs.MaskTests.{edge_known, ruled, four_length}
+use Rattle.replayer.proofs.MaskTests.{edge_known, ruled}
 use Rattle.replayer.proofs.RowParts.{of_edge, of_row, edges_small, listed_take}
-use Rattle.replayer.proofs.Following.{fields_few, row_few, applied_past, applied_refused, taken_sized, row_opened, edge_used, applied_passing, opened_rows, opened_falls, applied_opened, followed_end, followed_refused, used_rows, used_falls, followed_edge, under_falls, followed_unnumbered, followed_under_failed, after_falls, followed_under}
+use Rattle.replayer.proofs.Following.{fields_few, row_few, applied_past, applied_refused, taken_sized, row_opened, edge_used, applied_passing, opened_rows, opened_falls, applied_opened, followed_end, followed_refused, used_rows, used_falls, followed_edge, followed_unnumbered, followed_under_failed, after_falls, followed_under}
 use Rattle.replayer.proofs.+application_edge_list.Goals as goal
 
 pub application-returns-then-text-st : goal.application-returns-then-text-st
@@ -32,10 +32,6 @@ pub application-slice_bounds-row-end : goal.application-slice_bounds-row-end
 application-slice_bounds-row-end t c =
     let read = c.read_row-count.ensures in
     read.0 ∙ sym (ap length read.1 ∙ fields_length _)
-
-pub application-taken-taken-requires : goal.application-taken-taken-requires
-application-taken-taken-requires t c =
-    (c.requires.0, c.requires.2)
 
 pub application-open_row-requires : goal.application-open_row-requires
 application-open_row-requires t c =
@@ -84,10 +80,6 @@ application-returns-in-Some t c =
     applied_opened _ _ _ _ _ p pre.1 inside _ line _ fields _ answer _ taken _ opened few _
     c.edge_list.ensures
 
-pub edge_list-part_at-part-requires : goal.edge_list-part_at-part-requires
-edge_list-part_at-part-requires t c =
-    (c.requires.0.grammar, ruled _ _ _ c.requires.1)
-
 pub edge_list-edge_passes-requires : goal.edge_list-edge_passes-requires
 edge_list-edge_passes-requires t c =
     let part = sym c.part_at-part.ensures ∙ c.in-GraphEdge.is in
@@ -134,19 +126,6 @@ pub edge_list-list_nodes-requires : goal.edge_list-list_nodes-requires
 edge_list-list_nodes-requires t c =
     let part = sym c.part_at-part.ensures ∙ c.in-Application.is in
     (c.requires.0, c.requires.1, (of_row _ _ _ _ _ part).known, refl)
-
-pub edge_list-application-requires : goal.edge_list-application-requires
-edge_list-application-requires t c =
-    let given = c.requires in
-    let pre = given in
-    let part = sym c.part_at-part.ensures ∙ c.in-Application.is in (
-      omega (
-        arith,
-        under_falls _ _ c.args.text.now _ pre.1 _
-            (progress_in true c.args.st.now) _ _ part,
-      ),
-      (pre.0, pre.2, four_length _ _ c.list_nodes.ensures),
-    )
 
 pub edge_list-returns-then-not-application : goal.edge_list-returns-then-not-application
 edge_list-returns-then-not-application t c =

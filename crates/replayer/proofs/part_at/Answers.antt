@@ -1,10 +1,7 @@
 -- The fields that say what edge and part are.
 use native.Mathlib.Omega.{arith}
-use Rattle.replayer.proofs.RowParts.{rule_there, part_end, part_there, part_edge, part_row}
+use Rattle.replayer.proofs.RowParts.{part_end, part_there, part_edge, part_row}
 use Rattle.replayer.proofs.part_at.Goals as goal
-
-pub bounds-row-1 : goal.bounds-row-1
-bounds-row-1 c = rule_there _ _ c.requires.0 c.requires.1
 
 pub returns-then-rule_edges-i : goal.returns-then-rule_edges-i
 returns-then-rule_edges-i c = part_end _ _ c.requires.0

@@ -9,10 +9,6 @@ returns-then-not-check_grammar c = answer_unfit_grammar _ _ _ (sym c.check_gramm
 pub returns-then-not-check_graph : goal.returns-then-not-check_graph
 returns-then-not-check_graph c = answer_unfit_graph _ _ _ (sym c.check_grammar.ensures ∙ c.if-not-check_grammar.false) (sym c.check_graph.ensures ∙ c.if-not-check_graph.true)
 
-pub passes-requires : goal.passes-requires
-passes-requires c = tables_accepted _ _ _ c.check_grammar.ensures
-    c.if-not-check_grammar.false _ c.check_graph.ensures c.if-not-check_graph.false
-
 pub returns-then-passes : goal.returns-then-passes
 returns-then-passes c = answer_passed _ _ _ (tables_accepted
     _ _ _ c.check_grammar.ensures

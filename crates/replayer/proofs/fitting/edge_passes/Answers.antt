@@ -1,6 +1,5 @@
 -- The tests in their order, by a law each.
-use Rattle.replayer.proofs.RowPlaces.{rule_there}
-use Rattle.replayer.proofs.EdgeTests.{edge_unknown, edge_label_no, edge_there, edge_labelled, edge_nodes_no, edge_new}
+use Rattle.replayer.proofs.EdgeTests.{edge_unknown, edge_label_no, edge_nodes_no, edge_new}
 use Rattle.replayer.proofs.fitting.edge_passes.Goals as goal
 
 pub returns-then-graph_edges-g : goal.returns-then-graph_edges-g
@@ -8,26 +7,10 @@ returns-then-graph_edges-g c = edge_unknown _ _ _ c.requires.0
     c.requires.1 _ c.requires.2
     _ c.args.used _ c.graph_edges.ensures c.if-graph_edges-g.true
 
-pub bounds-row-1 : goal.bounds-row-1
-bounds-row-1 c = rule_there _ _ _ c.requires.0 c.requires.1
-
 pub returns-then-graph_label-label : goal.returns-then-graph_label-label
 returns-then-graph_label-label c = edge_label_no _ _ _ c.requires.0 c.requires.1 _ c.requires.2 _ c.args.used
     _ c.graph_edges.ensures c.if-graph_edges-g.false _ c.edge_label-label.ensures
     _ c.graph_label.ensures c.if-graph_label-label.true
-
-pub nodes_fit-requires : goal.nodes_fit-requires
-nodes_fit-requires c = (
-  c.requires.0,
-  c.requires.1,
-  c.requires.2,
-  edge_there _ _ _ c.requires.0 c.requires.1 _ c.requires.2
-      _ c.args.used _ c.graph_edges.ensures c.if-graph_edges-g.false
-      _ c.edge_label-label.ensures _ c.graph_label.ensures c.if-graph_label-label.false,
-  edge_labelled _ _ _ c.requires.0 c.requires.1 _ c.requires.2 _ c.args.used
-      _ c.graph_edges.ensures c.if-graph_edges-g.false _ c.edge_label-label.ensures
-      _ c.graph_label.ensures c.if-graph_label-label.false,
-)
 
 pub returns-then-not-nodes_fit : goal.returns-then-not-nodes_fit
 returns-then-not-nodes_fit c = edge_nodes_no _ _ _ c.requires.0 c.requires.1 _ c.requires.2 _ c.args.used

@@ -1,16 +1,7 @@
 -- The external nodes that were passed lie on the listed nodes.
 use native.Mathlib.Omega.{arith}
-use Rattle.replayer.proofs.NodeTests.{passed_none, passed_next}
-use Rattle.replayer.proofs.RowPlaces.{rule_there}
-use Rattle.replayer.proofs.RowTests.{same_place, external_there, externals_no, externals_all}
+use Rattle.replayer.proofs.RowTests.{external_there, externals_no, externals_all}
 use Rattle.replayer.proofs.fitting.externals_fit.Goals as goal
-
-pub bounds-row-1 : goal.bounds-row-1
-bounds-row-1 c = rule_there _ _ _ c.requires.0
-    c.requires.1
-
-pub loop-k-init : goal.loop-k-init
-loop-k-init c = passed_none _
 
 pub overflow_add-x : goal.overflow_add-x
 overflow_add-x c = omega (
@@ -33,24 +24,10 @@ bounds-row-x c = omega (
       c.rank_at-rank.ensures.0 _ _ c.loop-k-test.true c.rule_external-x.ensures,
 )
 
-pub offset_bounds-listed-k : goal.offset_bounds-listed-k
-offset_bounds-listed-k c = omega (arith, c.loop-k-test.true, c.rank_at-rank.ensures.1)
-
-pub bounds-listed-k : goal.bounds-listed-k
-bounds-listed-k c = omega (
-  arith,
-  c.loop-k-test.true,
-  c.rank_at-rank.ensures.1,
-)
-
 pub returns-then-row-x : goal.returns-then-row-x
 returns-then-row-x c = externals_no _ _ _ c.requires.0 c.requires.1 _ _ c.rule_symbol.ensures
     c.rank_at-rank.ensures.0 _ c.requires.2 _ _ c.loop-k-test.true
     c.rule_external-x.ensures c.if-row-x.true
-
-pub loop-k-preserved : goal.loop-k-preserved
-loop-k-preserved c = passed_next _ _ (same_place c.args.row.now _ _ _ c.rule_external-x.ensures
-    c.if-row-x.false) c.loop-k.invariant
 
 pub returns : goal.returns
 returns c = externals_all _ _ _ c.requires.0 c.requires.1 _ _ c.rule_symbol.ensures

@@ -9,15 +9,9 @@ returns-in_err-n c = c.from_residual.ensures ∙ count_none _ c.in_err-n.ensures
 pub loop-k-init : goal.loop-k-init
 loop-k-init c = count_first _ _ _ c.in_ok-n.ensures c.after_line-at.ensures
 
-pub has_letter-requires : goal.has_letter-requires
-has_letter-requires c = (c.loop-k.invariant.within, c.next_line-line.ensures.contents)
-
 pub returns-then-not-has_letter : goal.returns-then-not-has_letter
 returns-then-not-has_letter c = count_refused _ _ _ _ c.loop-k.invariant c.loop-k-test.true _ c.has_letter.ensures
     c.if-not-has_letter.true
-
-pub behind-at-requires : goal.behind-at-requires
-behind-at-requires c = (c.loop-k.invariant.within, c.next_line-line.ensures.contents)
 
 pub loop-k-preserved : goal.loop-k-preserved
 loop-k-preserved c = count_next _ _ _ _ c.loop-k.invariant c.loop-k-test.true _ c.has_letter.ensures

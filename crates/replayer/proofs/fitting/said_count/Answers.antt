@@ -1,10 +1,6 @@
 -- The tests of the first line in their order, by a law each.
-use native.Mathlib.Omega.{arith}
 use Rattle.replayer.proofs.TextRows.{said_letter, said_fields, said_few, said_many, said_all}
 use Rattle.replayer.proofs.fitting.said_count.Goals as goal
-
-pub has_letter-requires : goal.has_letter-requires
-has_letter-requires c = (omega arith, c.next_line-line.ensures.contents)
 
 pub returns-then-not-has_letter : goal.returns-then-not-has_letter
 returns-then-not-has_letter c = said_letter _ _ c.has_letter.ensures c.if-not-has_letter.true

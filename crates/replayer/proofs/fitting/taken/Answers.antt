@@ -2,9 +2,6 @@
 use Rattle.replayer.proofs.RowTests.{row_head, row_ruled, row_few, row_places, row_sized, row_externals, row_inner}
 use Rattle.replayer.proofs.fitting.taken.Goals as goal
 
-pub head_passes-requires : goal.head_passes-requires
-head_passes-requires c = c.requires.0.grammar
-
 pub returns-then-not-head_passes : goal.returns-then-not-head_passes
 returns-then-not-head_passes c = row_head _ _ _ _ _ c.args.used
     c.args.listed.now c.requires.0

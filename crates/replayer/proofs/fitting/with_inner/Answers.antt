@@ -1,11 +1,7 @@
 -- Whether the inner nodes from x on are new, beside those met, is whether all are; and with them the mask has all.
-use Rattle.replayer.proofs.RowPlaces.{rule_known, rule_there}
+use Rattle.replayer.proofs.RowPlaces.{rule_known}
 use Rattle.replayer.proofs.InnerNodes.{taken_not, taken_with, added_lt, new_start, with_start, inner_there, new_all, with_all_lem, new_used, new_next, with_next}
 use Rattle.replayer.proofs.fitting.with_inner.Goals as goal
-
-pub bounds-row-1 : goal.bounds-row-1
-bounds-row-1 c = rule_there _ _ _ c.requires.0
-    c.requires.1
 
 pub external_mask-outer-requires : goal.external_mask-outer-requires
 external_mask-outer-requires c = (
