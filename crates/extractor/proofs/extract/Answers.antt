@@ -1,16 +1,9 @@
 -- The line `D` in front of the rows of the listed applications; nothing where none are listed.
-use mathlib.Core.Path.{refl, ◌∙◌}
-use native.Mathlib.Omega.{arith}
-use lib.Seq.{drop-length}
 use Rattle.extractor.proofs.TextLaws.{text_none, text_some}
 use Rattle.extractor.proofs.extract.Goals as goal
 
 pub returns-in_default : goal.returns-in_default
-returns-in_default c = record {
-  same = refl;
-  inside = omega arith;
-  contents = drop-length c.args.text.now ∙ text_none _ _ _ _ _ (rw c.in_default.is at c.requires.1);
-}
+returns-in_default c = text_none _ _ _ _ _ _ (rw c.in_default.is at c.requires.1)
 
 pub returns : goal.returns
 returns c = text_some _ _ _ _ _ _ (rw c.in-Some.is at c.requires.1) _ _ _ _ (rw c.in-Some.is at c.requires.2).0
