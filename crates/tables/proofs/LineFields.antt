@@ -2,7 +2,7 @@
 use Prim.Native.Nat.{ℕ, ◌-◌, ◌≤◌, ◌<◌}
 use native.Mathlib.Omega.{arith}
 use mathlib.Core.Path.{◌≡◌, sym, ap, ap₂, ◌∙◌}
-use mathlib.Core.Bool.{Bool, true, false, false≢true}
+use mathlib.Core.Bool.{Bool, true, false, cond, false≢true}
 use mathlib.Core.List.{List}
 use lib.ListN.{length, get_or, take, drop}
 use lib.Seq.{get_or-take, ext_get_or, length-take-le}
@@ -11,7 +11,9 @@ use borrow.Author.Tests.{eqb-true, eqb-false}
 use Rattle.hrg.specs.Counts.{tabulate}
 use Rattle.hrg.proofs.Sums.{length_tabulate}
 use Rattle.questions.specs.declared.Due.{Due}
-use Rattle.questions.specs.Layout.{place_of, line_field}
+use Rattle.questions.specs.Walk.{Room}
+use Rattle.questions.proofs.WellFormedWalk.{room_in}
+use Rattle.questions.specs.Layout.{place_of, in_table, line_field}
 use Rattle.questions.specs.Questions.{judge}
 use Rattle.questions.specs.Checking.{fields_due, stored_fields}
 use Rattle.questions.proofs.StoredLaws.{get_d_tabulate}
@@ -43,6 +45,10 @@ module _ (t : List ℕ) (p : ℕ) (f : List ℕ) (k : ℕ) (C : Copied t p f k) 
       ∙ sym (get_d_tabulate n (λ j. line_field t p j) j 0 (omega (arith, length-take-le n f l)))
 
 -- ---- and judged
+-- a line that the table has room for is in a table
+pub judged_in : (g t : List ℕ) (due : Due) (fs : List ℕ) (k : ℕ) → Room (length t) due → k ≡ cond (in_table due) (judge g t due fs) 2 → k ≡ judge g t due fs
+judged_in g t due fs k r e = e ∙ rw (room_in (length t) due r)
+
 module _ (g t : List ℕ) (due : Due) (p n : ℕ) (place : p ≡ place_of due) (count : n ≡ fields_due g t t due) (fs : List ℕ) (own : fs ≡ tabulate n (λ j. line_field t p j))
     (k : ℕ) (e : k ≡ judge g t due fs) where
   fields : fs ≡ stored_fields g t t due
@@ -52,10 +58,10 @@ module _ (g t : List ℕ) (due : Due) (p n : ℕ) (place : p ≡ place_of due) (
   judged : k ≡ judge g t due (stored_fields g t t due)
   judged = e ∙ ap (judge g t due) fields
 
-  pub stands_no : (k ≡ 0 → ⊥) → Stands g t due false
+  stands_no : (k ≡ 0 → ⊥) → Stands g t due false
   stands_no h = record { yes = λ y. absurd (false≢true y); no = λ y s. h (judged ∙ s.passed) }
 
-  pub stands_rest : k ≡ 0 → (b : Bool) → b ≡ eqb (behind t p n) 0 → Stands g t due b
+  stands_rest : k ≡ 0 → (b : Bool) → b ≡ eqb (behind t p n) 0 → Stands g t due b
   stands_rest h b z = record {
     yes = λ y. record { passed = sym judged ∙ h; rest = sym there ∙ ends_yes t p n b z y };
     no = λ y s. ends_no t p n b z y (there ∙ s.rest);

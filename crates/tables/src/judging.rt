@@ -12,7 +12,7 @@ use questions::{Due, Refusal};
 
 // `G`: symbols (1-64), rules (1-64), start symbol.
 #[tactic(auto, unfolding(questions::specs::Questions::judge_grammar))]
-pub(crate) fn judge_grammar(f: &[u64]) -> Result<(), Refusal>
+fn judge_grammar(f: &[u64]) -> Result<(), Refusal>
     ensures { number_in result ≡ judge_grammar f.now }
 {
     let n = f.len() as u64;
@@ -34,7 +34,7 @@ pub(crate) fn judge_grammar(f: &[u64]) -> Result<(), Refusal>
 
 // `S`: its number, kind, rank.
 #[tactic(auto, unfolding(questions::specs::Questions::judge_symbol))]
-pub(crate) fn judge_symbol(g: &[u64], s: u64, f: &[u64]) -> Result<(), Refusal>
+fn judge_symbol(g: &[u64], s: u64, f: &[u64]) -> Result<(), Refusal>
     ensures { number_in result ≡ judge_symbol g.now s f.now }
 {
     let n = f.len() as u64;
@@ -59,7 +59,7 @@ pub(crate) fn judge_symbol(g: &[u64], s: u64, f: &[u64]) -> Result<(), Refusal>
 
 // `R`: its number, its nonterminal, nodes (1-8), edges (1-8), plan nodes (2-16), then its external nodes.
 #[tactic(auto, unfolding(questions::specs::Questions::judge_rule))]
-pub(crate) fn judge_rule(g: &[u64], r: u64, f: &[u64]) -> Result<(), Refusal>
+fn judge_rule(g: &[u64], r: u64, f: &[u64]) -> Result<(), Refusal>
     ensures { number_in result ≡ judge_rule g.now r f.now }
 {
     let n = f.len() as u64;
@@ -92,7 +92,7 @@ pub(crate) fn judge_rule(g: &[u64], r: u64, f: &[u64]) -> Result<(), Refusal>
 
 // `E` of a rule: symbol of rank 1 or more, then that many nodes; with the last one, is every node on an edge?
 #[tactic(auto, unfolding(questions::specs::Questions::judge_rule_edge))]
-pub(crate) fn judge_rule_edge(g: &[u64], r: u64, i: u64, f: &[u64]) -> Result<(), Refusal>
+fn judge_rule_edge(g: &[u64], r: u64, i: u64, f: &[u64]) -> Result<(), Refusal>
     requires { (r ≤ 63) × (i ≤ 7) }
     ensures { number_in result ≡ judge_rule_edge g.now r i f.now }
 {
@@ -151,7 +151,7 @@ fn judge_known_plan(
 
 // `P`: kind, first, second.
 #[tactic(auto, unfolding(questions::specs::Questions::judge_plan))]
-pub(crate) fn judge_plan(g: &[u64], r: u64, q: u64, f: &[u64]) -> Result<(), Refusal>
+fn judge_plan(g: &[u64], r: u64, q: u64, f: &[u64]) -> Result<(), Refusal>
     requires { PlanRoom g.now r q }
     ensures { number_in result ≡ judge_plan g.now r q f.now }
 {
@@ -181,7 +181,7 @@ pub(crate) fn judge_plan(g: &[u64], r: u64, q: u64, f: &[u64]) -> Result<(), Ref
 
 // `H`: nodes (1-64), edges (1-64), then external nodes, as many as the start's rank.
 #[tactic(auto, unfolding(questions::specs::Questions::judge_graph))]
-pub(crate) fn judge_graph(g: &[u64], f: &[u64]) -> Result<(), Refusal>
+fn judge_graph(g: &[u64], f: &[u64]) -> Result<(), Refusal>
     ensures { number_in result ≡ judge_graph g.now f.now }
 {
     let n = f.len() as u64;
@@ -203,7 +203,7 @@ pub(crate) fn judge_graph(g: &[u64], f: &[u64]) -> Result<(), Refusal>
 
 // `E` of a graph: a terminal symbol, then as many nodes as its rank; with the last one, is every node on an edge?
 #[tactic(auto, unfolding(questions::specs::Questions::judge_graph_edge))]
-pub(crate) fn judge_graph_edge(g: &[u64], h: &[u64], e: u64, f: &[u64]) -> Result<(), Refusal>
+fn judge_graph_edge(g: &[u64], h: &[u64], e: u64, f: &[u64]) -> Result<(), Refusal>
     requires { e ≤ 63 }
     ensures { number_in result ≡ judge_graph_edge g.now h.now e f.now }
 {
