@@ -65,13 +65,11 @@ fn in_graph(s: Sizes, used: u64, x: Record) -> bool
     requires { (s.all ≡ full s.edges) × (s.nodes ≤ 64) }
     ensures { result ≡ in_graph s.nodes s.edges (λ k. member used k) x }
 {
-    let item = x.item;
-    let edges = item.edges;
+    let edges = x.item.edges;
     if edges & s.all != edges {
         return false;
     }
-    let nodes = item.nodes;
-    known_places(s.nodes, used, nodes)
+    known_places(s.nodes, used, x.item.nodes)
 }
 
 // ---- partners, among n items
@@ -169,9 +167,7 @@ fn known_record(
     requires { Sized g.now h.now s × PlanTable g.now plans.now }
     ensures { result ≡ known_record (grammar_of g.now) (graph_of g.now h.now) n x }
 {
-    let item = x.item;
-    let kind = item.kind;
-    match kind {
+    match x.item.kind {
         0 => known_active(g, h, plans, s, n, x),
         1 => known_passive(g, h, s, n, x),
         _ => false,
