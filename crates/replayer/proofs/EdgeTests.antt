@@ -24,9 +24,6 @@ use Rattle.replayer.proofs.NodeTests.{PassedTo, passed_all, same_tabulated, Plac
 use Rattle.replayer.proofs.RowPlaces.{label_is, nodes_are, node_known, graph_label_is, graph_nodes_are, node_there, images_are, edge_known}
 
 -- ---- one node
-pub same_node : (h row : List ℕ) (e k x y u : ℕ) → x ≡ y → u ≡ graph_node h e k → u ≡ node_in row x → eqb (graph_node h e k) (node_in row y) ≡ true
-same_node h row e k x y u s a d = eq-eqb (graph_node h e k) (node_in row y) (sym a ∙ d ∙ ap (node_in row) s)
-
 other_node : (h row : List ℕ) (e k x y u : ℕ) → x ≡ y → u ≡ graph_node h e k → (u ≡ node_in row x → ⊥) → eqb (graph_node h e k) (node_in row y) ≡ false
 other_node h row e k x y u s a d = ne_eqb (graph_node h e k) (node_in row y) (λ q. d (a ∙ q ∙ sym (ap (node_in row) s)))
 
@@ -113,9 +110,6 @@ module _ (g h row : List ℕ) (accepted : Accepted g h) (sized : SizedRow (gramm
       module _ (s : own ≡ label) where
         pub edge_there : e < graph_edges h
         edge_there = there
-
-        pub edge_labelled : graph_label h e ≡ edge_label g q i
-        edge_labelled = sym o ∙ s ∙ l
 
         label_test : eqb (edge_at (graph_of g h).edges e).label edge.label ≡ true
         label_test = eq-eqb (edge_at (graph_of g h).edges e).label edge.label (sym own_is ∙ s ∙ label_here)

@@ -63,9 +63,6 @@ mask_next l k m r h small e a =
     a.value small ∙ ap (λ (x : ℕ). x ∪ single (get_or l k 0)) e ∙ sym (with_snoc 0 (take k l) (get_or l k 0))
     ∙ ap (with_all 0) (sym (take-suc l k 0 h) ∙ ap (λ (j : ℕ). take j l) (sym (add-one k)))
 
-pub with_done : (l : List ℕ) (n k m : ℕ) → k ≤ n → n ≤ k → m ≡ with_all 0 (take k l) → m ≡ with_all 0 (take n l)
-with_done l n k m h i e = e ∙ ap (λ (j : ℕ). with_all 0 (take j l)) (let q : k ≡ n = omega arith in q)
-
 pub marks_all : {n m : ℕ} {l : List ℕ} → Marks n m l → every n (λ v. ltb 0 (occurs v l)) ≡ eqb m (full n)
 marks_all {n} {m} {l} k = holds_all n m l (held k) k.below
 
@@ -162,7 +159,3 @@ four_take (a ∷ b ∷ c ∷ d ∷ e ∷ L) h = absurd (omega arith)
 pub four_tabulated : (l : List ℕ) (f : ℕ → ℕ) → l ≡ tabulate 4 f → length l ≡ 4
 unfolding tabulate
 four_tabulated l f e = ap length e
-
-pub four_length : (l L : List ℕ) → l ≡ four_of L → length l ≡ 4
-unfolding four_of
-four_length l L e = four_tabulated l (λ k. at L k) e

@@ -28,9 +28,6 @@ use Rattle.replayer.proofs.InnerNodes.{taken_not}
 use Rattle.replayer.proofs.RowPlaces.{lhs_is, lhs_rank, externals_are, external_known, places_are, rule_known, node_there, images_are}
 
 -- ---- one place
-pub same_place : (row : List ℕ) (x y w : ℕ) → x ≡ y → node_in row x ≡ w → eqb (node_in row y) w ≡ true
-same_place row x y w e s = eq-eqb (node_in row y) w (ap (node_in row) (sym e) ∙ s)
-
 other_place : (row : List ℕ) (x y w : ℕ) → x ≡ y → (node_in row x ≡ w → ⊥) → eqb (node_in row y) w ≡ false
 other_place row x y w e s = ne_eqb (node_in row y) w (λ d. s (ap (node_in row) e ∙ d))
 

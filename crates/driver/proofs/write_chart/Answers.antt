@@ -11,10 +11,6 @@ slice_bounds-put_derivation-end c = (written_fits
     _ _ _ _ _ _ c.write-answer.ensures.2
     c.write-answer.auto.out c.in-Ok.is).1
 
-pub put_derivation-requires : goal.put_derivation-requires
-put_derivation-requires c = (written_fits _ _ _ _ _ _ c.write-answer.ensures.2 c.write-answer.auto.out
-    c.in-Ok.is).2
-
 pub returns-in-Ok : goal.returns-in-Ok
 returns-in-Ok c = prints_derived _ _ _ _ _ c.write-answer.ensures.0 _ _ _ _ _ c.write-answer.ensures.1
     c.in-Ok.is c.put_derivation.ensures

@@ -1,16 +1,7 @@
 -- Both rows of places lie within the line's fields.
 use native.Mathlib.Omega.{arith}
-use Rattle.filler.proofs.Eights.{fields_few, rest_is, record_read}
+use Rattle.filler.proofs.Eights.{rest_is, record_read}
 use Rattle.filler.proofs.application_in.Goals as goal
-
-pub eight_from-requires : goal.eight_from-requires
-eight_from-requires c = omega arith
-
-pub overflow_add-placed : goal.overflow_add-placed
-overflow_add-placed c = omega (arith, fields_few c.args.line.now)
-
-pub eight_from-requires-2 : goal.eight_from-requires-2
-eight_from-requires-2 c = omega arith
 
 pub returns : goal.returns
 returns c = record_read c.args.grammar.now c.args.line.now c.number-rule.result _ c.rule_nodes-nodes.result _

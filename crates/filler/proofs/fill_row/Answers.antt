@@ -1,6 +1,5 @@
 -- The records so far, and where the next line begins.
-use native.Mathlib.Omega.{arith}
-use mathlib.Core.Path.{◌≡◌, refl, ap, ◌∙◌}
+use mathlib.Core.Path.{refl, ap, ◌∙◌}
 use lib.ListN.{set}
 use Rattle.format.specs.Lines.{after_line}
 use Rattle.filler.specs.Rows.{offset_of, filled_from, application_at}
@@ -21,8 +20,3 @@ loop-k-preserved c =
       ap (λ rows. set rows k c.application_at.result) c.loop-k.invariant.1
           ∙ filled_next g text k c.args.rows.now _ (c.application_at.ensures ∙ ap (application_at g text) place),
     )
-
-pub returns : goal.returns
-returns c =
-    let all : c.loop-k.k ≡ c.args.n = omega arith in
-    c.loop-k.invariant.1 ∙ ap (λ n. filled_from c.args.grammar.now c.args.text.now n c.args.rows.now) all

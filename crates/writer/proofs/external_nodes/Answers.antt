@@ -3,7 +3,7 @@ use native.Mathlib.Omega.{arith}
 use Prim.Native.Nat.{◌<◌}
 use mathlib.Core.Path.{ap, ◌∙◌}
 use Rattle.questions.specs.Layout.{rank_at, start_symbol}
-use Rattle.joins.proofs.MapLaws.{placed_bare, placed_put}
+use Rattle.joins.proofs.MapLaws.{placed_bare}
 use Rattle.writer.proofs.Goals.{external_few, externals_all}
 use Rattle.writer.proofs.external_nodes.Goals as goal
 
@@ -24,14 +24,6 @@ with_node-l-requires c =
     ) in (
       omega (arith, c.rank_at-rank.ensures.1, c.loop-k-test.true),
       omega (arith, external_few _ _ _ _ c.requires inside c.graph_external.ensures),
-    )
-
-pub loop-k-preserved : goal.loop-k-preserved
-loop-k-preserved c =
-    let inv = c.loop-k.invariant in (
-      inv.0,
-      placed_put _ _ _ _ _ (omega (arith, c.rank_at-rank.ensures.1, c.loop-k-test.true))
-          c.graph_external.ensures c.with_node-l.ensures inv.1,
     )
 
 pub returns : goal.returns
