@@ -164,13 +164,6 @@ pub fn kind_of(g: &[u64], s: u64) -> u64
     line_field(g, SYMBOLS, s, 1, 0)
 }
 
-// The lesser of two numbers.
-pub fn at_most(cap: u64, n: u64) -> u64
-    ensures { result ≡ min cap n }
-{
-    n.min(cap)
-}
-
 pub fn rank_at(g: &[u64], s: u64) -> u64
     ensures { (result ≡ rank_at g.now s) × (result ≤ 4) }
 {

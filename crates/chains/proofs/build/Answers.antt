@@ -27,10 +27,10 @@ loop-j-preserved c =
     let s = c.args in
     let l = c.loop-j in
     chained_next s.chart.now l.links _ c.item_count-n.result l.j
-        c.hash-h.result c.item_at.result l.invariant
-        c.item_count-n.ensures c.loop-j-test.true
-        (omega (arith, c.requires.1, c.item_count-n.ensures)) c.item_at.ensures
-        c.hash-h.ensures.0 c.link.ensures
+    c.hash-h.result c.item_at.result l.invariant
+    c.item_count-n.ensures c.loop-j-test.true
+    (omega (arith, c.requires.1, c.item_count-n.ensures)) c.item_at.ensures
+    c.hash-h.ensures.0 c.link.ensures
 
 pub returns : goal.returns
 returns c = chained_all c.args.chart.now c.loop-j.links

@@ -41,13 +41,13 @@ loop-j-preserved c =
     let next = records_at w (l.j + 1) in
     elim c.if-not-is_handled.branch [
       | then-not-is_handled p ↦
-        subst (λ (r : List ℕ). Ranked r next) (sym p.ranks-is)
-            (p.insert.ensures now next l.invariant (fresh_order w l.j)
-            (next_waits w l.j _ (sym c.is_handled.ensures ∙ p.if-not-is_handled.true) p.count_at.ensures))
+          subst (λ (r : List ℕ). Ranked r next) (sym p.ranks-is)
+          (p.insert.ensures now next l.invariant (fresh_order w l.j)
+          (next_waits w l.j _ (sym c.is_handled.ensures ∙ p.if-not-is_handled.true) p.count_at.ensures))
       | else-not-is_handled p ↦
-        subst (λ (r : List ℕ). Ranked r next) (sym p.ranks-is)
-            (ranked_still l.ranks l.j now next l.invariant (fresh_order w l.j)
-            (next_handled w l.j (sym c.is_handled.ensures ∙ p.if-not-is_handled.false)))
+          subst (λ (r : List ℕ). Ranked r next) (sym p.ranks-is)
+          (ranked_still l.ranks l.j now next l.invariant (fresh_order w l.j)
+          (next_handled w l.j (sym c.is_handled.ensures ∙ p.if-not-is_handled.false)))
     ]
 
 pub returns : goal.returns

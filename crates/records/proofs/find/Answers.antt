@@ -13,7 +13,7 @@ pub loop-i-preserved : goal.loop-i-preserved
 loop-i-preserved c =
     let s = c.args in let l = c.loop-i in
     find_miss s.chart.now s.x s.n l.i _ (omega arith) (omega arith)
-        c.same.result c.same.ensures c.if-same.false ∙ l.invariant
+    c.same.result c.same.ensures c.if-same.false ∙ l.invariant
 
 pub returns : goal.returns
 returns c =

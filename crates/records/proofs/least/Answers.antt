@@ -25,7 +25,7 @@ pub loop-i-preserved : goal.loop-i-preserved
 loop-i-preserved c =
     let s = c.args in let l = c.loop-i in
     least_none s.chart.now s.n l.i c.loop-i-test.true l.invariant
-        (sym c.is_handled.ensures ∙ c.if-not-is_handled.false)
+    (sym c.is_handled.ensures ∙ c.if-not-is_handled.false)
 
 pub returns : goal.returns
 returns c =

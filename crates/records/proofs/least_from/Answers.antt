@@ -29,7 +29,7 @@ loop-i-preserved c =
     let s = c.args in
     let l = c.loop-i in
     least_next s.chart.now s.n l.i (Some l.best) (Some c.lesser_of-best.result)
-        c.loop-i-test.true l.invariant c.lesser_of-best.ensures
+    c.loop-i-test.true l.invariant c.lesser_of-best.ensures
 
 pub returns : goal.returns
 returns c =
