@@ -204,7 +204,7 @@ fn lost(graph: &[u64; graphs::GRAPH_TABLE_WORDS], m: u64, v: u64) -> bool
 }
 
 // Whether one of the dropped nodes is open in the edge set m: w has each xor 64, and 0 at the other places, so that
-// nothing is left once the last one is passed.
+// nothing is left once the last one is passed, and the loop may end before the eighth place.
 fn loses(graph: &[u64; graphs::GRAPH_TABLE_WORDS], m: u64, w: u64) -> bool
     ensures { result ≡ loses_one graph.now m w }
 {

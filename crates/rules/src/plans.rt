@@ -7,8 +7,8 @@ ghost use Rattle.rules.specs.Rules.{Above};
 ghost use Rattle.rules.specs.Plans.{plan_table_words, edge_word, second_word, ParentAt, PlanTable};
 ghost use Rattle.rules.specs.Filling.{Placed, Put, ToldTo};
 
-// A plan node as one number (`join_word`), which has 16 for its number where there is none, and the rule nodes that
-// are open there.
+// A plan node as one number (`join_word`), which has 16 for its number where there is none, as it has in the table's
+// words, and the rule nodes that are open there.
 #[derive(Clone, Copy)]
 pub struct Parent {
     pub word: u64,

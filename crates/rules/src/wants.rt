@@ -8,7 +8,7 @@ ghost use Rattle.rules.specs.Wants.{want_of, want_by};
 use crate::plans;
 use crate::plans::PLAN_TABLE_WORDS;
 
-// What the plan node of the word w wants.
+// What the plan node of the word w wants, 80 for nothing: a number and no option, as what is wanted is part of words.
 fn wanted(w: u64) -> u64
     ensures { result ≡ want_by w }
 {
