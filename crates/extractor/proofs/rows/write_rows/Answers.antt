@@ -9,7 +9,7 @@ use Rattle.extractor.proofs.rows.write_rows.Goals as goal
 
 pub loop-k-init : goal.loop-k-init
 loop-k-init c = (
-  written_start _ _ _ _ _ _ _ c.requires.1 c.requires.2 c.requires.3 c.requires.4 c.requires.5,
+  written_start _ _ _ _ _ _ _ c.requires.0 c.requires.1 c.requires.2 c.requires.3 c.requires.4,
   refl,
   refl,
 )
@@ -22,7 +22,7 @@ loop-k-preserved c = (
         arith,
         c.loop-k.invariant.0.inside,
         c.loop-k-test.true,
-        length-take-le c.args.n c.args.list.now c.requires.2,
+        length-take-le c.args.n c.args.list.now c.requires.1,
       )))) c.row_of-row.ensures
       c.write_row-at.ensures,
   c.row_of-row.auto.fields ∙
