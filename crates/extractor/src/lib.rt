@@ -38,7 +38,7 @@ pub fn extract(
     let Some(n) = n else {
         return text.len();
     };
-    let at = rows::write_rows(t, chart, list, n, sizes, text);
+    let at = rows::write_rows(t, chart, &list[..n], sizes, text);
     let head = [n as u64];
     let start = at - 6;
     lines::write_line(text, start, 68, &head, 1);

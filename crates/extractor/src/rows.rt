@@ -65,23 +65,22 @@ fn write_row(fields: &[u64], count: u64, text: &mut [u8], at: usize) -> usize
     start
 }
 
-// The lines of the rows of the n applications of a list at the end of the buffer; answers where they start. From the
-// last one up: a row takes the sizes of later ones, which are all 0 at first.
+// The lines of the rows of the listed applications at the end of the buffer; answers where they start. From the last
+// one up: a row takes the sizes of later ones, which are all 0 at first.
 pub(crate) fn write_rows(
     t: &AcceptedTables,
     chart: &[u64],
-    list: &[u64],
-    n: usize,
+    listed: &[u64],
     sizes: &mut [u64],
     text: &mut [u8],
 ) -> usize
-    requires { (n ≤ 4096) × (n ≤ length list.now) × (n < length sizes.old) × (sizes.old ≡ replicate (length sizes.old) 0) × (74 * n + 6 ≤ length text.old) }
-    ensures { EndsWith (row_lines (rows_from (λ k. record_at chart.now k) (grammar_in t.now) (graph_in t.now) 0 (take n list.now))) text.old text.new result × (6 ≤ result) }
+    requires { (length listed.now ≤ 4096) × (length listed.now < length sizes.old) × (sizes.old ≡ replicate (length sizes.old) 0) × (74 * length listed.now + 6 ≤ length text.old) }
+    ensures { EndsWith (row_lines (rows_from (λ k. record_at chart.now k) (grammar_in t.now) (graph_in t.now) 0 listed.now)) text.old text.new result × (6 ≤ result) }
 {
     let mut fields = [0u64; 18];
     let mut at = text.len();
-    for k in (0..n).rev() {
-        let row = row_of(t, chart, sizes, k as u64, list[k], &mut fields);
+    for k in (0..listed.len()).rev() {
+        let row = row_of(t, chart, sizes, k as u64, listed[k], &mut fields);
         sizes[k] = row.size;
         at = write_row(&fields, row.count, text, at);
     }
