@@ -4,7 +4,7 @@ use mathlib.Core.Bool.{Bool, true, false}
 use mathlib.Core.List.{List, [], ◌∷◌, ◌++◌}
 use Prim.Native.Nat.{ℕ, zero, suc, ◌+◌, ◌-◌, ◌*◌, ◌≤◌, ◌<◌}
 use native.Mathlib.Omega.{arith}
-use lib.ListN.{length, get_or, set, take, drop, replicate, length-set, drop_of_length-le}
+use lib.ListN.{length, get_or, set, take, drop, replicate, length-set}
 use lib.Seq.{drop-cons, drop-length, get_or-set_same, get_or-set_other, length-take-le, sets, length-sets}
 use lib.Dec.{eqb}
 use borrow.Author.Tests.{eqb-true, eqb-false, eq-eqb, ne_eqb}
@@ -71,12 +71,12 @@ module _ (w : List ℕ) (G : Grammar) (H : Graph) where
     pub fit : SizesFit sizes
     pub each : (m : ℕ) → get_or sizes m 0 ≡ sizes_from look G k (drop k js) m
 
-  pub written_start : (list sizes text : List ℕ) (n : ℕ) → n ≤ 4096 → n ≤ length list → n < length sizes → sizes ≡ nothing (length sizes) → 74 * n + 6 ≤ length text
-      → Written (take n list) text text sizes n (length text)
+  pub written_start : (js sizes text : List ℕ) → length js ≤ 4096 → length js < length sizes → sizes ≡ nothing (length sizes) → 74 * length js + 6 ≤ length text
+      → Written js text text sizes (length js) (length text)
   unfolding row_lines rows_from sizes_from
-  written_start list sizes text n few inside wide bare room =
-      let size : length (take n list) ≡ n = length-take-le n list inside in
-      let none : drop n (take n list) ≡ [] = drop_of_length-le (take n list) {i = n} (omega arith) in
+  written_start js sizes text few wide bare room =
+      let n = length js in
+      let none : drop n js ≡ [] = drop-length js in
       record {
         inside = omega arith;
         few = omega arith;

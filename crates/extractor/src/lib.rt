@@ -4,12 +4,13 @@
 #![tactic(auto)]
 
 ghost use Rattle.std.specs.Prelude.{[], ◌∷◌, ◌≡◌, ◌+◌, ◌*◌, ◌≤◌, ◌<◌, IfSome, length, replicate};
-ghost use Rattle.questions.specs.Abstract.{grammar_of, graph_of};
-ghost use Rattle.joins.specs.Joins.{Accepted};
+ghost use Rattle.joins.specs.Tables.{grammar_in, graph_in};
 ghost use Rattle.records.specs.Words.{record_at};
 ghost use Rattle.extraction.specs.Listing.{listing};
 ghost use Rattle.extractor.specs.Lists.{ListedIn};
 ghost use Rattle.extractor.specs.Texts.{text_at, EndsWith};
+
+use joins::accepted::AcceptedTables;
 
 pub mod listing;
 mod lookup;
@@ -23,8 +24,7 @@ mod rows;
 // bytes, the first one six. The sizes of the trees are worked out in a part that is lent, all 0, with more places than
 // there are applications.
 pub fn extract(
-    grammar: &[u64],
-    graph: &[u64],
+    t: &AcceptedTables,
     chart: &[u64],
     j: u64,
     list: &[u64],
@@ -32,13 +32,13 @@ pub fn extract(
     sizes: &mut [u64],
     text: &mut [u8],
 ) -> usize
-    requires { Accepted grammar.now graph.now × ListedIn 4096 (listing (λ k. record_at chart.now k) (grammar_of grammar.now) 4096 (j ∷ [])) list.now n × IfSome n (λ k. (k ≤ length list.now) × (k < length sizes.old) × (74 * k + 6 ≤ length text.old)) × (sizes.old ≡ replicate (length sizes.old) 0) }
-    ensures { EndsWith (text_at (λ k. record_at chart.now k) (grammar_of grammar.now) (graph_of grammar.now graph.now) j) text.old text.new result }
+    requires { ListedIn 4096 (listing (λ k. record_at chart.now k) (grammar_in t.now) 4096 (j ∷ [])) list.now n × IfSome n (λ k. (k ≤ length list.now) × (k < length sizes.old) × (74 * k + 6 ≤ length text.old)) × (sizes.old ≡ replicate (length sizes.old) 0) }
+    ensures { EndsWith (text_at (λ k. record_at chart.now k) (grammar_in t.now) (graph_in t.now) j) text.old text.new result }
 {
     let Some(n) = n else {
         return text.len();
     };
-    let at = rows::write_rows(grammar, graph, chart, list, n, sizes, text);
+    let at = rows::write_rows(t, chart, &list[..n], sizes, text);
     let head = [n as u64];
     let start = at - 6;
     lines::write_line(text, start, 68, &head, 1);

@@ -6,11 +6,12 @@ ghost use Rattle.hrg.specs.Grammars.{right_of, edge_at};
 ghost use Rattle.hrg.specs.Trees.{padded};
 ghost use Rattle.hrg.specs.Items.{joined, attach};
 ghost use Rattle.questions.specs.Layout.{graph_edge_place, rank_at, rule_nodes, edge_label, graph_edges, graph_node};
-ghost use Rattle.questions.specs.Abstract.{grammar_of, graph_of};
-ghost use Rattle.joins.specs.Joins.{Accepted, KnownEdge, edge_nodes, BareFrom};
+ghost use Rattle.joins.specs.Joins.{KnownEdge, edge_nodes, BareFrom};
+ghost use Rattle.joins.specs.Tables.{grammar_in, graph_in};
 ghost use Rattle.records.specs.Words.{record_at};
 ghost use Rattle.extraction.specs.Extraction.{part_nodes, placed_by};
 
+use joins::accepted::AcceptedTables;
 use places::PLACES;
 
 // The nodes of graph edge b, in four places.
@@ -42,13 +43,13 @@ fn place_nodes(grammar: &[u64], r: u64, i: u64, l: &[u64], f: &mut [u64])
 }
 
 // The same by graph edge b, which has as many nodes as the rank of its label.
-fn place_edge(grammar: &[u64], graph: &[u64], r: u64, i: u64, b: u64, f: &mut [u64])
-    requires { Accepted grammar.now graph.now × KnownEdge grammar.now r i × (b < graph_edges graph.now) × (length f.old ≡ 8) × BareFrom (rule_nodes grammar.now r) f.old }
-    ensures { f.new ≡ padded (joined (rule_nodes grammar.now r) f.old (attach (rule_nodes grammar.now r) (edge_nodes grammar.now r i) (take (rank_at grammar.now (edge_label grammar.now r i)) (edge_at (graph_of grammar.now graph.now).edges b).attachment))) }
+fn place_edge(t: &AcceptedTables, r: u64, i: u64, b: u64, f: &mut [u64])
+    requires { KnownEdge t.now.grammar.now r i × (b < graph_edges t.now.graph.now) × (length f.old ≡ 8) × BareFrom (rule_nodes t.now.grammar.now r) f.old }
+    ensures { f.new ≡ padded (joined (rule_nodes t.now.grammar.now r) f.old (attach (rule_nodes t.now.grammar.now r) (edge_nodes t.now.grammar.now r i) (take (rank_at t.now.grammar.now (edge_label t.now.grammar.now r i)) (edge_at (graph_in t.now).edges b).attachment))) }
 {
-    let rank = joins::rank_of(grammar, layout::graph_label_in(graph, b));
-    let nodes = nodes_of(graph, b);
-    place_nodes(grammar, r, i, &nodes[..rank as usize], f);
+    let rank = joins::rank_of(t.grammar, layout::graph_label_in(t.graph, b));
+    let nodes = nodes_of(t.graph, b);
+    place_nodes(t.grammar, r, i, &nodes[..rank as usize], f);
 }
 
 // The nodes of the record at b; past the chart's end its words are 0.
@@ -73,32 +74,31 @@ fn place_record(grammar: &[u64], chart: &[u64], r: u64, i: u64, b: u64, f: &mut 
 }
 
 // The same by the partner b of the edge: a graph edge, or a record. Past the graph's edges there is no node.
-fn place_part(grammar: &[u64], graph: &[u64], chart: &[u64], r: u64, i: u64, b: u64, f: &mut [u64])
-    requires { Accepted grammar.now graph.now × KnownEdge grammar.now r i × (length f.old ≡ 8) × BareFrom (rule_nodes grammar.now r) f.old }
-    ensures { f.new ≡ padded (joined (rule_nodes grammar.now r) f.old (attach (rule_nodes grammar.now r) (edge_nodes grammar.now r i) (part_nodes (λ k. record_at chart.now k) (grammar_of grammar.now) (graph_of grammar.now graph.now) (edge_at (right_of (grammar_of grammar.now) r).edges i) b))) }
+fn place_part(t: &AcceptedTables, chart: &[u64], r: u64, i: u64, b: u64, f: &mut [u64])
+    requires { KnownEdge t.now.grammar.now r i × (length f.old ≡ 8) × BareFrom (rule_nodes t.now.grammar.now r) f.old }
+    ensures { f.new ≡ padded (joined (rule_nodes t.now.grammar.now r) f.old (attach (rule_nodes t.now.grammar.now r) (edge_nodes t.now.grammar.now r i) (part_nodes (λ k. record_at chart.now k) (grammar_in t.now) (graph_in t.now) (edge_at (right_of (grammar_in t.now) r).edges i) b))) }
 {
-    if crate::lookup::is_nonterminal(grammar, r, i) {
-        place_record(grammar, chart, r, i, b, f);
-    } else if b < layout::graph_edges(graph) {
-        place_edge(grammar, graph, r, i, b, f);
+    if crate::lookup::is_nonterminal(t.grammar, r, i) {
+        place_record(t.grammar, chart, r, i, b, f);
+    } else if b < layout::graph_edges(t.graph) {
+        place_edge(t, r, i, b, f);
     }
 }
 
 // The places of the nodes of rule r, by the partners of all its edges.
 pub(crate) fn place(
-    grammar: &[u64],
-    graph: &[u64],
+    t: &AcceptedTables,
     chart: &[u64],
     r: u64,
     edges: u64,
     bs: &[u64],
     f: &mut [u64],
 )
-    requires { Accepted grammar.now graph.now × (edges ≡ length (right_of (grammar_of grammar.now) r).edges) × (edges ≤ 8) × (length bs.now ≡ 8) × (length f.old ≡ 8) }
-    ensures { f.new ≡ padded (placed_by (λ k. record_at chart.now k) (grammar_of grammar.now) (graph_of grammar.now graph.now) (right_of (grammar_of grammar.now) r) bs.now edges) }
+    requires { (edges ≡ length (right_of (grammar_in t.now) r).edges) × (edges ≤ 8) × (length bs.now ≡ 8) × (length f.old ≡ 8) }
+    ensures { f.new ≡ padded (placed_by (λ k. record_at chart.now k) (grammar_in t.now) (graph_in t.now) (right_of (grammar_in t.now) r) bs.now edges) }
 {
     f.fill(64);
     for i in 0..edges {
-        place_part(grammar, graph, chart, r, i, bs[i as usize], f);
+        place_part(t, chart, r, i, bs[i as usize], f);
     }
 }

@@ -1,12 +1,13 @@
 // The rows of the applications as lines of text, from the last application up to the first.
 ghost use Rattle.std.specs.Prelude.{◌≡◌, ◌+◌, ◌*◌, ◌≤◌, ◌<◌, length, take, replicate};
-ghost use Rattle.questions.specs.Abstract.{grammar_of, graph_of};
-ghost use Rattle.joins.specs.Joins.{Accepted};
+ghost use Rattle.joins.specs.Tables.{grammar_in, graph_in};
 ghost use Rattle.records.specs.Words.{record_at};
 ghost use Rattle.scripts.specs.Scripts.{row_lines};
 ghost use Rattle.extraction.specs.Listing.{rows_from};
 ghost use Rattle.extractor.specs.Texts.{EndsWith};
 ghost use Rattle.extractor.specs.RowFacts.{SizesFit, RowOf, LineAt};
+
+use joins::accepted::AcceptedTables;
 
 // How many fields a row has, and the size of the tree under its application.
 #[derive(Clone, Copy)]
@@ -19,26 +20,34 @@ pub(crate) struct Row {
 // rule, the places of its nodes and the numbers of its parts. All eight places are filled, and the numbers put over
 // those that the rule has no node for.
 fn row_of(
-    grammar: &[u64],
-    graph: &[u64],
+    t: &AcceptedTables,
     chart: &[u64],
     sizes: &[u64],
     n: u64,
     j: u64,
     fields: &mut [u64],
 ) -> Row
-    requires { Accepted grammar.now graph.now × SizesFit sizes.now × (n < 4096) × (n + 1 < length sizes.now) × (length fields.old ≡ 18) }
-    ensures { RowOf (λ k. record_at chart.now k) (grammar_of grammar.now) (graph_of grammar.now graph.now) sizes.now n j fields.new result }
+    requires { SizesFit sizes.now × (n < 4096) × (n + 1 < length sizes.now) × (length fields.old ≡ 18) }
+    ensures { RowOf (λ k. record_at chart.now k) (grammar_in t.now) (graph_in t.now) sizes.now n j fields.new result }
 {
     let r = crate::partners::rule_at(chart, j);
     let mut bs = [0u64; 8];
-    crate::partners::partners_at(grammar, chart, r, j, &mut bs);
-    let nodes = crate::lookup::node_count(grammar, r);
-    let edges = crate::lookup::edge_count(grammar, r);
+    crate::partners::partners_at(t.grammar, chart, r, j, &mut bs);
+    let nodes = crate::lookup::node_count(t.grammar, r);
+    let edges = crate::lookup::edge_count(t.grammar, r);
     fields[0] = n;
     fields[1] = r;
-    crate::placing::place(grammar, graph, chart, r, edges, &bs, &mut fields[2..10]);
-    let end = crate::numbers::number_parts(grammar, r, edges, &bs, sizes, n + 1, fields, 2 + nodes);
+    crate::placing::place(t, chart, r, edges, &bs, &mut fields[2..10]);
+    let end = crate::numbers::number_parts(
+        t.grammar,
+        r,
+        edges,
+        &bs,
+        sizes,
+        n + 1,
+        fields,
+        2 + nodes,
+    );
     Row {
         count: 2 + nodes + edges,
         size: end - n,
@@ -56,24 +65,22 @@ fn write_row(fields: &[u64], count: u64, text: &mut [u8], at: usize) -> usize
     start
 }
 
-// The lines of the rows of the n applications of a list at the end of the buffer; answers where they start. From the
-// last one up: a row takes the sizes of later ones, which are all 0 at first.
+// The lines of the rows of the listed applications at the end of the buffer; answers where they start. From the last
+// one up: a row takes the sizes of later ones, which are all 0 at first.
 pub(crate) fn write_rows(
-    grammar: &[u64],
-    graph: &[u64],
+    t: &AcceptedTables,
     chart: &[u64],
-    list: &[u64],
-    n: usize,
+    listed: &[u64],
     sizes: &mut [u64],
     text: &mut [u8],
 ) -> usize
-    requires { Accepted grammar.now graph.now × (n ≤ 4096) × (n ≤ length list.now) × (n < length sizes.old) × (sizes.old ≡ replicate (length sizes.old) 0) × (74 * n + 6 ≤ length text.old) }
-    ensures { EndsWith (row_lines (rows_from (λ k. record_at chart.now k) (grammar_of grammar.now) (graph_of grammar.now graph.now) 0 (take n list.now))) text.old text.new result × (6 ≤ result) }
+    requires { (length listed.now ≤ 4096) × (length listed.now < length sizes.old) × (sizes.old ≡ replicate (length sizes.old) 0) × (74 * length listed.now + 6 ≤ length text.old) }
+    ensures { EndsWith (row_lines (rows_from (λ k. record_at chart.now k) (grammar_in t.now) (graph_in t.now) 0 listed.now)) text.old text.new result × (6 ≤ result) }
 {
     let mut fields = [0u64; 18];
     let mut at = text.len();
-    for k in (0..n).rev() {
-        let row = row_of(grammar, graph, chart, sizes, k as u64, list[k], &mut fields);
+    for k in (0..listed.len()).rev() {
+        let row = row_of(t, chart, sizes, k as u64, listed[k], &mut fields);
         sizes[k] = row.size;
         at = write_row(&fields, row.count, text, at);
     }

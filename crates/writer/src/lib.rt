@@ -18,6 +18,7 @@ ghost use Rattle.writing.specs.Demand.{WriteChoices};
 ghost use Rattle.writer.specs.Delivering.{Leaves, delivered};
 
 use agenda::ChartItem;
+use joins::accepted::AcceptedTables;
 use places::{NONE, PLACES};
 use writing::WriteError;
 
@@ -95,7 +96,8 @@ fn write_listed<const SIZES: usize, const BYTES: usize>(
 {
     let mut sizes = [0u64; SIZES];
     let mut buffer = [0u8; BYTES];
-    let start = extractor::extract(grammar, graph, chart, j, list, n, &mut sizes, &mut buffer);
+    let t = AcceptedTables { grammar, graph };
+    let start = extractor::extract(&t, chart, j, list, n, &mut sizes, &mut buffer);
     let text = &buffer[..];
     deliver(grammar, graph, &text[start..], out)
 }

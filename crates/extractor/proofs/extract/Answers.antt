@@ -3,9 +3,9 @@ use Rattle.extractor.proofs.TextLaws.{text_none, text_some}
 use Rattle.extractor.proofs.extract.Goals as goal
 
 pub returns-in_default : goal.returns-in_default
-returns-in_default c = text_none _ _ _ _ _ _ (rw c.in_default.is at c.requires.1)
+returns-in_default c = text_none _ _ _ _ _ _ (rw c.in_default.is at c.requires.0)
 
 pub returns : goal.returns
-returns c = text_some _ _ _ _ _ _ (rw c.in-Some.is at c.requires.1) _ _ _ _ (rw c.in-Some.is at c.requires.2).0
+returns c = text_some _ _ _ _ _ _ (rw c.in-Some.is at c.requires.0) _ _ _ _ (rw c.in-Some.is at c.requires.1).0
     c.write_rows-at.ensures.0 c.write_rows-at.ensures.1
     c.write_line.ensures.1

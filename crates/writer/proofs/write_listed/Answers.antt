@@ -17,7 +17,6 @@ shared_whole_as_slice-text g c = omega (arith, c.requires)
 
 pub extract-start-requires : goal.extract-start-requires
 extract-start-requires g c = (
-  c.requires.0,
   c.requires.1,
   IfSome_then c.args.n c.requires.2 (λ k p. (
     p.0,

@@ -8,25 +8,22 @@ use Rattle.extractor.proofs.PlaceLaws.{placed_start, placed_long, placed_bare, p
 use Rattle.extractor.proofs.placing.place.Goals as goal
 
 pub loop-i-init : goal.loop-i-init
-loop-i-init c = placed_start _ _ _ _ _ _ (c.fill.ensures.after (λ y h. h) ∙ ap (λ n. replicate n 64) c.requires.4)
+loop-i-init c = placed_start _ _ _ _ _ _ (c.fill.ensures.after (λ y h. h) ∙ ap (λ n. replicate n 64) c.requires.3)
 
 pub place_part-requires : goal.place_part-requires
-place_part-requires c = (
-  c.requires.0,
-  known_edge _ _ _ c.requires.0.grammar
-      (omega (arith, c.loop-i-test.true, c.requires.1)),
-  placed_long _ _ _ _ _ _ _ c.loop-i.invariant,
-  placed_bare _ _ _ _ _ _ _ _ (sym (right_nodes c.args.grammar.now c.args.r
-      c.requires.0.grammar (known_by_edge c.args.grammar.now c.args.r c.loop-i.i
-      (omega (arith, c.loop-i-test.true, c.requires.1))))) c.loop-i.invariant,
-)
+place_part-requires c =
+    let g = c.args.t.now.grammar.now in
+    let checked = c.args.t.now.fit.grammar in
+    let known = known_by_edge g c.args.r c.loop-i.i (omega (arith, c.loop-i-test.true, c.requires.0)) in (
+      known_edge _ _ _ checked (omega (arith, c.loop-i-test.true, c.requires.0)),
+      placed_long _ _ _ _ _ _ _ c.loop-i.invariant,
+      placed_bare _ _ _ _ _ _ _ _ (sym (right_nodes g c.args.r checked known)) c.loop-i.invariant,
+    )
 
 pub loop-i-preserved : goal.loop-i-preserved
-loop-i-preserved c = placed_more
-    _ _ _ _ _ _ _ _ _ (sym (right_nodes c.args.grammar.now c.args.r c.requires.0.grammar
-    (known_by_edge c.args.grammar.now c.args.r c.loop-i.i
-    (omega (arith, c.loop-i-test.true, c.requires.1)))))
-    (nodes_few c.args.grammar.now c.args.r c.requires.0.grammar
-    (known_by_edge c.args.grammar.now c.args.r c.loop-i.i
-    (omega (arith, c.loop-i-test.true, c.requires.1)))) c.loop-i.invariant
-    c.place_part.ensures
+loop-i-preserved c =
+    let g = c.args.t.now.grammar.now in
+    let checked = c.args.t.now.fit.grammar in
+    let known = known_by_edge g c.args.r c.loop-i.i (omega (arith, c.loop-i-test.true, c.requires.0)) in
+    placed_more _ _ _ _ _ _ _ _ _ (sym (right_nodes g c.args.r checked known))
+    (nodes_few g c.args.r checked known) c.loop-i.invariant c.place_part.ensures

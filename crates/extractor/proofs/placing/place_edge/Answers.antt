@@ -13,25 +13,21 @@ use Rattle.extractor.proofs.PlaceLaws.{part_edge}
 use Rattle.extractor.proofs.placing.place_edge.Goals as goal
 
 pub graph_label_in-requires : goal.graph_label_in-requires
-graph_label_in-requires c =
-    let pre = c.requires in
-    graph_edge_there _ _ _ pre.0 pre.2
+graph_label_in-requires c = graph_edge_there _ _ _ c.args.t.now.fit c.requires.1
 
 pub rank_of-rank-requires : goal.rank_of-rank-requires
 rank_of-rank-requires c =
-    let pre = c.requires in
-    (pre.0.grammar, label_few _ _ pre.0 _ pre.2 _ c.graph_label_in.ensures)
+    let fit = c.args.t.now.fit in
+    (fit.grammar, label_few _ _ fit _ c.requires.1 _ c.graph_label_in.ensures)
 
 pub nodes_of-nodes-requires : goal.nodes_of-nodes-requires
-nodes_of-nodes-requires c =
-    let pre = c.requires in
-    graph_edge_there _ _ _ pre.0 pre.2
+nodes_of-nodes-requires c = graph_edge_there _ _ _ c.args.t.now.fit c.requires.1
 
 pub returns : goal.returns
 returns c =
     let args = c.args in
-    let known = c.requires.2 in
-    let g = args.grammar.now in
+    let known = c.requires.1 in
+    let g = args.t.now.grammar.now in
     let n = rule_nodes g args.r in
     let nodes = edge_nodes g args.r args.i in
     let rank = rank_at g (edge_label g args.r args.i) in
@@ -42,4 +38,4 @@ returns c =
     c.place_nodes.ensures
     ∙ ap
     (λ (l : List ℕ). padded (joined n f (attach n nodes (take rank l))))
-    (part_edge g args.graph.now _ _ _ known ranked four)
+    (part_edge g args.t.now.graph.now _ _ _ known ranked four)

@@ -6,5 +6,5 @@ pub returns : goal.returns
 returns c = row_by _ _ _ _ _ _ _ _ c.rule_at-r.ensures c.partners_at.ensures
     _ c.args.fields.now _ _ _ _ c.node_count-nodes.ensures.0
     c.node_count-nodes.ensures.1 c.edge_count-edges.ensures.0
-    c.edge_count-edges.ensures.1 c.requires.4 c.place.ensures
+    c.edge_count-edges.ensures.1 c.requires.3 c.place.ensures
     c.number_parts-end.ensures
