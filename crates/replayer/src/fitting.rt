@@ -11,11 +11,13 @@ ghost use Rattle.hrg.specs.WellFormedTest.{every};
 ghost use Rattle.hrg.specs.ClosureRun.{same_list};
 ghost use Rattle.questions.specs.Layout.{rule_count, edge_label, graph_edges, graph_label};
 ghost use Rattle.questions.specs.Checking.{check_grammar};
-ghost use Rattle.questions.specs.Abstract.{grammar_of, graph_of};
-ghost use Rattle.joins.specs.Joins.{Accepted};
+ghost use Rattle.questions.specs.Abstract.{grammar_of};
+ghost use Rattle.joins.specs.Tables.{grammar_in, graph_in};
 ghost use Rattle.preorder.specs.Replay.{rule_in, place_in, new_nodes};
 ghost use Rattle.replayer.specs.Fitting.{count_in, node_in, four_of, new_in, with_all, taken_if, row_passes, edge_passes, SizedRow};
 ghost use Rattle.replayer.specs.RowParts.{line_from, said_count, head_passes};
+
+use joins::accepted::AcceptedTables;
 
 // ---- the lines of a derivation file
 // Whether the line that was found at `from` is an ended one of the shape with this letter.
@@ -105,14 +107,14 @@ fn places_known(row: &[u64], count: u64, nodes: u64) -> bool
 }
 
 // Whether the graph nodes of the rule's external nodes are the listed ones, in order.
-fn externals_fit(grammar: &[u64], graph: &[u64], row: &[u64], listed: &[u64; 4]) -> bool
-    requires { Accepted grammar.now graph.now × SizedRow (grammar_of grammar.now) (graph_of grammar.now graph.now) row.now × (length listed.now ≡ 4) }
-    ensures { result ≡ same_list (images (place_in (right_of (grammar_of grammar.now) (rule_in row.now)) row.now) (right_of (grammar_of grammar.now) (rule_in row.now)).externals) (take (rank_of (grammar_of grammar.now) (lhs_of (grammar_of grammar.now) (rule_in row.now))) listed.now) }
+fn externals_fit(t: &AcceptedTables, row: &[u64], listed: &[u64; 4]) -> bool
+    requires { SizedRow (grammar_in t.now) (graph_in t.now) row.now × (length listed.now ≡ 4) }
+    ensures { result ≡ same_list (images (place_in (right_of (grammar_in t.now) (rule_in row.now)) row.now) (right_of (grammar_in t.now) (rule_in row.now)).externals) (take (rank_of (grammar_in t.now) (lhs_of (grammar_in t.now) (rule_in row.now))) listed.now) }
 {
     let r = row[1];
-    let rank = layout::rank_at(grammar, layout::rule_symbol(grammar, r));
+    let rank = layout::rank_at(t.grammar, layout::rule_symbol(t.grammar, r));
     for k in 0..rank {
-        let x = layout::rule_external(grammar, r, k);
+        let x = layout::rule_external(t.grammar, r, k);
         if row[(2 + x) as usize] != listed[k as usize] {
             return false;
         }
@@ -145,13 +147,13 @@ fn inner_node(row: &[u64], outer: u64, x: u64) -> u64
 }
 
 // The used nodes and those inside the application, where these are new.
-fn with_inner(grammar: &[u64], graph: &[u64], row: &[u64], used: u64) -> Option<u64>
-    requires { Accepted grammar.now graph.now × SizedRow (grammar_of grammar.now) (graph_of grammar.now graph.now) row.now }
-    ensures { result ≡ taken_if (new_in used (new_nodes (right_of (grammar_of grammar.now) (rule_in row.now)) row.now)) (with_all used (new_nodes (right_of (grammar_of grammar.now) (rule_in row.now)) row.now)) }
+fn with_inner(t: &AcceptedTables, row: &[u64], used: u64) -> Option<u64>
+    requires { SizedRow (grammar_in t.now) (graph_in t.now) row.now }
+    ensures { result ≡ taken_if (new_in used (new_nodes (right_of (grammar_in t.now) (rule_in row.now)) row.now)) (with_all used (new_nodes (right_of (grammar_in t.now) (rule_in row.now)) row.now)) }
 {
     let r = row[1];
-    let outer = external_mask(grammar, r);
-    let n = layout::rule_nodes(grammar, r);
+    let outer = external_mask(t.grammar, r);
+    let n = layout::rule_nodes(t.grammar, r);
     let mut nodes = used;
     for x in 0..n {
         let v = inner_node(row, outer, x);
@@ -165,54 +167,53 @@ fn with_inner(grammar: &[u64], graph: &[u64], row: &[u64], used: u64) -> Option<
 
 // Whether the row may stand as application n for an edge s on the listed nodes, where some nodes are used.
 pub(crate) fn taken(
-    grammar: &[u64],
-    graph: &[u64],
+    t: &AcceptedTables,
     row: &[u64],
     n: u64,
     s: u64,
     listed: &[u64; 4],
     used: u64,
 ) -> Option<u64>
-    requires { Accepted grammar.now graph.now × (length listed.now ≡ 4) }
-    ensures { result ≡ taken_if (row_passes (grammar_of grammar.now) (graph_of grammar.now graph.now) n s (take (rank_of (grammar_of grammar.now) s) listed.now) used row.now) (with_all used (new_nodes (right_of (grammar_of grammar.now) (rule_in row.now)) row.now)) }
+    requires { length listed.now ≡ 4 }
+    ensures { result ≡ taken_if (row_passes (grammar_in t.now) (graph_in t.now) n s (take (rank_of (grammar_in t.now) s) listed.now) used row.now) (with_all used (new_nodes (right_of (grammar_in t.now) (rule_in row.now)) row.now)) }
 {
-    if !head_passes(grammar, row, n, s) {
+    if !head_passes(t.grammar, row, n, s) {
         return None;
     }
-    let count = layout::rule_nodes(grammar, row[1]);
-    if !places_known(row, count, layout::graph_nodes(graph)) {
+    let count = layout::rule_nodes(t.grammar, row[1]);
+    if !places_known(row, count, layout::graph_nodes(t.graph)) {
         return None;
     }
-    if !externals_fit(grammar, graph, row, listed) {
+    if !externals_fit(t, row, listed) {
         return None;
     }
-    with_inner(grammar, graph, row, used)
+    with_inner(t, row, used)
 }
 
 // ---- the edges of an application
 // The graph nodes of edge i of the row's rule, in four places that have none yet.
-pub(crate) fn list_nodes(grammar: &[u64], graph: &[u64], row: &[u64], i: u64, nodes: &mut [u64; 4])
-    requires { Accepted grammar.now graph.now × SizedRow (grammar_of grammar.now) (graph_of grammar.now graph.now) row.now × (i < length (right_of (grammar_of grammar.now) (rule_in row.now)).edges) × (nodes.old ≡ replicate 4 64) }
-    ensures { nodes.new ≡ four_of (images (place_in (right_of (grammar_of grammar.now) (rule_in row.now)) row.now) (edge_at (right_of (grammar_of grammar.now) (rule_in row.now)).edges i).attachment) }
+pub(crate) fn list_nodes(t: &AcceptedTables, row: &[u64], i: u64, nodes: &mut [u64; 4])
+    requires { SizedRow (grammar_in t.now) (graph_in t.now) row.now × (i < length (right_of (grammar_in t.now) (rule_in row.now)).edges) × (nodes.old ≡ replicate 4 64) }
+    ensures { nodes.new ≡ four_of (images (place_in (right_of (grammar_in t.now) (rule_in row.now)) row.now) (edge_at (right_of (grammar_in t.now) (rule_in row.now)).edges i).attachment) }
 {
     let r = row[1];
-    let rank = layout::rank_at(grammar, layout::edge_label(grammar, r, i));
+    let rank = layout::rank_at(t.grammar, layout::edge_label(t.grammar, r, i));
     for k in 0..rank {
-        let x = layout::edge_node(grammar, r, i, k);
+        let x = layout::edge_node(t.grammar, r, i, k);
         nodes[k as usize] = row[(2 + x) as usize];
     }
 }
 
 // Whether graph edge g, with the label of edge i of the row's rule, lies on the graph nodes of that edge, in order.
-fn nodes_fit(grammar: &[u64], graph: &[u64], row: &[u64], i: u64, g: u64) -> bool
-    requires { Accepted grammar.now graph.now × SizedRow (grammar_of grammar.now) (graph_of grammar.now graph.now) row.now × (i < length (right_of (grammar_of grammar.now) (rule_in row.now)).edges) × (g < graph_edges graph.now) × (graph_label graph.now g ≡ edge_label grammar.now (rule_in row.now) i) }
-    ensures { result ≡ same_list (edge_at (graph_of grammar.now graph.now).edges g).attachment (images (place_in (right_of (grammar_of grammar.now) (rule_in row.now)) row.now) (edge_at (right_of (grammar_of grammar.now) (rule_in row.now)).edges i).attachment) }
+fn nodes_fit(t: &AcceptedTables, row: &[u64], i: u64, g: u64) -> bool
+    requires { SizedRow (grammar_in t.now) (graph_in t.now) row.now × (i < length (right_of (grammar_in t.now) (rule_in row.now)).edges) × (g < graph_edges t.now.graph.now) × (graph_label t.now.graph.now g ≡ edge_label t.now.grammar.now (rule_in row.now) i) }
+    ensures { result ≡ same_list (edge_at (graph_in t.now).edges g).attachment (images (place_in (right_of (grammar_in t.now) (rule_in row.now)) row.now) (edge_at (right_of (grammar_in t.now) (rule_in row.now)).edges i).attachment) }
 {
     let r = row[1];
-    let rank = layout::rank_at(grammar, layout::edge_label(grammar, r, i));
+    let rank = layout::rank_at(t.grammar, layout::edge_label(t.grammar, r, i));
     for k in 0..rank {
-        let x = layout::edge_node(grammar, r, i, k);
-        if layout::graph_node(graph, g, k) != row[(2 + x) as usize] {
+        let x = layout::edge_node(t.grammar, r, i, k);
+        if layout::graph_node(t.graph, g, k) != row[(2 + x) as usize] {
             return false;
         }
     }
@@ -220,25 +221,18 @@ fn nodes_fit(grammar: &[u64], graph: &[u64], row: &[u64], i: u64, g: u64) -> boo
 }
 
 // Whether graph edge g stands for edge i of the row's rule, where some edges are used.
-pub(crate) fn edge_passes(
-    grammar: &[u64],
-    graph: &[u64],
-    row: &[u64],
-    i: u64,
-    g: u64,
-    used: u64,
-) -> bool
-    requires { Accepted grammar.now graph.now × SizedRow (grammar_of grammar.now) (graph_of grammar.now graph.now) row.now × (i < length (right_of (grammar_of grammar.now) (rule_in row.now)).edges) }
-    ensures { result ≡ edge_passes (graph_of grammar.now graph.now) (edge_at (right_of (grammar_of grammar.now) (rule_in row.now)).edges i).label (images (place_in (right_of (grammar_of grammar.now) (rule_in row.now)) row.now) (edge_at (right_of (grammar_of grammar.now) (rule_in row.now)).edges i).attachment) used g }
+pub(crate) fn edge_passes(t: &AcceptedTables, row: &[u64], i: u64, g: u64, used: u64) -> bool
+    requires { SizedRow (grammar_in t.now) (graph_in t.now) row.now × (i < length (right_of (grammar_in t.now) (rule_in row.now)).edges) }
+    ensures { result ≡ edge_passes (graph_in t.now) (edge_at (right_of (grammar_in t.now) (rule_in row.now)).edges i).label (images (place_in (right_of (grammar_in t.now) (rule_in row.now)) row.now) (edge_at (right_of (grammar_in t.now) (rule_in row.now)).edges i).attachment) used g }
 {
-    if layout::graph_edges(graph) <= g {
+    if layout::graph_edges(t.graph) <= g {
         return false;
     }
-    let label = layout::edge_label(grammar, row[1], i);
-    if layout::graph_label(graph, g) != label {
+    let label = layout::edge_label(t.grammar, row[1], i);
+    if layout::graph_label(t.graph, g) != label {
         return false;
     }
-    if !nodes_fit(grammar, graph, row, i, g) {
+    if !nodes_fit(t, row, i, g) {
         return false;
     }
     !masks::has(used, g)

@@ -9,13 +9,15 @@ ghost use Rattle.hrg.specs.Counts.{tabulate};
 ghost use Rattle.hrg.specs.Grammars.{rank_of};
 ghost use Rattle.questions.specs.Layout.{graph_nodes, graph_edges, graph_external};
 ghost use Rattle.questions.specs.Checking.{check_grammar};
-ghost use Rattle.questions.specs.Abstract.{grammar_of, graph_of};
-ghost use Rattle.joins.specs.Joins.{Accepted};
+ghost use Rattle.questions.specs.Abstract.{grammar_of};
+ghost use Rattle.joins.specs.Tables.{grammar_in, graph_in};
 ghost use Rattle.preorder.specs.Replay.{replayed};
 ghost use Rattle.derivation.specs.Derivations.{replay_text};
 ghost use Rattle.replayer.specs.Fitting.{with_all, SizedRow};
 ghost use Rattle.replayer.specs.Following.{text_rows, RowsAt, progress_in, progress_of, Stands, Applied, Followed, RuledRow, part_of};
 ghost use Rattle.replayer.specs.Verdicts.{replay_of, Exact};
+
+use joins::accepted::AcceptedTables;
 
 mod fitting;
 
@@ -88,15 +90,14 @@ fn part_at(grammar: &[u64], row: &[u64], i: u64) -> Part
 // once, for all that is asked of them.
 #[cycle(application_edge_list)]
 fn application(
-    grammar: &[u64],
-    graph: &[u64],
+    t: &AcceptedTables,
     text: &[u8],
     s: u64,
     listed: &[u64; 4],
     st: &mut Progress,
 ) -> bool
-    requires { Accepted grammar.now graph.now × RowsAt text.now st.old.next st.old.at × (length listed.now ≡ 4) }
-    ensures { Applied (grammar_of grammar.now) (graph_of grammar.now graph.now) text.now s (take (rank_of (grammar_of grammar.now) s) listed.now) (progress_in true st.old) (progress_in result st.new) }
+    requires { RowsAt text.now st.old.next st.old.at × (length listed.now ≡ 4) }
+    ensures { Applied (grammar_in t.now) (graph_in t.now) text.now s (take (rank_of (grammar_in t.now) s) listed.now) (progress_in true st.old) (progress_in result st.new) }
 {
     if text.len() <= st.at {
         return false;
@@ -105,49 +106,42 @@ fn application(
     let mut fields = [0u64; 18];
     let count = lines::read_row(line, &mut fields);
     let row = &fields[..count];
-    let taken = fitting::taken(grammar, graph, row, st.next, s, listed, st.nodes);
+    let taken = fitting::taken(t, row, st.next, s, listed, st.nodes);
     match taken {
         None => false,
         Some(nodes) => {
             open_row(text, line, nodes, st);
-            edge_list(grammar, graph, text, row, 0, st)
+            edge_list(t, text, row, 0, st)
         }
     }
 }
 
 // The edges of the row's rule, from edge i on.
 #[cycle(application_edge_list)]
-fn edge_list(
-    grammar: &[u64],
-    graph: &[u64],
-    text: &[u8],
-    row: &[u64],
-    i: u64,
-    st: &mut Progress,
-) -> bool
-    requires { Accepted grammar.now graph.now × SizedRow (grammar_of grammar.now) (graph_of grammar.now graph.now) row.now × RowsAt text.now st.old.next st.old.at }
-    ensures { Followed (grammar_of grammar.now) (graph_of grammar.now graph.now) text.now row.now i (progress_in true st.old) (progress_in result st.new) }
+fn edge_list(t: &AcceptedTables, text: &[u8], row: &[u64], i: u64, st: &mut Progress) -> bool
+    requires { SizedRow (grammar_in t.now) (graph_in t.now) row.now × RowsAt text.now st.old.next st.old.at }
+    ensures { Followed (grammar_in t.now) (graph_in t.now) text.now row.now i (progress_in true st.old) (progress_in result st.new) }
 {
-    let part = part_at(grammar, row, i);
+    let part = part_at(t.grammar, row, i);
     match part {
         Part::End => true,
         Part::GraphEdge(g) => {
-            if !fitting::edge_passes(grammar, graph, row, i, g, st.edges) {
+            if !fitting::edge_passes(t, row, i, g, st.edges) {
                 return false;
             }
             use_edge(st, g);
-            edge_list(grammar, graph, text, row, i + 1, st)
+            edge_list(t, text, row, i + 1, st)
         }
         Part::Application(s, number) => {
             if number != st.next {
                 return false;
             }
             let mut listed = [64u64; 4];
-            fitting::list_nodes(grammar, graph, row, i, &mut listed);
-            if !application(grammar, graph, text, s, &listed, st) {
+            fitting::list_nodes(t, row, i, &mut listed);
+            if !application(t, text, s, &listed, st) {
                 return false;
             }
-            edge_list(grammar, graph, text, row, i + 1, st)
+            edge_list(t, text, row, i + 1, st)
         }
     }
 }
@@ -179,19 +173,19 @@ fn mask_of(listed: [u64; 4], n: u64) -> u64
 
 // The replay of the rows of the text, from one edge with the start symbol on the external nodes: how far it came,
 // where all its tests passed.
-fn from_start(grammar: &[u64], graph: &[u64], text: &[u8]) -> Option<Progress>
-    requires { Accepted grammar.now graph.now × (0 < length (text_rows text.now)) }
-    ensures { Stands (graph_of grammar.now graph.now) (progress_of result) (replayed (grammar_of grammar.now) (graph_of grammar.now graph.now) (text_rows text.now)) }
+fn from_start(t: &AcceptedTables, text: &[u8]) -> Option<Progress>
+    requires { 0 < length (text_rows text.now) }
+    ensures { Stands (graph_in t.now) (progress_of result) (replayed (grammar_in t.now) (graph_in t.now) (text_rows text.now)) }
 {
-    let s = layout::start_symbol(grammar);
-    let listed = externals(graph);
+    let s = layout::start_symbol(t.grammar);
+    let listed = externals(t.graph);
     let mut st = Progress {
         next: 0,
         at: lines::after_line(text, 0),
         edges: 0,
-        nodes: mask_of(listed, layout::rank_at(grammar, s)),
+        nodes: mask_of(listed, layout::rank_at(t.grammar, s)),
     };
-    if application(grammar, graph, text, s, &listed, &mut st) {
+    if application(t, text, s, &listed, &mut st) {
         Some(st)
     } else {
         None
@@ -209,15 +203,14 @@ fn is_whole(graph: &[u64], n: u64, st: &Progress) -> bool
 }
 
 // Question 13 for accepted tables: is the text a derivation of the graph?
-pub fn passes(grammar: &[u64], graph: &[u64], text: &[u8]) -> bool
-    requires { Accepted grammar.now graph.now }
-    ensures { result ≡ replay_text (grammar_of grammar.now) (graph_of grammar.now graph.now) text.now }
+pub fn passes(t: &AcceptedTables, text: &[u8]) -> bool
+    ensures { result ≡ replay_text (grammar_in t.now) (graph_in t.now) text.now }
 {
     let Some(n) = fitting::row_count(text) else {
         return false;
     };
-    match from_start(grammar, graph, text) {
-        Some(st) => is_whole(graph, n, &st),
+    match from_start(t, text) {
+        Some(st) => is_whole(t.graph, n, &st),
         None => false,
     }
 }
@@ -232,7 +225,8 @@ pub fn replay(grammar: &[u64], graph: &[u64], text: &[u8]) -> Result<(), ReplayE
     if !tables::checking::check_graph(grammar, graph) {
         return Err(ReplayError::Unfit);
     }
-    if passes(grammar, graph, text) {
+    let t = AcceptedTables { grammar, graph };
+    if passes(&t, text) {
         Ok(())
     } else {
         Err(ReplayError::NoDerivation)

@@ -1,5 +1,5 @@
 -- The measures: the applications left, and with them the edges left of the row's rule. No word of the code holds them.
-use Rattle.questions.specs.Abstract.{grammar_of}
+use Rattle.joins.specs.Tables.{grammar_in}
 use Rattle.replayer.specs.Following.{left_at, left_from}
 use Rattle.replayer.proofs.+application_edge_list.Given as goal
 
@@ -7,4 +7,4 @@ abbrev pub decreases-application : goal.decreases-application
 decreases-application l = left_at l.text.now l.st.now.next
 
 abbrev pub decreases-edge_list : goal.decreases-edge_list
-decreases-edge_list l = left_from (grammar_of l.grammar.now) l.text.now l.row.now l.i l.st.now.next
+decreases-edge_list l = left_from (grammar_in l.t.now) l.text.now l.row.now l.i l.st.now.next

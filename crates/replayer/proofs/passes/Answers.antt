@@ -10,13 +10,12 @@ pub returns-in_default : goal.returns-in_default
 returns-in_default c = sym (none_refused _ _ _ c.in_default.ensures)
 
 pub from_start-requires : goal.from_start-requires
-from_start-requires c = let count = text_count _ _ c.in-Some.ensures in (c.requires, omega arith)
+from_start-requires c = let count = text_count _ _ c.in-Some.ensures in omega arith
 
 pub is_whole-requires : goal.is_whole-requires
 is_whole-requires c =
-    let args = c.args in
-    let accepted = c.requires in
-    (graph_nodes_few args.grammar.now args.graph.now accepted, graph_edges_few args.grammar.now args.graph.now accepted)
+    let accepted = c.args.t.now.fit in
+    (graph_nodes_few _ _ accepted, graph_edges_few _ _ accepted)
 
 pub returns-in-None : goal.returns-in-None
 returns-in-None c = sym (failed_answer _ _ _ _ c.in-Some.ensures _ c.in-None.ensures refl)
