@@ -40,6 +40,7 @@ pub fn find(chart: &[u64], links: &[u32], x: ChartItem, h: u64) -> Option<u64>
 {
     let bit = 8192u64 << (h / 65536 % 16);
     let mut i = links[(h / 1048576) as usize] as u64;
+    // a chain of links: no range or slice has its places
     while i & bit != 0 {
         let k = i % 8192;
         if records::same(chart, k - 1, x) {

@@ -117,6 +117,7 @@ fn skim(ws: &[u16], chart: &[u64], edges: u64, n: u64, from: u64) -> u64
     }
     let end = 5 * n;
     let mut c = from;
+    // from link to link, as a chain's places come
     while c <= end {
         if !quiet(chart, edges, (c - 1) / 5) {
             return c;

@@ -208,13 +208,7 @@ pub fn item_at(chart: &[u64], j: u64) -> ChartItem
     requires { j < capacity chart.now }
     ensures { result ≡ (record_at chart.now j).item }
 {
-    let at = place(chart, j);
-    item_of(
-        chart[at + HEAD],
-        chart[at + EDGES],
-        chart[at + NODES],
-        chart[at + TAIL],
-    )
+    load(chart, j).item
 }
 
 // A new record of an item, made of these partners.
