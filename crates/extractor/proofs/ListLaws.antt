@@ -1,36 +1,23 @@
 -- The list of applications: children pushed in front of what is due, and one application more.
 use mathlib.Core.Path.{◌≡◌, refl, sym, ap, ap₂, ◌∙◌}
-use mathlib.Core.Bool.{Bool, true, false}
 use mathlib.Core.List.{List, [], ◌∷◌, ◌++◌, append_assoc, append-nil}
 use Prim.Native.Nat.{ℕ, zero, suc, ◌+◌, ◌-◌, ◌≤◌, ◌<◌}
 use native.Mathlib.Numerals.{add-one}
 use native.Mathlib.Omega.{arith}
 use lib.ListN.{length, get_or, set, take, drop, length-set, length-append, length-drop, drop_of_length-le}
-use lib.Seq.{drop-cons, drop-length, get_or-set_same, take-set-le, drop-set-lt, take-suc-set, take-take}
+use lib.Seq.{drop-cons, drop-length, drop-set-lt, take-suc-set, take-take}
 use Rattle.hrg.specs.Grammars.{Kind, terminal, nonterminal, Edge, Grammar, no_edge, kind_of, right_of, edge_at}
 use Rattle.questions.specs.Abstract.{grammar_of}
 use Rattle.agenda.specs.declared.Record.{Record}
 use Rattle.records.specs.Words.{record_at}
 use Rattle.extraction.specs.Extraction.{rule_at, partners_at}
 use Rattle.extraction.specs.Listing.{Listing, endless, listed, listed_with, cons_if, children_from, children_at, listing}
-use Rattle.extractor.specs.Reading.{is_nonterminal}
 use Rattle.std.specs.Prelude.{Some, None}
 use Rattle.extractor.specs.Lists.{Pushed, ListedIn}
 
--- ---- one record pushed
+-- ---- records pushed
 pub pushed_none : (list : List ℕ) (top : ℕ) → Pushed [] list top list top
 pushed_none list top = record { same = refl; place = omega arith; front = refl; back = refl }
-
-pushed_one : (list : List ℕ) (top t b : ℕ) → t + 1 ≡ top → top ≤ length list → Pushed (b ∷ []) list top (set list t b) t
-pushed_one list top t b e h =
-    let top_is : top ≡ suc t = omega arith in
-    record {
-      same = length-set list t b;
-      place = omega arith;
-      front = take-set-le t list t b (omega arith);
-      back = drop-cons (set list t b) t 0 (omega (arith, length-set list t b))
-          ∙ ap₂ (λ (x : ℕ) (xs : List ℕ). x ∷ xs) (get_or-set_same list t b 0 (omega arith)) (drop-set-lt (suc t) list t b (omega arith) ∙ rw top_is);
-    }
 
 -- more in front of them
 pub pushed_more : (xs ys list mid now : List ℕ) (top t r : ℕ) → Pushed xs list top mid t → Pushed ys mid t now r → Pushed (ys ++ xs) list top now r
@@ -40,24 +27,6 @@ pushed_more xs ys list mid now top t r p q = record {
   front = q.front ∙ sym (take-take r t mid (omega (arith, q.place))) ∙ ap (λ (l : List ℕ). take r l) p.front ∙ take-take r t list (omega (arith, q.place));
   back = q.back ∙ ap (λ (l : List ℕ). ys ++ l) p.back ∙ sym (append_assoc ys xs (drop top list));
 }
-
-module _ (g list : List ℕ) (r i b top : ℕ) (t : Bool) where
-  abbrev kind_at : Kind
-  kind_at = kind_of (grammar_of g) (edge_at (right_of (grammar_of g) r).edges i).label
-
-  pub part_skipped : t ≡ is_nonterminal kind_at → t ≡ false → Pushed (cons_if kind_at b []) list top list top
-  part_skipped test e = go kind_at (sym test ∙ e)
-    where
-      go : (x : Kind) → is_nonterminal x ≡ false → Pushed (cons_if x b []) list top list top
-      go terminal e = pushed_none list top
-      go nonterminal e = let z : ◌≡◌ {A = ℕ} 0 1 = cc in absurd (omega arith)
-
-  pub part_pushed : t ≡ is_nonterminal kind_at → t ≡ true → 1 ≤ top → top ≤ length list → Pushed (cons_if kind_at b []) list top (set list (top - 1) b) (top - 1)
-  part_pushed test e some h = go kind_at (sym test ∙ e)
-    where
-      go : (x : Kind) → is_nonterminal x ≡ true → Pushed (cons_if x b []) list top (set list (top - 1) b) (top - 1)
-      go terminal e = let z : ◌≡◌ {A = ℕ} 0 1 = cc in absurd (omega arith)
-      go nonterminal e = pushed_one list top (top - 1) b (omega arith) h
 
 -- ---- the children, from the last edge on
 few_if : (x : Kind) (b : ℕ) → length (cons_if x b []) ≤ 1
@@ -103,11 +72,6 @@ module _ (G : Grammar) (bs : List ℕ) (es : List Edge) where
         pushed = rw (children_next (i - 1) (omega (arith, p.inside)), one) (pushed_more _ _ list mid now top t r p.pushed q);
       }
 
-  pub parts_all : (list now : List ℕ) (top i t : ℕ) → i ≤ 0 → PushedFrom list top i now t → Pushed (children_from G bs es 0) list top now t × (top ≤ t + 8)
-  parts_all list now top i t z p =
-      let e : i ≡ 0 = omega arith in
-      (rw e at p.pushed, omega (arith, p.room))
-
 -- ---- the list
 abbrev pub prefixed : List ℕ → Listing → Listing
 prefixed xs endless = endless
@@ -117,16 +81,8 @@ prefixed_more : (xs : List ℕ) (x : ℕ) (l : Listing) → prefixed xs (listed_
 prefixed_more xs x endless = refl
 prefixed_more xs x (listed ys) = ap listed (sym (append_assoc xs (x ∷ []) ys))
 
-prefixed_none : (l : Listing) → prefixed [] l ≡ l
-prefixed_none endless = refl
-prefixed_none (listed ys) = refl
-
 endless_not : (xs : List ℕ) → endless ≡ listed xs → ⊥
-endless_not xs e = let z : ◌≡◌ {A = ℕ} 0 1 = ap mark e in omega arith
-  where
-    mark : Listing → ℕ
-    mark endless = 0
-    mark (listed ys) = 1
+endless_not xs e = cc
 
 module _ (w : List ℕ) where
   abbrev look : ℕ → Record
@@ -184,21 +140,6 @@ module _ (w : List ℕ) where
         pub free : count + 8 ≤ top
         pub low : top ≤ limit + 8
         pub whole : listing look G limit (j ∷ []) ≡ prefixed (take count list) (listing look G (limit - count) (drop top list))
-
-      pub going_start : (list : List ℕ) (top : ℕ) → length list ≡ limit + 8 → 1 ≤ limit → top ≡ limit + 7 → Going (set list top j) 0 top
-      going_start list top size some last = record {
-        size = length-set list top j ∙ size;
-        free = omega arith;
-        low = omega arith;
-        whole = ap (λ (js : List ℕ). listing look G limit js) (sym due) ∙ sym (prefixed_none (listing look G limit (drop top (set list top j))))
-            ∙ ap (λ (k : ℕ). prefixed [] (listing look G k (drop top (set list top j)))) (let e : limit ≡ limit - 0 = omega arith in e);
-      }
-        where
-          due : drop top (set list top j) ≡ j ∷ []
-          due =
-              drop-cons (set list top j) top 0 (omega (arith, length-set list top j))
-              ∙ ap₂ (λ (x : ℕ) (xs : List ℕ). x ∷ xs) (get_or-set_same list top j 0 (omega arith))
-              (drop_of_length-le (set list top j) {i = suc top} (omega (arith, length-set list top j)))
 
       module _ (list now : List ℕ) (count top x t : ℕ) (before : Going list count top) (h : top < limit + 8) (e : x ≡ get_or list top 0)
           (pushed : Pushed (children_at look G x) (set list count x) (top + 1) now t) (near : top + 1 ≤ t + 8) where

@@ -1,5 +1,5 @@
 -- The numbers in a row, edge by edge.
-use mathlib.Core.Path.{◌≡◌, refl, sym, ap, ap₂, ◌∙◌}
+use mathlib.Core.Path.{◌≡◌, sym, ap, ap₂, ◌∙◌}
 use mathlib.Core.Bool.{Bool, cond}
 use mathlib.Core.List.{List, [], ◌∷◌, ◌++◌, append_assoc, append-nil}
 use Prim.Native.Nat.{ℕ, suc, ◌+◌, ◌≤◌, ◌<◌}
@@ -34,16 +34,6 @@ module _ (G : Grammar) (bs sizes : List ℕ) (es : List Edge) (from : ℕ) (star
     pub few : next < length sizes
     pub listed : take (at + i) fields ++ numbers_from G bs size (drop i es) i next ≡ take at start ++ numbers_from G bs size es 0 from
     pub end : end_from G size (drop i es) next ≡ end_from G size es from
-
-  pub numbering_start : from < length sizes → Numbering start from 0
-  numbering_start few = record {
-    inside = omega arith;
-    same = refl;
-    up = omega arith;
-    few = few;
-    listed = ap (λ (k : ℕ). take k start ++ numbers_from G bs size es 0 from) (let e : at + 0 ≡ at = omega arith in e);
-    end = refl;
-  }
 
   abbrev kind_in : ℕ → Kind
   kind_in = λ i. kind_of G (edge_at es i).label

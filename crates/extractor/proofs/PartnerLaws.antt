@@ -53,9 +53,6 @@ module _ (w : List ℕ) where
             x' ∙ rw (x, at_a, at_b) (sym (within_step some ∙ ap below here))
 
   -- ---- a passive record
-  pub rule_by : (j x y : ℕ) → x ≡ (record_at w j).first → y ≡ (record_at w x).item.of → y ≡ rule_at look j
-  rule_by j x y a b = b ∙ ap (λ k. (record_at w k).item.of) a
-
   module _ (G : Grammar) (j r n : ℕ) (rule : r ≡ rule_at look j) (size : n ≡ length (plan_of G r)) where
     sized : n ≡ length (plan_of G (rule_at look j))
     sized = size ∙ ap (λ r. length (plan_of G r)) rule

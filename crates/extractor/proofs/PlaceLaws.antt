@@ -220,12 +220,12 @@ module _ (w : List ℕ) where
   look = λ k. record_at w k
 
   by_record : (H : Graph) (b : ℕ) (x : Kind) → true ≡ is_nonterminal x → (record_at w b).item.nodes ≡ nodes_by look H x b
-  by_record H b terminal e = let z : ◌≡◌ {A = ℕ} 0 1 = cc in absurd (omega arith)
+  by_record H b terminal e = cc
   by_record H b nonterminal e = refl
 
   by_edge : (H : Graph) (b : ℕ) (x : Kind) → false ≡ is_nonterminal x → padded (edge_at H.edges b).attachment ≡ nodes_by look H x b
   by_edge H b terminal e = refl
-  by_edge H b nonterminal e = let z : ◌≡◌ {A = ℕ} 0 1 = cc in absurd (omega arith)
+  by_edge H b nonterminal e = cc
 
   module _ (g h : List ℕ) (r i b : ℕ) (known : KnownEdge g r i) (t : Bool) (test : t ≡ is_nonterminal (kind_of (grammar_of g) (edge_at (right_of (grammar_of g) r).edges i).label)) where
     abbrev kind_at : Kind
@@ -312,6 +312,3 @@ module _ (w : List ℕ) where
         ∙ ap (λ (f : List ℕ). padded (joined n f (k' n))) a
         ∙ ap padded (joined_padded n (placed_by look G H P bs i) (k' n) few ∙ ap (λ (n : ℕ). joined n (placed_by look G H P bs i) (k' n)) size)
         ∙ ap (λ (m : ℕ). padded (placed_by look G H P bs m)) (sym (add-one i))
-
-    pub placed_all : (n i : ℕ) (f : List ℕ) → i ≤ n → n ≤ i → f ≡ padded (placed_by look G H P bs i) → f ≡ padded (placed_by look G H P bs n)
-    placed_all n i f a b e = let s : i ≡ n = omega arith in e ∙ rw s

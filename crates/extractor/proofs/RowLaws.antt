@@ -3,9 +3,9 @@ use mathlib.Core.Path.{◌≡◌, refl, sym, ap, ap₂, ◌∙◌}
 use mathlib.Core.List.{List, [], ◌∷◌, ◌++◌, append_assoc}
 use Prim.Native.Nat.{ℕ, ◌+◌, ◌-◌, ◌*◌, ◌≤◌}
 use native.Mathlib.Omega.{arith}
-use lib.ListN.{length, get_or, set, take, drop, length-set}
+use lib.ListN.{length, get_or, set, take, drop}
 use lib.Seq.{take-append-add, take-append-le, sets, sets-eq, length-sets, length-take-le, drop_at}
-use borrow.Rule.Slice.PartMut.{post_of, put_mid, same_len_mid, mid_len}
+use borrow.Rule.Slice.PartMut.{post_of, put_mid}
 use Rattle.format.specs.Writing.{line_text}
 use Rattle.format.proofs.WritingLaws.{line_text_length}
 use Rattle.hrg.specs.Grammars.{Graph, Grammar, right_of}
@@ -34,12 +34,6 @@ module _ (n r : ℕ) (fields places F : List ℕ) (size : length fields ≡ 18) 
 
   abbrev head : List ℕ
   head = set (set fields 0 n) 1 r
-
-  head_long : length head ≡ 18
-  head_long = length-set (set fields 0 n) 1 r ∙ length-set fields 0 n ∙ size
-
-  pub fields_long : length (fields_with n r fields places) ≡ 18
-  fields_long = same_len_mid 2 8 head places (eight ∙ sym (mid_len 2 10 head (omega (arith, head_long)))) ∙ head_long
 
   fields_front : (nodes : ℕ) → nodes ≤ 8 → take (2 + nodes) (fields_with n r fields places) ≡ n ∷ r ∷ take nodes places
   fields_front nodes few =

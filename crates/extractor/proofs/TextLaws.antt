@@ -147,11 +147,6 @@ module _ (w : List ℕ) (G : Grammar) (H : Graph) where
       each = sizes_now;
     }
 
-  pub written_done : (js start now sizes : List ℕ) (k at : ℕ) → k ≤ 0 → Written js start now sizes k at → EndsWith (row_lines (rows_from look G H 0 js)) start now at × (6 ≤ at)
-  written_done js start now sizes k at z p =
-      let e : k ≡ 0 = omega arith in
-      (record { same = p.same; inside = p.high; contents = rw e at p.contents }, omega (arith, p.low))
-
   -- ---- the whole text
   -- an endless listing has none
   pub text_none : (j : ℕ) (list text : List ℕ) → ListedIn 4096 (listing look G 4096 (j ∷ [])) list None → EndsWith (text_at look G H j) text text (length text)
