@@ -6,8 +6,7 @@ ghost use Rattle.std.specs.Prelude.{◌≡◌, true, [], ◌∷◌, ◌+◌, ◌
 ghost use Rattle.hrg.specs.Trees.{padded};
 ghost use Rattle.hrg.specs.Items.{goal};
 ghost use Rattle.agenda.specs.Records.{chart_item};
-ghost use Rattle.questions.specs.Abstract.{grammar_of, graph_of};
-ghost use Rattle.joins.specs.Joins.{Accepted};
+ghost use Rattle.joins.specs.Tables.{grammar_in, graph_in};
 ghost use Rattle.records.specs.Words.{record_at, chart_of};
 ghost use Rattle.validity.specs.Checking.{known_chart};
 ghost use Rattle.extraction.specs.Extraction.{tree_at};
@@ -24,53 +23,50 @@ use writing::WriteError;
 
 // ---- question 11
 // The graph's external nodes in eight places, 64 where there is none.
-fn external_nodes(grammar: &[u64], graph: &[u64]) -> [u8; PLACES]
-    requires { Accepted grammar.now graph.now }
-    ensures { result ≡ padded (graph_of grammar.now graph.now).externals }
+fn external_nodes(t: &AcceptedTables) -> [u8; PLACES]
+    ensures { result ≡ padded (graph_in t.now).externals }
 {
-    let rank = layout::rank_at(grammar, layout::start_symbol(grammar));
+    let rank = layout::rank_at(t.grammar, layout::start_symbol(t.grammar));
     let mut l = NONE;
     for k in 0..rank {
-        l = places::with_node(l, k, layout::graph_external(graph, k));
+        l = places::with_node(l, k, layout::graph_external(t.graph, k));
     }
     places::nodes_of(l)
 }
 
 // The goal: the start symbol, all edges, the external nodes in order.
-fn goal_item(grammar: &[u64], graph: &[u64]) -> ChartItem
-    requires { Accepted grammar.now graph.now }
-    ensures { result ≡ chart_item (goal (grammar_of grammar.now) (graph_of grammar.now graph.now)) 0 }
+fn goal_item(t: &AcceptedTables) -> ChartItem
+    ensures { result ≡ chart_item (goal (grammar_in t.now) (graph_in t.now)) 0 }
 {
-    let nodes = external_nodes(grammar, graph);
+    let nodes = external_nodes(t);
     ChartItem {
         kind: 1,
-        of: layout::start_symbol(grammar) as u8,
+        of: layout::start_symbol(t.grammar) as u8,
         plan: 0,
         count: 0,
-        edges: masks::full(layout::graph_edges(graph)),
+        edges: masks::full(layout::graph_edges(t.graph)),
         nodes,
     }
 }
 
 // The place of the goal among the items of a chart that passed question 8: there a record is the image of its item,
 // so that the words tell.
-fn find_goal(grammar: &[u64], graph: &[u64], chart: &[u64]) -> Option<u64>
-    requires { Accepted grammar.now graph.now × (known_chart (grammar_of grammar.now) (graph_of grammar.now graph.now) chart.now ≡ true) }
-    ensures { result ≡ goal_in (grammar_of grammar.now) (graph_of grammar.now graph.now) (chart_of chart.now).records }
+fn find_goal(t: &AcceptedTables, chart: &[u64]) -> Option<u64>
+    requires { known_chart (grammar_in t.now) (graph_in t.now) chart.now ≡ true }
+    ensures { result ≡ goal_in (grammar_in t.now) (graph_in t.now) (chart_of chart.now).records }
 {
     let n = records::item_count(chart);
-    let goal = goal_item(grammar, graph);
+    let goal = goal_item(t);
     records::find(chart, goal, n)
 }
 
 // ---- question 12
 // Writes a text that is a derivation of the graph, if the output holds it. It is replayed first: the chart's partners
 // are not trusted.
-fn deliver(grammar: &[u64], graph: &[u64], text: &[u8], out: &mut [u8]) -> Result<u64, WriteError>
-    requires { Accepted grammar.now graph.now }
-    ensures { Leaves (delivered (grammar_of grammar.now) (graph_of grammar.now graph.now) text.now out.old) result out.new }
+fn deliver(t: &AcceptedTables, text: &[u8], out: &mut [u8]) -> Result<u64, WriteError>
+    ensures { Leaves (delivered (grammar_in t.now) (graph_in t.now) text.now out.old) result out.new }
 {
-    if !replayer::passes(grammar, graph, text) {
+    if !replayer::passes(t, text) {
         return Err(WriteError::Unfit);
     }
     if out.len() < text.len() {
@@ -83,98 +79,70 @@ fn deliver(grammar: &[u64], graph: &[u64], text: &[u8], out: &mut [u8]) -> Resul
 // The derivation of the passive item at place j, whose n applications are listed: there are more places for the sizes
 // of their trees than applications, and the buffer holds a line of 74 bytes for each behind the first line of six.
 fn write_listed<const SIZES: usize, const BYTES: usize>(
-    grammar: &[u64],
-    graph: &[u64],
+    t: &AcceptedTables,
     chart: &[u64],
     j: u64,
     list: &[u64],
     n: Option<usize>,
     out: &mut [u8],
 ) -> Result<u64, WriteError>
-    requires { Accepted grammar.now graph.now × ListedIn 4096 (listing (λ k. record_at chart.now k) (grammar_of grammar.now) 4096 (j ∷ [])) list.now n × IfSome n (λ k. (k ≤ length list.now) × (k < SIZES) × (74 * k + 6 ≤ BYTES)) × (SIZES ≤ 4104) × (BYTES ≤ 303110) }
-    ensures { Leaves (write_spelt (grammar_of grammar.now) (graph_of grammar.now graph.now) out.old (tree_at (λ k. record_at chart.now k) (grammar_of grammar.now) (graph_of grammar.now graph.now) 4096 j)) result out.new }
+    requires { ListedIn 4096 (listing (λ k. record_at chart.now k) (grammar_in t.now) 4096 (j ∷ [])) list.now n × IfSome n (λ k. (k ≤ length list.now) × (k < SIZES) × (74 * k + 6 ≤ BYTES)) × (SIZES ≤ 4104) × (BYTES ≤ 303110) }
+    ensures { Leaves (write_spelt (grammar_in t.now) (graph_in t.now) out.old (tree_at (λ k. record_at chart.now k) (grammar_in t.now) (graph_in t.now) 4096 j)) result out.new }
 {
     let mut sizes = [0u64; SIZES];
     let mut buffer = [0u8; BYTES];
-    let t = AcceptedTables { grammar, graph };
-    let start = extractor::extract(&t, chart, j, list, n, &mut sizes, &mut buffer);
+    let start = extractor::extract(t, chart, j, list, n, &mut sizes, &mut buffer);
     let text = &buffer[..];
-    deliver(grammar, graph, &text[start..], out)
+    deliver(t, &text[start..], out)
 }
 
 // The same of at most 4,096 applications, which are not listed yet.
-fn write_long(
-    grammar: &[u64],
-    graph: &[u64],
-    chart: &[u64],
-    j: u64,
-    out: &mut [u8],
-) -> Result<u64, WriteError>
-    requires { Accepted grammar.now graph.now }
-    ensures { Leaves (write_spelt (grammar_of grammar.now) (graph_of grammar.now graph.now) out.old (tree_at (λ k. record_at chart.now k) (grammar_of grammar.now) (graph_of grammar.now graph.now) 4096 j)) result out.new }
+fn write_long(t: &AcceptedTables, chart: &[u64], j: u64, out: &mut [u8]) -> Result<u64, WriteError>
+    ensures { Leaves (write_spelt (grammar_in t.now) (graph_in t.now) out.old (tree_at (λ k. record_at chart.now k) (grammar_in t.now) (graph_in t.now) 4096 j)) result out.new }
 {
     let mut list = [0u64; 4104];
-    let n = extractor::listing::list_applications(grammar, chart, j, &mut list);
-    write_listed::<4104, 303110>(grammar, graph, chart, j, &list, n, out)
+    let n = extractor::listing::list_applications(t.grammar, chart, j, &mut list);
+    write_listed::<4104, 303110>(t, chart, j, &list, n, out)
 }
 
 // The same of more than a short list holds. It is called at two places, so that the compiler does not put it in line
 // there: the pages of its long buffers would then be touched at every writing, the refused ones too.
-fn write_many(
-    grammar: &[u64],
-    graph: &[u64],
-    chart: &[u64],
-    j: u64,
-    out: &mut [u8],
-) -> Result<u64, WriteError>
-    requires { Accepted grammar.now graph.now }
-    ensures { Leaves (write_spelt (grammar_of grammar.now) (graph_of grammar.now graph.now) out.old (tree_at (λ k. record_at chart.now k) (grammar_of grammar.now) (graph_of grammar.now graph.now) 4096 j)) result out.new }
+fn write_many(t: &AcceptedTables, chart: &[u64], j: u64, out: &mut [u8]) -> Result<u64, WriteError>
+    ensures { Leaves (write_spelt (grammar_in t.now) (graph_in t.now) out.old (tree_at (λ k. record_at chart.now k) (grammar_in t.now) (graph_in t.now) 4096 j)) result out.new }
 {
     let mut list = [0u64; 1032];
-    let Some(n) = extractor::listing::list_applications(grammar, chart, j, &mut list) else {
-        return write_long(grammar, graph, chart, j, out);
+    let Some(n) = extractor::listing::list_applications(t.grammar, chart, j, &mut list) else {
+        return write_long(t, chart, j, out);
     };
-    write_listed::<1032, 75782>(grammar, graph, chart, j, &list, Some(n), out)
+    write_listed::<1032, 75782>(t, chart, j, &list, Some(n), out)
 }
 
 // The derivation of the passive item at place j. Most are short: a long buffer takes longer to clear than those take
 // to write.
-fn write_item(
-    grammar: &[u64],
-    graph: &[u64],
-    chart: &[u64],
-    j: u64,
-    out: &mut [u8],
-) -> Result<u64, WriteError>
-    requires { Accepted grammar.now graph.now }
-    ensures { Leaves (write_spelt (grammar_of grammar.now) (graph_of grammar.now graph.now) out.old (tree_at (λ k. record_at chart.now k) (grammar_of grammar.now) (graph_of grammar.now graph.now) 4096 j)) result out.new }
+fn write_item(t: &AcceptedTables, chart: &[u64], j: u64, out: &mut [u8]) -> Result<u64, WriteError>
+    ensures { Leaves (write_spelt (grammar_in t.now) (graph_in t.now) out.old (tree_at (λ k. record_at chart.now k) (grammar_in t.now) (graph_in t.now) 4096 j)) result out.new }
 {
     let mut list = [0u64; 264];
-    let Some(n) = extractor::listing::list_applications(grammar, chart, j, &mut list) else {
-        return write_many(grammar, graph, chart, j, out);
+    let Some(n) = extractor::listing::list_applications(t.grammar, chart, j, &mut list) else {
+        return write_many(t, chart, j, out);
     };
     if n <= 40 {
-        return write_listed::<48, 2966>(grammar, graph, chart, j, &list, Some(n), out);
+        return write_listed::<48, 2966>(t, chart, j, &list, Some(n), out);
     }
     if n <= 256 {
-        return write_listed::<264, 18950>(grammar, graph, chart, j, &list, Some(n), out);
+        return write_listed::<264, 18950>(t, chart, j, &list, Some(n), out);
     }
-    write_many(grammar, graph, chart, j, out)
+    write_many(t, chart, j, out)
 }
 
 // Questions 11 and 12.
-fn write_goal(
-    grammar: &[u64],
-    graph: &[u64],
-    chart: &[u64],
-    out: &mut [u8],
-) -> Result<u64, WriteError>
-    requires { Accepted grammar.now graph.now × (known_chart (grammar_of grammar.now) (graph_of grammar.now graph.now) chart.now ≡ true) }
-    ensures { Leaves (write_goal (grammar_of grammar.now) (graph_of grammar.now graph.now) (λ k. record_at chart.now k) out.old (goal_in (grammar_of grammar.now) (graph_of grammar.now graph.now) (chart_of chart.now).records)) result out.new }
+fn write_goal(t: &AcceptedTables, chart: &[u64], out: &mut [u8]) -> Result<u64, WriteError>
+    requires { known_chart (grammar_in t.now) (graph_in t.now) chart.now ≡ true }
+    ensures { Leaves (write_goal (grammar_in t.now) (graph_in t.now) (λ k. record_at chart.now k) out.old (goal_in (grammar_in t.now) (graph_in t.now) (chart_of chart.now).records)) result out.new }
 {
-    match find_goal(grammar, graph, chart) {
+    match find_goal(t, chart) {
         None => Err(WriteError::Underivable),
-        Some(j) => write_item(grammar, graph, chart, j, out),
+        Some(j) => write_item(t, chart, j, out),
     }
 }
 
@@ -189,5 +157,6 @@ pub fn write(
     ensures { (result ≡ (write_of grammar.now graph.now chart.now out.old).answer) × (out.new ≡ (write_of grammar.now graph.now chart.now out.old).out) × WriteChoices grammar.now graph.now chart.now out.old result out.new }
 {
     chart::standing(grammar, graph, chart)?;
-    write_goal(grammar, graph, chart, out)
+    let t = AcceptedTables { grammar, graph };
+    write_goal(&t, chart, out)
 }

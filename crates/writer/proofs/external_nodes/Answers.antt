@@ -9,21 +9,21 @@ use Rattle.writer.proofs.external_nodes.Goals as goal
 
 pub loop-k-init : goal.loop-k-init
 loop-k-init c = (
-  c.rank_at-rank.ensures.0 ∙ ap (rank_at c.args.grammar.now)
+  c.rank_at-rank.ensures.0 ∙ ap (rank_at c.args.t.now.grammar.now)
       c.start_symbol.ensures,
   placed_bare _,
 )
 
 pub with_node-l-requires : goal.with_node-l-requires
 with_node-l-requires c =
-    let g = c.args.grammar.now in
+    let g = c.args.t.now.grammar.now in
     let inside : c.loop-k.k < rank_at g (start_symbol g) = omega (
       arith,
       c.loop-k.invariant.0,
       c.loop-k-test.true,
     ) in (
       omega (arith, c.rank_at-rank.ensures.1, c.loop-k-test.true),
-      omega (arith, external_few _ _ _ _ c.requires inside c.graph_external.ensures),
+      omega (arith, external_few _ _ _ _ c.args.t.now.fit inside c.graph_external.ensures),
     )
 
 pub returns : goal.returns

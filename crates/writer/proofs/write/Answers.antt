@@ -3,13 +3,16 @@ use Rattle.std.proofs.lemmas.Result.{err_from_is_err_and}
 use Rattle.writer.proofs.Deliveries.{done_accepted, done_known, written_unready, written_done}
 use Rattle.writer.proofs.write.Goals as goal
 
+pub invariant_of-t : goal.invariant_of-t
+invariant_of-t c =
+    let a = c.args in
+    record { fit = done_accepted a.grammar.now a.graph.now a.chart.now a.out.now _ c.standing.ensures _ c.in_ok-standing.was }
+
 pub write_goal-requires : goal.write_goal-requires
 write_goal-requires c =
     let a = c.args in
-    let done = c.in_ok-standing.was in (
-      done_accepted a.grammar.now a.graph.now a.chart.now a.out.now _ c.standing.ensures _ done,
-      done_known a.grammar.now a.graph.now a.chart.now a.out.now _ c.standing.ensures _ done,
-    )
+    let done = c.in_ok-standing.was in
+    done_known a.grammar.now a.graph.now a.chart.now a.out.now _ c.standing.ensures _ done
 
 pub returns-in_err-standing : goal.returns-in_err-standing
 returns-in_err-standing c =

@@ -2,9 +2,6 @@ use mathlib.Core.Path.{◌∙◌}
 use Rattle.writer.proofs.Deliveries.{goal_missing, goal_found}
 use Rattle.writer.proofs.write_goal.Goals as goal
 
-pub write_item-requires : goal.write_item-requires
-write_item-requires c = c.requires.0
-
 pub returns-in-None : goal.returns-in-None
 returns-in-None c = goal_missing _ _ _ _ _ ((cc) ∙ c.find_goal.ensures)
 

@@ -9,7 +9,6 @@ use Rattle.writer.proofs.write_item.Goals as goal
 pub write_listed-requires : goal.write_listed-requires
 write_listed-requires c =
     let size = length-replicate {A = ℕ} 264 0 in (
-      c.requires,
       listed_more _ _ 256 4096 _ _ _ (omega arith) (listed_in _ _ _ 256 _ _ _ size c.in-Some.ensures),
       (omega (arith, c.in-Some.ensures.few, c.list_applications.auto.list, size), omega arith, omega arith),
       omega arith,
@@ -19,7 +18,6 @@ write_listed-requires c =
 pub write_listed-requires-then-n-le256 : goal.write_listed-requires-then-n-le256
 write_listed-requires-then-n-le256 c =
     let size = length-replicate {A = ℕ} 264 0 in (
-      c.requires,
       listed_more _ _ 256 4096 _ _ _ (omega arith) (listed_in _ _ _ 256 _ _ _ size c.in-Some.ensures),
       (omega (arith, c.in-Some.ensures.few, c.list_applications.auto.list, size), omega arith, omega arith),
       omega arith,

@@ -17,8 +17,8 @@ shared_whole_as_slice-text g c = omega (arith, c.requires)
 
 pub extract-start-requires : goal.extract-start-requires
 extract-start-requires g c = (
-  c.requires.1,
-  IfSome_then c.args.n c.requires.2 (λ k p. (
+  c.requires.0,
+  IfSome_then c.args.n c.requires.1 (λ k p. (
     p.0,
     omega (arith, p.1, length-replicate {A = ℕ} g.row.SIZES 0),
     omega (arith, p.2, length-replicate {A = ℕ} g.row.BYTES 0),

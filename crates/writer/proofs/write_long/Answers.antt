@@ -9,7 +9,6 @@ use Rattle.writer.proofs.write_long.Goals as goal
 pub write_listed-requires : goal.write_listed-requires
 write_listed-requires c =
     let size = length-replicate {A = ℕ} 4104 0 in (
-      c.requires,
       listed_in _ _ _ 4096 _ _ _ size c.list_applications-n.ensures,
       IfSome_then c.list_applications-n.result c.list_applications-n.ensures.few
           (λ k few. (omega (arith, c.list_applications-n.auto.list, size), omega arith, omega arith)),

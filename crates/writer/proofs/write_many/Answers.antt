@@ -10,7 +10,6 @@ pub write_listed-requires : goal.write_listed-requires
 write_listed-requires c =
     let size = length-replicate {A = ℕ} 1032 0 in
     let few = c.in-Some.ensures.few in (
-      c.requires,
       listed_more _ _ 1024 4096 _ _ _ (omega arith) (listed_in _ _ _ 1024 _ _ _ size c.in-Some.ensures),
       (omega (arith, few, c.list_applications.auto.list, size), omega (arith, few, size), omega (arith, few, size)),
       omega arith,
