@@ -4,5 +4,5 @@ use Rattle.joins.proofs.Combining.{covers}
 use Rattle.joins.proofs.covered.Goals as goal
 
 pub returns : goal.returns
-returns c = covers _ _ _ _ _ _ c.requires.0 (omega arith)
+returns c = covers _ _ _ _ _ _ c.args.t.now.fit (omega arith)
     c.open_in-nodes.ensures c.images.ensures
