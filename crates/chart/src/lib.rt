@@ -10,6 +10,7 @@ ghost use Rattle.charting.specs.Calls.{fit, answer_of, start_of, run_of, standin
 ghost use Rattle.charting.specs.Facts.{StartChoices, RunChoices};
 
 use charting::Unready;
+use joins::accepted::AcceptedTables;
 use rules::plans::PLAN_TABLE_WORDS;
 
 // Question 8 before a start: does the chart hold 1 to 4,096 items, and could texts have filled the tables?
@@ -76,9 +77,10 @@ pub fn standing(grammar: &[u64], graph: &[u64], chart: &[u64]) -> Result<u64, Un
     if !is_fit(grammar, graph, chart) {
         return Err(Unready::Unfit);
     }
+    let t = AcceptedTables { grammar, graph };
     let mut plans = [0u32; PLAN_TABLE_WORDS];
-    rules::plans::fill(grammar, &mut plans);
-    match validator::known(grammar, graph, &plans, chart) {
+    rules::plans::fill(t.grammar, &mut plans);
+    match validator::known(&t, &plans, chart) {
         None => Err(Unready::Unfit),
         Some(handled) => outcome_of(chart, handled),
     }
@@ -91,11 +93,12 @@ pub fn run(grammar: &[u64], graph: &[u64], chart: &mut [u64], steps: u64) -> Res
     if !is_fit(grammar, graph, chart) {
         return Err(Unready::Unfit);
     }
+    let t = AcceptedTables { grammar, graph };
     let mut plans = [0u32; PLAN_TABLE_WORDS];
-    rules::plans::fill(grammar, &mut plans);
-    if validator::known(grammar, graph, &plans, chart).is_none() {
+    rules::plans::fill(t.grammar, &mut plans);
+    if validator::known(&t, &plans, chart).is_none() {
         return Err(Unready::Unfit);
     }
-    let all = steps::advance(grammar, graph, &plans, chart, steps);
+    let all = steps::advance(&t, &plans, chart, steps);
     outcome_after(chart, all)
 }

@@ -19,6 +19,7 @@ ghost use Rattle.index.specs.Quiet.{quiet_in};
 ghost use Rattle.index.specs.Index.{index_words, ranks_of, doubt_of, keys_for, Indexed, Empty, Covered, DoubtKept, Adds};
 
 use agenda::{ChartItem, Record};
+use joins::accepted::AcceptedTables;
 use joins::graphs::GRAPH_TABLE_WORDS;
 use lists::LIST_WORDS;
 use pivots::KEY_TABLE_WORDS;
@@ -73,19 +74,18 @@ fn list_all(keys: &[u32; KEY_TABLE_WORDS], chart: &[u64], lists: &mut [u16])
 
 // Whether each of a chart's records covers its open nodes is kept in mind.
 fn cover_all(
-    g: &[u64],
-    h: &[u64],
+    t: &AcceptedTables,
     plans: &[u32; PLAN_TABLE_WORDS],
     graph: &[u64; GRAPH_TABLE_WORDS],
     chart: &[u64],
     index: &mut [u32],
 )
-    requires { (length index.old ≡ index_words) × (item_count chart.now ≤ 4096) × RunTables g.now h.now plans.now graph.now }
-    ensures { Covered g.now h.now index.new (chart_of chart.now).records × ((keys ls : List ℕ) (rs : List Record) → Indexed keys index.old ls rs → Indexed keys index.new ls rs) }
+    requires { (length index.old ≡ index_words) × (item_count chart.now ≤ 4096) × RunTables t.now.grammar.now t.now.graph.now plans.now graph.now }
+    ensures { Covered t.now.grammar.now t.now.graph.now index.new (chart_of chart.now).records × ((keys ls : List ℕ) (rs : List Record) → Indexed keys index.old ls rs → Indexed keys index.new ls rs) }
 {
     let n = records::item_count(chart);
     for j in 0..n {
-        if !rules::coverage::covers(g, h, plans, graph, records::item_at(chart, j)) {
+        if !rules::coverage::covers(t, plans, graph, records::item_at(chart, j)) {
             index[DOUBT] = 1;
             return;
         }
@@ -171,20 +171,19 @@ impl Index {
     // The records of a chart, indexed: the words are 0 before, and nothing is on a list.
     pub fn build(
         &mut self,
-        g: &[u64],
-        h: &[u64],
+        t: &AcceptedTables,
         plans: &[u32; PLAN_TABLE_WORDS],
         graph: &[u64; GRAPH_TABLE_WORDS],
         keys: &[u32; KEY_TABLE_WORDS],
         chart: &[u64],
     )
-        requires { Empty self.old.words × Unlisted self.old.lists × (item_count chart.now ≤ 4096) × RunTables g.now h.now plans.now graph.now }
-        ensures { Indexed keys.now self.new.words self.new.lists (chart_of chart.now).records × Covered g.now h.now self.new.words (chart_of chart.now).records }
+        requires { Empty self.old.words × Unlisted self.old.lists × (item_count chart.now ≤ 4096) × RunTables t.now.grammar.now t.now.graph.now plans.now graph.now }
+        ensures { Indexed keys.now self.new.words self.new.lists (chart_of chart.now).records × Covered t.now.grammar.now t.now.graph.now self.new.words (chart_of chart.now).records }
     {
         chains::build(chart, &mut self.words[0..RANKS]);
         ranking::build(chart, &mut self.words[RANKS..DOUBT]);
         list_all(keys, chart, &mut self.lists);
-        cover_all(g, h, plans, graph, chart, &mut self.words);
+        cover_all(t, plans, graph, chart, &mut self.words);
     }
 
     // The first waiting record of least count waits no more: whoever takes it marks it in the chart. The ranking may be

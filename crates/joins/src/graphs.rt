@@ -3,8 +3,9 @@
 ghost use Rattle.std.specs.Prelude.{◌≡◌, ◌&&◌, ℕ, ◌+◌, ◌≤◌, ◌<◌, length, replicate};
 ghost use Rattle.masks.specs.Masks.{member};
 ghost use Rattle.questions.specs.Layout.{graph_edges};
-ghost use Rattle.joins.specs.Joins.{Accepted};
 ghost use Rattle.joins.specs.Graphs.{graph_table_words, EdgeSets, Group, Grouped, Indexed, GraphTable};
+
+use crate::accepted::AcceptedTables;
 
 // Words of the table.
 pub const GRAPH_TABLE_WORDS: usize = 577;
@@ -61,40 +62,40 @@ fn put_groups(h: &[u64], sets: &[u64; 64], t: &mut [u64])
 }
 
 // Edge e in the words of its label and of the node at each of its places.
-fn mark_edge(g: &[u64], h: &[u64], e: u64, t: &mut [u64])
-    requires { Accepted g.now h.now × (e < graph_edges h.now) × Indexed g.now h.now t.old e }
-    ensures { Indexed g.now h.now t.new (e + 1) }
+fn mark_edge(t: &AcceptedTables, e: u64, words: &mut [u64])
+    requires { (e < graph_edges t.now.graph.now) × Indexed t.now.grammar.now t.now.graph.now words.old e }
+    ensures { Indexed t.now.grammar.now t.now.graph.now words.new (e + 1) }
 {
-    let label = layout::graph_label(h, e);
+    let label = layout::graph_label(t.graph, e);
     let first = (257 + label) as usize;
-    let w = masks::with(t[first], e);
-    t[first] = w;
-    let rank = layout::rank_at(g, label);
+    let w = masks::with(words[first], e);
+    words[first] = w;
+    let rank = layout::rank_at(t.grammar, label);
     for k in 0..rank {
-        let i = (321 + 64 * k + layout::graph_node(h, e, k)) as usize;
-        let v = masks::with(t[i], e);
-        t[i] = v;
+        let i = (321 + 64 * k + layout::graph_node(t.graph, e, k)) as usize;
+        let v = masks::with(words[i], e);
+        words[i] = v;
     }
 }
 
 // Every edge so.
-fn mark_edges(g: &[u64], h: &[u64], t: &mut [u64])
-    requires { Accepted g.now h.now × Indexed g.now h.now t.old 0 }
-    ensures { Indexed g.now h.now t.new (graph_edges h.now) }
+fn mark_edges(t: &AcceptedTables, words: &mut [u64])
+    requires { Indexed t.now.grammar.now t.now.graph.now words.old 0 }
+    ensures { Indexed t.now.grammar.now t.now.graph.now words.new (graph_edges t.now.graph.now) }
 {
-    for e in 0..layout::graph_edges(h) {
-        mark_edge(g, h, e, t);
+    for e in 0..layout::graph_edges(t.graph) {
+        mark_edge(t, e, words);
     }
 }
 
 // The table of the graph, into words that are 0.
-pub fn fill(g: &[u64], h: &[u64], t: &mut [u64])
-    requires { Accepted g.now h.now × (t.old ≡ replicate graph_table_words 0) }
-    ensures { GraphTable g.now h.now t.new }
+pub fn fill(t: &AcceptedTables, words: &mut [u64])
+    requires { words.old ≡ replicate graph_table_words 0 }
+    ensures { GraphTable t.now.grammar.now t.now.graph.now words.new }
 {
-    mark_edges(g, h, t);
-    let sets = edge_sets(g, h);
-    put_groups(h, &sets, t);
-    let externals = crate::graph_externals(g, h);
-    t[256] = externals;
+    mark_edges(t, words);
+    let sets = edge_sets(t.grammar, t.graph);
+    put_groups(t.graph, &sets, words);
+    let externals = crate::graph_externals(t.grammar, t.graph);
+    words[256] = externals;
 }

@@ -11,11 +11,12 @@ ghost use Rattle.hrg.specs.ClosureRun.{covering};
 ghost use Rattle.places.specs.Words.{places_of};
 ghost use Rattle.questions.specs.Layout.{grammar_words, line_field, rank_at, start_symbol, rule_symbol, rule_nodes, rule_external, edge_label, graph_external};
 ghost use Rattle.questions.specs.Checking.{check_grammar};
-ghost use Rattle.questions.specs.Abstract.{graph_of};
-ghost use Rattle.joins.specs.Joins.{KnownNode, KnownEdge, Accepted, EdgesBelow, MasksBelow, NodesIn, side_with, SidesOf, Boundary, OpenAt, OpenIn, edge_nodes, nodes_word, open_by, loses_one};
+ghost use Rattle.joins.specs.Joins.{KnownNode, KnownEdge, EdgesBelow, MasksBelow, NodesIn, side_with, SidesOf, Boundary, OpenAt, OpenIn, edge_nodes, nodes_word, open_by, loses_one};
 ghost use Rattle.joins.specs.Graphs.{GraphTable, Touched};
 ghost use Rattle.joins.specs.Premises.{Premises, Combines};
+ghost use Rattle.joins.specs.Tables.{graph_in};
 
+use accepted::AcceptedTables;
 use places::{PLACES, merging};
 
 pub mod accepted;
@@ -128,14 +129,14 @@ fn graph_externals(g: &[u64], h: &[u64]) -> u64
 }
 
 // The nodes on the edges of the set m, and on the others, by sets of four edges.
-fn touched(g: &[u64], h: &[u64], graph: &[u64; graphs::GRAPH_TABLE_WORDS], m: u64) -> Sides
-    requires { Accepted g.now h.now × GraphTable g.now h.now graph.now }
-    ensures { Touched g.now h.now m result }
+fn touched(t: &AcceptedTables, graph: &[u64; graphs::GRAPH_TABLE_WORDS], m: u64) -> Sides
+    requires { GraphTable t.now.grammar.now t.now.graph.now graph.now }
+    ensures { Touched t.now.grammar.now t.now.graph.now m result }
 {
     let mut inside = 0;
     let mut outside = 0;
     let mut rest = m;
-    for b in 0..layout::graph_edges(h).div_ceil(4) {
+    for b in 0..layout::graph_edges(t.graph).div_ceil(4) {
         let v = rest % graphs::SUBSETS;
         inside |= graph[(graphs::SUBSETS * b + v) as usize];
         outside |= graph[(graphs::SUBSETS * b + (graphs::SUBSETS - 1 - v)) as usize];
@@ -145,11 +146,11 @@ fn touched(g: &[u64], h: &[u64], graph: &[u64; graphs::GRAPH_TABLE_WORDS], m: u6
 }
 
 // The open graph nodes of the edge set m.
-pub fn open_in(g: &[u64], h: &[u64], graph: &[u64; graphs::GRAPH_TABLE_WORDS], m: u64) -> u64
-    requires { Accepted g.now h.now × GraphTable g.now h.now graph.now }
-    ensures { OpenIn g.now h.now m result }
+pub fn open_in(t: &AcceptedTables, graph: &[u64; graphs::GRAPH_TABLE_WORDS], m: u64) -> u64
+    requires { GraphTable t.now.grammar.now t.now.graph.now graph.now }
+    ensures { OpenIn t.now.grammar.now t.now.graph.now m result }
 {
-    let s = touched(g, h, graph, m);
+    let s = touched(t, graph, m);
     boundary(s, graph[256])
 }
 
@@ -232,20 +233,19 @@ fn images(w: u64) -> u64
 
 // Whether every open graph node of the edge set m is at a place of w. Where that is sure, it is not looked up.
 fn covered(
-    g: &[u64],
-    h: &[u64],
+    t: &AcceptedTables,
     graph: &[u64; graphs::GRAPH_TABLE_WORDS],
     m: u64,
     sure: bool,
     w: u64,
 ) -> bool
-    requires { Accepted g.now h.now × GraphTable g.now h.now graph.now × (sure ≡ true → covering (graph_of g.now h.now) m (places_of w) ≡ true) }
-    ensures { result ≡ covering (graph_of g.now h.now) m (places_of w) }
+    requires { GraphTable t.now.grammar.now t.now.graph.now graph.now × (sure ≡ true → covering (graph_in t.now) m (places_of w) ≡ true) }
+    ensures { result ≡ covering (graph_in t.now) m (places_of w) }
 {
     if sure {
         return true;
     }
-    let nodes = open_in(g, h, graph, m);
+    let nodes = open_in(t, graph, m);
     nodes & images(w) == nodes
 }
 
@@ -253,8 +253,7 @@ fn covered(
 // are open there. It may be sure that each map has the open graph nodes of its set: then those of the union, which are
 // among them, are covered if none is dropped.
 pub fn combine(
-    g: &[u64],
-    h: &[u64],
+    t: &AcceptedTables,
     graph: &[u64; graphs::GRAPH_TABLE_WORDS],
     r: u64,
     q: u64,
@@ -263,20 +262,20 @@ pub fn combine(
     m2: u64,
     sure: bool,
     f: [u8; PLACES],
-    t: [u8; PLACES],
+    s: [u8; PLACES],
 ) -> Option<[u8; PLACES]>
-    requires { Premises g.now h.now graph.now r q stays m1 m2 sure f t }
-    ensures { Combines g.now h.now r q m1 m2 f t result }
+    requires { Premises t.now.grammar.now t.now.graph.now graph.now r q stays m1 m2 sure f s }
+    ensures { Combines t.now.grammar.now t.now.graph.now r q m1 m2 f s result }
 {
     if !masks::disjoint(m1, m2) {
         return None;
     }
-    let merged = merging::merge(stays, f, t)?;
+    let merged = merging::merge(stays, f, s)?;
     let m = masks::union(m1, m2);
     if loses(graph, m, merged.dropped) {
         return None;
     }
-    if !covered(g, h, graph, m, sure, merged.kept) {
+    if !covered(t, graph, m, sure, merged.kept) {
         return None;
     }
     Some(places::nodes_of(merged.kept))

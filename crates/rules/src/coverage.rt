@@ -9,6 +9,7 @@ ghost use Rattle.rules.specs.Coverage.{Shown, Covering};
 use crate::plans;
 use crate::plans::PLAN_TABLE_WORDS;
 use agenda::ChartItem;
+use joins::accepted::AcceptedTables;
 use joins::graphs::GRAPH_TABLE_WORDS;
 use places::PLACES;
 
@@ -56,18 +57,17 @@ fn shown(g: &[u64], plans: &[u32; PLAN_TABLE_WORDS], x: ChartItem) -> u64
 // Whether x shows each open graph node of its edges. A fresh chart has items without edges only, and those have none.
 // A false where it does would cost time, not an answer.
 pub fn covers(
-    g: &[u64],
-    h: &[u64],
+    t: &AcceptedTables,
     plans: &[u32; PLAN_TABLE_WORDS],
     graph: &[u64; GRAPH_TABLE_WORDS],
     x: ChartItem,
 ) -> bool
-    requires { RunTables g.now h.now plans.now graph.now }
-    ensures { result ≡ true → Covering g.now h.now x }
+    requires { RunTables t.now.grammar.now t.now.graph.now plans.now graph.now }
+    ensures { result ≡ true → Covering t.now.grammar.now t.now.graph.now x }
 {
     if x.edges == 0 {
         return true;
     }
-    let nodes = joins::open_in(g, h, graph, x.edges);
-    nodes & shown(g, plans, x) == nodes
+    let nodes = joins::open_in(t, graph, x.edges);
+    nodes & shown(t.grammar, plans, x) == nodes
 }

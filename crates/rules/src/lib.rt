@@ -9,15 +9,16 @@ ghost use Rattle.hrg.specs.Trees.{padded};
 ghost use Rattle.agenda.specs.Records.{plus};
 ghost use Rattle.questions.specs.Layout.{rule_count, rule_nodes, graph_edges};
 ghost use Rattle.questions.specs.Checking.{check_grammar};
-ghost use Rattle.questions.specs.Abstract.{grammar_of, graph_of};
-ghost use Rattle.joins.specs.Joins.{Accepted, BareFrom};
+ghost use Rattle.joins.specs.Joins.{BareFrom};
 ghost use Rattle.joins.specs.Graphs.{GraphTable};
+ghost use Rattle.joins.specs.Tables.{grammar_in, graph_in};
 ghost use Rattle.rules.specs.Rules.{Gives, GivesRoot, Second, root_list, pair_items, Usable, StandsFor};
 ghost use Rattle.rules.specs.Wants.{want_of};
 ghost use Rattle.rules.specs.Plans.{Asks, RunTables};
 ghost use Rattle.rules.specs.Candidates.{Introduces, Candidates};
 
 use agenda::ChartItem;
+use joins::accepted::AcceptedTables;
 use joins::graphs::GRAPH_TABLE_WORDS;
 use places::{NONE, PLACES};
 use plans::{PER_RULE, PLAN_TABLE_WORDS};
@@ -51,14 +52,14 @@ fn root_nodes(g: &[u64], r: u64, f: [u8; PLACES]) -> [u8; PLACES]
 }
 
 // The nodes of graph edge e.
-pub fn edge_nodes(g: &[u64], h: &[u64], e: u64) -> [u8; PLACES]
-    requires { Accepted g.now h.now × (e < graph_edges h.now) }
-    ensures { result ≡ padded (edge_at (graph_of g.now h.now).edges e).attachment }
+pub fn edge_nodes(t: &AcceptedTables, e: u64) -> [u8; PLACES]
+    requires { e < graph_edges t.now.graph.now }
+    ensures { result ≡ padded (edge_at (graph_in t.now).edges e).attachment }
 {
-    let rank = joins::rank_of(g, layout::graph_label_in(h, e));
+    let rank = joins::rank_of(t.grammar, layout::graph_label_in(t.graph, e));
     let mut l = NONE;
     for k in 0..rank {
-        l = places::with_node(l, k, layout::graph_node_in(h, e, k));
+        l = places::with_node(l, k, layout::graph_node_in(t.graph, e, k));
     }
     places::nodes_of(l)
 }
@@ -97,8 +98,7 @@ fn second_map(g: &[u64], of: u64, q: u64, w: u64, y: ChartItem) -> Option<[u8; P
 // What x first and y second make, with the count `count`. Items may have any numbers: an unknown rule or plan node
 // makes nothing. It may be sure that both cover their open nodes: then what they make does.
 pub fn combined(
-    g: &[u64],
-    h: &[u64],
+    t: &AcceptedTables,
     plans: &[u32; PLAN_TABLE_WORDS],
     graph: &[u64; GRAPH_TABLE_WORDS],
     x: ChartItem,
@@ -106,14 +106,14 @@ pub fn combined(
     count: u32,
     sure: bool,
 ) -> Option<ChartItem>
-    requires { RunTables g.now h.now plans.now graph.now × Usable g.now h.now sure x × Usable g.now h.now sure y }
-    ensures { Gives g.now h.now sure (pair_items g.now h.now x y) count result }
+    requires { RunTables t.now.grammar.now t.now.graph.now plans.now graph.now × Usable t.now.grammar.now t.now.graph.now sure x × Usable t.now.grammar.now t.now.graph.now sure y }
+    ensures { Gives t.now.grammar.now t.now.graph.now sure (pair_items t.now.grammar.now t.now.graph.now x y) count result }
 {
     if x.kind != 0 {
         return None;
     }
     let r = x.of as u64;
-    let above = plans::parent_in(g, plans, r, x.plan as u64);
+    let above = plans::parent_in(t.grammar, plans, r, x.plan as u64);
     let q = above.word % 32;
     if q >= PER_RULE {
         return None;
@@ -122,10 +122,10 @@ pub fn combined(
     if w % 4 == 3 {
         return None;
     }
-    let t = second_map(g, r, q, w, y)?;
+    let s = second_map(t.grammar, r, q, w, y)?;
     let f = x.nodes;
     let stays = above.stays;
-    let nodes = joins::combine(g, h, graph, r, q, stays, x.edges, y.edges, sure, f, t)?;
+    let nodes = joins::combine(t, graph, r, q, stays, x.edges, y.edges, sure, f, s)?;
     Some(ChartItem {
         kind: 0,
         of: x.of,
@@ -138,18 +138,18 @@ pub fn combined(
 
 // ---- the rules of one premise
 // A graph edge as a passive item of its symbol, set and nodes: with it an item makes what it makes with the edge.
-pub fn edge_item(g: &[u64], h: &[u64], e: u64) -> ChartItem
-    requires { Accepted g.now h.now × (e < graph_edges h.now) }
-    ensures { StandsFor g.now h.now e result }
+pub fn edge_item(t: &AcceptedTables, e: u64) -> ChartItem
+    requires { e < graph_edges t.now.graph.now }
+    ensures { StandsFor t.now.grammar.now t.now.graph.now e result }
 {
-    let of = layout::graph_label(h, e);
+    let of = layout::graph_label(t.graph, e);
     ChartItem {
         kind: 1,
         of: of as u8,
         plan: 0,
         count: 0,
         edges: masks::with(0, e),
-        nodes: edge_nodes(g, h, e),
+        nodes: edge_nodes(t, e),
     }
 }
 
@@ -194,23 +194,22 @@ fn with_node(graph: &[u64; GRAPH_TABLE_WORDS], k: u64, a: u64, m: u64) -> u64
 
 // Those of the candidates m whose nodes are the images that x has for the nodes of rule edge i, place by place.
 fn fitting(
-    g: &[u64],
-    h: &[u64],
+    t: &AcceptedTables,
     graph: &[u64; GRAPH_TABLE_WORDS],
     want: u64,
     x: ChartItem,
     i: u64,
     m: u64,
 ) -> u64
-    requires { Introduces g.now h.now x want i × GraphTable g.now h.now graph.now × Candidates g.now h.now x m }
-    ensures { Candidates g.now h.now x result }
+    requires { Introduces t.now.grammar.now t.now.graph.now x want i × GraphTable t.now.grammar.now t.now.graph.now graph.now × Candidates t.now.grammar.now t.now.graph.now x m }
+    ensures { Candidates t.now.grammar.now t.now.graph.now x result }
 {
     let of = x.of as u64;
     let map = places::word_of(x.nodes);
-    let rank = layout::rank_at(g, want);
+    let rank = layout::rank_at(t.grammar, want);
     let mut rest = m;
     for k in 0..rank {
-        let y = layout::edge_node_in(g, of, i, k);
+        let y = layout::edge_node_in(t.grammar, of, i, k);
         rest = with_node(graph, k, places::node_at(map, y), rest);
     }
     rest
@@ -219,15 +218,14 @@ fn fitting(
 // The graph edges that x may make something with, where x wants `want` if it is active: with any other edge it makes
 // nothing.
 pub fn candidates(
-    g: &[u64],
-    h: &[u64],
+    t: &AcceptedTables,
     plans: &[u32; PLAN_TABLE_WORDS],
     graph: &[u64; GRAPH_TABLE_WORDS],
     want: u64,
     x: ChartItem,
 ) -> u64
-    requires { RunTables g.now h.now plans.now graph.now × (want ≡ want_of (grammar_of g.now) x.of x.plan) }
-    ensures { Candidates g.now h.now x result }
+    requires { RunTables t.now.grammar.now t.now.graph.now plans.now graph.now × (want ≡ want_of (grammar_in t.now) x.of x.plan) }
+    ensures { Candidates t.now.grammar.now t.now.graph.now x result }
 {
     if x.kind != 0 {
         return 0;
@@ -236,11 +234,11 @@ pub fn candidates(
         return 0;
     }
     let of = x.of as u64;
-    let q = plans::parent_in(g, plans, of, x.plan as u64).word % 32;
+    let q = plans::parent_in(t.grammar, plans, of, x.plan as u64).word % 32;
     if q >= PER_RULE {
         return 0;
     }
-    let i = layout::plan_second_in(g, of, q);
+    let i = layout::plan_second_in(t.grammar, of, q);
     let m = graph[(257 + want) as usize] & !x.edges;
-    fitting(g, h, graph, want, x, i, m)
+    fitting(t, graph, want, x, i, m)
 }

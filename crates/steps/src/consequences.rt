@@ -5,8 +5,7 @@ ghost use Rattle.hrg.specs.ClosureRun.{guard};
 ghost use Rattle.agenda.specs.Records.{item_of};
 ghost use Rattle.agenda.specs.Consequences.{gather, at_root, with_terminal, pair, consequences};
 ghost use Rattle.questions.specs.Layout.{graph_edges};
-ghost use Rattle.questions.specs.Abstract.{grammar_of, graph_of};
-ghost use Rattle.joins.specs.Joins.{Accepted};
+ghost use Rattle.joins.specs.Tables.{grammar_in, graph_in};
 ghost use Rattle.rules.specs.Rules.{pair_items, Usable};
 ghost use Rattle.rules.specs.Plans.{RunTables};
 ghost use Rattle.rules.specs.Candidates.{Candidates};
@@ -27,10 +26,10 @@ use rules::wants;
 
 // The passive item of a root item, made of the record at place j.
 fn add_root(t: &Lookups, chart: &mut [u64], index: &mut Index, j: u64)
-    requires { Accepted t.now.g.now t.now.h.now × Ready t.now.g.now t.now.h.now t.now.keys.now chart.old index.old.words index.old.lists × Handled chart.old j }
-    ensures { (chart.new ≡ grown_by chart.old (at_root (grammar_of t.now.g.now) (item_of (grammar_of t.now.g.now) (record_at chart.old j).item) (record_at chart.old j).item.count j)) × Ready t.now.g.now t.now.h.now t.now.keys.now chart.new index.new.words index.new.lists }
+    requires { Ready t.now.tables.grammar.now t.now.tables.graph.now t.now.keys.now chart.old index.old.words index.old.lists × Handled chart.old j }
+    ensures { (chart.new ≡ grown_by chart.old (at_root (grammar_in t.now.tables) (item_of (grammar_in t.now.tables) (record_at chart.old j).item) (record_at chart.old j).item.count j)) × Ready t.now.tables.grammar.now t.now.tables.graph.now t.now.keys.now chart.new index.new.words index.new.lists }
 {
-    let Some(item) = rules::root(t.g, records::item_at(chart, j)) else {
+    let Some(item) = rules::root(t.tables.grammar, records::item_at(chart, j)) else {
         return;
     };
     let hash = chains::hash(item);
@@ -49,10 +48,10 @@ fn add_joined(
     first: u64,
     second: u64,
 )
-    requires { RunTables t.now.g.now t.now.h.now t.now.plans.now t.now.graph.now × Usable t.now.g.now t.now.h.now sure x × Usable t.now.g.now t.now.h.now sure y × Indexed t.now.keys.now index.old.words index.old.lists (chart_of chart.old).records × Fits chart.old × (capacity chart.old ≤ 4096) × (first < 65536) × (second < 65536) }
-    ensures { Joined t.now.g.now t.now.h.now sure (pair_items t.now.g.now t.now.h.now x y) count first second t.now.keys.now chart.old index.old.words index.old.lists chart.new index.new.words index.new.lists }
+    requires { RunTables t.now.tables.grammar.now t.now.tables.graph.now t.now.plans.now t.now.graph.now × Usable t.now.tables.grammar.now t.now.tables.graph.now sure x × Usable t.now.tables.grammar.now t.now.tables.graph.now sure y × Indexed t.now.keys.now index.old.words index.old.lists (chart_of chart.old).records × Fits chart.old × (capacity chart.old ≤ 4096) × (first < 65536) × (second < 65536) }
+    ensures { Joined t.now.tables.grammar.now t.now.tables.graph.now sure (pair_items t.now.tables.grammar.now t.now.tables.graph.now x y) count first second t.now.keys.now chart.old index.old.words index.old.lists chart.new index.new.words index.new.lists }
 {
-    let Some(item) = rules::combined(t.g, t.h, t.plans, t.graph, x, y, count, sure) else {
+    let Some(item) = rules::combined(&t.tables, t.plans, t.graph, x, y, count, sure) else {
         return;
     };
     let hash = chains::hash(item);
@@ -61,30 +60,30 @@ fn add_joined(
 
 // What it makes with graph edge e, if that is one of the candidates m.
 fn add_candidate(t: &Lookups, chart: &mut [u64], index: &mut Index, j: u64, m: u64, e: u64)
-    requires { Tables t.now.g.now t.now.h.now t.now.plans.now t.now.keys.now t.now.graph.now × Ready t.now.g.now t.now.h.now t.now.keys.now chart.old index.old.words index.old.lists × Handled chart.old j × Candidates t.now.g.now t.now.h.now (record_at chart.old j).item m × (e < graph_edges t.now.h.now) }
-    ensures { (chart.new ≡ grown_by chart.old (with_terminal (grammar_of t.now.g.now) (graph_of t.now.g.now t.now.h.now) (item_of (grammar_of t.now.g.now) (record_at chart.old j).item) (record_at chart.old j).item.count j e)) × Ready t.now.g.now t.now.h.now t.now.keys.now chart.new index.new.words index.new.lists }
+    requires { Tables t.now.tables.grammar.now t.now.tables.graph.now t.now.plans.now t.now.keys.now t.now.graph.now × Ready t.now.tables.grammar.now t.now.tables.graph.now t.now.keys.now chart.old index.old.words index.old.lists × Handled chart.old j × Candidates t.now.tables.grammar.now t.now.tables.graph.now (record_at chart.old j).item m × (e < graph_edges t.now.tables.graph.now) }
+    ensures { (chart.new ≡ grown_by chart.old (with_terminal (grammar_in t.now.tables) (graph_in t.now.tables) (item_of (grammar_in t.now.tables) (record_at chart.old j).item) (record_at chart.old j).item.count j e)) × Ready t.now.tables.grammar.now t.now.tables.graph.now t.now.keys.now chart.new index.new.words index.new.lists }
 {
     if !masks::has(m, e) {
         return;
     }
     let sure = index.sure();
     let x = records::item_at(chart, j);
-    let y = rules::edge_item(t.g, t.h, e);
+    let y = rules::edge_item(&t.tables, e);
     add_joined(t, chart, index, sure, x, y, x.count, j, e);
 }
 
 // What it makes with each graph edge: only those of the label that it wants, and that fit its map, are tried.
 fn add_terminals(t: &Lookups, chart: &mut [u64], index: &mut Index, j: u64)
-    requires { Tables t.now.g.now t.now.h.now t.now.plans.now t.now.keys.now t.now.graph.now × Ready t.now.g.now t.now.h.now t.now.keys.now chart.old index.old.words index.old.lists × Handled chart.old j }
-    ensures { (chart.new ≡ grown_by chart.old (gather (length (graph_of t.now.g.now t.now.h.now).edges) (λ e. with_terminal (grammar_of t.now.g.now) (graph_of t.now.g.now t.now.h.now) (item_of (grammar_of t.now.g.now) (record_at chart.old j).item) (record_at chart.old j).item.count j e))) × Ready t.now.g.now t.now.h.now t.now.keys.now chart.new index.new.words index.new.lists }
+    requires { Tables t.now.tables.grammar.now t.now.tables.graph.now t.now.plans.now t.now.keys.now t.now.graph.now × Ready t.now.tables.grammar.now t.now.tables.graph.now t.now.keys.now chart.old index.old.words index.old.lists × Handled chart.old j }
+    ensures { (chart.new ≡ grown_by chart.old (gather (length (graph_in t.now.tables).edges) (λ e. with_terminal (grammar_in t.now.tables) (graph_in t.now.tables) (item_of (grammar_in t.now.tables) (record_at chart.old j).item) (record_at chart.old j).item.count j e))) × Ready t.now.tables.grammar.now t.now.tables.graph.now t.now.keys.now chart.new index.new.words index.new.lists }
 {
     let x = records::item_at(chart, j);
-    let want = wants::want_of(t.g, t.plans, x.of as u64, x.plan as u64);
-    let m = rules::candidates(t.g, t.h, t.plans, t.graph, want, x);
+    let want = wants::want_of(t.tables.grammar, t.plans, x.of as u64, x.plan as u64);
+    let m = rules::candidates(&t.tables, t.plans, t.graph, want, x);
     if m == 0 {
         return;
     }
-    let n = layout::graph_edges(t.h);
+    let n = layout::graph_edges(t.tables.graph);
     for e in 0..n {
         add_candidate(t, chart, index, j, m, e);
     }
@@ -92,8 +91,8 @@ fn add_terminals(t: &Lookups, chart: &mut [u64], index: &mut Index, j: u64)
 
 // What the record at place j makes with the one at place k, the former first.
 fn add_pair(t: &Lookups, chart: &mut [u64], index: &mut Index, j: u64, k: u64)
-    requires { Tables t.now.g.now t.now.h.now t.now.plans.now t.now.keys.now t.now.graph.now × Ready t.now.g.now t.now.h.now t.now.keys.now chart.old index.old.words index.old.lists × Handled chart.old j × Handled chart.old k }
-    ensures { (chart.new ≡ grown_by chart.old (pair (grammar_of t.now.g.now) (graph_of t.now.g.now t.now.h.now) (record_at chart.old j) j (record_at chart.old k) k)) × Ready t.now.g.now t.now.h.now t.now.keys.now chart.new index.new.words index.new.lists }
+    requires { Tables t.now.tables.grammar.now t.now.tables.graph.now t.now.plans.now t.now.keys.now t.now.graph.now × Ready t.now.tables.grammar.now t.now.tables.graph.now t.now.keys.now chart.old index.old.words index.old.lists × Handled chart.old j × Handled chart.old k }
+    ensures { (chart.new ≡ grown_by chart.old (pair (grammar_in t.now.tables) (graph_in t.now.tables) (record_at chart.old j) j (record_at chart.old k) k)) × Ready t.now.tables.grammar.now t.now.tables.graph.now t.now.keys.now chart.new index.new.words index.new.lists }
 {
     let sure = index.sure();
     let x = records::item_at(chart, j);
@@ -123,8 +122,8 @@ fn add_met(
     k: u64,
     past: u64,
 ) -> u64
-    requires { Joining t.now.g.now t.now.h.now t.now.plans.now t.now.keys.now t.now.graph.now chart.old index.old.words index.old.lists lead j × Handled chart.old k }
-    ensures { (chart.new ≡ grown_by chart.old (guard (leb past k) (with_record (grammar_of t.now.g.now) (graph_of t.now.g.now t.now.h.now) (record_at chart.old j) j (record_at chart.old k) k))) × Ready t.now.g.now t.now.h.now t.now.keys.now chart.new index.new.words index.new.lists × (result ≡ max past (k + 1)) }
+    requires { Joining t.now.tables.grammar.now t.now.tables.graph.now t.now.plans.now t.now.keys.now t.now.graph.now chart.old index.old.words index.old.lists lead j × Handled chart.old k }
+    ensures { (chart.new ≡ grown_by chart.old (guard (leb past k) (with_record (grammar_in t.now.tables) (graph_in t.now.tables) (record_at chart.old j) j (record_at chart.old k) k))) × Ready t.now.tables.grammar.now t.now.tables.graph.now t.now.keys.now chart.new index.new.words index.new.lists × (result ≡ max past (k + 1)) }
 {
     if k < past {
         return past;
@@ -145,8 +144,8 @@ fn add_next(
     k: u64,
     past: u64,
 ) -> u64
-    requires { Joining t.now.g.now t.now.h.now t.now.plans.now t.now.keys.now t.now.graph.now chart.old index.old.words index.old.lists lead j × (k < item_count chart.old) }
-    ensures { (chart.new ≡ grown_by chart.old (guard (leb past k) (with_record (grammar_of t.now.g.now) (graph_of t.now.g.now t.now.h.now) (record_at chart.old j) j (record_at chart.old k) k))) × Ready t.now.g.now t.now.h.now t.now.keys.now chart.new index.new.words index.new.lists × (result ≡ max past (k + 1)) }
+    requires { Joining t.now.tables.grammar.now t.now.tables.graph.now t.now.plans.now t.now.keys.now t.now.graph.now chart.old index.old.words index.old.lists lead j × (k < item_count chart.old) }
+    ensures { (chart.new ≡ grown_by chart.old (guard (leb past k) (with_record (grammar_in t.now.tables) (graph_in t.now.tables) (record_at chart.old j) j (record_at chart.old k) k))) × Ready t.now.tables.grammar.now t.now.tables.graph.now t.now.keys.now chart.new index.new.words index.new.lists × (result ≡ max past (k + 1)) }
 {
     if k < past {
         return past;
@@ -168,8 +167,8 @@ fn add_listed(
     n: u64,
     key: u64,
 )
-    requires { Joining t.now.g.now t.now.h.now t.now.plans.now t.now.keys.now t.now.graph.now chart.old index.old.words index.old.lists lead j × (n ≤ item_count chart.old) × (alone key ≡ query_of t.now.keys.now (record_at chart.old j).item) }
-    ensures { (chart.new ≡ grown_by chart.old (gather n (λ k. with_record (grammar_of t.now.g.now) (graph_of t.now.g.now t.now.h.now) (record_at chart.old j) j (record_at chart.old k) k))) × Ready t.now.g.now t.now.h.now t.now.keys.now chart.new index.new.words index.new.lists }
+    requires { Joining t.now.tables.grammar.now t.now.tables.graph.now t.now.plans.now t.now.keys.now t.now.graph.now chart.old index.old.words index.old.lists lead j × (n ≤ item_count chart.old) × (alone key ≡ query_of t.now.keys.now (record_at chart.old j).item) }
+    ensures { (chart.new ≡ grown_by chart.old (gather n (λ k. with_record (grammar_in t.now.tables) (graph_in t.now.tables) (record_at chart.old j) j (record_at chart.old k) k))) × Ready t.now.tables.grammar.now t.now.tables.graph.now t.now.keys.now chart.new index.new.words index.new.lists }
 {
     let edges = records::edges_at(chart, j);
     let end = 5 * n;
@@ -223,8 +222,8 @@ fn onward(chart: &[u64], index: &Index, edges: u64, n: u64, at: Cursors) -> Curs
 
 // What the record at place j makes with each of the first n records. Only those that its keys let through are tried.
 fn add_many(t: &Lookups, chart: &mut [u64], index: &mut Index, lead: bool, j: u64, n: u64)
-    requires { Joining t.now.g.now t.now.h.now t.now.plans.now t.now.keys.now t.now.graph.now chart.old index.old.words index.old.lists lead j × (n ≤ item_count chart.old) }
-    ensures { (chart.new ≡ grown_by chart.old (gather n (λ k. with_record (grammar_of t.now.g.now) (graph_of t.now.g.now t.now.h.now) (record_at chart.old j) j (record_at chart.old k) k))) × Ready t.now.g.now t.now.h.now t.now.keys.now chart.new index.new.words index.new.lists }
+    requires { Joining t.now.tables.grammar.now t.now.tables.graph.now t.now.plans.now t.now.keys.now t.now.graph.now chart.old index.old.words index.old.lists lead j × (n ≤ item_count chart.old) }
+    ensures { (chart.new ≡ grown_by chart.old (gather n (λ k. with_record (grammar_in t.now.tables) (graph_in t.now.tables) (record_at chart.old j) j (record_at chart.old k) k))) × Ready t.now.tables.grammar.now t.now.tables.graph.now t.now.keys.now chart.new index.new.words index.new.lists }
 {
     let x = records::item_at(chart, j);
     let edges = x.edges;
@@ -239,8 +238,8 @@ fn add_many(t: &Lookups, chart: &mut [u64], index: &mut Index, lead: bool, j: u6
 
 // The same; most records ask for one key, whose list has a loop of its own.
 fn add_each(t: &Lookups, chart: &mut [u64], index: &mut Index, lead: bool, j: u64, n: u64)
-    requires { Joining t.now.g.now t.now.h.now t.now.plans.now t.now.keys.now t.now.graph.now chart.old index.old.words index.old.lists lead j × (n ≤ item_count chart.old) }
-    ensures { (chart.new ≡ grown_by chart.old (gather n (λ k. with_record (grammar_of t.now.g.now) (graph_of t.now.g.now t.now.h.now) (record_at chart.old j) j (record_at chart.old k) k))) × Ready t.now.g.now t.now.h.now t.now.keys.now chart.new index.new.words index.new.lists }
+    requires { Joining t.now.tables.grammar.now t.now.tables.graph.now t.now.plans.now t.now.keys.now t.now.graph.now chart.old index.old.words index.old.lists lead j × (n ≤ item_count chart.old) }
+    ensures { (chart.new ≡ grown_by chart.old (gather n (λ k. with_record (grammar_in t.now.tables) (graph_in t.now.tables) (record_at chart.old j) j (record_at chart.old k) k))) × Ready t.now.tables.grammar.now t.now.tables.graph.now t.now.keys.now chart.new index.new.words index.new.lists }
 {
     match pivots::asked(t.keys, records::item_at(chart, j)) {
         Some(key) => add_listed(t, chart, index, lead, j, n, key),
@@ -252,14 +251,14 @@ fn add_each(t: &Lookups, chart: &mut [u64], index: &mut Index, lead: bool, j: u6
 // tried with, since with the rest it makes nothing: a passive item only with records, where it comes second; an
 // active one with no plan node above it only with the root rule; any other one with graph edges and records.
 pub(crate) fn add_all(t: &Lookups, chart: &mut [u64], index: &mut Index, j: u64)
-    requires { Tables t.now.g.now t.now.h.now t.now.plans.now t.now.keys.now t.now.graph.now × Ready t.now.g.now t.now.h.now t.now.keys.now chart.old index.old.words index.old.lists × Handled chart.old j }
-    ensures { (chart.new ≡ grown_by chart.old (consequences (grammar_of t.now.g.now) (graph_of t.now.g.now t.now.h.now) (chart_of chart.old).records j)) × Ready t.now.g.now t.now.h.now t.now.keys.now chart.new index.new.words index.new.lists }
+    requires { Tables t.now.tables.grammar.now t.now.tables.graph.now t.now.plans.now t.now.keys.now t.now.graph.now × Ready t.now.tables.grammar.now t.now.tables.graph.now t.now.keys.now chart.old index.old.words index.old.lists × Handled chart.old j }
+    ensures { (chart.new ≡ grown_by chart.old (consequences (grammar_in t.now.tables) (graph_in t.now.tables) (chart_of chart.old).records j)) × Ready t.now.tables.grammar.now t.now.tables.graph.now t.now.keys.now chart.new index.new.words index.new.lists }
 {
     let n = records::item_count(chart);
     let x = records::item_at(chart, j);
     let mut lead = false;
     if x.kind == 0 {
-        let w = rules::plans::parent_in(t.g, t.plans, x.of as u64, x.plan as u64).word;
+        let w = rules::plans::parent_in(t.tables.grammar, t.plans, x.of as u64, x.plan as u64).word;
         if w % 32 >= 16 {
             add_root(t, chart, index, j);
             return;

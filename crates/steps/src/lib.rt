@@ -5,7 +5,8 @@
 ghost use Rattle.std.specs.Prelude.{None, ◌≡◌, true, List, ℕ, ◌≤◌, length};
 ghost use Rattle.agenda.specs.Steps.{start_chart, step_with, run_chart};
 ghost use Rattle.questions.specs.Checking.{check_grammar};
-ghost use Rattle.questions.specs.Abstract.{grammar_of, graph_of};
+ghost use Rattle.questions.specs.Abstract.{grammar_of};
+ghost use Rattle.joins.specs.Tables.{grammar_in, graph_in};
 ghost use Rattle.records.specs.Words.{header_words, capacity, chart_of, written};
 ghost use Rattle.steps.specs.Runs.{next_in, is_some, marked_by};
 ghost use Rattle.ranking.specs.Ranking.{Ranked};
@@ -13,6 +14,7 @@ ghost use Rattle.index.specs.Index.{index_words, ranks_of};
 ghost use Rattle.steps.specs.Ready.{Tables, Ready, Runnable};
 
 use index::Index;
+use joins::accepted::AcceptedTables;
 use joins::graphs::GRAPH_TABLE_WORDS;
 use lookups::Lookups;
 use pivots::KEY_TABLE_WORDS;
@@ -46,8 +48,8 @@ fn take(chart: &mut [u64], index: &mut Index) -> Option<u64>
 
 // One step, if one is left: a record is handled, and what it makes with graph edges and handled records is added.
 fn step(t: &Lookups, chart: &mut [u64], index: &mut Index) -> bool
-    requires { Tables t.now.g.now t.now.h.now t.now.plans.now t.now.keys.now t.now.graph.now × Ready t.now.g.now t.now.h.now t.now.keys.now chart.old index.old.words index.old.lists }
-    ensures { (result ≡ is_some (next_in (chart_of chart.old))) × (chart.new ≡ written chart.old (step_with (grammar_of t.now.g.now) (graph_of t.now.g.now t.now.h.now) (capacity chart.old) (chart_of chart.old) (next_in (chart_of chart.old)))) × Ready t.now.g.now t.now.h.now t.now.keys.now chart.new index.new.words index.new.lists }
+    requires { Tables t.now.tables.grammar.now t.now.tables.graph.now t.now.plans.now t.now.keys.now t.now.graph.now × Ready t.now.tables.grammar.now t.now.tables.graph.now t.now.keys.now chart.old index.old.words index.old.lists }
+    ensures { (result ≡ is_some (next_in (chart_of chart.old))) × (chart.new ≡ written chart.old (step_with (grammar_in t.now.tables) (graph_in t.now.tables) (capacity chart.old) (chart_of chart.old) (next_in (chart_of chart.old)))) × Ready t.now.tables.grammar.now t.now.tables.graph.now t.now.keys.now chart.new index.new.words index.new.lists }
 {
     match take(chart, index) {
         None => false,
@@ -60,8 +62,8 @@ fn step(t: &Lookups, chart: &mut [u64], index: &mut Index) -> bool
 
 // So many steps, or as many as are left, with an index of the chart's records; true only where none is left.
 fn advance_by(t: &Lookups, chart: &mut [u64], index: &mut Index, steps: u64) -> bool
-    requires { Tables t.now.g.now t.now.h.now t.now.plans.now t.now.keys.now t.now.graph.now × Ready t.now.g.now t.now.h.now t.now.keys.now chart.old index.old.words index.old.lists }
-    ensures { (chart.new ≡ written chart.old (run_chart (grammar_of t.now.g.now) (graph_of t.now.g.now t.now.h.now) (capacity chart.old) steps (chart_of chart.old))) × (result ≡ true → next_in (chart_of chart.new) ≡ None) }
+    requires { Tables t.now.tables.grammar.now t.now.tables.graph.now t.now.plans.now t.now.keys.now t.now.graph.now × Ready t.now.tables.grammar.now t.now.tables.graph.now t.now.keys.now chart.old index.old.words index.old.lists }
+    ensures { (chart.new ≡ written chart.old (run_chart (grammar_in t.now.tables) (graph_in t.now.tables) (capacity chart.old) steps (chart_of chart.old))) × (result ≡ true → next_in (chart_of chart.new) ≡ None) }
 {
     for _i in 0..steps {
         if !step(t, chart, index) {
@@ -74,27 +76,25 @@ fn advance_by(t: &Lookups, chart: &mut [u64], index: &mut Index, steps: u64) -> 
 // So many steps, or as many as are left; true only where none is left. What hangs on the tables alone and the index
 // are made once for all of them.
 pub fn advance(
-    g: &[u64],
-    h: &[u64],
+    t: &AcceptedTables,
     plans: &[u32; PLAN_TABLE_WORDS],
     chart: &mut [u64],
     steps: u64,
 ) -> bool
-    requires { Runnable g.now h.now plans.now chart.old }
-    ensures { (chart.new ≡ written chart.old (run_chart (grammar_of g.now) (graph_of g.now h.now) (capacity chart.old) steps (chart_of chart.old))) × (result ≡ true → next_in (chart_of chart.new) ≡ None) }
+    requires { Runnable t.now.grammar.now t.now.graph.now plans.now chart.old }
+    ensures { (chart.new ≡ written chart.old (run_chart (grammar_in t.now) (graph_in t.now) (capacity chart.old) steps (chart_of chart.old))) × (result ≡ true → next_in (chart_of chart.new) ≡ None) }
 {
     let mut keys = [0u32; KEY_TABLE_WORDS];
-    pivots::fill(g, plans, &mut keys);
+    pivots::fill(t.grammar, plans, &mut keys);
     let mut graph = [0u64; GRAPH_TABLE_WORDS];
-    joins::graphs::fill(g, h, &mut graph);
+    joins::graphs::fill(t, &mut graph);
     let mut index = Index::empty();
-    index.build(g, h, plans, &graph, &keys, chart);
-    let t = Lookups {
-        g,
-        h,
+    index.build(t, plans, &graph, &keys, chart);
+    let lookups = Lookups {
+        tables: *t,
         plans,
         keys: &keys,
         graph: &graph,
     };
-    advance_by(&t, chart, &mut index, steps)
+    advance_by(&lookups, chart, &mut index, steps)
 }

@@ -1,4 +1,5 @@
 // What a run looks up and does not change.
+use joins::accepted::AcceptedTables;
 use joins::graphs::GRAPH_TABLE_WORDS;
 use pivots::KEY_TABLE_WORDS;
 use rules::plans::PLAN_TABLE_WORDS;
@@ -7,8 +8,7 @@ use rules::plans::PLAN_TABLE_WORDS;
 // plan nodes above each, the keys of items, and the graph's nodes and edges by sets.
 #[derive(Clone, Copy)]
 pub(crate) struct Lookups<'a> {
-    pub(crate) g: &'a [u64],
-    pub(crate) h: &'a [u64],
+    pub(crate) tables: AcceptedTables<'a>,
     pub(crate) plans: &'a [u32; PLAN_TABLE_WORDS],
     pub(crate) keys: &'a [u32; KEY_TABLE_WORDS],
     pub(crate) graph: &'a [u64; GRAPH_TABLE_WORDS],

@@ -6,8 +6,8 @@
 ghost use Rattle.std.specs.Prelude.{◌≡◌, is_some, IfSome, ◌≤◌};
 ghost use Rattle.masks.specs.Masks.{member, full};
 ghost use Rattle.hrg.specs.Grammars.{plan_of, plan_node};
-ghost use Rattle.questions.specs.Abstract.{grammar_of, graph_of};
-ghost use Rattle.joins.specs.Joins.{KnownNode, KnownEdge, Accepted};
+ghost use Rattle.joins.specs.Joins.{KnownNode, KnownEdge};
+ghost use Rattle.joins.specs.Tables.{grammar_in, graph_in};
 ghost use Rattle.rules.specs.Plans.{PlanTable};
 ghost use Rattle.agenda.specs.Steps.{handled_count};
 ghost use Rattle.records.specs.Words.{records_at, item_count};
@@ -15,6 +15,7 @@ ghost use Rattle.validity.specs.Checking.{holds, known_places, in_graph, known_s
 ghost use Rattle.validator.specs.Sizes.{Sized};
 
 use agenda::Record;
+use joins::accepted::AcceptedTables;
 use places::PLACES;
 use rules::plans::PLAN_TABLE_WORDS;
 
@@ -37,15 +38,14 @@ pub fn holds(chart: &[u64]) -> bool
     (1 <= cap) & (cap <= 4096)
 }
 
-fn sizes_of(g: &[u64], h: &[u64]) -> Sizes
-    requires { Accepted g.now h.now }
-    ensures { Sized g.now h.now result }
+fn sizes_of(t: &AcceptedTables) -> Sizes
+    ensures { Sized t.now.grammar.now t.now.graph.now result }
 {
-    let edges = layout::graph_edges(h);
+    let edges = layout::graph_edges(t.graph);
     Sizes {
-        rules: layout::rule_count(g),
-        symbols: layout::symbol_count(g),
-        nodes: layout::graph_nodes(h),
+        rules: layout::rule_count(t.grammar),
+        symbols: layout::symbol_count(t.grammar),
+        nodes: layout::graph_nodes(t.graph),
         edges,
         all: masks::full(edges),
     }
@@ -74,13 +74,13 @@ fn in_graph(s: Sizes, used: u64, x: Record) -> bool
 
 // ---- partners, among n items
 // Whether what edge i of the rule was matched with exists: a graph edge, or an item.
-fn known_second(g: &[u64], h: &[u64], s: Sizes, n: u64, x: Record, i: u64) -> bool
-    requires { Sized g.now h.now s × KnownEdge g.now x.item.of i }
-    ensures { result ≡ known_second (grammar_of g.now) (graph_of g.now h.now) n x i }
+fn known_second(t: &AcceptedTables, s: Sizes, n: u64, x: Record, i: u64) -> bool
+    requires { Sized t.now.grammar.now t.now.graph.now s × KnownEdge t.now.grammar.now x.item.of i }
+    ensures { result ≡ known_second (grammar_in t.now) (graph_in t.now) n x i }
 {
     let item = x.item;
-    let label = layout::edge_label_in(g, item.of as u64, i);
-    let kind = layout::symbol_kind_in(g, label);
+    let label = layout::edge_label_in(t.grammar, item.of as u64, i);
+    let kind = layout::symbol_kind_in(t.grammar, label);
     let second = x.second as u64;
     match kind {
         0 => second < s.edges,
@@ -89,19 +89,19 @@ fn known_second(g: &[u64], h: &[u64], s: Sizes, n: u64, x: Record, i: u64) -> bo
 }
 
 // Whether the partners exist that the plan node of the record asks for; a leaf asks for none.
-fn known_partners(g: &[u64], h: &[u64], s: Sizes, n: u64, x: Record) -> bool
-    requires { Sized g.now h.now s × KnownNode g.now x.item.of x.item.plan }
-    ensures { result ≡ known_partners (grammar_of g.now) (graph_of g.now h.now) n x (plan_node (plan_of (grammar_of g.now) x.item.of) x.item.plan) }
+fn known_partners(t: &AcceptedTables, s: Sizes, n: u64, x: Record) -> bool
+    requires { Sized t.now.grammar.now t.now.graph.now s × KnownNode t.now.grammar.now x.item.of x.item.plan }
+    ensures { result ≡ known_partners (grammar_in t.now) (graph_in t.now) n x (plan_node (plan_of (grammar_in t.now) x.item.of) x.item.plan) }
 {
     let item = x.item;
     let of = item.of as u64;
     let plan = item.plan as u64;
     let first = x.first as u64;
     let second = x.second as u64;
-    let kind = layout::plan_kind_in(g, of, plan);
+    let kind = layout::plan_kind_in(t.grammar, of, plan);
     match kind {
         0 => (first == 0) & (second == 0),
-        1 => (first < n) & known_second(g, h, s, n, x, layout::plan_second_in(g, of, plan)),
+        1 => (first < n) & known_second(t, s, n, x, layout::plan_second_in(t.grammar, of, plan)),
         _ => (first < n) & (second < n),
     }
 }
@@ -109,15 +109,14 @@ fn known_partners(g: &[u64], h: &[u64], s: Sizes, n: u64, x: Record) -> bool
 // ---- records
 // The places of an active item are the open rule nodes at its plan node.
 fn known_active(
-    g: &[u64],
-    h: &[u64],
+    t: &AcceptedTables,
     plans: &[u32; PLAN_TABLE_WORDS],
     s: Sizes,
     n: u64,
     x: Record,
 ) -> bool
-    requires { Sized g.now h.now s × PlanTable g.now plans.now }
-    ensures { result ≡ known_active (grammar_of g.now) (graph_of g.now h.now) n x }
+    requires { Sized t.now.grammar.now t.now.graph.now s × PlanTable t.now.grammar.now plans.now }
+    ensures { result ≡ known_active (grammar_in t.now) (graph_in t.now) n x }
 {
     let item = x.item;
     let of = item.of as u64;
@@ -125,30 +124,30 @@ fn known_active(
     if s.rules <= of {
         return false;
     }
-    if layout::rule_plan_in(g, of) <= plan {
+    if layout::rule_plan_in(t.grammar, of) <= plan {
         return false;
     }
-    let open = rules::plans::open_at(g, plans, of, plan);
+    let open = rules::plans::open_at(t.grammar, plans, of, plan);
     if !in_graph(s, open, x) {
         return false;
     }
-    known_partners(g, h, s, n, x)
+    known_partners(t, s, n, x)
 }
 
 // Those of a passive item are as many as its symbol's rank; it has neither a plan node nor a second partner.
-fn known_passive(g: &[u64], h: &[u64], s: Sizes, n: u64, x: Record) -> bool
-    requires { Sized g.now h.now s }
-    ensures { result ≡ known_passive (grammar_of g.now) (graph_of g.now h.now) n x }
+fn known_passive(t: &AcceptedTables, s: Sizes, n: u64, x: Record) -> bool
+    requires { Sized t.now.grammar.now t.now.graph.now s }
+    ensures { result ≡ known_passive (grammar_in t.now) (graph_in t.now) n x }
 {
     let item = x.item;
     let of = item.of as u64;
     if s.symbols <= of {
         return false;
     }
-    if layout::symbol_kind_in(g, of) == 0 {
+    if layout::symbol_kind_in(t.grammar, of) == 0 {
         return false;
     }
-    let listed = masks::full(layout::symbol_rank_in(g, of));
+    let listed = masks::full(layout::symbol_rank_in(t.grammar, of));
     if !in_graph(s, listed, x) {
         return false;
     }
@@ -157,19 +156,18 @@ fn known_passive(g: &[u64], h: &[u64], s: Sizes, n: u64, x: Record) -> bool
 }
 
 fn known_record(
-    g: &[u64],
-    h: &[u64],
+    t: &AcceptedTables,
     plans: &[u32; PLAN_TABLE_WORDS],
     s: Sizes,
     n: u64,
     x: Record,
 ) -> bool
-    requires { Sized g.now h.now s × PlanTable g.now plans.now }
-    ensures { result ≡ known_record (grammar_of g.now) (graph_of g.now h.now) n x }
+    requires { Sized t.now.grammar.now t.now.graph.now s × PlanTable t.now.grammar.now plans.now }
+    ensures { result ≡ known_record (grammar_in t.now) (graph_in t.now) n x }
 {
     match x.item.kind {
-        0 => known_active(g, h, plans, s, n, x),
-        1 => known_passive(g, h, s, n, x),
+        0 => known_active(t, plans, s, n, x),
+        1 => known_passive(t, s, n, x),
         _ => false,
     }
 }
@@ -179,19 +177,19 @@ fn known_record(
 // exist, with no more items than the chart holds? The plan table is that of the grammar (`rules::plans::fill`). The
 // handled ones are counted in the same walk, so that whoever asks how the chart stands needs no other: their number,
 // if each record is known.
-pub fn known(g: &[u64], h: &[u64], plans: &[u32; PLAN_TABLE_WORDS], chart: &[u64]) -> Option<u64>
-    requires { Accepted g.now h.now × PlanTable g.now plans.now }
-    ensures { (is_some result ≡ known_chart (grammar_of g.now) (graph_of g.now h.now) chart.now) × IfSome result (λ handled. handled ≡ handled_count (records_at chart.now (item_count chart.now))) }
+pub fn known(t: &AcceptedTables, plans: &[u32; PLAN_TABLE_WORDS], chart: &[u64]) -> Option<u64>
+    requires { PlanTable t.now.grammar.now plans.now }
+    ensures { (is_some result ≡ known_chart (grammar_in t.now) (graph_in t.now) chart.now) × IfSome result (λ handled. handled ≡ handled_count (records_at chart.now (item_count chart.now))) }
 {
     let n = records::telling::number_of(chart);
     if records::capacity_of(chart) < n {
         return None;
     }
-    let s = sizes_of(g, h);
+    let s = sizes_of(t);
     let mut handled = 0;
     for j in 0..n {
         let x = records::load(chart, j);
-        if !known_record(g, h, plans, s, n, x) {
+        if !known_record(t, plans, s, n, x) {
             return None;
         }
         if x.handled != 0 {

@@ -8,19 +8,13 @@ returns-then-not-is_fit c = standing_refuses c.args.grammar.now
     c.args.chart.now _ c.is_fit.ensures
     c.if-not-is_fit.true
 
-pub fill-requires : goal.fill-requires
-fill-requires c = (
-  (fit_accepted c.args.grammar.now c.args.graph.now c.args.chart.now
-      _ c.is_fit.ensures c.if-not-is_fit.false).grammar,
-  refl,
-)
+pub invariant_of-t : goal.invariant_of-t
+invariant_of-t c = record {
+  fit = fit_accepted _ _ _ _ c.is_fit.ensures c.if-not-is_fit.false;
+}
 
-pub known-requires : goal.known-requires
-known-requires c = (
-  fit_accepted c.args.grammar.now c.args.graph.now c.args.chart.now
-      _ c.is_fit.ensures c.if-not-is_fit.false,
-  c.fill.ensures,
-)
+pub fill-requires : goal.fill-requires
+fill-requires c = ((fit_accepted _ _ _ _ c.is_fit.ensures c.if-not-is_fit.false).grammar, refl)
 
 pub returns-in-None : goal.returns-in-None
 returns-in-None c = standing_unknown c.args.grammar.now c.args.graph.now c.args.chart.now

@@ -20,7 +20,6 @@ returns-then-loses c = combine_lost c.requires c.in_ok-merged.ensures
 pub covered-requires : goal.covered-requires
 covered-requires c =
     let pre = c.requires in (
-      pre.accepted,
       pre.table,
       combine_sure pre c.in_ok-merged.ensures c.union-m.ensures.value (omega arith) c.loses.ensures
           c.if-loses.false,

@@ -8,5 +8,5 @@ pub returns-then-sure : goal.returns-then-sure
 returns-then-sure c = sym (c.requires.2 c.if-sure.true)
 
 pub returns : goal.returns
-returns c = covers _ _ _ _ _ _ c.requires.0 (omega arith)
+returns c = covers _ _ _ _ _ _ c.args.t.now.fit (omega arith)
     c.open_in-nodes.ensures c.images.ensures

@@ -4,4 +4,4 @@ use Rattle.joins.proofs.open_in.Goals as goal
 
 pub returns : goal.returns
 returns c = open_touched _ _ _ _ _ _ c.touched-s.ensures
-    c.requires.1.externals c.boundary.ensures
+    c.requires.externals c.boundary.ensures

@@ -31,18 +31,18 @@ second_map-requires c =
       c.requires.2.bare,
     )
 
-pub returns-in_err-t : goal.returns-in_err-t
-returns-in_err-t c =
+pub returns-in_err-s : goal.returns-in_err-s
+returns-in_err-s c =
     let above = c.parent_in-above.ensures.above c.if-q-ge-PER_RULE.false in
-    rw c.from_residual.ensures (gives_none _ _ _ _ _ (pair_neither _ _ _ _ c.if-x-ne0.false _ above c.in_err-t.ensures))
+    rw c.from_residual.ensures (gives_none _ _ _ _ _ (pair_neither _ _ _ _ c.if-x-ne0.false _ above c.in_err-s.ensures))
 
 pub combine-requires : goal.combine-requires
 combine-requires c =
     let up = c.parent_in-above.ensures in
     let near = c.if-q-ge-PER_RULE.false in
-    let second = c.in_ok-t.ensures in
+    let second = c.in_ok-s.ensures in
     record {
-      accepted = c.requires.0.accepted;
+      accepted = c.args.t.now.fit;
       node = (up.above near).known;
       table = c.requires.0.graphed;
       opened = up.opened near;
@@ -60,7 +60,7 @@ returns-in_err-nodes c =
     let near = c.if-q-ge-PER_RULE.false in
     let first = join_first _ _ _ _ (up.join near) c.if-w-eq3.false in
     rw c.from_residual-in_err-nodes.ensures (gives_none _ _ _ _ _ (pair_unmade _ _ _ _ c.if-x-ne0.false _ (up.above near)
-    _ c.in_ok-t.ensures first.0 c.in_err-nodes.ensures.makes))
+    _ c.in_ok-s.ensures first.0 c.in_err-nodes.ensures.makes))
 
 pub returns : goal.returns
 returns c =
@@ -68,4 +68,4 @@ returns c =
     let near = c.if-q-ge-PER_RULE.false in
     let first = join_first _ _ _ _ (up.join near) c.if-w-eq3.false in
     pair_made _ _ _ _ c.if-x-ne0.false _ (up.above near)
-    _ c.in_ok-t.ensures first.0 _ _ _ c.in_ok-nodes.ensures.makes c.requires.0.accepted
+    _ c.in_ok-s.ensures first.0 _ _ _ c.in_ok-nodes.ensures.makes c.args.t.now.fit

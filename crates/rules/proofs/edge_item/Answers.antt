@@ -7,11 +7,11 @@ use Rattle.rules.proofs.edge_item.Goals as goal
 pub overflow_cast-result : goal.overflow_cast-result
 overflow_cast-result c = omega (
   arith,
-  label_few _ _ c.requires.0
-      _ c.requires.1 _ c.graph_label-of.ensures,
+  label_few _ _ c.args.t.now.fit
+      _ c.requires _ c.graph_label-of.ensures,
 )
 
 pub returns : goal.returns
-returns c = edge_stands _ _ _ c.requires.0
-    c.requires.1 _ c.with.ensures
+returns c = edge_stands _ _ _ c.args.t.now.fit
+    c.requires _ c.with.ensures
     _ _ c.graph_label-of.ensures c.edge_nodes.ensures

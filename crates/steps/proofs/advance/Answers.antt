@@ -5,13 +5,13 @@ use Rattle.steps.proofs.advance.Goals as goal
 
 pub fill-requires : goal.fill-requires
 fill-requires c = (
-  c.requires.accepted.grammar,
+  c.args.t.now.fit.grammar,
   c.requires.planned,
   refl,
 )
 
 pub fill-requires-2 : goal.fill-requires-2
-fill-requires-2 c = (c.requires.accepted, refl)
+fill-requires-2 c = refl
 
 pub build-requires : goal.build-requires
 build-requires c =
@@ -19,14 +19,14 @@ build-requires c =
       c.empty-index.ensures.0,
       c.empty-index.ensures.1,
       count_small _ p.small,
-      record { accepted = p.accepted; planned = p.planned; graphed = c.fill-2.ensures },
+      record { accepted = c.args.t.now.fit; planned = p.planned; graphed = c.fill-2.ensures },
     )
 
 pub advance_by-requires : goal.advance_by-requires
 advance_by-requires c =
     let p = c.requires in (
       record {
-        accepted = p.accepted;
+        accepted = c.args.t.now.fit;
         planned = p.planned;
         keyed = c.fill.ensures;
         graphed = c.fill-2.ensures;

@@ -4,7 +4,7 @@ use Rattle.validator.proofs.sizes_of.Goals as goal
 
 pub returns : goal.returns
 returns c =
-    let accepted = c.requires in
+    let accepted = c.args.t.now.fit in
     record {
       tables = accepted;
       rules = c.rule_count.ensures;

@@ -8,20 +8,16 @@ use Rattle.joins.proofs.GraphLaws.{indexed_none, table_is}
 use Rattle.joins.proofs.graphs.fill.Goals as goal
 
 pub mark_edges-requires : goal.mark_edges-requires
-mark_edges-requires c = (
-  c.requires.0,
-  subst (λ (t : List ℕ). Indexed c.args.g.now
-      c.args.h.now t 0) (sym c.requires.1)
-      (indexed_none c.args.g.now
-      c.args.h.now),
-)
+mark_edges-requires c = subst (λ (words : List ℕ). Indexed c.args.t.now.grammar.now
+    c.args.t.now.graph.now words 0) (sym c.requires)
+    (indexed_none c.args.t.now.grammar.now c.args.t.now.graph.now)
 
 pub edge_sets-sets-requires : goal.edge_sets-sets-requires
-edge_sets-sets-requires c = graph_edges_few _ _ c.requires.0
+edge_sets-sets-requires c = graph_edges_few _ _ c.args.t.now.fit
 
 pub put_groups-requires : goal.put_groups-requires
-put_groups-requires c = (graph_edges_few _ _ c.requires.0, c.mark_edges.ensures.size)
+put_groups-requires c = (graph_edges_few _ _ c.args.t.now.fit, c.mark_edges.ensures.size)
 
 pub returns : goal.returns
-returns c = table_is _ _ _ _ _ _ c.requires.0 c.mark_edges.ensures c.edge_sets-sets.ensures
+returns c = table_is _ _ _ _ _ _ c.args.t.now.fit c.mark_edges.ensures c.edge_sets-sets.ensures
     c.put_groups.ensures c.graph_externals-externals.ensures

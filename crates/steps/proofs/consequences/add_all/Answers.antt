@@ -10,7 +10,7 @@ pub item_at-x-requires : goal.item_at-x-requires
 item_at-x-requires c = item_inside _ _ c.requires.2.there
 
 pub add_root-requires : goal.add_root-requires
-add_root-requires c = (c.requires.0.accepted, c.requires.1, c.requires.2)
+add_root-requires c = (c.requires.1, c.requires.2)
 
 pub returns-then-w-ge16 : goal.returns-then-w-ge16
 returns-then-w-ge16 c = all_root c.requires c.item_at-x.ensures c.if-x-eq0.true
@@ -19,7 +19,7 @@ returns-then-w-ge16 c = all_root c.requires c.item_at-x.ensures c.if-x-eq0.true
 -- where the ways meet
 met : (c : Joined-x-eq0)
     → let s = c.args in
-    Alone s.t.now.g.now s.t.now.h.now s.t.now.keys.now s.chart.now s.j c.if-x-eq0.chart c.if-x-eq0.index.words
+    Alone s.t.now.tables.grammar.now s.t.now.tables.graph.now s.t.now.keys.now s.chart.now s.j c.if-x-eq0.chart c.if-x-eq0.index.words
     c.if-x-eq0.index.lists c.if-x-eq0.lead
 met c =
     let own = c.item_at-x.ensures in

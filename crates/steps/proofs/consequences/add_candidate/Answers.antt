@@ -18,7 +18,7 @@ pub item_at-x-requires : goal.item_at-x-requires
 item_at-x-requires c = item_inside _ _ c.requires.2.there
 
 pub edge_item-y-requires : goal.edge_item-y-requires
-edge_item-y-requires c = (c.requires.0.accepted, c.requires.4)
+edge_item-y-requires c = c.requires.4
 
 pub add_joined-requires : goal.add_joined-requires
 add_joined-requires c =

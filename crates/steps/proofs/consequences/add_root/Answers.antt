@@ -6,17 +6,17 @@ use Rattle.steps.proofs.MadeLaws.{root_missed, root_added}
 use Rattle.steps.proofs.consequences.add_root.Goals as goal
 
 pub item_at-requires : goal.item_at-requires
-item_at-requires c = item_inside _ _ c.requires.2.there
+item_at-requires c = item_inside _ _ c.requires.1.there
 
 pub returns-in_default : goal.returns-in_default
-returns-in_default c = root_missed c.requires.0 c.requires.1 _ c.item_at.ensures c.in_default.ensures
+returns-in_default c = root_missed c.args.t.now.tables.fit c.requires.0 _ c.item_at.ensures c.in_default.ensures
 
 pub add-requires : goal.add-requires
 add-requires c =
-    let ready = c.requires.1 in
+    let ready = c.requires.0 in
     let (hash, small) = c.hash-hash.ensures in
-    (ready.indexed, ready.fits, ready.small, hash, small, place_few ready c.requires.2.there, omega arith)
+    (ready.indexed, ready.fits, ready.small, hash, small, place_few ready c.requires.1.there, omega arith)
 
 pub returns : goal.returns
-returns c = root_added c.requires.0 c.requires.1 _ c.item_at.ensures c.in-Some.ensures
-    c.requires.2.there c.add.ensures
+returns c = root_added c.args.t.now.tables.fit c.requires.0 _ c.item_at.ensures c.in-Some.ensures
+    c.requires.1.there c.add.ensures
