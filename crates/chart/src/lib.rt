@@ -10,7 +10,7 @@ ghost use Rattle.charting.specs.Calls.{fit, answer_of, start_of, run_of, standin
 ghost use Rattle.charting.specs.Facts.{StartChoices, RunChoices};
 
 use charting::Unready;
-use joins::accepted::AcceptedTables;
+use joins::accepted::{AcceptedGrammar, AcceptedTables};
 use rules::plans::PLAN_TABLE_WORDS;
 
 // Question 8 before a start: does the chart hold 1 to 4,096 items, and could texts have filled the tables?
@@ -77,9 +77,12 @@ pub fn standing(grammar: &[u64], graph: &[u64], chart: &[u64]) -> Result<u64, Un
     if !is_fit(grammar, graph, chart) {
         return Err(Unready::Unfit);
     }
-    let t = AcceptedTables { grammar, graph };
+    let t = AcceptedTables {
+        grammar: AcceptedGrammar { words: grammar },
+        graph,
+    };
     let mut plans = [0u32; PLAN_TABLE_WORDS];
-    rules::plans::fill(t.grammar, &mut plans);
+    rules::plans::fill(t.grammar.words, &mut plans);
     match validator::known(&t, &plans, chart) {
         None => Err(Unready::Unfit),
         Some(handled) => outcome_of(chart, handled),
@@ -93,9 +96,12 @@ pub fn run(grammar: &[u64], graph: &[u64], chart: &mut [u64], steps: u64) -> Res
     if !is_fit(grammar, graph, chart) {
         return Err(Unready::Unfit);
     }
-    let t = AcceptedTables { grammar, graph };
+    let t = AcceptedTables {
+        grammar: AcceptedGrammar { words: grammar },
+        graph,
+    };
     let mut plans = [0u32; PLAN_TABLE_WORDS];
-    rules::plans::fill(t.grammar, &mut plans);
+    rules::plans::fill(t.grammar.words, &mut plans);
     if validator::known(&t, &plans, chart).is_none() {
         return Err(Unready::Unfit);
     }

@@ -44,12 +44,12 @@ fn place_nodes(grammar: &[u64], r: u64, i: u64, l: &[u64], f: &mut [u64])
 
 // The same by graph edge b, which has as many nodes as the rank of its label.
 fn place_edge(t: &AcceptedTables, r: u64, i: u64, b: u64, f: &mut [u64])
-    requires { KnownEdge t.now.grammar.now r i × (b < graph_edges t.now.graph.now) × (length f.old ≡ 8) × BareFrom (rule_nodes t.now.grammar.now r) f.old }
-    ensures { f.new ≡ padded (joined (rule_nodes t.now.grammar.now r) f.old (attach (rule_nodes t.now.grammar.now r) (edge_nodes t.now.grammar.now r i) (take (rank_at t.now.grammar.now (edge_label t.now.grammar.now r i)) (edge_at (graph_in t.now).edges b).attachment))) }
+    requires { KnownEdge t.now.grammar.words.now r i × (b < graph_edges t.now.graph.now) × (length f.old ≡ 8) × BareFrom (rule_nodes t.now.grammar.words.now r) f.old }
+    ensures { f.new ≡ padded (joined (rule_nodes t.now.grammar.words.now r) f.old (attach (rule_nodes t.now.grammar.words.now r) (edge_nodes t.now.grammar.words.now r i) (take (rank_at t.now.grammar.words.now (edge_label t.now.grammar.words.now r i)) (edge_at (graph_in t.now).edges b).attachment))) }
 {
-    let rank = joins::rank_of(t.grammar, layout::graph_label_in(t.graph, b));
+    let rank = joins::rank_of(t.grammar.words, layout::graph_label_in(t.graph, b));
     let nodes = nodes_of(t.graph, b);
-    place_nodes(t.grammar, r, i, &nodes[..rank as usize], f);
+    place_nodes(t.grammar.words, r, i, &nodes[..rank as usize], f);
 }
 
 // The nodes of the record at b; past the chart's end its words are 0.
@@ -75,11 +75,11 @@ fn place_record(grammar: &[u64], chart: &[u64], r: u64, i: u64, b: u64, f: &mut 
 
 // The same by the partner b of the edge: a graph edge, or a record. Past the graph's edges there is no node.
 fn place_part(t: &AcceptedTables, chart: &[u64], r: u64, i: u64, b: u64, f: &mut [u64])
-    requires { KnownEdge t.now.grammar.now r i × (length f.old ≡ 8) × BareFrom (rule_nodes t.now.grammar.now r) f.old }
-    ensures { f.new ≡ padded (joined (rule_nodes t.now.grammar.now r) f.old (attach (rule_nodes t.now.grammar.now r) (edge_nodes t.now.grammar.now r i) (part_nodes (λ k. record_at chart.now k) (grammar_in t.now) (graph_in t.now) (edge_at (right_of (grammar_in t.now) r).edges i) b))) }
+    requires { KnownEdge t.now.grammar.words.now r i × (length f.old ≡ 8) × BareFrom (rule_nodes t.now.grammar.words.now r) f.old }
+    ensures { f.new ≡ padded (joined (rule_nodes t.now.grammar.words.now r) f.old (attach (rule_nodes t.now.grammar.words.now r) (edge_nodes t.now.grammar.words.now r i) (part_nodes (λ k. record_at chart.now k) (grammar_in t.now) (graph_in t.now) (edge_at (right_of (grammar_in t.now) r).edges i) b))) }
 {
-    if crate::lookup::is_nonterminal(t.grammar, r, i) {
-        place_record(t.grammar, chart, r, i, b, f);
+    if crate::lookup::is_nonterminal(t.grammar.words, r, i) {
+        place_record(t.grammar.words, chart, r, i, b, f);
     } else if b < layout::graph_edges(t.graph) {
         place_edge(t, r, i, b, f);
     }

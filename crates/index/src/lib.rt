@@ -80,8 +80,8 @@ fn cover_all(
     chart: &[u64],
     index: &mut [u32],
 )
-    requires { (length index.old ≡ index_words) × (item_count chart.now ≤ 4096) × RunTables t.now.grammar.now t.now.graph.now plans.now graph.now }
-    ensures { Covered t.now.grammar.now t.now.graph.now index.new (chart_of chart.now).records × ((keys ls : List ℕ) (rs : List Record) → Indexed keys index.old ls rs → Indexed keys index.new ls rs) }
+    requires { (length index.old ≡ index_words) × (item_count chart.now ≤ 4096) × RunTables t.now.grammar.words.now t.now.graph.now plans.now graph.now }
+    ensures { Covered t.now.grammar.words.now t.now.graph.now index.new (chart_of chart.now).records × ((keys ls : List ℕ) (rs : List Record) → Indexed keys index.old ls rs → Indexed keys index.new ls rs) }
 {
     let n = records::item_count(chart);
     for j in 0..n {
@@ -177,8 +177,8 @@ impl Index {
         keys: &[u32; KEY_TABLE_WORDS],
         chart: &[u64],
     )
-        requires { Empty self.old.words × Unlisted self.old.lists × (item_count chart.now ≤ 4096) × RunTables t.now.grammar.now t.now.graph.now plans.now graph.now }
-        ensures { Indexed keys.now self.new.words self.new.lists (chart_of chart.now).records × Covered t.now.grammar.now t.now.graph.now self.new.words (chart_of chart.now).records }
+        requires { Empty self.old.words × Unlisted self.old.lists × (item_count chart.now ≤ 4096) × RunTables t.now.grammar.words.now t.now.graph.now plans.now graph.now }
+        ensures { Indexed keys.now self.new.words self.new.lists (chart_of chart.now).records × Covered t.now.grammar.words.now t.now.graph.now self.new.words (chart_of chart.now).records }
     {
         chains::build(chart, &mut self.words[0..RANKS]);
         ranking::build(chart, &mut self.words[RANKS..DOUBT]);

@@ -4,7 +4,7 @@ use Rattle.questions.specs.Abstract.{grammar_of, graph_of}
 use Rattle.joins.specs.declared.accepted.AcceptedTables.{AcceptedTables}
 
 abbrev pub grammar_in : AcceptedTables → Grammar
-grammar_in t = grammar_of t.grammar.now
+grammar_in t = grammar_of t.grammar.words.now
 
 abbrev pub graph_in : AcceptedTables → Graph
-graph_in t = graph_of t.grammar.now t.graph.now
+graph_in t = graph_of t.grammar.words.now t.graph.now

@@ -63,14 +63,14 @@ fn put_groups(h: &[u64], sets: &[u64; 64], t: &mut [u64])
 
 // Edge e in the words of its label and of the node at each of its places.
 fn mark_edge(t: &AcceptedTables, e: u64, words: &mut [u64])
-    requires { (e < graph_edges t.now.graph.now) × Indexed t.now.grammar.now t.now.graph.now words.old e }
-    ensures { Indexed t.now.grammar.now t.now.graph.now words.new (e + 1) }
+    requires { (e < graph_edges t.now.graph.now) × Indexed t.now.grammar.words.now t.now.graph.now words.old e }
+    ensures { Indexed t.now.grammar.words.now t.now.graph.now words.new (e + 1) }
 {
     let label = layout::graph_label(t.graph, e);
     let first = (257 + label) as usize;
     let w = masks::with(words[first], e);
     words[first] = w;
-    let rank = layout::rank_at(t.grammar, label);
+    let rank = layout::rank_at(t.grammar.words, label);
     for k in 0..rank {
         let i = (321 + 64 * k + layout::graph_node(t.graph, e, k)) as usize;
         let v = masks::with(words[i], e);
@@ -80,8 +80,8 @@ fn mark_edge(t: &AcceptedTables, e: u64, words: &mut [u64])
 
 // Every edge so.
 fn mark_edges(t: &AcceptedTables, words: &mut [u64])
-    requires { Indexed t.now.grammar.now t.now.graph.now words.old 0 }
-    ensures { Indexed t.now.grammar.now t.now.graph.now words.new (graph_edges t.now.graph.now) }
+    requires { Indexed t.now.grammar.words.now t.now.graph.now words.old 0 }
+    ensures { Indexed t.now.grammar.words.now t.now.graph.now words.new (graph_edges t.now.graph.now) }
 {
     for e in 0..layout::graph_edges(t.graph) {
         mark_edge(t, e, words);
@@ -91,11 +91,11 @@ fn mark_edges(t: &AcceptedTables, words: &mut [u64])
 // The table of the graph, into words that are 0.
 pub fn fill(t: &AcceptedTables, words: &mut [u64])
     requires { words.old ≡ replicate graph_table_words 0 }
-    ensures { GraphTable t.now.grammar.now t.now.graph.now words.new }
+    ensures { GraphTable t.now.grammar.words.now t.now.graph.now words.new }
 {
     mark_edges(t, words);
-    let sets = edge_sets(t.grammar, t.graph);
+    let sets = edge_sets(t.grammar.words, t.graph);
     put_groups(t.graph, &sets, words);
-    let externals = crate::graph_externals(t.grammar, t.graph);
+    let externals = crate::graph_externals(t.grammar.words, t.graph);
     words[256] = externals;
 }

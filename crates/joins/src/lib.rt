@@ -130,8 +130,8 @@ fn graph_externals(g: &[u64], h: &[u64]) -> u64
 
 // The nodes on the edges of the set m, and on the others, by sets of four edges.
 fn touched(t: &AcceptedTables, graph: &[u64; graphs::GRAPH_TABLE_WORDS], m: u64) -> Sides
-    requires { GraphTable t.now.grammar.now t.now.graph.now graph.now }
-    ensures { Touched t.now.grammar.now t.now.graph.now m result }
+    requires { GraphTable t.now.grammar.words.now t.now.graph.now graph.now }
+    ensures { Touched t.now.grammar.words.now t.now.graph.now m result }
 {
     let mut inside = 0;
     let mut outside = 0;
@@ -147,8 +147,8 @@ fn touched(t: &AcceptedTables, graph: &[u64; graphs::GRAPH_TABLE_WORDS], m: u64)
 
 // The open graph nodes of the edge set m.
 pub fn open_in(t: &AcceptedTables, graph: &[u64; graphs::GRAPH_TABLE_WORDS], m: u64) -> u64
-    requires { GraphTable t.now.grammar.now t.now.graph.now graph.now }
-    ensures { OpenIn t.now.grammar.now t.now.graph.now m result }
+    requires { GraphTable t.now.grammar.words.now t.now.graph.now graph.now }
+    ensures { OpenIn t.now.grammar.words.now t.now.graph.now m result }
 {
     let s = touched(t, graph, m);
     boundary(s, graph[256])
@@ -239,7 +239,7 @@ fn covered(
     sure: bool,
     w: u64,
 ) -> bool
-    requires { GraphTable t.now.grammar.now t.now.graph.now graph.now × (sure ≡ true → covering (graph_in t.now) m (places_of w) ≡ true) }
+    requires { GraphTable t.now.grammar.words.now t.now.graph.now graph.now × (sure ≡ true → covering (graph_in t.now) m (places_of w) ≡ true) }
     ensures { result ≡ covering (graph_in t.now) m (places_of w) }
 {
     if sure {
@@ -264,8 +264,8 @@ pub fn combine(
     f: [u8; PLACES],
     s: [u8; PLACES],
 ) -> Option<[u8; PLACES]>
-    requires { Premises t.now.grammar.now t.now.graph.now graph.now r q stays m1 m2 sure f s }
-    ensures { Combines t.now.grammar.now t.now.graph.now r q m1 m2 f s result }
+    requires { Premises t.now.grammar.words.now t.now.graph.now graph.now r q stays m1 m2 sure f s }
+    ensures { Combines t.now.grammar.words.now t.now.graph.now r q m1 m2 f s result }
 {
     if !masks::disjoint(m1, m2) {
         return None;

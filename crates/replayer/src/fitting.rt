@@ -112,9 +112,9 @@ fn externals_fit(t: &AcceptedTables, row: &[u64], listed: &[u64; 4]) -> bool
     ensures { result ≡ same_list (images (place_in (right_of (grammar_in t.now) (rule_in row.now)) row.now) (right_of (grammar_in t.now) (rule_in row.now)).externals) (take (rank_of (grammar_in t.now) (lhs_of (grammar_in t.now) (rule_in row.now))) listed.now) }
 {
     let r = row[1];
-    let rank = layout::rank_at(t.grammar, layout::rule_symbol(t.grammar, r));
+    let rank = layout::rank_at(t.grammar.words, layout::rule_symbol(t.grammar.words, r));
     for k in 0..rank {
-        let x = layout::rule_external(t.grammar, r, k);
+        let x = layout::rule_external(t.grammar.words, r, k);
         if row[(2 + x) as usize] != listed[k as usize] {
             return false;
         }
@@ -152,8 +152,8 @@ fn with_inner(t: &AcceptedTables, row: &[u64], used: u64) -> Option<u64>
     ensures { result ≡ taken_if (new_in used (new_nodes (right_of (grammar_in t.now) (rule_in row.now)) row.now)) (with_all used (new_nodes (right_of (grammar_in t.now) (rule_in row.now)) row.now)) }
 {
     let r = row[1];
-    let outer = external_mask(t.grammar, r);
-    let n = layout::rule_nodes(t.grammar, r);
+    let outer = external_mask(t.grammar.words, r);
+    let n = layout::rule_nodes(t.grammar.words, r);
     let mut nodes = used;
     for x in 0..n {
         let v = inner_node(row, outer, x);
@@ -177,10 +177,10 @@ pub(crate) fn taken(
     requires { length listed.now ≡ 4 }
     ensures { result ≡ taken_if (row_passes (grammar_in t.now) (graph_in t.now) n s (take (rank_of (grammar_in t.now) s) listed.now) used row.now) (with_all used (new_nodes (right_of (grammar_in t.now) (rule_in row.now)) row.now)) }
 {
-    if !head_passes(t.grammar, row, n, s) {
+    if !head_passes(t.grammar.words, row, n, s) {
         return None;
     }
-    let count = layout::rule_nodes(t.grammar, row[1]);
+    let count = layout::rule_nodes(t.grammar.words, row[1]);
     if !places_known(row, count, layout::graph_nodes(t.graph)) {
         return None;
     }
@@ -197,22 +197,22 @@ pub(crate) fn list_nodes(t: &AcceptedTables, row: &[u64], i: u64, nodes: &mut [u
     ensures { nodes.new ≡ four_of (images (place_in (right_of (grammar_in t.now) (rule_in row.now)) row.now) (edge_at (right_of (grammar_in t.now) (rule_in row.now)).edges i).attachment) }
 {
     let r = row[1];
-    let rank = layout::rank_at(t.grammar, layout::edge_label(t.grammar, r, i));
+    let rank = layout::rank_at(t.grammar.words, layout::edge_label(t.grammar.words, r, i));
     for k in 0..rank {
-        let x = layout::edge_node(t.grammar, r, i, k);
+        let x = layout::edge_node(t.grammar.words, r, i, k);
         nodes[k as usize] = row[(2 + x) as usize];
     }
 }
 
 // Whether graph edge g, with the label of edge i of the row's rule, lies on the graph nodes of that edge, in order.
 fn nodes_fit(t: &AcceptedTables, row: &[u64], i: u64, g: u64) -> bool
-    requires { SizedRow (grammar_in t.now) (graph_in t.now) row.now × (i < length (right_of (grammar_in t.now) (rule_in row.now)).edges) × (g < graph_edges t.now.graph.now) × (graph_label t.now.graph.now g ≡ edge_label t.now.grammar.now (rule_in row.now) i) }
+    requires { SizedRow (grammar_in t.now) (graph_in t.now) row.now × (i < length (right_of (grammar_in t.now) (rule_in row.now)).edges) × (g < graph_edges t.now.graph.now) × (graph_label t.now.graph.now g ≡ edge_label t.now.grammar.words.now (rule_in row.now) i) }
     ensures { result ≡ same_list (edge_at (graph_in t.now).edges g).attachment (images (place_in (right_of (grammar_in t.now) (rule_in row.now)) row.now) (edge_at (right_of (grammar_in t.now) (rule_in row.now)).edges i).attachment) }
 {
     let r = row[1];
-    let rank = layout::rank_at(t.grammar, layout::edge_label(t.grammar, r, i));
+    let rank = layout::rank_at(t.grammar.words, layout::edge_label(t.grammar.words, r, i));
     for k in 0..rank {
-        let x = layout::edge_node(t.grammar, r, i, k);
+        let x = layout::edge_node(t.grammar.words, r, i, k);
         if layout::graph_node(t.graph, g, k) != row[(2 + x) as usize] {
             return false;
         }
@@ -228,7 +228,7 @@ pub(crate) fn edge_passes(t: &AcceptedTables, row: &[u64], i: u64, g: u64, used:
     if layout::graph_edges(t.graph) <= g {
         return false;
     }
-    let label = layout::edge_label(t.grammar, row[1], i);
+    let label = layout::edge_label(t.grammar.words, row[1], i);
     if layout::graph_label(t.graph, g) != label {
         return false;
     }

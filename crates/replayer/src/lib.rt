@@ -17,7 +17,7 @@ ghost use Rattle.replayer.specs.Fitting.{with_all, SizedRow};
 ghost use Rattle.replayer.specs.Following.{text_rows, RowsAt, progress_in, progress_of, Stands, Applied, Followed, RuledRow, part_of};
 ghost use Rattle.replayer.specs.Verdicts.{replay_of, Exact};
 
-use joins::accepted::AcceptedTables;
+use joins::accepted::{AcceptedGrammar, AcceptedTables};
 
 mod fitting;
 
@@ -122,7 +122,7 @@ fn edge_list(t: &AcceptedTables, text: &[u8], row: &[u64], i: u64, st: &mut Prog
     requires { SizedRow (grammar_in t.now) (graph_in t.now) row.now × RowsAt text.now st.old.next st.old.at }
     ensures { Followed (grammar_in t.now) (graph_in t.now) text.now row.now i (progress_in true st.old) (progress_in result st.new) }
 {
-    let part = part_at(t.grammar, row, i);
+    let part = part_at(t.grammar.words, row, i);
     match part {
         Part::End => true,
         Part::GraphEdge(g) => {
@@ -177,13 +177,13 @@ fn from_start(t: &AcceptedTables, text: &[u8]) -> Option<Progress>
     requires { 0 < length (text_rows text.now) }
     ensures { Stands (graph_in t.now) (progress_of result) (replayed (grammar_in t.now) (graph_in t.now) (text_rows text.now)) }
 {
-    let s = layout::start_symbol(t.grammar);
+    let s = layout::start_symbol(t.grammar.words);
     let listed = externals(t.graph);
     let mut st = Progress {
         next: 0,
         at: lines::after_line(text, 0),
         edges: 0,
-        nodes: mask_of(listed, layout::rank_at(t.grammar, s)),
+        nodes: mask_of(listed, layout::rank_at(t.grammar.words, s)),
     };
     if application(t, text, s, &listed, &mut st) {
         Some(st)
@@ -225,7 +225,10 @@ pub fn replay(grammar: &[u64], graph: &[u64], text: &[u8]) -> Result<(), ReplayE
     if !tables::checking::check_graph(grammar, graph) {
         return Err(ReplayError::Unfit);
     }
-    let t = AcceptedTables { grammar, graph };
+    let t = AcceptedTables {
+        grammar: AcceptedGrammar { words: grammar },
+        graph,
+    };
     if passes(&t, text) {
         Ok(())
     } else {

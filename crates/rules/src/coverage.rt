@@ -62,12 +62,12 @@ pub fn covers(
     graph: &[u64; GRAPH_TABLE_WORDS],
     x: ChartItem,
 ) -> bool
-    requires { RunTables t.now.grammar.now t.now.graph.now plans.now graph.now }
-    ensures { result ≡ true → Covering t.now.grammar.now t.now.graph.now x }
+    requires { RunTables t.now.grammar.words.now t.now.graph.now plans.now graph.now }
+    ensures { result ≡ true → Covering t.now.grammar.words.now t.now.graph.now x }
 {
     if x.edges == 0 {
         return true;
     }
     let nodes = joins::open_in(t, graph, x.edges);
-    nodes & shown(t.grammar, plans, x) == nodes
+    nodes & shown(t.grammar.words, plans, x) == nodes
 }

@@ -56,7 +56,7 @@ pub fn edge_nodes(t: &AcceptedTables, e: u64) -> [u8; PLACES]
     requires { e < graph_edges t.now.graph.now }
     ensures { result ≡ padded (edge_at (graph_in t.now).edges e).attachment }
 {
-    let rank = joins::rank_of(t.grammar, layout::graph_label_in(t.graph, e));
+    let rank = joins::rank_of(t.grammar.words, layout::graph_label_in(t.graph, e));
     let mut l = NONE;
     for k in 0..rank {
         l = places::with_node(l, k, layout::graph_node_in(t.graph, e, k));
@@ -106,14 +106,14 @@ pub fn combined(
     count: u32,
     sure: bool,
 ) -> Option<ChartItem>
-    requires { RunTables t.now.grammar.now t.now.graph.now plans.now graph.now × Usable t.now.grammar.now t.now.graph.now sure x × Usable t.now.grammar.now t.now.graph.now sure y }
-    ensures { Gives t.now.grammar.now t.now.graph.now sure (pair_items t.now.grammar.now t.now.graph.now x y) count result }
+    requires { RunTables t.now.grammar.words.now t.now.graph.now plans.now graph.now × Usable t.now.grammar.words.now t.now.graph.now sure x × Usable t.now.grammar.words.now t.now.graph.now sure y }
+    ensures { Gives t.now.grammar.words.now t.now.graph.now sure (pair_items t.now.grammar.words.now t.now.graph.now x y) count result }
 {
     if x.kind != 0 {
         return None;
     }
     let r = x.of as u64;
-    let above = plans::parent_in(t.grammar, plans, r, x.plan as u64);
+    let above = plans::parent_in(t.grammar.words, plans, r, x.plan as u64);
     let q = above.word % 32;
     if q >= PER_RULE {
         return None;
@@ -122,7 +122,7 @@ pub fn combined(
     if w % 4 == 3 {
         return None;
     }
-    let s = second_map(t.grammar, r, q, w, y)?;
+    let s = second_map(t.grammar.words, r, q, w, y)?;
     let f = x.nodes;
     let stays = above.stays;
     let nodes = joins::combine(t, graph, r, q, stays, x.edges, y.edges, sure, f, s)?;
@@ -140,7 +140,7 @@ pub fn combined(
 // A graph edge as a passive item of its symbol, set and nodes: with it an item makes what it makes with the edge.
 pub fn edge_item(t: &AcceptedTables, e: u64) -> ChartItem
     requires { e < graph_edges t.now.graph.now }
-    ensures { StandsFor t.now.grammar.now t.now.graph.now e result }
+    ensures { StandsFor t.now.grammar.words.now t.now.graph.now e result }
 {
     let of = layout::graph_label(t.graph, e);
     ChartItem {
@@ -201,15 +201,15 @@ fn fitting(
     i: u64,
     m: u64,
 ) -> u64
-    requires { Introduces t.now.grammar.now t.now.graph.now x want i × GraphTable t.now.grammar.now t.now.graph.now graph.now × Candidates t.now.grammar.now t.now.graph.now x m }
-    ensures { Candidates t.now.grammar.now t.now.graph.now x result }
+    requires { Introduces t.now.grammar.words.now t.now.graph.now x want i × GraphTable t.now.grammar.words.now t.now.graph.now graph.now × Candidates t.now.grammar.words.now t.now.graph.now x m }
+    ensures { Candidates t.now.grammar.words.now t.now.graph.now x result }
 {
     let of = x.of as u64;
     let map = places::word_of(x.nodes);
-    let rank = layout::rank_at(t.grammar, want);
+    let rank = layout::rank_at(t.grammar.words, want);
     let mut rest = m;
     for k in 0..rank {
-        let y = layout::edge_node_in(t.grammar, of, i, k);
+        let y = layout::edge_node_in(t.grammar.words, of, i, k);
         rest = with_node(graph, k, places::node_at(map, y), rest);
     }
     rest
@@ -224,8 +224,8 @@ pub fn candidates(
     want: u64,
     x: ChartItem,
 ) -> u64
-    requires { RunTables t.now.grammar.now t.now.graph.now plans.now graph.now × (want ≡ want_of (grammar_in t.now) x.of x.plan) }
-    ensures { Candidates t.now.grammar.now t.now.graph.now x result }
+    requires { RunTables t.now.grammar.words.now t.now.graph.now plans.now graph.now × (want ≡ want_of (grammar_in t.now) x.of x.plan) }
+    ensures { Candidates t.now.grammar.words.now t.now.graph.now x result }
 {
     if x.kind != 0 {
         return 0;
@@ -234,11 +234,11 @@ pub fn candidates(
         return 0;
     }
     let of = x.of as u64;
-    let q = plans::parent_in(t.grammar, plans, of, x.plan as u64).word % 32;
+    let q = plans::parent_in(t.grammar.words, plans, of, x.plan as u64).word % 32;
     if q >= PER_RULE {
         return 0;
     }
-    let i = layout::plan_second_in(t.grammar, of, q);
+    let i = layout::plan_second_in(t.grammar.words, of, q);
     let m = graph[(257 + want) as usize] & !x.edges;
     fitting(t, graph, want, x, i, m)
 }

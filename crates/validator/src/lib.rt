@@ -39,12 +39,12 @@ pub fn holds(chart: &[u64]) -> bool
 }
 
 fn sizes_of(t: &AcceptedTables) -> Sizes
-    ensures { Sized t.now.grammar.now t.now.graph.now result }
+    ensures { Sized t.now.grammar.words.now t.now.graph.now result }
 {
     let edges = layout::graph_edges(t.graph);
     Sizes {
-        rules: layout::rule_count(t.grammar),
-        symbols: layout::symbol_count(t.grammar),
+        rules: layout::rule_count(t.grammar.words),
+        symbols: layout::symbol_count(t.grammar.words),
         nodes: layout::graph_nodes(t.graph),
         edges,
         all: masks::full(edges),
@@ -75,12 +75,12 @@ fn in_graph(s: Sizes, used: u64, x: Record) -> bool
 // ---- partners, among n items
 // Whether what edge i of the rule was matched with exists: a graph edge, or an item.
 fn known_second(t: &AcceptedTables, s: Sizes, n: u64, x: Record, i: u64) -> bool
-    requires { Sized t.now.grammar.now t.now.graph.now s × KnownEdge t.now.grammar.now x.item.of i }
+    requires { Sized t.now.grammar.words.now t.now.graph.now s × KnownEdge t.now.grammar.words.now x.item.of i }
     ensures { result ≡ known_second (grammar_in t.now) (graph_in t.now) n x i }
 {
     let item = x.item;
-    let label = layout::edge_label_in(t.grammar, item.of as u64, i);
-    let kind = layout::symbol_kind_in(t.grammar, label);
+    let label = layout::edge_label_in(t.grammar.words, item.of as u64, i);
+    let kind = layout::symbol_kind_in(t.grammar.words, label);
     let second = x.second as u64;
     match kind {
         0 => second < s.edges,
@@ -90,7 +90,7 @@ fn known_second(t: &AcceptedTables, s: Sizes, n: u64, x: Record, i: u64) -> bool
 
 // Whether the partners exist that the plan node of the record asks for; a leaf asks for none.
 fn known_partners(t: &AcceptedTables, s: Sizes, n: u64, x: Record) -> bool
-    requires { Sized t.now.grammar.now t.now.graph.now s × KnownNode t.now.grammar.now x.item.of x.item.plan }
+    requires { Sized t.now.grammar.words.now t.now.graph.now s × KnownNode t.now.grammar.words.now x.item.of x.item.plan }
     ensures { result ≡ known_partners (grammar_in t.now) (graph_in t.now) n x (plan_node (plan_of (grammar_in t.now) x.item.of) x.item.plan) }
 {
     let item = x.item;
@@ -98,10 +98,10 @@ fn known_partners(t: &AcceptedTables, s: Sizes, n: u64, x: Record) -> bool
     let plan = item.plan as u64;
     let first = x.first as u64;
     let second = x.second as u64;
-    let kind = layout::plan_kind_in(t.grammar, of, plan);
+    let kind = layout::plan_kind_in(t.grammar.words, of, plan);
     match kind {
         0 => (first == 0) & (second == 0),
-        1 => (first < n) & known_second(t, s, n, x, layout::plan_second_in(t.grammar, of, plan)),
+        1 => (first < n) & known_second(t, s, n, x, layout::plan_second_in(t.grammar.words, of, plan)),
         _ => (first < n) & (second < n),
     }
 }
@@ -115,7 +115,7 @@ fn known_active(
     n: u64,
     x: Record,
 ) -> bool
-    requires { Sized t.now.grammar.now t.now.graph.now s × PlanTable t.now.grammar.now plans.now }
+    requires { Sized t.now.grammar.words.now t.now.graph.now s × PlanTable t.now.grammar.words.now plans.now }
     ensures { result ≡ known_active (grammar_in t.now) (graph_in t.now) n x }
 {
     let item = x.item;
@@ -124,10 +124,10 @@ fn known_active(
     if s.rules <= of {
         return false;
     }
-    if layout::rule_plan_in(t.grammar, of) <= plan {
+    if layout::rule_plan_in(t.grammar.words, of) <= plan {
         return false;
     }
-    let open = rules::plans::open_at(t.grammar, plans, of, plan);
+    let open = rules::plans::open_at(t.grammar.words, plans, of, plan);
     if !in_graph(s, open, x) {
         return false;
     }
@@ -136,7 +136,7 @@ fn known_active(
 
 // Those of a passive item are as many as its symbol's rank; it has neither a plan node nor a second partner.
 fn known_passive(t: &AcceptedTables, s: Sizes, n: u64, x: Record) -> bool
-    requires { Sized t.now.grammar.now t.now.graph.now s }
+    requires { Sized t.now.grammar.words.now t.now.graph.now s }
     ensures { result ≡ known_passive (grammar_in t.now) (graph_in t.now) n x }
 {
     let item = x.item;
@@ -144,10 +144,10 @@ fn known_passive(t: &AcceptedTables, s: Sizes, n: u64, x: Record) -> bool
     if s.symbols <= of {
         return false;
     }
-    if layout::symbol_kind_in(t.grammar, of) == 0 {
+    if layout::symbol_kind_in(t.grammar.words, of) == 0 {
         return false;
     }
-    let listed = masks::full(layout::symbol_rank_in(t.grammar, of));
+    let listed = masks::full(layout::symbol_rank_in(t.grammar.words, of));
     if !in_graph(s, listed, x) {
         return false;
     }
@@ -162,7 +162,7 @@ fn known_record(
     n: u64,
     x: Record,
 ) -> bool
-    requires { Sized t.now.grammar.now t.now.graph.now s × PlanTable t.now.grammar.now plans.now }
+    requires { Sized t.now.grammar.words.now t.now.graph.now s × PlanTable t.now.grammar.words.now plans.now }
     ensures { result ≡ known_record (grammar_in t.now) (graph_in t.now) n x }
 {
     match x.item.kind {
@@ -178,7 +178,7 @@ fn known_record(
 // handled ones are counted in the same walk, so that whoever asks how the chart stands needs no other: their number,
 // if each record is known.
 pub fn known(t: &AcceptedTables, plans: &[u32; PLAN_TABLE_WORDS], chart: &[u64]) -> Option<u64>
-    requires { PlanTable t.now.grammar.now plans.now }
+    requires { PlanTable t.now.grammar.words.now plans.now }
     ensures { (is_some result ≡ known_chart (grammar_in t.now) (graph_in t.now) chart.now) × IfSome result (λ handled. handled ≡ handled_count (records_at chart.now (item_count chart.now))) }
 {
     let n = records::telling::number_of(chart);

@@ -17,7 +17,7 @@ ghost use Rattle.writing.specs.Demand.{WriteChoices};
 ghost use Rattle.writer.specs.Delivering.{Leaves, delivered};
 
 use agenda::ChartItem;
-use joins::accepted::AcceptedTables;
+use joins::accepted::{AcceptedGrammar, AcceptedTables};
 use places::{NONE, PLACES};
 use writing::WriteError;
 
@@ -26,7 +26,7 @@ use writing::WriteError;
 fn external_nodes(t: &AcceptedTables) -> [u8; PLACES]
     ensures { result ≡ padded (graph_in t.now).externals }
 {
-    let rank = layout::rank_at(t.grammar, layout::start_symbol(t.grammar));
+    let rank = layout::rank_at(t.grammar.words, layout::start_symbol(t.grammar.words));
     let mut l = NONE;
     for k in 0..rank {
         l = places::with_node(l, k, layout::graph_external(t.graph, k));
@@ -41,7 +41,7 @@ fn goal_item(t: &AcceptedTables) -> ChartItem
     let nodes = external_nodes(t);
     ChartItem {
         kind: 1,
-        of: layout::start_symbol(t.grammar) as u8,
+        of: layout::start_symbol(t.grammar.words) as u8,
         plan: 0,
         count: 0,
         edges: masks::full(layout::graph_edges(t.graph)),
@@ -101,7 +101,7 @@ fn write_long(t: &AcceptedTables, chart: &[u64], j: u64, out: &mut [u8]) -> Resu
     ensures { Leaves (write_spelt (grammar_in t.now) (graph_in t.now) out.old (tree_at (λ k. record_at chart.now k) (grammar_in t.now) (graph_in t.now) 4096 j)) result out.new }
 {
     let mut list = [0u64; 4104];
-    let n = extractor::listing::list_applications(t.grammar, chart, j, &mut list);
+    let n = extractor::listing::list_applications(t.grammar.words, chart, j, &mut list);
     write_listed::<4104, 303110>(t, chart, j, &list, n, out)
 }
 
@@ -111,7 +111,7 @@ fn write_many(t: &AcceptedTables, chart: &[u64], j: u64, out: &mut [u8]) -> Resu
     ensures { Leaves (write_spelt (grammar_in t.now) (graph_in t.now) out.old (tree_at (λ k. record_at chart.now k) (grammar_in t.now) (graph_in t.now) 4096 j)) result out.new }
 {
     let mut list = [0u64; 1032];
-    let Some(n) = extractor::listing::list_applications(t.grammar, chart, j, &mut list) else {
+    let Some(n) = extractor::listing::list_applications(t.grammar.words, chart, j, &mut list) else {
         return write_long(t, chart, j, out);
     };
     write_listed::<1032, 75782>(t, chart, j, &list, Some(n), out)
@@ -123,7 +123,7 @@ fn write_item(t: &AcceptedTables, chart: &[u64], j: u64, out: &mut [u8]) -> Resu
     ensures { Leaves (write_spelt (grammar_in t.now) (graph_in t.now) out.old (tree_at (λ k. record_at chart.now k) (grammar_in t.now) (graph_in t.now) 4096 j)) result out.new }
 {
     let mut list = [0u64; 264];
-    let Some(n) = extractor::listing::list_applications(t.grammar, chart, j, &mut list) else {
+    let Some(n) = extractor::listing::list_applications(t.grammar.words, chart, j, &mut list) else {
         return write_many(t, chart, j, out);
     };
     if n <= 40 {
@@ -157,6 +157,9 @@ pub fn write(
     ensures { (result ≡ (write_of grammar.now graph.now chart.now out.old).answer) × (out.new ≡ (write_of grammar.now graph.now chart.now out.old).out) × WriteChoices grammar.now graph.now chart.now out.old result out.new }
 {
     chart::standing(grammar, graph, chart)?;
-    let t = AcceptedTables { grammar, graph };
+    let t = AcceptedTables {
+        grammar: AcceptedGrammar { words: grammar },
+        graph,
+    };
     write_goal(&t, chart, out)
 }

@@ -21,7 +21,7 @@ rank_of-rank-requires c = (
 
 pub loop-k-init : goal.loop-k-init
 loop-k-init c = (
-  c.rank_of-rank.ensures.0 ∙ ap (rank_at c.args.t.now.grammar.now)
+  c.rank_of-rank.ensures.0 ∙ ap (rank_at c.args.t.now.grammar.words.now)
       c.graph_label_in.ensures,
   placed_bare _,
 )
@@ -34,7 +34,7 @@ graph_node_in-requires c = (
 
 pub with_node-l-requires : goal.with_node-l-requires
 with_node-l-requires c =
-    let inside : c.loop-k.k < rank_at c.args.t.now.grammar.now
+    let inside : c.loop-k.k < rank_at c.args.t.now.grammar.words.now
     (graph_label c.args.t.now.graph.now c.args.e) = omega (
       arith,
       c.loop-k.invariant.0,

@@ -5,4 +5,4 @@ use Rattle.joins.proofs.MapLaws.{Placed}
 use Rattle.rules.proofs.edge_nodes.Given as goal
 
 abbrev pub invariant-loop-k : goal.invariant-loop-k
-invariant-loop-k l = (l.rank ≡ rank_at l.t.grammar.now (graph_label l.t.graph.now l.e)) × Placed (λ k. graph_node l.t.graph.now l.e k) l.k (places_of l.l)
+invariant-loop-k l = (l.rank ≡ rank_at l.t.grammar.words.now (graph_label l.t.graph.now l.e)) × Placed (λ k. graph_node l.t.graph.now l.e k) l.k (places_of l.l)

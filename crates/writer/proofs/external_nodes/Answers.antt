@@ -9,14 +9,14 @@ use Rattle.writer.proofs.external_nodes.Goals as goal
 
 pub loop-k-init : goal.loop-k-init
 loop-k-init c = (
-  c.rank_at-rank.ensures.0 ∙ ap (rank_at c.args.t.now.grammar.now)
+  c.rank_at-rank.ensures.0 ∙ ap (rank_at c.args.t.now.grammar.words.now)
       c.start_symbol.ensures,
   placed_bare _,
 )
 
 pub with_node-l-requires : goal.with_node-l-requires
 with_node-l-requires c =
-    let g = c.args.t.now.grammar.now in
+    let g = c.args.t.now.grammar.words.now in
     let inside : c.loop-k.k < rank_at g (start_symbol g) = omega (
       arith,
       c.loop-k.invariant.0,

@@ -6,5 +6,5 @@ use Rattle.writer.proofs.external_nodes.Given as goal
 
 abbrev pub invariant-loop-k : goal.invariant-loop-k
 invariant-loop-k l =
-    (l.rank ≡ rank_at l.t.grammar.now (start_symbol l.t.grammar.now)) × Placed
+    (l.rank ≡ rank_at l.t.grammar.words.now (start_symbol l.t.grammar.words.now)) × Placed
     (λ k. graph_external l.t.graph.now k) l.k (places_of l.l)

@@ -11,6 +11,6 @@ find-requires c = omega (
 )
 
 pub returns : goal.returns
-returns c = found_goal c.args.t.now.grammar.now c.args.t.now.graph.now c.args.t.now.fit c.args.chart.now
+returns c = found_goal c.args.t.now.grammar.words.now c.args.t.now.graph.now c.args.t.now.fit c.args.chart.now
     _ _ _ c.requires c.item_count-n.ensures c.goal_item-goal.ensures
     c.find.ensures

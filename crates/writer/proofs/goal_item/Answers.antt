@@ -7,5 +7,5 @@ overflow_cast-result c = omega (arith, start_few _ _ _ c.args.t.now.fit c.start_
 
 pub returns : goal.returns
 returns c = goal_is _ _ _ _ _ c.external_nodes-nodes.ensures c.start_symbol.ensures
-    (goal_edges c.args.t.now.grammar.now c.args.t.now.graph.now _ _ c.args.t.now.fit
+    (goal_edges c.args.t.now.grammar.words.now c.args.t.now.graph.now _ _ c.args.t.now.fit
     c.graph_edges.ensures c.full.ensures.value)

@@ -12,7 +12,7 @@ loop-i-init c = placed_start _ _ _ _ _ _ (c.fill.ensures.after (λ y h. h) ∙ a
 
 pub place_part-requires : goal.place_part-requires
 place_part-requires c =
-    let g = c.args.t.now.grammar.now in
+    let g = c.args.t.now.grammar.words.now in
     let checked = c.args.t.now.fit.grammar in
     let known = known_by_edge g c.args.r c.loop-i.i (omega (arith, c.loop-i-test.true, c.requires.0)) in (
       known_edge _ _ _ checked (omega (arith, c.loop-i-test.true, c.requires.0)),
@@ -22,7 +22,7 @@ place_part-requires c =
 
 pub loop-i-preserved : goal.loop-i-preserved
 loop-i-preserved c =
-    let g = c.args.t.now.grammar.now in
+    let g = c.args.t.now.grammar.words.now in
     let checked = c.args.t.now.fit.grammar in
     let known = known_by_edge g c.args.r c.loop-i.i (omega (arith, c.loop-i-test.true, c.requires.0)) in
     placed_more _ _ _ _ _ _ _ _ _ (sym (right_nodes g c.args.r checked known))

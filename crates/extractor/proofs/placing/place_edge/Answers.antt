@@ -27,7 +27,7 @@ pub returns : goal.returns
 returns c =
     let args = c.args in
     let known = c.requires.1 in
-    let g = args.t.now.grammar.now in
+    let g = args.t.now.grammar.words.now in
     let n = rule_nodes g args.r in
     let nodes = edge_nodes g args.r args.i in
     let rank = rank_at g (edge_label g args.r args.i) in

@@ -8,9 +8,9 @@ use Rattle.joins.proofs.GraphLaws.{indexed_none, table_is}
 use Rattle.joins.proofs.graphs.fill.Goals as goal
 
 pub mark_edges-requires : goal.mark_edges-requires
-mark_edges-requires c = subst (λ (words : List ℕ). Indexed c.args.t.now.grammar.now
+mark_edges-requires c = subst (λ (words : List ℕ). Indexed c.args.t.now.grammar.words.now
     c.args.t.now.graph.now words 0) (sym c.requires)
-    (indexed_none c.args.t.now.grammar.now c.args.t.now.graph.now)
+    (indexed_none c.args.t.now.grammar.words.now c.args.t.now.graph.now)
 
 pub edge_sets-sets-requires : goal.edge_sets-sets-requires
 edge_sets-sets-requires c = graph_edges_few _ _ c.args.t.now.fit
