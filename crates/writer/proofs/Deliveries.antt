@@ -1,12 +1,12 @@
 -- A law for each way through the functions that deliver a text.
-use Rattle.std.specs.Prelude.{Option, Some, None, Ok, Err}
+use Rattle.std.specs.Prelude.{Option, Some, Ok, Err}
 use mathlib.Core.Path.{◌≡◌, refl, sym, ap, ◌∙◌, subst}
 use mathlib.Core.Bool.{Bool, true, false, cond}
 use mathlib.Core.List.{List, [], ◌∷◌, ◌++◌}
 use Prim.Native.Nat.{ℕ, ◌+◌, ◌-◌, ◌≤◌, ◌<◌}
 use native.Mathlib.Decide.{dec_le}
 use native.Mathlib.Omega.{arith}
-use lib.ListN.{length, take, drop, replicate, length-drop, length-replicate}
+use lib.ListN.{length, take, drop, length-drop}
 use lib.Seq.{take_all}
 use borrow.Author.Tests.{le-leb, lt-leb}
 use Rattle.hrg.specs.Grammars.{Graph, Grammar}
@@ -31,10 +31,9 @@ use Rattle.chart.proofs.CallSteps.{fit_accepted}
 use Rattle.joins.specs.Joins.{Accepted}
 use Rattle.writing.specs.Writing.{Wrote, refused, write_text, derives, write_spelt, goal_in, write_goal, write_by, write_of, Answer, error_of}
 use Rattle.writing.specs.Demand.{WriteChoices}
-use Rattle.writing.specs.declared.WriteError.TheVariants.{Unfit, Underivable, NoRoom}
+use Rattle.writing.specs.declared.WriteError.TheVariants.{Unfit, NoRoom}
 use Rattle.writing.proofs.Writings.{text_held, text_short, write_by_is}
 use Rattle.writing.proofs.Choices.{write_choices}
-use Rattle.std.specs.Prelude.{Option}
 use Rattle.extractor.specs.Lists.{ListedIn}
 use Rattle.extractor.specs.Texts.{text_by, text_at}
 use Rattle.writer.specs.Delivering.{Leaves, delivered}
@@ -47,10 +46,6 @@ pub listed_in : (look : ℕ → Record) (G : Grammar) (size limit : ℕ) (n : Op
 listed_in look G size limit n js list e p =
     let same : size - 8 ≡ limit = omega arith in
     subst (λ (k : ℕ). ListedIn k (listing look G k js) list n) same p
-
--- sizes that are all 0
-pub all_none : (k : ℕ) → replicate {A = ℕ} k 0 ≡ replicate (length (replicate {A = ℕ} k 0)) 0
-all_none k = ap (λ (n : ℕ). replicate {A = ℕ} n 0) (sym (length-replicate {A = ℕ} k 0))
 
 -- ---- a text is delivered
 module _ (G : Grammar) (H : Graph) (text out : List ℕ) (b : Bool) (is : b ≡ replay_text G H text) where
@@ -104,9 +99,6 @@ module _ (look : ℕ → Record) (G : Grammar) (H : Graph) (j : ℕ) where
       subst (λ (x : Wrote). Leaves x a now) (ap (λ (t : List ℕ). delivered G H t out) e ∙ spelt_text out) l
 
 -- ---- the goal
-pub goal_missing : (G : Grammar) (H : Graph) (look : ℕ → Record) (out : List ℕ) (f : Option ℕ) → None ≡ f → Leaves (write_goal G H look out f) (Err Underivable) out
-goal_missing G H look out f e = subst (λ (x : Option ℕ). Leaves (write_goal G H look out x) (Err Underivable) out) e (record { answer = refl; bytes = refl })
-
 pub goal_found : (G : Grammar) (H : Graph) (look : ℕ → Record) (out now : List ℕ) (a : Answer) (f : Option ℕ) (j : ℕ) → Some j ≡ f → Leaves (write_spelt G H out (tree_at look G H 4096 j)) a now
     → Leaves (write_goal G H look out f) a now
 goal_found G H look out now a f j e l = subst (λ (x : Option ℕ). Leaves (write_goal G H look out x) a now) e l
