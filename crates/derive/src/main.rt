@@ -1,25 +1,17 @@
 // Reads grammar.txt and graph.txt, and prints a derivation of the graph with the fewest applications and the steps,
-// or the refusal.
+// or the refusal. A file that is there and cannot be read is no text: nothing is printed.
 
 #![tactic(auto)]
 
-use std::rt::Files;
-
-// Reads the graph beside a grammar's text. A file that cannot be read is no text: nothing is printed.
-fn derive_with<R: Files + Print + Eprint>(rt: &R, grammar: &[u8]) {
-    let mut text = [0u8; 32769];
-    let Some(n) = files::read_file(rt, b"graph.txt", &mut text) else {
-        return;
-    };
+// Prints what the driver answers to the two texts.
+fn derive<R: Print + Eprint>(rt: &R, grammar: &[u8], graph: &[u8]) {
     let mut out = [0u8; 32774];
-    let count = driver::derive(grammar, &text[..n], &mut out);
+    let count = driver::derive(grammar, graph, &mut out);
     files::print(rt, &out[..count]);
 }
 
 fn main(rt: HostRuntime) {
-    let mut text = [0u8; 32769];
-    let Some(n) = files::read_file(&rt, b"grammar.txt", &mut text) else {
-        return;
-    };
-    derive_with(&rt, &text[..n]);
+    files::with_text(&rt, b"grammar.txt", |grammar| {
+        files::with_text(&rt, b"graph.txt", |graph| derive(&rt, grammar, graph));
+    });
 }

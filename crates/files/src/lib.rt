@@ -3,7 +3,7 @@
 
 #![tactic(auto)]
 
-ghost use Rattle.std.specs.Prelude.{IfOk, IfSome};
+ghost use Rattle.std.specs.Prelude.{◌≤◌, length, IfOk, IfSome};
 ghost use Rattle.files.specs.Counts.{IsPrefixLen};
 
 use std::fmt::Display;
@@ -83,6 +83,17 @@ pub fn read_file<R: Files + Eprint>(rt: &R, path: &[u8], text: &mut [u8; 32769])
             fail(rt, path, e);
             None
         }
+    }
+}
+
+// Reads a file's text and hands it on, 32,769 bytes at most. Of a file that is there and cannot be read, which is told
+// on standard error, nothing is handed on.
+pub fn with_text<R: Files + Eprint, F: FnOnce(&[u8])>(rt: &R, path: &[u8], go: F)
+    requires { (t : _) → length t.now ≤ 32769 → F.pre go t }
+{
+    let mut text = [0u8; 32769];
+    if let Some(n) = read_file(rt, path, &mut text) {
+        go(&text[..n]);
     }
 }
 
