@@ -258,7 +258,12 @@ pub(crate) fn add_all(t: &Lookups, chart: &mut [u64], index: &mut Index, j: u64)
     let x = records::item_at(chart, j);
     let mut lead = false;
     if x.kind == 0 {
-        let w = rules::plans::parent_in(t.tables.grammar.words, t.plans, x.of as u64, x.plan as u64).word;
+        let w = rules::plans::parent_in(
+            t.tables.grammar.words,
+            t.plans,
+            x.of as u64,
+            x.plan as u64,
+        ).word;
         if w % 32 >= 16 {
             add_root(t, chart, index, j);
             return;

@@ -101,7 +101,14 @@ fn known_partners(t: &AcceptedTables, s: Sizes, n: u64, x: Record) -> bool
     let kind = layout::plan_kind_in(t.grammar.words, of, plan);
     match kind {
         0 => (first == 0) & (second == 0),
-        1 => (first < n) & known_second(t, s, n, x, layout::plan_second_in(t.grammar.words, of, plan)),
+        1 => (first < n)
+            & known_second(
+                t,
+                s,
+                n,
+                x,
+                layout::plan_second_in(t.grammar.words, of, plan),
+            ),
         _ => (first < n) & (second < n),
     }
 }
