@@ -35,7 +35,7 @@ pub extern "C" fn bobbinmarl_graph_words() -> usize
     layout::GRAPH_WORDS
 }
 
-// The words of a chart that holds so many items, 0 where no chart does.
+// The words of a chart that holds so many items, 0 where no chart does: C has no option.
 #[unsafe(no_mangle)]
 pub extern "C" fn bobbinmarl_chart_words(items: usize) -> usize
     ensures { result ≡ cond (leb 1 items && leb items 4096) (words_for items) 0 }

@@ -19,6 +19,7 @@ use replayer::ReplayError;
 use writing::WriteError;
 
 // ---- 01's number of each answer, 0 where it is no refusal
+// Numbers are what is printed and what C gets. No crate can give a From between a Result and u64, both of them std's.
 
 pub fn reading_number(read: Result<(), Refusal>) -> u64
     ensures { result ≡ reading_number (answer_of read) }
@@ -89,7 +90,7 @@ fn read_files(grammar: &[u8], graph: &[u8], g: &mut [u64], h: &mut [u64]) -> Res
 
 // ---- lines
 
-// Writes a line of one field at `at`, and answers the next place.
+// Writes a line of one field, a number, at `at`, and answers the next place.
 fn write_number(out: &mut [u8], at: usize, letter: u8, n: u64) -> usize
     requires { at + 6 ≤ length out.old }
     ensures { (result ≡ at + 6) × (out.new ≡ sets out.old at (line_text letter (n ∷ []))) }
@@ -163,7 +164,7 @@ pub fn derive(grammar: &[u8], graph: &[u8], out: &mut [u8; 32774]) -> usize
 
 // ---- replay
 
-// Questions 1 and 13 for a derivation file: its refusal, or 0.
+// Questions 1 and 13 for a derivation file: its refusal, or 0, the number that is printed.
 fn replay_tables(grammar: &[u64], graph: &[u64], derivation: &[u8]) -> u64
     ensures { result ≡ replay_tables grammar.now graph.now derivation.now }
 {
@@ -173,7 +174,7 @@ fn replay_tables(grammar: &[u64], graph: &[u64], derivation: &[u8]) -> u64
     verdict_number(replayer::replay(grammar, graph, derivation))
 }
 
-// The first refusal of the three texts, or 0 for a pass.
+// The first refusal of the three texts, or 0 for a pass: the number that is printed.
 fn replay_number(grammar: &[u8], graph: &[u8], derivation: &[u8]) -> u64
     ensures { result ≡ replay_files grammar.now graph.now derivation.now }
 {

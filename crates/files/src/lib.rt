@@ -22,6 +22,7 @@ fn read_full<F: Read>(file: &mut F, text: &mut [u8]) -> io::Result<usize>
     ensures { IfOk result (λ n. IsPrefixLen n text.new) }
 {
     let mut done = 0;
+    // How far a turn gets the file says: no range has the places.
     while done < text.len() {
         let n = file.read(&mut text[done..])?;
         if n == 0 {

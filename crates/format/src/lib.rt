@@ -2,7 +2,7 @@
 
 #![tactic(auto)]
 
-// What stands in a field of a line.
+// What stands in a field of a line. The definitions tell a field that is no number from one that is missing.
 #[derive(Clone, Copy, PartialEq, Eq, Debug)]
 pub enum Cell {
     Number(u64),

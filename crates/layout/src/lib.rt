@@ -97,7 +97,7 @@ fn field_from(w: u64, from: u64, k: u64) -> u64
     }
 }
 
-// Field j of the line at place p.
+// Field j of the line at place p, 0 past the end, as the definition has it.
 #[tactic(auto, using(crate::proofs::Fields::place_past, crate::proofs::Fields::field_there))]
 pub fn field_at(t: &[u64], p: u64, j: u64) -> u64
     ensures { result ≡ line_field t.now p j }
@@ -117,7 +117,8 @@ pub fn field_in(t: &[u64], p: u64, j: u64) -> u64
     (t[p as usize] >> (7 * j)) % 128
 }
 
-// Field from + k of the line at place base + i. A sum that saturates is past the end of every table.
+// Field from + k of the line at place base + i. A sum that saturates is past the end of every table,
+// where a field is 0 as the definition has it.
 #[tactic(auto, using(crate::proofs::Fields::place_past), unfolding(questions::specs::Layout::line_field))]
 fn line_field(t: &[u64], base: u64, i: u64, from: u64, k: u64) -> u64
     requires { from ≤ 5 }
@@ -416,7 +417,7 @@ pub fn graph_node_in(h: &[u64], e: u64, k: u64) -> u64
 }
 
 // ---- the line due
-// Whether a largest table has a place for the line.
+// Whether a largest table has a place for the line: by cases, since each kind of line has its own bounds.
 #[tactic(auto, unfolding(questions::specs::Layout::in_table))]
 pub fn in_table(due: Due) -> bool
     ensures { result ≡ in_table due }

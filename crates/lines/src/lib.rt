@@ -101,7 +101,7 @@ pub fn next_counting(text: &[u8], from: usize) -> &[u8]
 }
 
 // ---- fields
-
+// The number of a digit, 0 for any other byte, as the definition has it.
 #[tactic(auto, unfolding(format::specs::Fields::digit_of))]
 fn digit(b: u8) -> u64
     ensures { (result ≡ digit_of b) × (result ≤ 9) }

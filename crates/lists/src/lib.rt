@@ -81,7 +81,7 @@ pub fn starts(ws: &[u16], query: [u64; 5]) -> [u64; 5]
     cs
 }
 
-// The nearer of a place + 1 and a cursor.
+// The nearer of a place + 1 and a cursor: no `min`, since a cursor is 0 at the end.
 #[tactic(auto, unfolding(crate::specs::Cursors::nearer))]
 fn nearer_of(m: u64, c: u64) -> u64
     ensures { (result ≡ nearer m c) × (result ≤ m) }

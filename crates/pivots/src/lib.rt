@@ -58,7 +58,8 @@ fn edge_pivot(g: &[u64], plans: &[u32; PLAN_TABLE_WORDS], r: u64, p: u64, i: u64
     NO_PIVOT
 }
 
-// At the two children of a join: the last rule node that is open at both, 8 for none, as a pivot has it.
+// At the two children of a join: the last rule node that is open at both, 8 for none, as the definition of a pivot has
+// it.
 fn shared_node(g: &[u64], plans: &[u32; PLAN_TABLE_WORDS], r: u64, p: u64, q: u64) -> u64
     requires { KnownNode g.now r p × KnownNode g.now r q × PlanTable g.now plans.now }
     ensures { (result ≡ shared_node (grammar_of g.now) r p q) × (result ≤ 8) }
@@ -130,6 +131,7 @@ fn mix(b: u64, a: u64) -> u64
 }
 
 // ---- the table
+// Its words have 32 bits each and are 0 for none, so that the functions that make or read them answer numbers.
 // The word for active items of rule r that want `want` and have pivot w; a join's stands at plan node p.
 fn key_word(tag: u64, want: u64, w: u64, r: u64, p: u64) -> u64
     ensures { (result ≡ key_word tag want w r p) × (result < 4294967296) }
@@ -238,7 +240,7 @@ fn rule_word(t: &[u32], from: u64, r: u64, p: u64) -> u64
     t[(from + place(r, p)) as usize] as u64
 }
 
-// And for symbol s.
+// And for symbol s, 0 past the symbols.
 fn symbol_word(t: &[u32], from: u64, s: u64) -> u64
     requires { (length t.now ≡ key_table_words) × (from ≤ sought_from) }
     ensures { (result ≡ symbol_word t.now from s) × (result < 4294967296) }
@@ -261,7 +263,7 @@ fn word_for(t: &[u32], rules: u64, symbols: u64, x: ChartItem) -> u64
     symbol_word(t, symbols, x.of as u64)
 }
 
-// The positions at which it is asked for, if it is passive.
+// The positions at which it is asked for, if it is passive: a set, the empty one 0.
 fn uses_of(t: &[u32], x: ChartItem) -> u64
     requires { length t.now ≡ key_table_words }
     ensures { result ≡ uses_of t.now x }
@@ -272,7 +274,7 @@ fn uses_of(t: &[u32], x: ChartItem) -> u64
     symbol_word(t, USES_FROM, x.of as u64)
 }
 
-// The image of a word's node by the nodes of an item.
+// The image of a word's node by the nodes of an item, 64 where the word has no node, as the definition has it.
 fn image(w: u64, x: ChartItem) -> u64
     ensures { result ≡ image_of w x.nodes }
 {
@@ -283,7 +285,7 @@ fn image(w: u64, x: ChartItem) -> u64
     places::node_at(places::word_of(x.nodes), v)
 }
 
-// The key of position i of a passive item, if that is used.
+// The key of position i of a passive item, if that is used, 0 for none.
 fn place_key(used: u64, tag: u64, s: u64, i: u64, a: u64) -> u64
     ensures { result ≡ place_key used tag s i a }
 {

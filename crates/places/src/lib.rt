@@ -21,7 +21,7 @@ pub fn word_of(a: [u8; PLACES]) -> u64
     u64::from_le_bytes(a)
 }
 
-// Eight places as words of their own.
+// Eight places as words of their own: `From` has no conversion of arrays.
 pub fn wide(a: [u8; PLACES]) -> [u64; PLACES]
     ensures { result ≡ a }
 {

@@ -1,8 +1,9 @@
 // The questions of grammar and graph files: the types that definitions and contracts speak of. Definitions in specs/,
-// theorems in proofs/, no code. What is due: the next line of a grammar file, or of a graph file.
+// theorems in proofs/, no code.
 
 #![tactic(auto)]
 
+// What is due: the next line of a grammar file, or of a graph file. Each kind of line is a case with its own places.
 #[derive(Clone, Copy, PartialEq, Eq, Debug)]
 pub enum Due {
     Grammar,

@@ -141,7 +141,5 @@ pub fn clear(ws: &mut [u32])
     requires { length ws.old ≡ 4229 }
     ensures { Cleared ws.new }
 {
-    for w in ws.iter_mut() {
-        *w = 0;
-    }
+    ws.fill(0);
 }

@@ -28,17 +28,14 @@ const NODES: usize = 2;
 const TAIL: usize = 3;
 
 // How many items the chart holds.
+#[tactic(auto, unfolding(crate::specs::Words::capacity))]
 pub fn capacity_of(chart: &[u64]) -> u64
     ensures { result ≡ capacity chart.now }
 {
-    let n = chart.len();
-    if n < HEADER {
-        return 0;
-    }
-    ((n - HEADER) / WORDS) as u64
+    (chart.len().saturating_sub(HEADER) / WORDS) as u64
 }
 
-// A word of the chart, 0 past its end.
+// A word of the chart, 0 past its end, as the definition has it.
 fn word(chart: &[u64], i: u64) -> u64
     ensures { result ≡ get_or chart.now i 0 }
 {
@@ -85,7 +82,7 @@ fn word_at(chart: &[u64], j: u64, k: usize) -> u64
     chart[at + k]
 }
 
-// The same of any place: 0 past the end.
+// The same of any place: 0 past the end, as the definition has it.
 fn word_any(chart: &[u64], j: u64, k: usize) -> u64
     requires { k < 4 }
     ensures { result ≡ word_at chart.now j k }
@@ -257,7 +254,8 @@ fn store(chart: &mut [u64], j: u64, x: Record)
 }
 
 // ---- equal items
-// Whether the record at place j is of the item x, by whole words and without a branch.
+// Whether the record at place j is of the item x, by whole words and without a branch. A derived `==`
+// would load the record first.
 pub fn same(chart: &[u64], j: u64, x: ChartItem) -> bool
     requires { j < capacity chart.now }
     ensures { result ≡ same_chart_item x (record_at chart.now j).item }
@@ -338,7 +336,7 @@ pub fn handled_steps(chart: &[u64], n: u64) -> u64
 }
 
 // ---- a chart made anew
-// A chart with no items.
+// A chart with no items. Two words of lent memory are 0 then, the rest stays: no `fill`.
 pub fn clear(chart: &mut [u64])
     requires { header_words ≤ length chart.old }
     ensures { chart.new ≡ cleared chart.old }

@@ -14,7 +14,8 @@ pub const WORDS_FOR_2048: usize = crate::HEADER + crate::WORDS * 2048;
 // How many fields are told.
 const FIELDS: usize = 16;
 
-// The number of items that the header names, which may be more than the chart holds; 0 where there is no header.
+// The number of items that the header names, which may be more than the chart holds; 0 where there is no header, as the
+// definition has it.
 pub fn number_of(chart: &[u64]) -> u64
     ensures { result ≡ number_in chart.now }
 {
@@ -51,7 +52,7 @@ fn fields_of(x: Record) -> [u64; FIELDS]
 }
 
 // The fields of the item at a place to the front of the lent words: 0; 8 where the chart has no item there, 12 where
-// the words are too few.
+// the words are too few. The numbers are what C gets.
 pub fn tell_item(chart: &[u64], place: u64, fields: &mut [u64]) -> u64
     ensures { TellsItem (tell_item (item_count chart.now) (record_at chart.now) place fields.old) result fields.new }
 {

@@ -17,7 +17,7 @@ pub(crate) struct PlanMarks {
     pub(crate) introduced: u64,
 }
 
-// How often c is a child in a plan line of these fields.
+// How often c is a child in a plan line of these fields: a count, so that 0 is none.
 fn child_in(kind: u64, first: u64, second: u64, c: u64) -> u64
     ensures { (result ≡ occurs c (children_of kind first second)) × (result ≤ 2) }
 {
@@ -28,7 +28,7 @@ fn child_in(kind: u64, first: u64, second: u64, c: u64) -> u64
     }
 }
 
-// How often the edge i is introduced by a plan line of these fields.
+// How often the edge i is introduced by a plan line of these fields: a count as well.
 fn introduced_in(kind: u64, first: u64, second: u64, i: u64) -> u64
     ensures { (result ≡ occurs i (introduced_by kind first second)) × (result ≤ 1) }
 {
@@ -38,7 +38,7 @@ fn introduced_in(kind: u64, first: u64, second: u64, i: u64) -> u64
     }
 }
 
-// What a plan line may name: a child, or the edge that it introduces.
+// What a plan line may name: a child, or the edge that it introduces. Both are numbers, so that a case tells which.
 #[derive(Clone, Copy)]
 enum Named {
     Child(u64),

@@ -10,6 +10,7 @@ use charting::Unready;
 // Why the writer writes nothing: the tables or the chart are refused, or the chart leads to no derivation (8); the
 // chart does not hold the closure (9); items wait after the steps done since start (10); the goal is not among the
 // items (11); or the output does not hold the derivation (12).
+// It is the error of a Result, with a case for each refusal.
 #[derive(Clone, Copy, Debug, PartialEq, Eq)]
 pub enum WriteError {
     Unfit,
