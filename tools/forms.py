@@ -22,21 +22,21 @@ def files():
                     yield path, open(path).read()
 
 
-HEAD = re.compile(r"^(?:pub(?:\(crate\))? )?(?:extern \"C\" )?fn (\w+)", re.M)
+HEAD = re.compile(r"^( *)(?:pub(?:\(crate\))? )?(?:extern \"C\" )?fn (\w+)", re.M)
 
 
 def functions():
     """Each function as (path, name, signature, clauses, body)."""
     for path, text in files():
         for found in HEAD.finditer(text):
-            end = re.compile(r"^\}", re.M).search(text, found.start()).end()
-            whole = text[found.start():end]
+            end = re.compile("^" + found.group(1) + r"\}", re.M).search(text, found.start()).end()
+            whole = re.sub("^" + found.group(1), "", text[found.start():end], flags=re.M)
             parts = re.split(r"^\{$|\{$", whole, maxsplit=1, flags=re.M)
             head, body = (parts + [""])[:2]
             lines = head.split("\n")
             clauses = [line.strip() for line in lines if re.match(r"\s+(requires|ensures)", line)]
             signature = " ".join(line.strip() for line in lines if not re.match(r"\s+(requires|ensures)", line))
-            yield path, found.group(1), signature, clauses, body
+            yield path, found.group(2), signature, clauses, body
 
 
 def report(point, what, places):
