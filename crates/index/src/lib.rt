@@ -42,7 +42,7 @@ pub struct Index {
 }
 
 // Record n, one more than there are, is of the item x: it comes on the lists of its keys.
-fn list_many(keys: &[u32; KEY_TABLE_WORDS], lists: &mut [u16], n: u64, x: ChartItem)
+fn list_many(keys: &[u32; KEY_TABLE_WORDS], lists: &mut [u16; LIST_WORDS], n: u64, x: ChartItem)
     requires { Ready lists.old × (n < 4096) }
     ensures { lists.new ≡ entered_all lists.old (5 * n) (keys_of keys.now x) }
 {
@@ -51,7 +51,7 @@ fn list_many(keys: &[u32; KEY_TABLE_WORDS], lists: &mut [u16], n: u64, x: ChartI
 }
 
 // The same; most records have one key, which comes without an array.
-fn list(keys: &[u32; KEY_TABLE_WORDS], lists: &mut [u16], n: u64, x: ChartItem)
+fn list(keys: &[u32; KEY_TABLE_WORDS], lists: &mut [u16; LIST_WORDS], n: u64, x: ChartItem)
     requires { Ready lists.old × (n < 4096) }
     ensures { lists.new ≡ entered_all lists.old (5 * n) (keys_of keys.now x) }
 {
@@ -62,7 +62,7 @@ fn list(keys: &[u32; KEY_TABLE_WORDS], lists: &mut [u16], n: u64, x: ChartItem)
 }
 
 // The lists of a chart's records, which come one after another: there is none before.
-fn list_all(keys: &[u32; KEY_TABLE_WORDS], chart: &[u64], lists: &mut [u16])
+fn list_all(keys: &[u32; KEY_TABLE_WORDS], chart: &[u64], lists: &mut [u16; LIST_WORDS])
     requires { Unlisted lists.old × (item_count chart.now ≤ 4096) }
     ensures { Listed lists.new (keys_for keys.now (chart_of chart.now).records) }
 {
@@ -108,8 +108,8 @@ pub fn quiet(chart: &[u64], edges: u64, k: u64) -> bool
 
 // A cursor goes on over the entries of quiet records of the first n. Places rise along a list, so 0 or a place that
 // does not rise ends it.
-fn skim(ws: &[u16], chart: &[u64], edges: u64, n: u64, from: u64) -> u64
-    requires { (length ws.now ≡ list_words) × (n ≤ item_count chart.now) × (n ≤ 4096) }
+fn skim(ws: &[u16; LIST_WORDS], chart: &[u64], edges: u64, n: u64, from: u64) -> u64
+    requires { (n ≤ item_count chart.now) × (n ≤ 4096) }
     ensures { Skims (quiet_in chart.now edges) ws.now n from result }
 {
     if from == 0 {
@@ -197,7 +197,7 @@ impl Index {
 
     // Each of five cursors goes on over the entries of quiet records of the first n.
     pub fn skimmed(&self, chart: &[u64], edges: u64, n: u64, cs: [u64; 5]) -> [u64; 5]
-        requires { (length self.now.lists ≡ list_words) × (n ≤ item_count chart.now) × (n ≤ 4096) }
+        requires { (n ≤ item_count chart.now) × (n ≤ 4096) }
         ensures { SkimsAll (quiet_in chart.now edges) self.now.lists n cs result }
     {
         [

@@ -10,8 +10,8 @@ ghost use Rattle.lists.specs.Cursors.{alone, starts_of, nearer, least_of, after_
 pub const LIST_WORDS: usize = 24578;
 
 // The first entry of key b: its place + 1, 0 for none.
-pub fn first(ws: &[u16], b: u64) -> u64
-    requires { (length ws.now ≡ list_words) × (b ≤ 2048) }
+pub fn first(ws: &[u16; LIST_WORDS], b: u64) -> u64
+    requires { b ≤ 2048 }
     ensures { result ≡ get_or ws.now b 0 }
 {
     u64::from(ws[b as usize])
@@ -19,8 +19,8 @@ pub fn first(ws: &[u16], b: u64) -> u64
 
 // The word that is to lead to the next entry of key b.
 #[tactic(auto, unfolding(crate::specs::Lists::tail_of))]
-fn tail(ws: &[u16], b: u64) -> u64
-    requires { (length ws.now ≡ list_words) × (b ≤ 2048) × (get_or ws.now (2049 + b) 0 ≤ 20480) }
+fn tail(ws: &[u16; LIST_WORDS], b: u64) -> u64
+    requires { (b ≤ 2048) × (get_or ws.now (2049 + b) 0 ≤ 20480) }
     ensures { (result ≡ tail_of ws.now b) × (result < list_words) }
 {
     let last = u64::from(ws[(2049 + b) as usize]);
@@ -29,7 +29,7 @@ fn tail(ws: &[u16], b: u64) -> u64
 
 // Entry e, the number of entries so far, at the end of the list of b.
 #[tactic(auto, unfolding(crate::specs::Lists::appended))]
-fn append(ws: &mut [u16], e: u64, b: u64)
+fn append(ws: &mut [u16; LIST_WORDS], e: u64, b: u64)
     requires { Linkable ws.old e b × (0 < b) }
     ensures { ws.new ≡ appended ws.old e b }
 {
@@ -41,7 +41,7 @@ fn append(ws: &mut [u16], e: u64, b: u64)
 
 // .. an entry with key 0 is on no list.
 #[tactic(auto, unfolding(crate::specs::Lists::entered))]
-fn enter(ws: &mut [u16], e: u64, b: u64)
+fn enter(ws: &mut [u16; LIST_WORDS], e: u64, b: u64)
     requires { Linkable ws.old e b }
     ensures { ws.new ≡ entered ws.old e b }
 {
@@ -51,7 +51,7 @@ fn enter(ws: &mut [u16], e: u64, b: u64)
 }
 
 // The five entries of a record, from e on.
-pub fn enter_all(ws: &mut [u16], e: u64, bs: [u64; 5])
+pub fn enter_all(ws: &mut [u16; LIST_WORDS], e: u64, bs: [u64; 5])
     requires { Ready ws.old × (e + 5 ≤ 20480) × Within 2048 bs }
     ensures { ws.new ≡ entered_all ws.old e bs }
 {
@@ -62,7 +62,7 @@ pub fn enter_all(ws: &mut [u16], e: u64, bs: [u64; 5])
 
 // The same where a record has one key at most: its other entries are on no list.
 #[tactic(auto, using(crate::proofs::ListLaws::ready_link, crate::proofs::ListLaws::entered_one_by))]
-pub fn enter_one(ws: &mut [u16], e: u64, b: u64)
+pub fn enter_one(ws: &mut [u16; LIST_WORDS], e: u64, b: u64)
     requires { Ready ws.old × (e + 5 ≤ 20480) × (b ≤ 2048) }
     ensures { ws.new ≡ entered_all ws.old e (alone b) }
 {
@@ -70,8 +70,8 @@ pub fn enter_one(ws: &mut [u16], e: u64, b: u64)
 }
 
 // Five cursors, each at the first entry of its key; key 0 has none.
-pub fn starts(ws: &[u16], query: [u64; 5]) -> [u64; 5]
-    requires { (length ws.now ≡ list_words) × Within 2048 query }
+pub fn starts(ws: &[u16; LIST_WORDS], query: [u64; 5]) -> [u64; 5]
+    requires { Within 2048 query }
     ensures { result ≡ starts_of ws.now query }
 {
     let mut cs = query;
@@ -101,8 +101,8 @@ pub fn least(cs: [u64; 5]) -> u64
 }
 
 // The entry behind the one that the cursor e is at: its place + 1, 0 for none.
-pub fn after(ws: &[u16], e: u64) -> u64
-    requires { (length ws.now ≡ list_words) × (e ≤ 20480) }
+pub fn after(ws: &[u16; LIST_WORDS], e: u64) -> u64
+    requires { e ≤ 20480 }
     ensures { result ≡ after_of ws.now e }
 {
     u64::from(ws[(4097 + e) as usize])
@@ -110,16 +110,16 @@ pub fn after(ws: &[u16], e: u64) -> u64
 
 // A cursor at an entry below the place `to` goes on to the next entry of its list.
 #[tactic(auto, unfolding(crate::specs::Cursors::moved_on))]
-fn moved(ws: &[u16], to: u64, c: u64) -> u64
-    requires { (length ws.now ≡ list_words) × (c ≤ 20480) }
+fn moved(ws: &[u16; LIST_WORDS], to: u64, c: u64) -> u64
+    requires { c ≤ 20480 }
     ensures { result ≡ moved_on ws.now to c }
 {
     if c == 0 || to < c { c } else { after(ws, c) }
 }
 
 // Each cursor whose record is k or before goes on by one entry; it may be at another entry of record k then.
-pub fn passed(ws: &[u16], cs: [u64; 5], k: u64) -> [u64; 5]
-    requires { (length ws.now ≡ list_words) × Within 20480 cs × (k ≤ 4096) }
+pub fn passed(ws: &[u16; LIST_WORDS], cs: [u64; 5], k: u64) -> [u64; 5]
+    requires { Within 20480 cs × (k ≤ 4096) }
     ensures { result ≡ passed_of ws.now cs k }
 {
     let to = 5 * k + 5;

@@ -127,11 +127,6 @@ module _ {g h plans keys graph w ix₀ ls₀ : List ℕ} {lead : Bool} {j n key 
         loud_less : left_all (alone d) < left_all (alone c)
         loud_less = turn_less P.0 P.1 here (omega (arith, z, single_low)) p R q (alone d) (alone d) (passed ms d e) (skims_none (quiet_in u x.item.edges) ms n (alone d))
 
-      -- past either
-      pub single_size : {u jx ms : List ℕ} {later : ℕ} → Met g h keys w j n v ix ls c past u jx ms later → length ms ≡ list_words
-      single_size (quiet _ _ _ e _) = ap length e ∙ S.ready.indexed.listed.size
-      single_size (loud _ _ _ _ _ _ e _ _ R _) = ap length e ∙ R.indexed.listed.size
-
       reading : (ms ns : List ℕ) (d : ℕ) → ms ≡ ns → d ≡ after_of ms c → d ≡ after_of ns c
       reading ms ns d b e = e ∙ ap (λ (t : List ℕ). after_of t c) b
 

@@ -192,7 +192,7 @@ struct Cursors {
 
 // Cursors on lists skim over quiet records, most of what is listed.
 fn resting(chart: &[u64], index: &Index, edges: u64, n: u64, cs: [u64; 5]) -> Cursors
-    requires { (length index.now.lists ≡ list_words) × (n ≤ item_count chart.now) × (n ≤ 4096) }
+    requires { (n ≤ item_count chart.now) × (n ≤ 4096) }
     ensures { Rests (quiet_in chart.now edges) index.now.lists n cs result.k result.cs }
 {
     let es = index.skimmed(chart, edges, n, cs);
@@ -202,7 +202,7 @@ fn resting(chart: &[u64], index: &Index, edges: u64, n: u64, cs: [u64; 5]) -> Cu
 
 // The first of the n records that may be a partner.
 fn opening(chart: &[u64], index: &Index, edges: u64, n: u64, query: [u64; 5]) -> Cursors
-    requires { (length index.now.lists ≡ list_words) × (n ≤ item_count chart.now) × (n ≤ 4096) × Within 2048 query }
+    requires { (n ≤ item_count chart.now) × (n ≤ 4096) × Within 2048 query }
     ensures { Rests (quiet_in chart.now edges) index.now.lists n (starts_of index.now.lists query) result.k result.cs }
 {
     let ds = lists::starts(&index.lists, query);
@@ -211,7 +211,7 @@ fn opening(chart: &[u64], index: &Index, edges: u64, n: u64, query: [u64; 5]) ->
 
 // The next one.
 fn onward(chart: &[u64], index: &Index, edges: u64, n: u64, at: Cursors) -> Cursors
-    requires { (length index.now.lists ≡ list_words) × (n ≤ item_count chart.now) × (n ≤ 4096) × (at.k < n) × Within 20480 at.cs }
+    requires { (n ≤ item_count chart.now) × (n ≤ 4096) × (at.k < n) × Within 20480 at.cs }
     ensures { Rests (quiet_in chart.now edges) index.now.lists n (passed_of index.now.lists at.cs at.k) result.k result.cs }
 {
     let k = at.k;

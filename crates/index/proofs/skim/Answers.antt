@@ -10,7 +10,7 @@ pub returns-then-from-eq0 : goal.returns-then-from-eq0
 returns-then-from-eq0 c = stays _ (sym c.if-from-eq0.true)
 
 pub overflow_mul-end : goal.overflow_mul-end
-overflow_mul-end c = omega (arith, c.requires.2)
+overflow_mul-end c = omega (arith, c.requires.1)
 
 pub loop-c-init : goal.loop-c-init
 loop-c-init c = (omega (arith, c.if-from-eq0.false), refl, stays _ refl)
@@ -25,14 +25,14 @@ quiet-requires c = (
     c.loop-c.invariant.0,
     c.loop-c.invariant.1,
     c.loop-c-test.true,
-    c.requires.1,
+    c.requires.0,
   ),
   omega (
     arith,
     c.loop-c.invariant.0,
     c.loop-c.invariant.1,
     c.loop-c-test.true,
-    c.requires.2,
+    c.requires.1,
   ),
 )
 
@@ -40,7 +40,7 @@ pub returns-then-not-quiet : goal.returns-then-not-quiet
 returns-then-not-quiet c = c.loop-c.invariant.2
 
 pub after-d-requires : goal.after-d-requires
-after-d-requires c = (c.requires.0, omega (arith, c.loop-c.invariant.1, c.loop-c-test.true, c.requires.2))
+after-d-requires c = omega (arith, c.loop-c.invariant.1, c.loop-c-test.true, c.requires.1)
 
 pub returns-then-d-c : goal.returns-then-d-c
 returns-then-d-c c =
@@ -56,7 +56,7 @@ loop-c-smaller c = omega (
   c.loop-c.invariant.0,
   c.loop-c.invariant.1,
   c.loop-c-test.true,
-  c.requires.2,
+  c.requires.1,
   c.if-d-c.false,
 )
 

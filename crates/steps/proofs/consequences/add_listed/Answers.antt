@@ -5,7 +5,7 @@ use lib.ListN.{length}
 use Rattle.index.specs.declared.Index.{Index}
 use Rattle.records.proofs.WordLaws.{item_inside}
 use Rattle.steps.proofs.ListedLaws.{quiet_by, loud_handled}
-use Rattle.steps.proofs.SingleLaws.{quiet, loud, single_key, single_few, single_start, single_joining, single_end, single_low, single_some, single_known, single_size, single_next, single_less}
+use Rattle.steps.proofs.SingleLaws.{quiet, loud, single_key, single_few, single_start, single_joining, single_end, single_low, single_some, single_known, single_next, single_less}
 use Rattle.steps.proofs.consequences.add_listed.Goals as goal
 use Rattle.steps.proofs.consequences.add_listed.Goals.{then-not-quiet, else-not-quiet}
 
@@ -22,7 +22,7 @@ pub overflow_mul-end : goal.overflow_mul-end
 overflow_mul-end c = omega (arith, single_few c.requires)
 
 pub first-c-requires : goal.first-c-requires
-first-c-requires c = (c.requires.0.ready.indexed.listed.size, single_key c.requires)
+first-c-requires c = single_key c.requires
 
 pub loop-c-init : goal.loop-c-init
 loop-c-init c = (refl, single_start c.requires _ c.first-c.ensures)
@@ -58,17 +58,7 @@ add_met-past-requires c =
 pub after-c-requires : goal.after-c-requires
 after-c-requires c =
     let p = c.requires in
-    let A = c.loop-c.invariant.1 in
-    let t = c.loop-c-test.true in
-    let own = c.edges_at-edges.ensures in
-    let q = c.quiet.ensures in (
-      single_size p A t (elim c.if-not-quiet.branch [
-        | then-not-quiet w ↦ loud _ _ _ _ w.chart-is (words w.index-is) (lists w.index-is) w.past-is w.add_met-past.ensures.0
-            w.add_met-past.ensures.1 w.add_met-past.ensures.2
-        | else-not-quiet w ↦ quiet (quiet_by _ _ _ _ _ own q w.if-not-quiet.false) w.chart-is (words w.index-is) (lists w.index-is) w.past-is
-      ]),
-      omega (arith, single_few p, single_low p A t),
-    )
+    omega (arith, single_few p, single_low p c.loop-c.invariant.1 c.loop-c-test.true)
 
 pub loop-c-smaller : goal.loop-c-smaller
 loop-c-smaller c =

@@ -11,7 +11,6 @@ item_at-x-requires c = item_inside _ _ c.requires.0.handled.there
 pub opening-at-requires : goal.opening-at-requires
 opening-at-requires c =
     let p = c.requires in (
-      p.0.ready.indexed.listed.size,
       p.1,
       partners_few p.0 p.1,
       query_within _ _ _ c.query-query.ensures,
@@ -36,7 +35,6 @@ onward-at-requires c =
     let S = c.loop-at.invariant.1 in
     let a = c.add_next-past.ensures in
     let t = c.loop-at-test.true in (
-      a.1.indexed.listed.size,
       turn_room p.0 p.1 S t a.0 a.1 a.2,
       partners_few p.0 p.1,
       t,

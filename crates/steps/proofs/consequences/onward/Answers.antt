@@ -9,17 +9,12 @@ use Rattle.steps.proofs.consequences.onward.Goals as goal
 
 pub passed-ds-requires : goal.passed-ds-requires
 passed-ds-requires c = (
-  c.requires.0,
-  c.requires.4,
-  omega (arith, c.requires.2, c.requires.3),
+  c.requires.3,
+  omega (arith, c.requires.1, c.requires.2),
 )
 
 pub resting-requires : goal.resting-requires
-resting-requires c = (
-  c.requires.0,
-  c.requires.1,
-  c.requires.2,
-)
+resting-requires c = (c.requires.0, c.requires.1)
 
 pub returns : goal.returns
 returns c =

@@ -7,14 +7,10 @@ use Rattle.steps.specs.Ways.{Rests}
 use Rattle.steps.proofs.consequences.opening.Goals as goal
 
 pub starts-ds-requires : goal.starts-ds-requires
-starts-ds-requires c = (c.requires.0, c.requires.3)
+starts-ds-requires c = c.requires.2
 
 pub resting-requires : goal.resting-requires
-resting-requires c = (
-  c.requires.0,
-  c.requires.1,
-  c.requires.2,
-)
+resting-requires c = (c.requires.0, c.requires.1)
 
 pub returns : goal.returns
 returns c =
