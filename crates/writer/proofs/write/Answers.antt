@@ -6,6 +6,11 @@ use Rattle.writer.proofs.write.Goals as goal
 pub invariant_of-t : goal.invariant_of-t
 invariant_of-t c =
     let a = c.args in
+    record { fit = (done_accepted a.grammar.now a.graph.now a.chart.now a.out.now _ c.standing.ensures _ c.in_ok-standing.was).grammar }
+
+pub invariant_of-t-2 : goal.invariant_of-t-2
+invariant_of-t-2 c =
+    let a = c.args in
     record { fit = done_accepted a.grammar.now a.graph.now a.chart.now a.out.now _ c.standing.ensures _ c.in_ok-standing.was }
 
 pub write_goal-requires : goal.write_goal-requires
