@@ -1,6 +1,6 @@
 // The lines of a derivation file, and one row against accepted tables: whether an application and its terminal edges
 // fit.
-ghost use Rattle.std.specs.Prelude.{◌≡◌, true, not, ◌+◌, ◌≤◌, ◌<◌, length, take, drop, replicate, ltb};
+ghost use Rattle.std.specs.Prelude.{◌≡◌, not, ◌+◌, ◌≤◌, ◌<◌, length, take, drop, replicate, ltb};
 ghost use Rattle.masks.specs.Masks.{member};
 ghost use Rattle.format.specs.Lines.{line_of};
 ghost use Rattle.scripts.specs.Scripts.{rows_in, has_letter};
@@ -10,14 +10,13 @@ ghost use Rattle.hrg.specs.Items.{keep_if};
 ghost use Rattle.hrg.specs.WellFormedTest.{every};
 ghost use Rattle.hrg.specs.ClosureRun.{same_list};
 ghost use Rattle.questions.specs.Layout.{rule_count, edge_label, graph_edges, graph_label};
-ghost use Rattle.questions.specs.Checking.{check_grammar};
 ghost use Rattle.questions.specs.Abstract.{grammar_of};
 ghost use Rattle.joins.specs.Tables.{grammar_in, graph_in};
 ghost use Rattle.preorder.specs.Replay.{rule_in, place_in, new_nodes};
 ghost use Rattle.replayer.specs.Fitting.{count_in, node_in, four_of, new_in, with_all, taken_if, row_passes, edge_passes, SizedRow};
 ghost use Rattle.replayer.specs.RowParts.{line_from, said_count, head_passes};
 
-use joins::accepted::AcceptedTables;
+use joins::accepted::{AcceptedGrammar, AcceptedTables};
 
 // ---- the lines of a derivation file
 // Whether the line that was found at `from` is an ended one of the shape with this letter.
@@ -71,9 +70,8 @@ pub(crate) fn row_count(text: &[u8]) -> Option<u64>
 // ---- the row of an application
 // Whether the row has number n, and a rule for an edge s with as many fields as the rule needs. A row of one field
 // has no rule.
-fn head_passes(grammar: &[u64], row: &[u64], n: u64, s: u64) -> bool
-    requires { check_grammar grammar.now ≡ true }
-    ensures { result ≡ head_passes (grammar_of grammar.now) n s row.now }
+fn head_passes(grammar: &AcceptedGrammar, row: &[u64], n: u64, s: u64) -> bool
+    ensures { result ≡ head_passes (grammar_of grammar.now.words.now) n s row.now }
 {
     if row.len() < 2 {
         return false;
@@ -82,14 +80,14 @@ fn head_passes(grammar: &[u64], row: &[u64], n: u64, s: u64) -> bool
         return false;
     }
     let r = row[1];
-    if layout::rule_count(grammar) <= r {
+    if layout::rule_count(grammar.words) <= r {
         return false;
     }
-    if layout::rule_symbol(grammar, r) != s {
+    if layout::rule_symbol(grammar.words, r) != s {
         return false;
     }
-    let nodes = layout::rule_nodes(grammar, r);
-    let edges = layout::rule_edges(grammar, r);
+    let nodes = layout::rule_nodes(grammar.words, r);
+    let edges = layout::rule_edges(grammar.words, r);
     row.len() as u64 == 2 + nodes + edges
 }
 
@@ -123,14 +121,14 @@ fn externals_fit(t: &AcceptedTables, row: &[u64], listed: &[u64; 4]) -> bool
 }
 
 // The external nodes of a rule as a mask.
-fn external_mask(grammar: &[u64], r: u64) -> u64
-    requires { (check_grammar grammar.now ≡ true) × (r < rule_count grammar.now) }
-    ensures { result ≡ with_all 0 (right_of (grammar_of grammar.now) r).externals }
+fn external_mask(grammar: &AcceptedGrammar, r: u64) -> u64
+    requires { r < rule_count grammar.now.words.now }
+    ensures { result ≡ with_all 0 (right_of (grammar_of grammar.now.words.now) r).externals }
 {
-    let rank = layout::rank_at(grammar, layout::rule_symbol(grammar, r));
+    let rank = layout::rank_at(grammar.words, layout::rule_symbol(grammar.words, r));
     let mut mask: u64 = 0;
     for k in 0..rank {
-        mask = masks::with(mask, layout::rule_external(grammar, r, k));
+        mask = masks::with(mask, layout::rule_external(grammar.words, r, k));
     }
     mask
 }
@@ -152,7 +150,7 @@ fn with_inner(t: &AcceptedTables, row: &[u64], used: u64) -> Option<u64>
     ensures { result ≡ taken_if (new_in used (new_nodes (right_of (grammar_in t.now) (rule_in row.now)) row.now)) (with_all used (new_nodes (right_of (grammar_in t.now) (rule_in row.now)) row.now)) }
 {
     let r = row[1];
-    let outer = external_mask(t.grammar.words, r);
+    let outer = external_mask(&t.grammar, r);
     let n = layout::rule_nodes(t.grammar.words, r);
     let mut nodes = used;
     for x in 0..n {
@@ -177,7 +175,7 @@ pub(crate) fn taken(
     requires { length listed.now ≡ 4 }
     ensures { result ≡ taken_if (row_passes (grammar_in t.now) (graph_in t.now) n s (take (rank_of (grammar_in t.now) s) listed.now) used row.now) (with_all used (new_nodes (right_of (grammar_in t.now) (rule_in row.now)) row.now)) }
 {
-    if !head_passes(t.grammar.words, row, n, s) {
+    if !head_passes(&t.grammar, row, n, s) {
         return None;
     }
     let count = layout::rule_nodes(t.grammar.words, row[1]);

@@ -8,7 +8,6 @@ ghost use Rattle.format.specs.Lines.{line_of, after_line};
 ghost use Rattle.hrg.specs.Counts.{tabulate};
 ghost use Rattle.hrg.specs.Grammars.{rank_of};
 ghost use Rattle.questions.specs.Layout.{graph_nodes, graph_edges, graph_external};
-ghost use Rattle.questions.specs.Checking.{check_grammar};
 ghost use Rattle.questions.specs.Abstract.{grammar_of};
 ghost use Rattle.joins.specs.Tables.{grammar_in, graph_in};
 ghost use Rattle.preorder.specs.Replay.{replayed};
@@ -67,18 +66,18 @@ fn open_row(text: &[u8], line: &[u8], nodes: u64, st: &mut Progress)
 }
 
 // What the row says of edge i of its rule.
-fn part_at(grammar: &[u64], row: &[u64], i: u64) -> Part
-    requires { (check_grammar grammar.now ≡ true) × RuledRow (grammar_of grammar.now) row.now }
-    ensures { result ≡ part_of (grammar_of grammar.now) row.now i }
+fn part_at(grammar: &AcceptedGrammar, row: &[u64], i: u64) -> Part
+    requires { RuledRow (grammar_of grammar.now.words.now) row.now }
+    ensures { result ≡ part_of (grammar_of grammar.now.words.now) row.now i }
 {
     let rule = row[1];
-    if layout::rule_edges(grammar, rule) <= i {
+    if layout::rule_edges(grammar.words, rule) <= i {
         return Part::End;
     }
-    let at = 2 + layout::rule_nodes(grammar, rule) + i;
+    let at = 2 + layout::rule_nodes(grammar.words, rule) + i;
     let field = row[at as usize];
-    let s = layout::edge_label(grammar, rule, i);
-    if layout::kind_of(grammar, s) == 0 {
+    let s = layout::edge_label(grammar.words, rule, i);
+    if layout::kind_of(grammar.words, s) == 0 {
         Part::GraphEdge(field)
     } else {
         Part::Application(s, field)
@@ -122,7 +121,7 @@ fn edge_list(t: &AcceptedTables, text: &[u8], row: &[u64], i: u64, st: &mut Prog
     requires { SizedRow (grammar_in t.now) (graph_in t.now) row.now × RowsAt text.now st.old.next st.old.at }
     ensures { Followed (grammar_in t.now) (graph_in t.now) text.now row.now i (progress_in true st.old) (progress_in result st.new) }
 {
-    let part = part_at(t.grammar.words, row, i);
+    let part = part_at(&t.grammar, row, i);
     match part {
         Part::End => true,
         Part::GraphEdge(g) => {

@@ -4,10 +4,7 @@ use Rattle.replayer.proofs.InnerNodes.{taken_not, taken_with, added_lt, new_star
 use Rattle.replayer.proofs.fitting.with_inner.Goals as goal
 
 pub external_mask-outer-requires : goal.external_mask-outer-requires
-external_mask-outer-requires c = (
-  c.args.t.now.fit.grammar,
-  rule_known _ _ _ c.args.t.now.fit c.requires,
-)
+external_mask-outer-requires c = rule_known _ _ _ c.args.t.now.fit c.requires
 
 pub loop-x-init : goal.loop-x-init
 loop-x-init c = (
