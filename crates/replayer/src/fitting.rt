@@ -13,9 +13,10 @@ ghost use Rattle.questions.specs.Layout.{rule_count, edge_label, graph_edges, gr
 ghost use Rattle.questions.specs.Abstract.{grammar_of};
 ghost use Rattle.joins.specs.Tables.{grammar_in, graph_in};
 ghost use Rattle.preorder.specs.Replay.{rule_in, place_in, new_nodes};
-ghost use Rattle.replayer.specs.Fitting.{count_in, node_in, four_of, new_in, with_all, taken_if, row_passes, edge_passes, SizedRow};
+ghost use Rattle.replayer.specs.Fitting.{count_in, node_in, four_of, new_in, with_all, taken_if, row_passes, edge_passes};
 ghost use Rattle.replayer.specs.RowParts.{line_from, said_count, head_passes};
 
+use crate::rows::Row;
 use joins::accepted::{AcceptedGrammar, AcceptedTables};
 
 // ---- the lines of a derivation file
@@ -105,15 +106,18 @@ fn places_known(row: &[u64], count: u64, nodes: u64) -> bool
 }
 
 // Whether the graph nodes of the rule's external nodes are the listed ones, in order.
-fn externals_fit(t: &AcceptedTables, row: &[u64], listed: &[u64; 4]) -> bool
-    requires { SizedRow (grammar_in t.now) (graph_in t.now) row.now × (length listed.now ≡ 4) }
-    ensures { result ≡ same_list (images (place_in (right_of (grammar_in t.now) (rule_in row.now)) row.now) (right_of (grammar_in t.now) (rule_in row.now)).externals) (take (rank_of (grammar_in t.now) (lhs_of (grammar_in t.now) (rule_in row.now))) listed.now) }
+fn externals_fit(row: &Row, listed: &[u64; 4]) -> bool
+    requires { length listed.now ≡ 4 }
+    ensures { result ≡ same_list (images (place_in (right_of (grammar_in row.now.tables) (rule_in row.now.fields.now)) row.now.fields.now) (right_of (grammar_in row.now.tables) (rule_in row.now.fields.now)).externals) (take (rank_of (grammar_in row.now.tables) (lhs_of (grammar_in row.now.tables) (rule_in row.now.fields.now))) listed.now) }
 {
-    let r = row[1];
-    let rank = layout::rank_at(t.grammar.words, layout::rule_symbol(t.grammar.words, r));
+    let r = row.fields[1];
+    let rank = layout::rank_at(
+        row.tables.grammar.words,
+        layout::rule_symbol(row.tables.grammar.words, r),
+    );
     for k in 0..rank {
-        let x = layout::rule_external(t.grammar.words, r, k);
-        if row[(2 + x) as usize] != listed[k as usize] {
+        let x = layout::rule_external(row.tables.grammar.words, r, k);
+        if row.fields[(2 + x) as usize] != listed[k as usize] {
             return false;
         }
     }
@@ -145,16 +149,15 @@ fn inner_node(row: &[u64], outer: u64, x: u64) -> u64
 }
 
 // The used nodes and those inside the application, where these are new.
-fn with_inner(t: &AcceptedTables, row: &[u64], used: u64) -> Option<u64>
-    requires { SizedRow (grammar_in t.now) (graph_in t.now) row.now }
-    ensures { result ≡ taken_if (new_in used (new_nodes (right_of (grammar_in t.now) (rule_in row.now)) row.now)) (with_all used (new_nodes (right_of (grammar_in t.now) (rule_in row.now)) row.now)) }
+fn with_inner(row: &Row, used: u64) -> Option<u64>
+    ensures { result ≡ taken_if (new_in used (new_nodes (right_of (grammar_in row.now.tables) (rule_in row.now.fields.now)) row.now.fields.now)) (with_all used (new_nodes (right_of (grammar_in row.now.tables) (rule_in row.now.fields.now)) row.now.fields.now)) }
 {
-    let r = row[1];
-    let outer = external_mask(&t.grammar, r);
-    let n = layout::rule_nodes(t.grammar.words, r);
+    let r = row.fields[1];
+    let outer = external_mask(&row.tables.grammar, r);
+    let n = layout::rule_nodes(row.tables.grammar.words, r);
     let mut nodes = used;
     for x in 0..n {
-        let v = inner_node(row, outer, x);
+        let v = inner_node(row.fields, outer, x);
         if masks::has(nodes, v) {
             return None;
         }
@@ -182,36 +185,46 @@ pub(crate) fn taken(
     if !places_known(row, count, layout::graph_nodes(t.graph)) {
         return None;
     }
-    if !externals_fit(t, row, listed) {
+    let row = Row {
+        tables: *t,
+        fields: row,
+    };
+    if !externals_fit(&row, listed) {
         return None;
     }
-    with_inner(t, row, used)
+    with_inner(&row, used)
 }
 
 // ---- the edges of an application
 // The graph nodes of edge i of the row's rule, in four places that have none yet.
-pub(crate) fn list_nodes(t: &AcceptedTables, row: &[u64], i: u64, nodes: &mut [u64; 4])
-    requires { SizedRow (grammar_in t.now) (graph_in t.now) row.now × (i < length (right_of (grammar_in t.now) (rule_in row.now)).edges) × (nodes.old ≡ replicate 4 64) }
-    ensures { nodes.new ≡ four_of (images (place_in (right_of (grammar_in t.now) (rule_in row.now)) row.now) (edge_at (right_of (grammar_in t.now) (rule_in row.now)).edges i).attachment) }
+pub(crate) fn list_nodes(row: &Row, i: u64, nodes: &mut [u64; 4])
+    requires { (i < length (right_of (grammar_in row.now.tables) (rule_in row.now.fields.now)).edges) × (nodes.old ≡ replicate 4 64) }
+    ensures { nodes.new ≡ four_of (images (place_in (right_of (grammar_in row.now.tables) (rule_in row.now.fields.now)) row.now.fields.now) (edge_at (right_of (grammar_in row.now.tables) (rule_in row.now.fields.now)).edges i).attachment) }
 {
-    let r = row[1];
-    let rank = layout::rank_at(t.grammar.words, layout::edge_label(t.grammar.words, r, i));
+    let r = row.fields[1];
+    let rank = layout::rank_at(
+        row.tables.grammar.words,
+        layout::edge_label(row.tables.grammar.words, r, i),
+    );
     for k in 0..rank {
-        let x = layout::edge_node(t.grammar.words, r, i, k);
-        nodes[k as usize] = row[(2 + x) as usize];
+        let x = layout::edge_node(row.tables.grammar.words, r, i, k);
+        nodes[k as usize] = row.fields[(2 + x) as usize];
     }
 }
 
 // Whether graph edge g, with the label of edge i of the row's rule, lies on the graph nodes of that edge, in order.
-fn nodes_fit(t: &AcceptedTables, row: &[u64], i: u64, g: u64) -> bool
-    requires { SizedRow (grammar_in t.now) (graph_in t.now) row.now × (i < length (right_of (grammar_in t.now) (rule_in row.now)).edges) × (g < graph_edges t.now.graph.now) × (graph_label t.now.graph.now g ≡ edge_label t.now.grammar.words.now (rule_in row.now) i) }
-    ensures { result ≡ same_list (edge_at (graph_in t.now).edges g).attachment (images (place_in (right_of (grammar_in t.now) (rule_in row.now)) row.now) (edge_at (right_of (grammar_in t.now) (rule_in row.now)).edges i).attachment) }
+fn nodes_fit(row: &Row, i: u64, g: u64) -> bool
+    requires { (i < length (right_of (grammar_in row.now.tables) (rule_in row.now.fields.now)).edges) × (g < graph_edges row.now.tables.graph.now) × (graph_label row.now.tables.graph.now g ≡ edge_label row.now.tables.grammar.words.now (rule_in row.now.fields.now) i) }
+    ensures { result ≡ same_list (edge_at (graph_in row.now.tables).edges g).attachment (images (place_in (right_of (grammar_in row.now.tables) (rule_in row.now.fields.now)) row.now.fields.now) (edge_at (right_of (grammar_in row.now.tables) (rule_in row.now.fields.now)).edges i).attachment) }
 {
-    let r = row[1];
-    let rank = layout::rank_at(t.grammar.words, layout::edge_label(t.grammar.words, r, i));
+    let r = row.fields[1];
+    let rank = layout::rank_at(
+        row.tables.grammar.words,
+        layout::edge_label(row.tables.grammar.words, r, i),
+    );
     for k in 0..rank {
-        let x = layout::edge_node(t.grammar.words, r, i, k);
-        if layout::graph_node(t.graph, g, k) != row[(2 + x) as usize] {
+        let x = layout::edge_node(row.tables.grammar.words, r, i, k);
+        if layout::graph_node(row.tables.graph, g, k) != row.fields[(2 + x) as usize] {
             return false;
         }
     }
@@ -219,18 +232,18 @@ fn nodes_fit(t: &AcceptedTables, row: &[u64], i: u64, g: u64) -> bool
 }
 
 // Whether graph edge g stands for edge i of the row's rule, where some edges are used.
-pub(crate) fn edge_passes(t: &AcceptedTables, row: &[u64], i: u64, g: u64, used: u64) -> bool
-    requires { SizedRow (grammar_in t.now) (graph_in t.now) row.now × (i < length (right_of (grammar_in t.now) (rule_in row.now)).edges) }
-    ensures { result ≡ edge_passes (graph_in t.now) (edge_at (right_of (grammar_in t.now) (rule_in row.now)).edges i).label (images (place_in (right_of (grammar_in t.now) (rule_in row.now)) row.now) (edge_at (right_of (grammar_in t.now) (rule_in row.now)).edges i).attachment) used g }
+pub(crate) fn edge_passes(row: &Row, i: u64, g: u64, used: u64) -> bool
+    requires { i < length (right_of (grammar_in row.now.tables) (rule_in row.now.fields.now)).edges }
+    ensures { result ≡ edge_passes (graph_in row.now.tables) (edge_at (right_of (grammar_in row.now.tables) (rule_in row.now.fields.now)).edges i).label (images (place_in (right_of (grammar_in row.now.tables) (rule_in row.now.fields.now)) row.now.fields.now) (edge_at (right_of (grammar_in row.now.tables) (rule_in row.now.fields.now)).edges i).attachment) used g }
 {
-    if layout::graph_edges(t.graph) <= g {
+    if layout::graph_edges(row.tables.graph) <= g {
         return false;
     }
-    let label = layout::edge_label(t.grammar.words, row[1], i);
-    if layout::graph_label(t.graph, g) != label {
+    let label = layout::edge_label(row.tables.grammar.words, row.fields[1], i);
+    if layout::graph_label(row.tables.graph, g) != label {
         return false;
     }
-    if !nodes_fit(t, row, i, g) {
+    if !nodes_fit(row, i, g) {
         return false;
     }
     !masks::has(used, g)

@@ -9,7 +9,7 @@ use Rattle.replayer.proofs.fitting.with_inner.Given as goal
 
 abbrev pub invariant-loop-x : goal.invariant-loop-x
 invariant-loop-x l = (l.nodes < 2 ^ 64) ×
-    (new_in l.nodes (inner_from (right_of (grammar_of l.t.grammar.words.now) (rule_in l.row)) l.row l.x) ≡ new_in l.used
-    (new_nodes (right_of (grammar_of l.t.grammar.words.now) (rule_in l.row)) l.row)) ×
-    (with_all l.nodes (inner_from (right_of (grammar_of l.t.grammar.words.now) (rule_in l.row)) l.row l.x) ≡ with_all l.used
-    (new_nodes (right_of (grammar_of l.t.grammar.words.now) (rule_in l.row)) l.row))
+    (new_in l.nodes (inner_from (right_of (grammar_of l.row.tables.grammar.words.now) (rule_in l.row.fields.now)) l.row.fields.now l.x) ≡ new_in l.used
+    (new_nodes (right_of (grammar_of l.row.tables.grammar.words.now) (rule_in l.row.fields.now)) l.row.fields.now)) ×
+    (with_all l.nodes (inner_from (right_of (grammar_of l.row.tables.grammar.words.now) (rule_in l.row.fields.now)) l.row.fields.now l.x) ≡ with_all l.used
+    (new_nodes (right_of (grammar_of l.row.tables.grammar.words.now) (rule_in l.row.fields.now)) l.row.fields.now))
