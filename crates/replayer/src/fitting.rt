@@ -12,8 +12,9 @@ ghost use Rattle.hrg.specs.ClosureRun.{same_list};
 ghost use Rattle.questions.specs.Layout.{rule_count, edge_label, graph_edges, graph_label};
 ghost use Rattle.questions.specs.Abstract.{grammar_of};
 ghost use Rattle.joins.specs.Tables.{grammar_in, graph_in};
-ghost use Rattle.preorder.specs.Replay.{rule_in, place_in, new_nodes};
+ghost use Rattle.preorder.specs.Replay.{rule_in, new_nodes};
 ghost use Rattle.replayer.specs.Fitting.{count_in, node_in, four_of, new_in, with_all, taken_if, row_passes, edge_passes};
+ghost use Rattle.replayer.specs.Rows.{side_of, place_of, new_of};
 ghost use Rattle.replayer.specs.RowParts.{line_from, said_count, head_passes};
 
 use crate::rows::Row;
@@ -108,7 +109,7 @@ fn places_known(row: &[u64], count: u64, nodes: u64) -> bool
 // Whether the graph nodes of the rule's external nodes are the listed ones, in order.
 fn externals_fit(row: &Row, listed: &[u64; 4]) -> bool
     requires { length listed.now ≡ 4 }
-    ensures { result ≡ same_list (images (place_in (right_of (grammar_in row.now.tables) (rule_in row.now.fields.now)) row.now.fields.now) (right_of (grammar_in row.now.tables) (rule_in row.now.fields.now)).externals) (take (rank_of (grammar_in row.now.tables) (lhs_of (grammar_in row.now.tables) (rule_in row.now.fields.now))) listed.now) }
+    ensures { result ≡ same_list (images (place_of row.now) (side_of row.now).externals) (take (rank_of (grammar_in row.now.tables) (lhs_of (grammar_in row.now.tables) (rule_in row.now.fields.now))) listed.now) }
 {
     let r = row.fields[1];
     let rank = layout::rank_at(
@@ -150,7 +151,7 @@ fn inner_node(row: &[u64], outer: u64, x: u64) -> u64
 
 // The used nodes and those inside the application, where these are new.
 fn with_inner(row: &Row, used: u64) -> Option<u64>
-    ensures { result ≡ taken_if (new_in used (new_nodes (right_of (grammar_in row.now.tables) (rule_in row.now.fields.now)) row.now.fields.now)) (with_all used (new_nodes (right_of (grammar_in row.now.tables) (rule_in row.now.fields.now)) row.now.fields.now)) }
+    ensures { result ≡ taken_if (new_in used (new_of row.now)) (with_all used (new_of row.now)) }
 {
     let r = row.fields[1];
     let outer = external_mask(&row.tables.grammar, r);
@@ -198,8 +199,8 @@ pub(crate) fn taken(
 // ---- the edges of an application
 // The graph nodes of edge i of the row's rule, in four places that have none yet.
 pub(crate) fn list_nodes(row: &Row, i: u64, nodes: &mut [u64; 4])
-    requires { (i < length (right_of (grammar_in row.now.tables) (rule_in row.now.fields.now)).edges) × (nodes.old ≡ replicate 4 64) }
-    ensures { nodes.new ≡ four_of (images (place_in (right_of (grammar_in row.now.tables) (rule_in row.now.fields.now)) row.now.fields.now) (edge_at (right_of (grammar_in row.now.tables) (rule_in row.now.fields.now)).edges i).attachment) }
+    requires { (i < length (side_of row.now).edges) × (nodes.old ≡ replicate 4 64) }
+    ensures { nodes.new ≡ four_of (images (place_of row.now) (edge_at (side_of row.now).edges i).attachment) }
 {
     let r = row.fields[1];
     let rank = layout::rank_at(
@@ -214,8 +215,8 @@ pub(crate) fn list_nodes(row: &Row, i: u64, nodes: &mut [u64; 4])
 
 // Whether graph edge g, with the label of edge i of the row's rule, lies on the graph nodes of that edge, in order.
 fn nodes_fit(row: &Row, i: u64, g: u64) -> bool
-    requires { (i < length (right_of (grammar_in row.now.tables) (rule_in row.now.fields.now)).edges) × (g < graph_edges row.now.tables.graph.now) × (graph_label row.now.tables.graph.now g ≡ edge_label row.now.tables.grammar.words.now (rule_in row.now.fields.now) i) }
-    ensures { result ≡ same_list (edge_at (graph_in row.now.tables).edges g).attachment (images (place_in (right_of (grammar_in row.now.tables) (rule_in row.now.fields.now)) row.now.fields.now) (edge_at (right_of (grammar_in row.now.tables) (rule_in row.now.fields.now)).edges i).attachment) }
+    requires { (i < length (side_of row.now).edges) × (g < graph_edges row.now.tables.graph.now) × (graph_label row.now.tables.graph.now g ≡ edge_label row.now.tables.grammar.words.now (rule_in row.now.fields.now) i) }
+    ensures { result ≡ same_list (edge_at (graph_in row.now.tables).edges g).attachment (images (place_of row.now) (edge_at (side_of row.now).edges i).attachment) }
 {
     let r = row.fields[1];
     let rank = layout::rank_at(
@@ -233,8 +234,8 @@ fn nodes_fit(row: &Row, i: u64, g: u64) -> bool
 
 // Whether graph edge g stands for edge i of the row's rule, where some edges are used.
 pub(crate) fn edge_passes(row: &Row, i: u64, g: u64, used: u64) -> bool
-    requires { i < length (right_of (grammar_in row.now.tables) (rule_in row.now.fields.now)).edges }
-    ensures { result ≡ edge_passes (graph_in row.now.tables) (edge_at (right_of (grammar_in row.now.tables) (rule_in row.now.fields.now)).edges i).label (images (place_in (right_of (grammar_in row.now.tables) (rule_in row.now.fields.now)) row.now.fields.now) (edge_at (right_of (grammar_in row.now.tables) (rule_in row.now.fields.now)).edges i).attachment) used g }
+    requires { i < length (side_of row.now).edges }
+    ensures { result ≡ edge_passes (graph_in row.now.tables) (edge_at (side_of row.now).edges i).label (images (place_of row.now) (edge_at (side_of row.now).edges i).attachment) used g }
 {
     if layout::graph_edges(row.tables.graph) <= g {
         return false;

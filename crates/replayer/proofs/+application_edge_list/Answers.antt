@@ -102,8 +102,9 @@ edge_list-use_edge-requires t c =
 
 pub edge_list-overflow_add-i : goal.edge_list-overflow_add-i
 edge_list-overflow_add-i t c =
+    let row = c.args.row.now in
     let part = sym c.part_at-part.ensures ∙ c.in-GraphEdge.is in
-    omega (arith, (of_edge _ _ _ _ part).known, edges_small _ _ c.args.row.now.tables.fit.grammar (ruled _ _ _ c.args.row.now.sized))
+    omega (arith, (of_edge _ _ _ _ part).known, edges_small _ _ row.tables.fit.grammar (ruled _ _ _ row.sized))
 
 pub edge_list-edge_list-requires : goal.edge_list-edge_list-requires
 edge_list-edge_list-requires t c =
@@ -130,28 +131,31 @@ edge_list-list_nodes-requires t c =
 
 pub edge_list-returns-then-not-application : goal.edge_list-returns-then-not-application
 edge_list-returns-then-not-application t c =
+    let row = c.args.row.now in
     let part = sym c.part_at-part.ensures ∙ c.in-Application.is in
     let own = of_row _ _ _ _ _ part in
-    let nodes = listed_take _ _ c.args.row.now.tables.fit.grammar (ruled _ _ _ c.args.row.now.sized) _ own.known _ _ own.symbol
+    let nodes = listed_take _ _ row.tables.fit.grammar (ruled _ _ _ row.sized) _ own.known _ _ own.symbol
     c.list_nodes.ensures in
-    followed_under_failed _ _ _ _ c.args.row.now.sized _ _ _ _ part c.if-number-st.false _ nodes _
+    followed_under_failed _ _ _ _ row.sized _ _ _ _ part c.if-number-st.false _ nodes _
     c.application.ensures c.if-not-application.true _ refl
 
 pub edge_list-overflow_add-i-in-Application : goal.edge_list-overflow_add-i-in-Application
 edge_list-overflow_add-i-in-Application t c =
+    let row = c.args.row.now in
     let part = sym c.part_at-part.ensures ∙ c.in-Application.is in
-    omega (arith, (of_row _ _ _ _ _ part).known, edges_small _ _ c.args.row.now.tables.fit.grammar (ruled _ _ _ c.args.row.now.sized))
+    omega (arith, (of_row _ _ _ _ _ part).known, edges_small _ _ row.tables.fit.grammar (ruled _ _ _ row.sized))
 
 pub edge_list-edge_list-requires-in-Application : goal.edge_list-edge_list-requires-in-Application
 edge_list-edge_list-requires-in-Application t c =
+    let row = c.args.row.now in
     let part = sym c.part_at-part.ensures ∙ c.in-Application.is in
     let own = of_row _ _ _ _ _ part in
-    let nodes = listed_take _ _ c.args.row.now.tables.fit.grammar (ruled _ _ _ c.args.row.now.sized) _ own.known _ _ own.symbol
+    let nodes = listed_take _ _ row.tables.fit.grammar (ruled _ _ _ row.sized) _ own.known _ _ own.symbol
     c.list_nodes.ensures in
     let passed = c.if-not-application.false in
     let under = applied_passing _ _ _ _ _ _ _ c.application.new.st passed
     c.application.ensures in (
-      omega (arith, after_falls _ _ _ _ c.args.row.now.sized _ _ _ _ part c.if-number-st.false _ nodes _ under refl),
+      omega (arith, after_falls _ _ _ _ row.sized _ _ _ _ part c.if-number-st.false _ nodes _ under refl),
       c.application.ensures.onward passed,
     )
 
@@ -170,12 +174,13 @@ edge_list-returns-else-not-edge_passes t c =
 
 pub edge_list-returns-else-not-application : goal.edge_list-returns-else-not-application
 edge_list-returns-else-not-application t c =
+    let row = c.args.row.now in
     let part = sym c.part_at-part.ensures ∙ c.in-Application.is in
     let own = of_row _ _ _ _ _ part in
-    let nodes = listed_take _ _ c.args.row.now.tables.fit.grammar (ruled _ _ _ c.args.row.now.sized) _ own.known _ _ own.symbol
+    let nodes = listed_take _ _ row.tables.fit.grammar (ruled _ _ _ row.sized) _ own.known _ _ own.symbol
     c.list_nodes.ensures in
     let passed = c.if-not-application.false in
     let under = applied_passing _ _ _ _ _ _ _ c.application.new.st passed
     c.application.ensures in
-    followed_under _ _ _ _ c.args.row.now.sized _ _ _ _ part c.if-number-st.false _ nodes _ under refl _
+    followed_under _ _ _ _ row.sized _ _ _ _ part c.if-number-st.false _ nodes _ under refl _
     c.edge_list-in-Application.ensures

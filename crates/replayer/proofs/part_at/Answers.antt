@@ -36,11 +36,13 @@ bounds-row-at c = omega (
 )
 
 pub returns-then-kind_of-eq0 : goal.returns-then-kind_of-eq0
-returns-then-kind_of-eq0 c = part_edge _ _ c.args.grammar.now.fit c.requires _ _ c.rule_edges.ensures c.if-rule_edges-i.false
+returns-then-kind_of-eq0 c = part_edge _ _ c.args.grammar.now.fit c.requires _ _ c.rule_edges.ensures
+    c.if-rule_edges-i.false
     _ c.rule_nodes.ensures _ c.edge_label-s.ensures
     _ c.kind_of.ensures c.if-kind_of-eq0.true
 
 pub returns-else-kind_of-eq0 : goal.returns-else-kind_of-eq0
-returns-else-kind_of-eq0 c = part_row _ _ c.args.grammar.now.fit c.requires _ _ c.rule_edges.ensures c.if-rule_edges-i.false
+returns-else-kind_of-eq0 c = part_row _ _ c.args.grammar.now.fit c.requires _ _ c.rule_edges.ensures
+    c.if-rule_edges-i.false
     _ c.rule_nodes.ensures _ c.edge_label-s.ensures
     _ c.kind_of.ensures c.if-kind_of-eq0.false

@@ -5,7 +5,8 @@ use Rattle.extractor.proofs.NumberLaws.{numbering_next, numbering_done}
 use Rattle.extractor.proofs.numbers.number_parts.Goals as goal
 
 pub is_nonterminal-tree-requires : goal.is_nonterminal-tree-requires
-is_nonterminal-tree-requires c = known_edge _ _ _ c.args.grammar.now.fit (omega (arith, c.loop-i-test.true, c.requires.0))
+is_nonterminal-tree-requires c = known_edge _ _ _ c.args.grammar.now.fit
+    (omega (arith, c.loop-i-test.true, c.requires.0))
 
 pub loop-i-preserved : goal.loop-i-preserved
 loop-i-preserved c = numbering_next _ _ _ _ _ _ _ _ _ _ _ _ _ (omega (arith, c.loop-i-test.true, c.requires.0))

@@ -10,7 +10,8 @@ pub returns-then-row-n : goal.returns-then-row-n
 returns-then-row-n c = head_number _ _ _ _ c.args.grammar.now.fit c.if-row-n.true
 
 pub returns-then-rule_count-r : goal.returns-then-rule_count-r
-returns-then-rule_count-r c = head_rule _ _ _ _ c.args.grammar.now.fit c.if-row-n.false _ c.rule_count.ensures c.if-rule_count-r.true
+returns-then-rule_count-r c = head_rule _ _ _ _ c.args.grammar.now.fit c.if-row-n.false
+    _ c.rule_count.ensures c.if-rule_count-r.true
 
 pub returns-then-rule_symbol-s : goal.returns-then-rule_symbol-s
 returns-then-rule_symbol-s c = head_symbol _ _ _ _ c.args.grammar.now.fit c.if-row-n.false _ c.rule_count.ensures

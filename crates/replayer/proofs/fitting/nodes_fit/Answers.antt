@@ -28,7 +28,8 @@ bounds-row-x c = omega (
 )
 
 pub returns-then-graph_node-row : goal.returns-then-graph_node-row
-returns-then-graph_node-row c = nodes_no _ _ _ c.args.row.now.tables.fit c.args.row.now.sized _ c.requires.0 _ c.edge_label.ensures
+returns-then-graph_node-row c = nodes_no _ _ _ c.args.row.now.tables.fit c.args.row.now.sized
+    _ c.requires.0 _ c.edge_label.ensures
     _ c.rank_at-rank.ensures.0 _ c.requires.1 c.requires.2
     _ _ _ c.loop-k-test.true c.edge_node-x.ensures
     c.graph_node.ensures c.if-graph_node-row.true

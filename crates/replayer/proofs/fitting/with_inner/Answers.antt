@@ -18,7 +18,8 @@ inner_node-v-requires c = inner_there _ _ _ c.args.row.now.tables.fit c.args.row
     _ c.loop-x-test.true
 
 pub returns-then-has : goal.returns-then-has
-returns-then-has c = taken_not _ _ (new_used _ _ _ c.args.row.now.tables.fit c.args.row.now.sized _ c.rule_nodes-n.ensures
+returns-then-has c = taken_not _ _ (new_used _ _ _ c.args.row.now.tables.fit c.args.row.now.sized
+    _ c.rule_nodes-n.ensures
     _ c.external_mask-outer.ensures _ _ c.loop-x-test.true
     c.inner_node-v.ensures _ _ _ c.loop-x.invariant.0 c.has.ensures
     c.if-has.true c.loop-x.invariant.1)
