@@ -1,10 +1,11 @@
 // What a rule of any number has, over an accepted grammar table: an unknown rule has an empty right side and no plan.
-ghost use Rattle.std.specs.Prelude.{◌≡◌, true, ◌≤◌, length};
+ghost use Rattle.std.specs.Prelude.{◌≡◌, ◌≤◌, length};
 ghost use Rattle.hrg.specs.Grammars.{kind_of, right_of, plan_of, edge_at};
-ghost use Rattle.questions.specs.Checking.{check_grammar};
 ghost use Rattle.questions.specs.Abstract.{grammar_of};
 ghost use Rattle.joins.specs.Joins.{KnownNode, KnownEdge};
 ghost use Rattle.extractor.specs.Reading.{PlanLineOf, is_nonterminal};
+
+use joins::accepted::AcceptedGrammar;
 
 // A line of a plan: kind 0 for a leaf.
 #[derive(Clone, Copy)]
@@ -15,36 +16,33 @@ pub(crate) struct PlanLine {
 }
 
 // How many nodes the right side of rule r has.
-pub(crate) fn node_count(g: &[u64], r: u64) -> u64
-    requires { check_grammar g.now ≡ true }
-    ensures { (result ≡ (right_of (grammar_of g.now) r).nodes) × (result ≤ 8) }
+pub(crate) fn node_count(g: &AcceptedGrammar, r: u64) -> u64
+    ensures { (result ≡ (right_of (grammar_of g.now.words.now) r).nodes) × (result ≤ 8) }
 {
-    if r < layout::rule_count_in(g) {
-        layout::rule_nodes_in(g, r)
+    if r < layout::rule_count_in(g.words) {
+        layout::rule_nodes_in(g.words, r)
     } else {
         0
     }
 }
 
 // How many edges it has.
-pub(crate) fn edge_count(g: &[u64], r: u64) -> u64
-    requires { check_grammar g.now ≡ true }
-    ensures { (result ≡ length (right_of (grammar_of g.now) r).edges) × (result ≤ 8) }
+pub(crate) fn edge_count(g: &AcceptedGrammar, r: u64) -> u64
+    ensures { (result ≡ length (right_of (grammar_of g.now.words.now) r).edges) × (result ≤ 8) }
 {
-    if r < layout::rule_count_in(g) {
-        layout::rule_edges_in(g, r)
+    if r < layout::rule_count_in(g.words) {
+        layout::rule_edges_in(g.words, r)
     } else {
         0
     }
 }
 
 // How many nodes its plan has.
-pub(crate) fn plan_size(g: &[u64], r: u64) -> u64
-    requires { check_grammar g.now ≡ true }
-    ensures { result ≡ length (plan_of (grammar_of g.now) r) }
+pub(crate) fn plan_size(g: &AcceptedGrammar, r: u64) -> u64
+    ensures { result ≡ length (plan_of (grammar_of g.now.words.now) r) }
 {
-    if r < layout::rule_count_in(g) {
-        layout::rule_plan_in(g, r)
+    if r < layout::rule_count_in(g.words) {
+        layout::rule_plan_in(g.words, r)
     } else {
         0
     }

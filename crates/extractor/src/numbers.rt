@@ -1,10 +1,11 @@
 // The numbers in an application's row: a graph edge for each terminal edge, a later application for each nonterminal
 // one.
-ghost use Rattle.std.specs.Prelude.{◌≡◌, true, cond, ◌+◌, ◌≤◌, ◌<◌, length, get_or};
+ghost use Rattle.std.specs.Prelude.{◌≡◌, cond, ◌+◌, ◌≤◌, ◌<◌, length, get_or};
 ghost use Rattle.hrg.specs.Grammars.{right_of};
-ghost use Rattle.questions.specs.Checking.{check_grammar};
 ghost use Rattle.questions.specs.Abstract.{grammar_of};
 ghost use Rattle.extractor.specs.RowFacts.{SizesFit, NumberedBy};
+
+use joins::accepted::AcceptedGrammar;
 
 // The number for an edge with the partner b: that, or the next application where a tree stands for the edge.
 fn number_of(tree: bool, b: u64, next: u64) -> u64
@@ -28,7 +29,7 @@ fn next_after(tree: bool, sizes: &[u64], next: u64) -> u64
 // Puts the numbers for all edges of rule r into the fields from `at` on, where the application `from` is next, and
 // answers the first application that is not under this one.
 pub(crate) fn number_parts(
-    grammar: &[u64],
+    grammar: &AcceptedGrammar,
     r: u64,
     edges: u64,
     bs: &[u64],
@@ -37,12 +38,12 @@ pub(crate) fn number_parts(
     fields: &mut [u64],
     at: u64,
 ) -> u64
-    requires { (check_grammar grammar.now ≡ true) × (edges ≡ length (right_of (grammar_of grammar.now) r).edges) × (edges ≤ 8) × (length bs.now ≡ 8) × SizesFit sizes.now × (from < length sizes.now) × (at + edges ≤ length fields.old) }
-    ensures { NumberedBy (grammar_of grammar.now) bs.now sizes.now (right_of (grammar_of grammar.now) r).edges from fields.old at fields.new result }
+    requires { (edges ≡ length (right_of (grammar_of grammar.now.words.now) r).edges) × (edges ≤ 8) × (length bs.now ≡ 8) × SizesFit sizes.now × (from < length sizes.now) × (at + edges ≤ length fields.old) }
+    ensures { NumberedBy (grammar_of grammar.now.words.now) bs.now sizes.now (right_of (grammar_of grammar.now.words.now) r).edges from fields.old at fields.new result }
 {
     let mut next = from;
     for i in 0..edges {
-        let tree = crate::lookup::is_nonterminal(grammar, r, i);
+        let tree = crate::lookup::is_nonterminal(grammar.words, r, i);
         fields[(at + i) as usize] = number_of(tree, bs[i as usize], next);
         next = next_after(tree, sizes, next);
     }

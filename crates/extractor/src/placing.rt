@@ -11,7 +11,7 @@ ghost use Rattle.joins.specs.Tables.{grammar_in, graph_in};
 ghost use Rattle.records.specs.Words.{record_at};
 ghost use Rattle.extraction.specs.Extraction.{part_nodes, placed_by};
 
-use joins::accepted::AcceptedTables;
+use joins::accepted::{AcceptedGrammar, AcceptedTables};
 use places::PLACES;
 
 // The nodes of graph edge b, in four places.
@@ -29,13 +29,13 @@ fn nodes_of(graph: &[u64], b: u64) -> [u64; 4]
 
 // Places the nodes of edge i of rule r that have no place yet: at the first nodes of l, in order. Its nodes are
 // different, so that each is written once.
-fn place_nodes(grammar: &[u64], r: u64, i: u64, l: &[u64], f: &mut [u64])
-    requires { KnownEdge grammar.now r i × (length f.old ≡ 8) × BareFrom (rule_nodes grammar.now r) f.old }
-    ensures { f.new ≡ padded (joined (rule_nodes grammar.now r) f.old (attach (rule_nodes grammar.now r) (edge_nodes grammar.now r i) (take (rank_at grammar.now (edge_label grammar.now r i)) l.now))) }
+fn place_nodes(grammar: &AcceptedGrammar, r: u64, i: u64, l: &[u64], f: &mut [u64])
+    requires { KnownEdge grammar.now.words.now r i × (length f.old ≡ 8) × BareFrom (rule_nodes grammar.now.words.now r) f.old }
+    ensures { f.new ≡ padded (joined (rule_nodes grammar.now.words.now r) f.old (attach (rule_nodes grammar.now.words.now r) (edge_nodes grammar.now.words.now r i) (take (rank_at grammar.now.words.now (edge_label grammar.now.words.now r i)) l.now))) }
 {
-    let rank = joins::rank_of(grammar, layout::edge_label_in(grammar, r, i));
+    let rank = joins::rank_of(grammar.words, layout::edge_label_in(grammar.words, r, i));
     for k in (0..rank.min(l.len() as u64)).rev() {
-        let x = layout::edge_node_in(grammar, r, i, k) as usize;
+        let x = layout::edge_node_in(grammar.words, r, i, k) as usize;
         if f[x] == 64 {
             f[x] = l[k as usize];
         }
@@ -49,7 +49,7 @@ fn place_edge(t: &AcceptedTables, r: u64, i: u64, b: u64, f: &mut [u64])
 {
     let rank = joins::rank_of(t.grammar.words, layout::graph_label_in(t.graph, b));
     let nodes = nodes_of(t.graph, b);
-    place_nodes(t.grammar.words, r, i, &nodes[..rank as usize], f);
+    place_nodes(&t.grammar, r, i, &nodes[..rank as usize], f);
 }
 
 // The nodes of the record at b; past the chart's end its words are 0.
@@ -65,9 +65,9 @@ fn nodes_at(chart: &[u64], b: u64) -> [u64; PLACES]
 }
 
 // The same by the nodes that the record at b lists.
-fn place_record(grammar: &[u64], chart: &[u64], r: u64, i: u64, b: u64, f: &mut [u64])
-    requires { KnownEdge grammar.now r i × (length f.old ≡ 8) × BareFrom (rule_nodes grammar.now r) f.old }
-    ensures { f.new ≡ padded (joined (rule_nodes grammar.now r) f.old (attach (rule_nodes grammar.now r) (edge_nodes grammar.now r i) (take (rank_at grammar.now (edge_label grammar.now r i)) (record_at chart.now b).item.nodes))) }
+fn place_record(grammar: &AcceptedGrammar, chart: &[u64], r: u64, i: u64, b: u64, f: &mut [u64])
+    requires { KnownEdge grammar.now.words.now r i × (length f.old ≡ 8) × BareFrom (rule_nodes grammar.now.words.now r) f.old }
+    ensures { f.new ≡ padded (joined (rule_nodes grammar.now.words.now r) f.old (attach (rule_nodes grammar.now.words.now r) (edge_nodes grammar.now.words.now r i) (take (rank_at grammar.now.words.now (edge_label grammar.now.words.now r i)) (record_at chart.now b).item.nodes))) }
 {
     let nodes = nodes_at(chart, b);
     place_nodes(grammar, r, i, &nodes, f);
@@ -79,7 +79,7 @@ fn place_part(t: &AcceptedTables, chart: &[u64], r: u64, i: u64, b: u64, f: &mut
     ensures { f.new ≡ padded (joined (rule_nodes t.now.grammar.words.now r) f.old (attach (rule_nodes t.now.grammar.words.now r) (edge_nodes t.now.grammar.words.now r i) (part_nodes (λ k. record_at chart.now k) (grammar_in t.now) (graph_in t.now) (edge_at (right_of (grammar_in t.now) r).edges i) b))) }
 {
     if crate::lookup::is_nonterminal(t.grammar.words, r, i) {
-        place_record(t.grammar.words, chart, r, i, b, f);
+        place_record(&t.grammar, chart, r, i, b, f);
     } else if b < layout::graph_edges(t.graph) {
         place_edge(t, r, i, b, f);
     }

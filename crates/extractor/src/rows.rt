@@ -32,14 +32,14 @@ fn row_of(
 {
     let r = crate::partners::rule_at(chart, j);
     let mut bs = [0u64; 8];
-    crate::partners::partners_at(t.grammar.words, chart, r, j, &mut bs);
-    let nodes = crate::lookup::node_count(t.grammar.words, r);
-    let edges = crate::lookup::edge_count(t.grammar.words, r);
+    crate::partners::partners_at(&t.grammar, chart, r, j, &mut bs);
+    let nodes = crate::lookup::node_count(&t.grammar, r);
+    let edges = crate::lookup::edge_count(&t.grammar, r);
     fields[0] = n;
     fields[1] = r;
     crate::placing::place(t, chart, r, edges, &bs, &mut fields[2..10]);
     let end = crate::numbers::number_parts(
-        t.grammar.words,
+        &t.grammar,
         r,
         edges,
         &bs,

@@ -1,6 +1,6 @@
 // The lines of a derivation file, and one row against accepted tables: whether an application and its terminal edges
 // fit.
-ghost use Rattle.std.specs.Prelude.{◌≡◌, true, not, ◌+◌, ◌≤◌, ◌<◌, length, take, drop, replicate, ltb};
+ghost use Rattle.std.specs.Prelude.{◌≡◌, not, ◌+◌, ◌≤◌, ◌<◌, length, take, drop, replicate, ltb};
 ghost use Rattle.masks.specs.Masks.{member};
 ghost use Rattle.format.specs.Lines.{line_of};
 ghost use Rattle.scripts.specs.Scripts.{rows_in, has_letter};
@@ -10,14 +10,15 @@ ghost use Rattle.hrg.specs.Items.{keep_if};
 ghost use Rattle.hrg.specs.WellFormedTest.{every};
 ghost use Rattle.hrg.specs.ClosureRun.{same_list};
 ghost use Rattle.questions.specs.Layout.{rule_count, edge_label, graph_edges, graph_label};
-ghost use Rattle.questions.specs.Checking.{check_grammar};
 ghost use Rattle.questions.specs.Abstract.{grammar_of};
 ghost use Rattle.joins.specs.Tables.{grammar_in, graph_in};
-ghost use Rattle.preorder.specs.Replay.{rule_in, place_in, new_nodes};
-ghost use Rattle.replayer.specs.Fitting.{count_in, node_in, four_of, new_in, with_all, taken_if, row_passes, edge_passes, SizedRow};
+ghost use Rattle.preorder.specs.Replay.{rule_in, new_nodes};
+ghost use Rattle.replayer.specs.Fitting.{count_in, node_in, four_of, new_in, with_all, taken_if, row_passes, edge_passes};
+ghost use Rattle.replayer.specs.Rows.{side_of, place_of, new_of};
 ghost use Rattle.replayer.specs.RowParts.{line_from, said_count, head_passes};
 
-use joins::accepted::AcceptedTables;
+use crate::rows::Row;
+use joins::accepted::{AcceptedGrammar, AcceptedTables};
 
 // ---- the lines of a derivation file
 // Whether the line that was found at `from` is an ended one of the shape with this letter.
@@ -71,9 +72,8 @@ pub(crate) fn row_count(text: &[u8]) -> Option<u64>
 // ---- the row of an application
 // Whether the row has number n, and a rule for an edge s with as many fields as the rule needs. A row of one field
 // has no rule.
-fn head_passes(grammar: &[u64], row: &[u64], n: u64, s: u64) -> bool
-    requires { check_grammar grammar.now ≡ true }
-    ensures { result ≡ head_passes (grammar_of grammar.now) n s row.now }
+fn head_passes(grammar: &AcceptedGrammar, row: &[u64], n: u64, s: u64) -> bool
+    ensures { result ≡ head_passes (grammar_of grammar.now.words.now) n s row.now }
 {
     if row.len() < 2 {
         return false;
@@ -82,14 +82,14 @@ fn head_passes(grammar: &[u64], row: &[u64], n: u64, s: u64) -> bool
         return false;
     }
     let r = row[1];
-    if layout::rule_count(grammar) <= r {
+    if layout::rule_count(grammar.words) <= r {
         return false;
     }
-    if layout::rule_symbol(grammar, r) != s {
+    if layout::rule_symbol(grammar.words, r) != s {
         return false;
     }
-    let nodes = layout::rule_nodes(grammar, r);
-    let edges = layout::rule_edges(grammar, r);
+    let nodes = layout::rule_nodes(grammar.words, r);
+    let edges = layout::rule_edges(grammar.words, r);
     row.len() as u64 == 2 + nodes + edges
 }
 
@@ -107,15 +107,18 @@ fn places_known(row: &[u64], count: u64, nodes: u64) -> bool
 }
 
 // Whether the graph nodes of the rule's external nodes are the listed ones, in order.
-fn externals_fit(t: &AcceptedTables, row: &[u64], listed: &[u64; 4]) -> bool
-    requires { SizedRow (grammar_in t.now) (graph_in t.now) row.now × (length listed.now ≡ 4) }
-    ensures { result ≡ same_list (images (place_in (right_of (grammar_in t.now) (rule_in row.now)) row.now) (right_of (grammar_in t.now) (rule_in row.now)).externals) (take (rank_of (grammar_in t.now) (lhs_of (grammar_in t.now) (rule_in row.now))) listed.now) }
+fn externals_fit(row: &Row, listed: &[u64; 4]) -> bool
+    requires { length listed.now ≡ 4 }
+    ensures { result ≡ same_list (images (place_of row.now) (side_of row.now).externals) (take (rank_of (grammar_in row.now.tables) (lhs_of (grammar_in row.now.tables) (rule_in row.now.fields.now))) listed.now) }
 {
-    let r = row[1];
-    let rank = layout::rank_at(t.grammar.words, layout::rule_symbol(t.grammar.words, r));
+    let r = row.fields[1];
+    let rank = layout::rank_at(
+        row.tables.grammar.words,
+        layout::rule_symbol(row.tables.grammar.words, r),
+    );
     for k in 0..rank {
-        let x = layout::rule_external(t.grammar.words, r, k);
-        if row[(2 + x) as usize] != listed[k as usize] {
+        let x = layout::rule_external(row.tables.grammar.words, r, k);
+        if row.fields[(2 + x) as usize] != listed[k as usize] {
             return false;
         }
     }
@@ -123,14 +126,14 @@ fn externals_fit(t: &AcceptedTables, row: &[u64], listed: &[u64; 4]) -> bool
 }
 
 // The external nodes of a rule as a mask.
-fn external_mask(grammar: &[u64], r: u64) -> u64
-    requires { (check_grammar grammar.now ≡ true) × (r < rule_count grammar.now) }
-    ensures { result ≡ with_all 0 (right_of (grammar_of grammar.now) r).externals }
+fn external_mask(grammar: &AcceptedGrammar, r: u64) -> u64
+    requires { r < rule_count grammar.now.words.now }
+    ensures { result ≡ with_all 0 (right_of (grammar_of grammar.now.words.now) r).externals }
 {
-    let rank = layout::rank_at(grammar, layout::rule_symbol(grammar, r));
+    let rank = layout::rank_at(grammar.words, layout::rule_symbol(grammar.words, r));
     let mut mask: u64 = 0;
     for k in 0..rank {
-        mask = masks::with(mask, layout::rule_external(grammar, r, k));
+        mask = masks::with(mask, layout::rule_external(grammar.words, r, k));
     }
     mask
 }
@@ -147,16 +150,15 @@ fn inner_node(row: &[u64], outer: u64, x: u64) -> u64
 }
 
 // The used nodes and those inside the application, where these are new.
-fn with_inner(t: &AcceptedTables, row: &[u64], used: u64) -> Option<u64>
-    requires { SizedRow (grammar_in t.now) (graph_in t.now) row.now }
-    ensures { result ≡ taken_if (new_in used (new_nodes (right_of (grammar_in t.now) (rule_in row.now)) row.now)) (with_all used (new_nodes (right_of (grammar_in t.now) (rule_in row.now)) row.now)) }
+fn with_inner(row: &Row, used: u64) -> Option<u64>
+    ensures { result ≡ taken_if (new_in used (new_of row.now)) (with_all used (new_of row.now)) }
 {
-    let r = row[1];
-    let outer = external_mask(t.grammar.words, r);
-    let n = layout::rule_nodes(t.grammar.words, r);
+    let r = row.fields[1];
+    let outer = external_mask(&row.tables.grammar, r);
+    let n = layout::rule_nodes(row.tables.grammar.words, r);
     let mut nodes = used;
     for x in 0..n {
-        let v = inner_node(row, outer, x);
+        let v = inner_node(row.fields, outer, x);
         if masks::has(nodes, v) {
             return None;
         }
@@ -177,43 +179,53 @@ pub(crate) fn taken(
     requires { length listed.now ≡ 4 }
     ensures { result ≡ taken_if (row_passes (grammar_in t.now) (graph_in t.now) n s (take (rank_of (grammar_in t.now) s) listed.now) used row.now) (with_all used (new_nodes (right_of (grammar_in t.now) (rule_in row.now)) row.now)) }
 {
-    if !head_passes(t.grammar.words, row, n, s) {
+    if !head_passes(&t.grammar, row, n, s) {
         return None;
     }
     let count = layout::rule_nodes(t.grammar.words, row[1]);
     if !places_known(row, count, layout::graph_nodes(t.graph)) {
         return None;
     }
-    if !externals_fit(t, row, listed) {
+    let row = Row {
+        tables: *t,
+        fields: row,
+    };
+    if !externals_fit(&row, listed) {
         return None;
     }
-    with_inner(t, row, used)
+    with_inner(&row, used)
 }
 
 // ---- the edges of an application
 // The graph nodes of edge i of the row's rule, in four places that have none yet.
-pub(crate) fn list_nodes(t: &AcceptedTables, row: &[u64], i: u64, nodes: &mut [u64; 4])
-    requires { SizedRow (grammar_in t.now) (graph_in t.now) row.now × (i < length (right_of (grammar_in t.now) (rule_in row.now)).edges) × (nodes.old ≡ replicate 4 64) }
-    ensures { nodes.new ≡ four_of (images (place_in (right_of (grammar_in t.now) (rule_in row.now)) row.now) (edge_at (right_of (grammar_in t.now) (rule_in row.now)).edges i).attachment) }
+pub(crate) fn list_nodes(row: &Row, i: u64, nodes: &mut [u64; 4])
+    requires { (i < length (side_of row.now).edges) × (nodes.old ≡ replicate 4 64) }
+    ensures { nodes.new ≡ four_of (images (place_of row.now) (edge_at (side_of row.now).edges i).attachment) }
 {
-    let r = row[1];
-    let rank = layout::rank_at(t.grammar.words, layout::edge_label(t.grammar.words, r, i));
+    let r = row.fields[1];
+    let rank = layout::rank_at(
+        row.tables.grammar.words,
+        layout::edge_label(row.tables.grammar.words, r, i),
+    );
     for k in 0..rank {
-        let x = layout::edge_node(t.grammar.words, r, i, k);
-        nodes[k as usize] = row[(2 + x) as usize];
+        let x = layout::edge_node(row.tables.grammar.words, r, i, k);
+        nodes[k as usize] = row.fields[(2 + x) as usize];
     }
 }
 
 // Whether graph edge g, with the label of edge i of the row's rule, lies on the graph nodes of that edge, in order.
-fn nodes_fit(t: &AcceptedTables, row: &[u64], i: u64, g: u64) -> bool
-    requires { SizedRow (grammar_in t.now) (graph_in t.now) row.now × (i < length (right_of (grammar_in t.now) (rule_in row.now)).edges) × (g < graph_edges t.now.graph.now) × (graph_label t.now.graph.now g ≡ edge_label t.now.grammar.words.now (rule_in row.now) i) }
-    ensures { result ≡ same_list (edge_at (graph_in t.now).edges g).attachment (images (place_in (right_of (grammar_in t.now) (rule_in row.now)) row.now) (edge_at (right_of (grammar_in t.now) (rule_in row.now)).edges i).attachment) }
+fn nodes_fit(row: &Row, i: u64, g: u64) -> bool
+    requires { (i < length (side_of row.now).edges) × (g < graph_edges row.now.tables.graph.now) × (graph_label row.now.tables.graph.now g ≡ edge_label row.now.tables.grammar.words.now (rule_in row.now.fields.now) i) }
+    ensures { result ≡ same_list (edge_at (graph_in row.now.tables).edges g).attachment (images (place_of row.now) (edge_at (side_of row.now).edges i).attachment) }
 {
-    let r = row[1];
-    let rank = layout::rank_at(t.grammar.words, layout::edge_label(t.grammar.words, r, i));
+    let r = row.fields[1];
+    let rank = layout::rank_at(
+        row.tables.grammar.words,
+        layout::edge_label(row.tables.grammar.words, r, i),
+    );
     for k in 0..rank {
-        let x = layout::edge_node(t.grammar.words, r, i, k);
-        if layout::graph_node(t.graph, g, k) != row[(2 + x) as usize] {
+        let x = layout::edge_node(row.tables.grammar.words, r, i, k);
+        if layout::graph_node(row.tables.graph, g, k) != row.fields[(2 + x) as usize] {
             return false;
         }
     }
@@ -221,18 +233,18 @@ fn nodes_fit(t: &AcceptedTables, row: &[u64], i: u64, g: u64) -> bool
 }
 
 // Whether graph edge g stands for edge i of the row's rule, where some edges are used.
-pub(crate) fn edge_passes(t: &AcceptedTables, row: &[u64], i: u64, g: u64, used: u64) -> bool
-    requires { SizedRow (grammar_in t.now) (graph_in t.now) row.now × (i < length (right_of (grammar_in t.now) (rule_in row.now)).edges) }
-    ensures { result ≡ edge_passes (graph_in t.now) (edge_at (right_of (grammar_in t.now) (rule_in row.now)).edges i).label (images (place_in (right_of (grammar_in t.now) (rule_in row.now)) row.now) (edge_at (right_of (grammar_in t.now) (rule_in row.now)).edges i).attachment) used g }
+pub(crate) fn edge_passes(row: &Row, i: u64, g: u64, used: u64) -> bool
+    requires { i < length (side_of row.now).edges }
+    ensures { result ≡ edge_passes (graph_in row.now.tables) (edge_at (side_of row.now).edges i).label (images (place_of row.now) (edge_at (side_of row.now).edges i).attachment) used g }
 {
-    if layout::graph_edges(t.graph) <= g {
+    if layout::graph_edges(row.tables.graph) <= g {
         return false;
     }
-    let label = layout::edge_label(t.grammar.words, row[1], i);
-    if layout::graph_label(t.graph, g) != label {
+    let label = layout::edge_label(row.tables.grammar.words, row.fields[1], i);
+    if layout::graph_label(row.tables.graph, g) != label {
         return false;
     }
-    if !nodes_fit(t, row, i, g) {
+    if !nodes_fit(row, i, g) {
         return false;
     }
     !masks::has(used, g)

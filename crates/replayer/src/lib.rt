@@ -8,18 +8,20 @@ ghost use Rattle.format.specs.Lines.{line_of, after_line};
 ghost use Rattle.hrg.specs.Counts.{tabulate};
 ghost use Rattle.hrg.specs.Grammars.{rank_of};
 ghost use Rattle.questions.specs.Layout.{graph_nodes, graph_edges, graph_external};
-ghost use Rattle.questions.specs.Checking.{check_grammar};
 ghost use Rattle.questions.specs.Abstract.{grammar_of};
 ghost use Rattle.joins.specs.Tables.{grammar_in, graph_in};
 ghost use Rattle.preorder.specs.Replay.{replayed};
 ghost use Rattle.derivation.specs.Derivations.{replay_text};
-ghost use Rattle.replayer.specs.Fitting.{with_all, SizedRow};
+ghost use Rattle.replayer.specs.Fitting.{with_all};
 ghost use Rattle.replayer.specs.Following.{text_rows, RowsAt, progress_in, progress_of, Stands, Applied, Followed, RuledRow, part_of};
 ghost use Rattle.replayer.specs.Verdicts.{replay_of, Exact};
 
 use joins::accepted::{AcceptedGrammar, AcceptedTables};
 
 mod fitting;
+mod rows;
+
+use rows::Row;
 
 // Why a file does not pass: the tables are refused (8), or it is no derivation of the graph (13).
 #[derive(Clone, Copy, Debug, PartialEq, Eq)]
@@ -67,18 +69,18 @@ fn open_row(text: &[u8], line: &[u8], nodes: u64, st: &mut Progress)
 }
 
 // What the row says of edge i of its rule.
-fn part_at(grammar: &[u64], row: &[u64], i: u64) -> Part
-    requires { (check_grammar grammar.now ≡ true) × RuledRow (grammar_of grammar.now) row.now }
-    ensures { result ≡ part_of (grammar_of grammar.now) row.now i }
+fn part_at(grammar: &AcceptedGrammar, row: &[u64], i: u64) -> Part
+    requires { RuledRow (grammar_of grammar.now.words.now) row.now }
+    ensures { result ≡ part_of (grammar_of grammar.now.words.now) row.now i }
 {
     let rule = row[1];
-    if layout::rule_edges(grammar, rule) <= i {
+    if layout::rule_edges(grammar.words, rule) <= i {
         return Part::End;
     }
-    let at = 2 + layout::rule_nodes(grammar, rule) + i;
+    let at = 2 + layout::rule_nodes(grammar.words, rule) + i;
     let field = row[at as usize];
-    let s = layout::edge_label(grammar, rule, i);
-    if layout::kind_of(grammar, s) == 0 {
+    let s = layout::edge_label(grammar.words, rule, i);
+    if layout::kind_of(grammar.words, s) == 0 {
         Part::GraphEdge(field)
     } else {
         Part::Application(s, field)
@@ -111,37 +113,41 @@ fn application(
         None => false,
         Some(nodes) => {
             open_row(text, line, nodes, st);
-            edge_list(t, text, row, 0, st)
+            let row = Row {
+                tables: *t,
+                fields: row,
+            };
+            edge_list(&row, text, 0, st)
         }
     }
 }
 
 // The edges of the row's rule, from edge i on.
 #[cycle(application_edge_list)]
-fn edge_list(t: &AcceptedTables, text: &[u8], row: &[u64], i: u64, st: &mut Progress) -> bool
-    requires { SizedRow (grammar_in t.now) (graph_in t.now) row.now × RowsAt text.now st.old.next st.old.at }
-    ensures { Followed (grammar_in t.now) (graph_in t.now) text.now row.now i (progress_in true st.old) (progress_in result st.new) }
+fn edge_list(row: &Row, text: &[u8], i: u64, st: &mut Progress) -> bool
+    requires { RowsAt text.now st.old.next st.old.at }
+    ensures { Followed (grammar_in row.now.tables) (graph_in row.now.tables) text.now row.now.fields.now i (progress_in true st.old) (progress_in result st.new) }
 {
-    let part = part_at(t.grammar.words, row, i);
+    let part = part_at(&row.tables.grammar, row.fields, i);
     match part {
         Part::End => true,
         Part::GraphEdge(g) => {
-            if !fitting::edge_passes(t, row, i, g, st.edges) {
+            if !fitting::edge_passes(row, i, g, st.edges) {
                 return false;
             }
             use_edge(st, g);
-            edge_list(t, text, row, i + 1, st)
+            edge_list(row, text, i + 1, st)
         }
         Part::Application(s, number) => {
             if number != st.next {
                 return false;
             }
             let mut listed = [64u64; 4];
-            fitting::list_nodes(t, row, i, &mut listed);
-            if !application(t, text, s, &listed, st) {
+            fitting::list_nodes(row, i, &mut listed);
+            if !application(&row.tables, text, s, &listed, st) {
                 return false;
             }
-            edge_list(t, text, row, i + 1, st)
+            edge_list(row, text, i + 1, st)
         }
     }
 }

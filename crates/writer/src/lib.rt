@@ -101,7 +101,7 @@ fn write_long(t: &AcceptedTables, chart: &[u64], j: u64, out: &mut [u8]) -> Resu
     ensures { Leaves (write_spelt (grammar_in t.now) (graph_in t.now) out.old (tree_at (λ k. record_at chart.now k) (grammar_in t.now) (graph_in t.now) 4096 j)) result out.new }
 {
     let mut list = [0u64; 4104];
-    let n = extractor::listing::list_applications(t.grammar.words, chart, j, &mut list);
+    let n = extractor::listing::list_applications(&t.grammar, chart, j, &mut list);
     write_listed::<4104, 303110>(t, chart, j, &list, n, out)
 }
 
@@ -111,7 +111,7 @@ fn write_many(t: &AcceptedTables, chart: &[u64], j: u64, out: &mut [u8]) -> Resu
     ensures { Leaves (write_spelt (grammar_in t.now) (graph_in t.now) out.old (tree_at (λ k. record_at chart.now k) (grammar_in t.now) (graph_in t.now) 4096 j)) result out.new }
 {
     let mut list = [0u64; 1032];
-    let Some(n) = extractor::listing::list_applications(t.grammar.words, chart, j, &mut list) else {
+    let Some(n) = extractor::listing::list_applications(&t.grammar, chart, j, &mut list) else {
         return write_long(t, chart, j, out);
     };
     write_listed::<1032, 75782>(t, chart, j, &list, Some(n), out)
@@ -123,7 +123,7 @@ fn write_item(t: &AcceptedTables, chart: &[u64], j: u64, out: &mut [u8]) -> Resu
     ensures { Leaves (write_spelt (grammar_in t.now) (graph_in t.now) out.old (tree_at (λ k. record_at chart.now k) (grammar_in t.now) (graph_in t.now) 4096 j)) result out.new }
 {
     let mut list = [0u64; 264];
-    let Some(n) = extractor::listing::list_applications(t.grammar.words, chart, j, &mut list) else {
+    let Some(n) = extractor::listing::list_applications(&t.grammar, chart, j, &mut list) else {
         return write_many(t, chart, j, out);
     };
     if n <= 40 {

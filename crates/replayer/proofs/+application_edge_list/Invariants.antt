@@ -7,4 +7,4 @@ abbrev pub decreases-application : goal.decreases-application
 decreases-application l = left_at l.text.now l.st.now.next
 
 abbrev pub decreases-edge_list : goal.decreases-edge_list
-decreases-edge_list l = left_from (grammar_in l.t.now) l.text.now l.row.now l.i l.st.now.next
+decreases-edge_list l = left_from (grammar_in l.row.now.tables) l.text.now l.row.now.fields.now l.i l.st.now.next

@@ -5,12 +5,13 @@ use Rattle.extractor.proofs.NumberLaws.{numbering_next, numbering_done}
 use Rattle.extractor.proofs.numbers.number_parts.Goals as goal
 
 pub is_nonterminal-tree-requires : goal.is_nonterminal-tree-requires
-is_nonterminal-tree-requires c = known_edge _ _ _ c.requires.0 (omega (arith, c.loop-i-test.true, c.requires.1))
+is_nonterminal-tree-requires c = known_edge _ _ _ c.args.grammar.now.fit
+    (omega (arith, c.loop-i-test.true, c.requires.0))
 
 pub loop-i-preserved : goal.loop-i-preserved
-loop-i-preserved c = numbering_next _ _ _ _ _ _ _ _ _ _ _ _ _ (omega (arith, c.loop-i-test.true, c.requires.1))
-    (omega (arith, c.loop-i-test.true, c.requires.6)) c.loop-i.invariant
+loop-i-preserved c = numbering_next _ _ _ _ _ _ _ _ _ _ _ _ _ (omega (arith, c.loop-i-test.true, c.requires.0))
+    (omega (arith, c.loop-i-test.true, c.requires.5)) c.loop-i.invariant
     c.is_nonterminal-tree.ensures c.number_of.ensures c.next_after-next.ensures
 
 pub returns : goal.returns
-returns c = numbering_done _ _ _ _ _ _ _ _ _ _ _ c.requires.1 c.loop-i-test.false c.loop-i.invariant
+returns c = numbering_done _ _ _ _ _ _ _ _ _ _ _ c.requires.0 c.loop-i-test.false c.loop-i.invariant

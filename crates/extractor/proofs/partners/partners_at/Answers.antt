@@ -7,15 +7,15 @@ use Rattle.extractor.proofs.PartnerLaws.{partners_none, partners_some}
 use Rattle.extractor.proofs.partners.partners_at.Goals as goal
 
 pub returns-then-n-eq0 : goal.returns-then-n-eq0
-returns-then-n-eq0 c = partners_none _ _ _ _ _ c.requires.1
-    c.plan_size-n.ensures _ c.requires.2 c.if-n-eq0.true
+returns-then-n-eq0 c = partners_none _ _ _ _ _ c.requires.0
+    c.plan_size-n.ensures _ c.requires.1 c.if-n-eq0.true
 
 pub partners_within-requires : goal.partners_within-requires
 partners_within-requires c = (
-  known_node _ _ _ c.requires.0 (omega (arith, c.plan_size-n.ensures, c.if-n-eq0.false)),
-  ap length c.requires.2,
+  known_node _ _ _ c.args.grammar.now.fit (omega (arith, c.plan_size-n.ensures, c.if-n-eq0.false)),
+  ap length c.requires.1,
 )
 
 pub returns : goal.returns
-returns c = partners_some _ _ _ _ _ c.requires.1 c.plan_size-n.ensures _ _ _ c.requires.2
+returns c = partners_some _ _ _ _ _ c.requires.0 c.plan_size-n.ensures _ _ _ c.requires.1
     c.first_at.ensures c.partners_within.ensures

@@ -8,4 +8,6 @@ use Rattle.replayer.proofs.fitting.externals_fit.Given as goal
 
 abbrev pub invariant-loop-k : goal.invariant-loop-k
 invariant-loop-k l = PassedTo
-    (λ k. eqb (node_in l.row (rule_external l.t.grammar.words.now (rule_in l.row) k)) (get_or l.listed k 0)) l.k
+    (λ k.
+    eqb (node_in l.row.fields.now (rule_external l.row.tables.grammar.words.now (rule_in l.row.fields.now) k))
+    (get_or l.listed k 0)) l.k

@@ -6,7 +6,7 @@ use Rattle.replayer.proofs.fitting.list_nodes.Goals as goal
 pub overflow_add-nodes : goal.overflow_add-nodes
 overflow_add-nodes c = omega (
   arith,
-  edge_node_there _ _ _ c.args.t.now.fit c.requires.0 _ c.requires.1
+  edge_node_there _ _ _ c.args.row.now.tables.fit c.args.row.now.sized _ c.requires.0
       _ c.edge_label.ensures _ c.rank_at-rank.ensures.0
       _ _ c.loop-k-test.true c.edge_node-x.ensures,
 )
@@ -14,7 +14,7 @@ overflow_add-nodes c = omega (
 pub offset_bounds-row-x : goal.offset_bounds-row-x
 offset_bounds-row-x c = omega (
   arith,
-  edge_node_there _ _ _ c.args.t.now.fit c.requires.0 _ c.requires.1
+  edge_node_there _ _ _ c.args.row.now.tables.fit c.args.row.now.sized _ c.requires.0
       _ c.edge_label.ensures _ c.rank_at-rank.ensures.0
       _ _ c.loop-k-test.true c.edge_node-x.ensures,
 )
@@ -22,11 +22,11 @@ offset_bounds-row-x c = omega (
 pub bounds-row-x : goal.bounds-row-x
 bounds-row-x c = omega (
   arith,
-  edge_node_there _ _ _ c.args.t.now.fit c.requires.0 _ c.requires.1
+  edge_node_there _ _ _ c.args.row.now.tables.fit c.args.row.now.sized _ c.requires.0
       _ c.edge_label.ensures _ c.rank_at-rank.ensures.0
       _ _ c.loop-k-test.true c.edge_node-x.ensures,
 )
 
 pub returns : goal.returns
-returns c = nodes_all _ _ _ c.args.t.now.fit c.requires.0 _ c.requires.1 _ c.edge_label.ensures
+returns c = nodes_all _ _ _ c.args.row.now.tables.fit c.args.row.now.sized _ c.requires.0 _ c.edge_label.ensures
     _ c.rank_at-rank.ensures.0 _ _ (omega arith) c.loop-k-test.false c.loop-k.invariant

@@ -6,4 +6,5 @@ use Rattle.replayer.proofs.fitting.list_nodes.Given as goal
 
 abbrev pub invariant-loop-k : goal.invariant-loop-k
 invariant-loop-k l = Placed
-    (λ k. node_in l.row (edge_node l.t.grammar.words.now (rule_in l.row) l.i k)) l.k l.nodes
+    (λ k. node_in l.row.fields.now (edge_node l.row.tables.grammar.words.now (rule_in l.row.fields.now) l.i k))
+    l.k l.nodes

@@ -6,7 +6,7 @@ use Rattle.replayer.proofs.fitting.nodes_fit.Goals as goal
 pub overflow_add-x : goal.overflow_add-x
 overflow_add-x c = omega (
   arith,
-  edge_node_there _ _ _ c.args.t.now.fit c.requires.0 _ c.requires.1
+  edge_node_there _ _ _ c.args.row.now.tables.fit c.args.row.now.sized _ c.requires.0
       _ c.edge_label.ensures _ c.rank_at-rank.ensures.0
       _ _ c.loop-k-test.true c.edge_node-x.ensures,
 )
@@ -14,7 +14,7 @@ overflow_add-x c = omega (
 pub offset_bounds-row-x : goal.offset_bounds-row-x
 offset_bounds-row-x c = omega (
   arith,
-  edge_node_there _ _ _ c.args.t.now.fit c.requires.0 _ c.requires.1
+  edge_node_there _ _ _ c.args.row.now.tables.fit c.args.row.now.sized _ c.requires.0
       _ c.edge_label.ensures _ c.rank_at-rank.ensures.0
       _ _ c.loop-k-test.true c.edge_node-x.ensures,
 )
@@ -22,18 +22,19 @@ offset_bounds-row-x c = omega (
 pub bounds-row-x : goal.bounds-row-x
 bounds-row-x c = omega (
   arith,
-  edge_node_there _ _ _ c.args.t.now.fit c.requires.0 _ c.requires.1
+  edge_node_there _ _ _ c.args.row.now.tables.fit c.args.row.now.sized _ c.requires.0
       _ c.edge_label.ensures _ c.rank_at-rank.ensures.0
       _ _ c.loop-k-test.true c.edge_node-x.ensures,
 )
 
 pub returns-then-graph_node-row : goal.returns-then-graph_node-row
-returns-then-graph_node-row c = nodes_no _ _ _ c.args.t.now.fit c.requires.0 _ c.requires.1 _ c.edge_label.ensures
-    _ c.rank_at-rank.ensures.0 _ c.requires.2 c.requires.3
+returns-then-graph_node-row c = nodes_no _ _ _ c.args.row.now.tables.fit c.args.row.now.sized
+    _ c.requires.0 _ c.edge_label.ensures
+    _ c.rank_at-rank.ensures.0 _ c.requires.1 c.requires.2
     _ _ _ c.loop-k-test.true c.edge_node-x.ensures
     c.graph_node.ensures c.if-graph_node-row.true
 
 pub returns : goal.returns
-returns c = nodes_same _ _ _ c.args.t.now.fit c.requires.0 _ c.requires.1 _ c.edge_label.ensures
-    _ c.rank_at-rank.ensures.0 _ c.requires.2 c.requires.3 _ c.loop-k-test.false
+returns c = nodes_same _ _ _ c.args.row.now.tables.fit c.args.row.now.sized _ c.requires.0 _ c.edge_label.ensures
+    _ c.rank_at-rank.ensures.0 _ c.requires.1 c.requires.2 _ c.loop-k-test.false
     c.loop-k.invariant

@@ -7,4 +7,6 @@ use Rattle.replayer.proofs.fitting.nodes_fit.Given as goal
 
 abbrev pub invariant-loop-k : goal.invariant-loop-k
 invariant-loop-k l = PassedTo
-    (λ k. eqb (graph_node l.t.graph.now l.g k) (node_in l.row (edge_node l.t.grammar.words.now (rule_in l.row) l.i k))) l.k
+    (λ k.
+    eqb (graph_node l.row.tables.graph.now l.g k)
+    (node_in l.row.fields.now (edge_node l.row.tables.grammar.words.now (rule_in l.row.fields.now) l.i k))) l.k

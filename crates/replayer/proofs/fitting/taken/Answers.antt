@@ -22,14 +22,13 @@ returns-then-not-places_known c = row_places _ _ _ _ _ c.args.used c.args.listed
     _ c.rule_nodes-count.ensures _ c.graph_nodes.ensures
     _ c.places_known.ensures c.if-not-places_known.true
 
-pub externals_fit-requires : goal.externals_fit-requires
-externals_fit-requires c = (
-  row_sized _ _ _ _ _ c.args.used c.args.listed.now c.args.t.now.fit
+pub invariant_of-row : goal.invariant_of-row
+invariant_of-row c = record {
+  sized = row_sized _ _ _ _ _ c.args.used c.args.listed.now c.args.t.now.fit
       _ c.head_passes.ensures c.if-not-head_passes.false
       _ c.rule_nodes-count.ensures _ c.graph_nodes.ensures
-      _ c.places_known.ensures c.if-not-places_known.false,
-  c.requires,
-)
+      _ c.places_known.ensures c.if-not-places_known.false;
+}
 
 pub returns-then-not-externals_fit : goal.returns-then-not-externals_fit
 returns-then-not-externals_fit c = row_externals _ _ _ _ _ c.args.used c.args.listed.now c.args.t.now.fit
@@ -37,12 +36,6 @@ returns-then-not-externals_fit c = row_externals _ _ _ _ _ c.args.used c.args.li
     _ c.rule_nodes-count.ensures _ c.graph_nodes.ensures
     _ c.places_known.ensures c.if-not-places_known.false
     _ c.externals_fit.ensures c.if-not-externals_fit.true
-
-pub with_inner-requires : goal.with_inner-requires
-with_inner-requires c = (row_sized _ _ _ _ _ c.args.used c.args.listed.now c.args.t.now.fit
-    _ c.head_passes.ensures c.if-not-head_passes.false
-    _ c.rule_nodes-count.ensures _ c.graph_nodes.ensures
-    _ c.places_known.ensures c.if-not-places_known.false)
 
 pub returns : goal.returns
 returns c = row_inner _ _ _ _ _ c.args.used c.args.listed.now c.args.t.now.fit
