@@ -2,10 +2,10 @@
 ghost use Rattle.std.specs.Prelude.{◌≡◌, true, ℕ, ◌≤◌, ◌<◌};
 ghost use Rattle.masks.specs.Masks.{member};
 ghost use Rattle.hrg.specs.Trees.{at};
-ghost use Rattle.questions.specs.Checking.{check_grammar};
-ghost use Rattle.rules.specs.Plans.{PlanTable, RunTables};
+ghost use Rattle.rules.specs.Plans.{RunTables};
 ghost use Rattle.rules.specs.Coverage.{Shown, Covering};
 
+use crate::planned::PlannedGrammar;
 use crate::plans;
 use crate::plans::PLAN_TABLE_WORDS;
 use agenda::ChartItem;
@@ -29,29 +29,25 @@ fn images(n: u64, chosen: u64, l: [u8; PLACES]) -> u64
 }
 
 // The graph nodes that an active or a passive item shows: none where its rule, plan node or symbol is unknown.
-fn shown(g: &[u64], plans: &[u32; PLAN_TABLE_WORDS], x: ChartItem) -> u64
-    requires { (check_grammar g.now ≡ true) × PlanTable g.now plans.now }
-    ensures { (v : ℕ) → v < 64 → member result v ≡ true → Shown g.now x v }
+fn shown(g: &PlannedGrammar, x: ChartItem) -> u64
+    ensures { (v : ℕ) → v < 64 → member result v ≡ true → Shown g.now.grammar.words.now x v }
 {
+    let words = g.grammar.words;
     let of = x.of as u64;
     if of >= 64 {
         return 0;
     }
     if x.kind != 0 {
-        return images(joins::rank_of(g, of), 255, x.nodes);
+        return images(joins::rank_of(words, of), 255, x.nodes);
     }
-    if of >= layout::rule_count(g) {
+    if of >= layout::rule_count(words) {
         return 0;
     }
     let p = x.plan as u64;
-    if p >= layout::rule_plan(g, of) {
+    if p >= layout::rule_plan(words, of) {
         return 0;
     }
-    images(
-        layout::rule_nodes(g, of),
-        plans::open_at(g, plans, of, p),
-        x.nodes,
-    )
+    images(layout::rule_nodes(words, of), plans::open_at(g, of, p), x.nodes)
 }
 
 // Whether x shows each open graph node of its edges. A fresh chart has items without edges only, and those have none.
@@ -69,5 +65,9 @@ pub fn covers(
         return true;
     }
     let nodes = joins::open_in(t, graph, x.edges);
-    nodes & shown(t.grammar.words, plans, x) == nodes
+    let g = PlannedGrammar {
+        grammar: t.grammar,
+        plans,
+    };
+    nodes & shown(&g, x) == nodes
 }

@@ -8,7 +8,6 @@ ghost use Rattle.hrg.specs.Grammars.{edge_at};
 ghost use Rattle.hrg.specs.Trees.{padded};
 ghost use Rattle.agenda.specs.Records.{plus};
 ghost use Rattle.questions.specs.Layout.{rule_count, rule_nodes, graph_edges};
-ghost use Rattle.questions.specs.Checking.{check_grammar};
 ghost use Rattle.joins.specs.Joins.{BareFrom};
 ghost use Rattle.joins.specs.Graphs.{GraphTable};
 ghost use Rattle.joins.specs.Tables.{grammar_in, graph_in};
@@ -18,12 +17,14 @@ ghost use Rattle.rules.specs.Plans.{Asks, RunTables};
 ghost use Rattle.rules.specs.Candidates.{Introduces, Candidates};
 
 use agenda::ChartItem;
-use joins::accepted::AcceptedTables;
+use joins::accepted::{AcceptedGrammar, AcceptedTables};
 use joins::graphs::GRAPH_TABLE_WORDS;
 use places::{NONE, PLACES};
+use planned::PlannedGrammar;
 use plans::{PER_RULE, PLAN_TABLE_WORDS};
 
 pub mod coverage;
+pub mod planned;
 pub mod plans;
 pub mod wants;
 
@@ -37,15 +38,15 @@ pub fn plus(a: u32, b: u32) -> u32
 
 // ---- lists of graph nodes: eight places, 64 where there is none
 // The images of a rule's external nodes by a map.
-fn root_nodes(g: &[u64], r: u64, f: [u8; PLACES]) -> [u8; PLACES]
-    requires { (check_grammar g.now ≡ true) × (r < rule_count g.now) }
-    ensures { result ≡ root_list g.now r f }
+fn root_nodes(g: &AcceptedGrammar, r: u64, f: [u8; PLACES]) -> [u8; PLACES]
+    requires { r < rule_count g.now.words.now }
+    ensures { result ≡ root_list g.now.words.now r f }
 {
-    let rank = layout::rank_at(g, layout::rule_symbol(g, r));
+    let rank = layout::rank_at(g.words, layout::rule_symbol(g.words, r));
     let map = places::word_of(f);
     let mut l = NONE;
     for k in 0..rank {
-        let x = layout::rule_external(g, r, k);
+        let x = layout::rule_external(g.words, r, k);
         l = places::with_node(l, k, places::node_at(map, x));
     }
     places::nodes_of(l)
@@ -113,7 +114,11 @@ pub fn combined(
         return None;
     }
     let r = x.of as u64;
-    let above = plans::parent_in(t.grammar.words, plans, r, x.plan as u64);
+    let g = PlannedGrammar {
+        grammar: t.grammar,
+        plans,
+    };
+    let above = plans::parent_in(&g, r, x.plan as u64);
     let q = above.word % 32;
     if q >= PER_RULE {
         return None;
@@ -154,21 +159,20 @@ pub fn edge_item(t: &AcceptedTables, e: u64) -> ChartItem
 }
 
 // The passive item of x where that is at the root of its rule's plan, the last plan node.
-pub fn root(g: &[u64], x: ChartItem) -> Option<ChartItem>
-    requires { check_grammar g.now ≡ true }
-    ensures { GivesRoot g.now x result }
+pub fn root(g: &AcceptedGrammar, x: ChartItem) -> Option<ChartItem>
+    ensures { GivesRoot g.now.words.now x result }
 {
     if x.kind != 0 {
         return None;
     }
     let r = x.of as u64;
-    if r >= layout::rule_count(g) {
+    if r >= layout::rule_count(g.words) {
         return None;
     }
-    if x.plan as u64 + 1 != layout::rule_plan(g, r) {
+    if x.plan as u64 + 1 != layout::rule_plan(g.words, r) {
         return None;
     }
-    let of = layout::rule_symbol(g, r);
+    let of = layout::rule_symbol(g.words, r);
     Some(ChartItem {
         kind: 1,
         of: of as u8,
@@ -234,7 +238,11 @@ pub fn candidates(
         return 0;
     }
     let of = x.of as u64;
-    let q = plans::parent_in(t.grammar.words, plans, of, x.plan as u64).word % 32;
+    let g = PlannedGrammar {
+        grammar: t.grammar,
+        plans,
+    };
+    let q = plans::parent_in(&g, of, x.plan as u64).word % 32;
     if q >= PER_RULE {
         return 0;
     }

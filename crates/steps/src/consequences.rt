@@ -22,6 +22,7 @@ ghost use Rattle.steps.specs.Ways.{Rests};
 use crate::lookups::Lookups;
 use agenda::ChartItem;
 use index::Index;
+use rules::planned::PlannedGrammar;
 use rules::wants;
 
 // The passive item of a root item, made of the record at place j.
@@ -29,7 +30,7 @@ fn add_root(t: &Lookups, chart: &mut [u64], index: &mut Index, j: u64)
     requires { Ready t.now.tables.grammar.words.now t.now.tables.graph.now t.now.keys.now chart.old index.old.words index.old.lists × Handled chart.old j }
     ensures { (chart.new ≡ grown_by chart.old (at_root (grammar_in t.now.tables) (item_of (grammar_in t.now.tables) (record_at chart.old j).item) (record_at chart.old j).item.count j)) × Ready t.now.tables.grammar.words.now t.now.tables.graph.now t.now.keys.now chart.new index.new.words index.new.lists }
 {
-    let Some(item) = rules::root(t.tables.grammar.words, records::item_at(chart, j)) else {
+    let Some(item) = rules::root(&t.tables.grammar, records::item_at(chart, j)) else {
         return;
     };
     let hash = chains::hash(item);
@@ -78,7 +79,11 @@ fn add_terminals(t: &Lookups, chart: &mut [u64], index: &mut Index, j: u64)
     ensures { (chart.new ≡ grown_by chart.old (gather (length (graph_in t.now.tables).edges) (λ e. with_terminal (grammar_in t.now.tables) (graph_in t.now.tables) (item_of (grammar_in t.now.tables) (record_at chart.old j).item) (record_at chart.old j).item.count j e))) × Ready t.now.tables.grammar.words.now t.now.tables.graph.now t.now.keys.now chart.new index.new.words index.new.lists }
 {
     let x = records::item_at(chart, j);
-    let want = wants::want_of(t.tables.grammar.words, t.plans, x.of as u64, x.plan as u64);
+    let g = PlannedGrammar {
+        grammar: t.tables.grammar,
+        plans: t.plans,
+    };
+    let want = wants::want_of(&g, x.of as u64, x.plan as u64);
     let m = rules::candidates(&t.tables, t.plans, t.graph, want, x);
     if m == 0 {
         return;
@@ -258,7 +263,11 @@ pub(crate) fn add_all(t: &Lookups, chart: &mut [u64], index: &mut Index, j: u64)
     let x = records::item_at(chart, j);
     let mut lead = false;
     if x.kind == 0 {
-        let w = rules::plans::parent_in(t.tables.grammar.words, t.plans, x.of as u64, x.plan as u64).word;
+        let g = PlannedGrammar {
+            grammar: t.tables.grammar,
+            plans: t.plans,
+        };
+        let w = rules::plans::parent_in(&g, x.of as u64, x.plan as u64).word;
         if w % 32 >= 16 {
             add_root(t, chart, index, j);
             return;

@@ -4,7 +4,6 @@
 
 ghost use Rattle.std.specs.Prelude.{None, ◌≡◌, true, List, ℕ, ◌≤◌, length};
 ghost use Rattle.agenda.specs.Steps.{start_chart, step_with, run_chart};
-ghost use Rattle.questions.specs.Checking.{check_grammar};
 ghost use Rattle.questions.specs.Abstract.{grammar_of};
 ghost use Rattle.joins.specs.Tables.{grammar_in, graph_in};
 ghost use Rattle.records.specs.Words.{header_words, capacity, chart_of, written};
@@ -14,10 +13,11 @@ ghost use Rattle.index.specs.Index.{index_words, ranks_of};
 ghost use Rattle.steps.specs.Ready.{Tables, Ready, Runnable};
 
 use index::Index;
-use joins::accepted::AcceptedTables;
+use joins::accepted::{AcceptedGrammar, AcceptedTables};
 use joins::graphs::GRAPH_TABLE_WORDS;
 use lookups::Lookups;
 use pivots::KEY_TABLE_WORDS;
+use rules::planned::PlannedGrammar;
 use rules::plans::PLAN_TABLE_WORDS;
 
 mod consequences;
@@ -25,9 +25,9 @@ mod leaves;
 mod lookups;
 
 // The chart made anew: only the leaf items are present.
-pub fn restart(g: &[u64], chart: &mut [u64])
-    requires { (check_grammar g.now ≡ true) × (header_words ≤ length chart.old) }
-    ensures { chart.new ≡ written chart.old (start_chart (grammar_of g.now) (capacity chart.old)) }
+pub fn restart(g: &AcceptedGrammar, chart: &mut [u64])
+    requires { header_words ≤ length chart.old }
+    ensures { chart.new ≡ written chart.old (start_chart (grammar_of g.now.words.now) (capacity chart.old)) }
 {
     records::clear(chart);
     leaves::add_leaves(g, chart);
@@ -85,7 +85,11 @@ pub fn advance(
     ensures { (chart.new ≡ written chart.old (run_chart (grammar_in t.now) (graph_in t.now) (capacity chart.old) steps (chart_of chart.old))) × (result ≡ true → next_in (chart_of chart.new) ≡ None) }
 {
     let mut keys = [0u32; KEY_TABLE_WORDS];
-    pivots::fill(t.grammar.words, plans, &mut keys);
+    let g = PlannedGrammar {
+        grammar: t.grammar,
+        plans,
+    };
+    pivots::fill(&g, &mut keys);
     let mut graph = [0u64; GRAPH_TABLE_WORDS];
     joins::graphs::fill(t, &mut graph);
     let mut index = Index::empty();

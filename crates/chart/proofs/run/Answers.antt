@@ -11,11 +11,16 @@ returns-then-not-is_fit c =
 
 pub invariant_of-t : goal.invariant_of-t
 invariant_of-t c = record {
+  fit = (fit_accepted _ _ _ _ c.is_fit.ensures c.if-not-is_fit.false).grammar;
+}
+
+pub invariant_of-t-2 : goal.invariant_of-t-2
+invariant_of-t-2 c = record {
   fit = fit_accepted _ _ _ _ c.is_fit.ensures c.if-not-is_fit.false;
 }
 
 pub fill-requires : goal.fill-requires
-fill-requires c = ((fit_accepted _ _ _ _ c.is_fit.ensures c.if-not-is_fit.false).grammar, refl)
+fill-requires c = refl
 
 pub returns-then-is_none : goal.returns-then-is_none
 returns-then-is_none c =

@@ -9,9 +9,6 @@ use Rattle.steps.proofs.consequences.add_terminals.Goals as goal
 pub item_at-x-requires : goal.item_at-x-requires
 item_at-x-requires c = item_inside _ _ c.requires.2.there
 
-pub want_of-want-requires : goal.want_of-want-requires
-want_of-want-requires c = (c.requires.0.accepted.grammar, c.requires.0.planned)
-
 pub candidates-m-requires : goal.candidates-m-requires
 candidates-m-requires c = (run_tables c.requires.0, c.want_of-want.ensures)
 
