@@ -2,15 +2,12 @@
 ghost use Rattle.std.specs.Prelude.{◌≡◌, true, ℕ, ◌≤◌, ◌<◌};
 ghost use Rattle.masks.specs.Masks.{member};
 ghost use Rattle.hrg.specs.Trees.{at};
-ghost use Rattle.rules.specs.Plans.{RunTables};
 ghost use Rattle.rules.specs.Coverage.{Shown, Covering};
 
 use crate::planned::PlannedGrammar;
 use crate::plans;
-use crate::plans::PLAN_TABLE_WORDS;
+use crate::running::RunTables;
 use agenda::ChartItem;
-use joins::accepted::AcceptedTables;
-use joins::graphs::GRAPH_TABLE_WORDS;
 use places::PLACES;
 
 // The graph nodes at those of the first n places that are in the set `chosen`.
@@ -47,27 +44,25 @@ fn shown(g: &PlannedGrammar, x: ChartItem) -> u64
     if p >= layout::rule_plan(words, of) {
         return 0;
     }
-    images(layout::rule_nodes(words, of), plans::open_at(g, of, p), x.nodes)
+    images(
+        layout::rule_nodes(words, of),
+        plans::open_at(g, of, p),
+        x.nodes,
+    )
 }
 
 // Whether x shows each open graph node of its edges. A fresh chart has items without edges only, and those have none.
 // A false where it does would cost time, not an answer.
-pub fn covers(
-    t: &AcceptedTables,
-    plans: &[u32; PLAN_TABLE_WORDS],
-    graph: &[u64; GRAPH_TABLE_WORDS],
-    x: ChartItem,
-) -> bool
-    requires { RunTables t.now.grammar.words.now t.now.graph.now plans.now graph.now }
-    ensures { result ≡ true → Covering t.now.grammar.words.now t.now.graph.now x }
+pub fn covers(t: &RunTables, x: ChartItem) -> bool
+    ensures { result ≡ true → Covering t.now.tables.grammar.words.now t.now.tables.graph.now x }
 {
     if x.edges == 0 {
         return true;
     }
-    let nodes = joins::open_in(t, graph, x.edges);
+    let nodes = joins::open_in(&t.tables, t.graph, x.edges);
     let g = PlannedGrammar {
-        grammar: t.grammar,
-        plans,
+        grammar: t.tables.grammar,
+        plans: t.plans,
     };
     nodes & shown(&g, x) == nodes
 }

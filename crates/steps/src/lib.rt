@@ -19,6 +19,7 @@ use lookups::Lookups;
 use pivots::KEY_TABLE_WORDS;
 use rules::planned::PlannedGrammar;
 use rules::plans::PLAN_TABLE_WORDS;
+use rules::running::RunTables;
 
 mod consequences;
 mod leaves;
@@ -48,8 +49,8 @@ fn take(chart: &mut [u64], index: &mut Index) -> Option<u64>
 
 // One step, if one is left: a record is handled, and what it makes with graph edges and handled records is added.
 fn step(t: &Lookups, chart: &mut [u64], index: &mut Index) -> bool
-    requires { Tables t.now.tables.grammar.words.now t.now.tables.graph.now t.now.plans.now t.now.keys.now t.now.graph.now × Ready t.now.tables.grammar.words.now t.now.tables.graph.now t.now.keys.now chart.old index.old.words index.old.lists }
-    ensures { (result ≡ is_some (next_in (chart_of chart.old))) × (chart.new ≡ written chart.old (step_with (grammar_in t.now.tables) (graph_in t.now.tables) (capacity chart.old) (chart_of chart.old) (next_in (chart_of chart.old)))) × Ready t.now.tables.grammar.words.now t.now.tables.graph.now t.now.keys.now chart.new index.new.words index.new.lists }
+    requires { Tables t.now.run.tables.grammar.words.now t.now.run.tables.graph.now t.now.run.plans.now t.now.keys.now t.now.run.graph.now × Ready t.now.run.tables.grammar.words.now t.now.run.tables.graph.now t.now.keys.now chart.old index.old.words index.old.lists }
+    ensures { (result ≡ is_some (next_in (chart_of chart.old))) × (chart.new ≡ written chart.old (step_with (grammar_in t.now.run.tables) (graph_in t.now.run.tables) (capacity chart.old) (chart_of chart.old) (next_in (chart_of chart.old)))) × Ready t.now.run.tables.grammar.words.now t.now.run.tables.graph.now t.now.keys.now chart.new index.new.words index.new.lists }
 {
     match take(chart, index) {
         None => false,
@@ -62,8 +63,8 @@ fn step(t: &Lookups, chart: &mut [u64], index: &mut Index) -> bool
 
 // So many steps, or as many as are left, with an index of the chart's records; true only where none is left.
 fn advance_by(t: &Lookups, chart: &mut [u64], index: &mut Index, steps: u64) -> bool
-    requires { Tables t.now.tables.grammar.words.now t.now.tables.graph.now t.now.plans.now t.now.keys.now t.now.graph.now × Ready t.now.tables.grammar.words.now t.now.tables.graph.now t.now.keys.now chart.old index.old.words index.old.lists }
-    ensures { (chart.new ≡ written chart.old (run_chart (grammar_in t.now.tables) (graph_in t.now.tables) (capacity chart.old) steps (chart_of chart.old))) × (result ≡ true → next_in (chart_of chart.new) ≡ None) }
+    requires { Tables t.now.run.tables.grammar.words.now t.now.run.tables.graph.now t.now.run.plans.now t.now.keys.now t.now.run.graph.now × Ready t.now.run.tables.grammar.words.now t.now.run.tables.graph.now t.now.keys.now chart.old index.old.words index.old.lists }
+    ensures { (chart.new ≡ written chart.old (run_chart (grammar_in t.now.run.tables) (graph_in t.now.run.tables) (capacity chart.old) steps (chart_of chart.old))) × (result ≡ true → next_in (chart_of chart.new) ≡ None) }
 {
     for _i in 0..steps {
         if !step(t, chart, index) {
@@ -93,12 +94,12 @@ pub fn advance(
     let mut graph = [0u64; GRAPH_TABLE_WORDS];
     joins::graphs::fill(t, &mut graph);
     let mut index = Index::empty();
-    index.build(t, plans, &graph, &keys, chart);
-    let lookups = Lookups {
+    let run = RunTables {
         tables: *t,
         plans,
-        keys: &keys,
         graph: &graph,
     };
+    index.build(&run, &keys, chart);
+    let lookups = Lookups { run, keys: &keys };
     advance_by(&lookups, chart, &mut index, steps)
 }

@@ -15,7 +15,6 @@ build-requires c =
       c.empty-index.ensures.0,
       c.empty-index.ensures.1,
       count_small _ p.small,
-      record { accepted = c.args.t.now.fit; planned = p.planned; graphed = c.fill-2.ensures },
     )
 
 pub advance_by-requires : goal.advance_by-requires
