@@ -33,7 +33,8 @@ pub fn start(grammar: &[u64], graph: &[u64], chart: &mut [u64]) -> Result<u64, U
     if !is_fit(grammar, graph, chart) {
         return Err(Unready::Unfit);
     }
-    steps::restart(grammar, chart);
+    let g = AcceptedGrammar { words: grammar };
+    steps::restart(&g, chart);
     if records::mark_of(chart) != 0 {
         return Err(Unready::TooSmall);
     }
@@ -82,7 +83,7 @@ pub fn standing(grammar: &[u64], graph: &[u64], chart: &[u64]) -> Result<u64, Un
         graph,
     };
     let mut plans = [0u32; PLAN_TABLE_WORDS];
-    rules::plans::fill(t.grammar.words, &mut plans);
+    rules::plans::fill(&t.grammar, &mut plans);
     match validator::known(&t, &plans, chart) {
         None => Err(Unready::Unfit),
         Some(handled) => outcome_of(chart, handled),
@@ -101,7 +102,7 @@ pub fn run(grammar: &[u64], graph: &[u64], chart: &mut [u64], steps: u64) -> Res
         graph,
     };
     let mut plans = [0u32; PLAN_TABLE_WORDS];
-    rules::plans::fill(t.grammar.words, &mut plans);
+    rules::plans::fill(&t.grammar, &mut plans);
     if validator::known(&t, &plans, chart).is_none() {
         return Err(Unready::Unfit);
     }

@@ -11,7 +11,6 @@ ghost use Rattle.records.specs.Words.{Fits, capacity, item_count, chart_of, impr
 ghost use Rattle.chains.specs.Chains.{hash_of};
 ghost use Rattle.ranking.specs.Ranking.{Ranked, taken_from};
 ghost use Rattle.keys.specs.Keys.{keys_of};
-ghost use Rattle.rules.specs.Plans.{RunTables};
 ghost use Rattle.rules.specs.Coverage.{Covering};
 ghost use Rattle.lists.specs.Lists.{list_words, Listed, Ready, Unlisted, entered_all};
 ghost use Rattle.lists.specs.Cursors.{Skims, SkimsAll};
@@ -19,11 +18,9 @@ ghost use Rattle.index.specs.Quiet.{quiet_in};
 ghost use Rattle.index.specs.Index.{index_words, ranks_of, doubt_of, keys_for, Indexed, Empty, Covered, DoubtKept, Adds};
 
 use agenda::{ChartItem, Record};
-use joins::accepted::AcceptedTables;
-use joins::graphs::GRAPH_TABLE_WORDS;
 use lists::LIST_WORDS;
 use pivots::KEY_TABLE_WORDS;
-use rules::plans::PLAN_TABLE_WORDS;
+use rules::running::RunTables;
 
 // How many words there are but for the lists.
 const INDEX_WORDS: usize = 12424;
@@ -73,19 +70,13 @@ fn list_all(keys: &[u32; KEY_TABLE_WORDS], chart: &[u64], lists: &mut [u16; LIST
 }
 
 // Whether each of a chart's records covers its open nodes is kept in mind.
-fn cover_all(
-    t: &AcceptedTables,
-    plans: &[u32; PLAN_TABLE_WORDS],
-    graph: &[u64; GRAPH_TABLE_WORDS],
-    chart: &[u64],
-    index: &mut [u32],
-)
-    requires { (length index.old ≡ index_words) × (item_count chart.now ≤ 4096) × RunTables t.now.grammar.words.now t.now.graph.now plans.now graph.now }
-    ensures { Covered t.now.grammar.words.now t.now.graph.now index.new (chart_of chart.now).records × ((keys ls : List ℕ) (rs : List Record) → Indexed keys index.old ls rs → Indexed keys index.new ls rs) }
+fn cover_all(t: &RunTables, chart: &[u64], index: &mut [u32])
+    requires { (length index.old ≡ index_words) × (item_count chart.now ≤ 4096) }
+    ensures { Covered t.now.tables.grammar.words.now t.now.tables.graph.now index.new (chart_of chart.now).records × ((keys ls : List ℕ) (rs : List Record) → Indexed keys index.old ls rs → Indexed keys index.new ls rs) }
 {
     let n = records::item_count(chart);
     for j in 0..n {
-        if !rules::coverage::covers(t, plans, graph, records::item_at(chart, j)) {
+        if !rules::coverage::covers(t, records::item_at(chart, j)) {
             index[DOUBT] = 1;
             return;
         }
@@ -169,21 +160,14 @@ impl Index {
     }
 
     // The records of a chart, indexed: the words are 0 before, and nothing is on a list.
-    pub fn build(
-        &mut self,
-        t: &AcceptedTables,
-        plans: &[u32; PLAN_TABLE_WORDS],
-        graph: &[u64; GRAPH_TABLE_WORDS],
-        keys: &[u32; KEY_TABLE_WORDS],
-        chart: &[u64],
-    )
-        requires { Empty self.old.words × Unlisted self.old.lists × (item_count chart.now ≤ 4096) × RunTables t.now.grammar.words.now t.now.graph.now plans.now graph.now }
-        ensures { Indexed keys.now self.new.words self.new.lists (chart_of chart.now).records × Covered t.now.grammar.words.now t.now.graph.now self.new.words (chart_of chart.now).records }
+    pub fn build(&mut self, t: &RunTables, keys: &[u32; KEY_TABLE_WORDS], chart: &[u64])
+        requires { Empty self.old.words × Unlisted self.old.lists × (item_count chart.now ≤ 4096) }
+        ensures { Indexed keys.now self.new.words self.new.lists (chart_of chart.now).records × Covered t.now.tables.grammar.words.now t.now.tables.graph.now self.new.words (chart_of chart.now).records }
     {
         chains::build(chart, &mut self.words[0..RANKS]);
         ranking::build(chart, &mut self.words[RANKS..DOUBT]);
         list_all(keys, chart, &mut self.lists);
-        cover_all(t, plans, graph, chart, &mut self.words);
+        cover_all(t, chart, &mut self.words);
     }
 
     // The first waiting record of least count waits no more: whoever takes it marks it in the chart. The ranking may be

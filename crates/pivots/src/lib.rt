@@ -3,17 +3,16 @@
 
 #![tactic(auto)]
 
-ghost use Rattle.std.specs.Prelude.{◌≡◌, MatchOption, IfSome, true, [], ◌∷◌, ℕ, ◌≤◌, ◌<◌, length, replicate};
+ghost use Rattle.std.specs.Prelude.{◌≡◌, MatchOption, IfSome, [], ◌∷◌, ℕ, ◌≤◌, ◌<◌, length, replicate};
 ghost use Rattle.hrg.specs.Grammars.{rule_of};
-ghost use Rattle.questions.specs.Checking.{check_grammar};
 ghost use Rattle.questions.specs.Abstract.{grammar_of};
 ghost use Rattle.joins.specs.Joins.{KnownNode, KnownEdge, edge_nodes};
-ghost use Rattle.rules.specs.Plans.{PlanTable};
 ghost use Rattle.keys.specs.Pivots.{no_pivot, shared_node, EdgePivot, PivotBelow, PivotOf};
 ghost use Rattle.keys.specs.Keys.{base_of, mixed, image_of, key_word, place_of, place_word, rule_places, asked_from, sought_from, key_table_words, rule_place, rule_word, symbol_word, KeyTable, Entered, Placed, place_key, word_for, uses_of, keys_from, keys_of, query_of};
 
 use agenda::ChartItem;
-use rules::plans::{PER_RULE, PLAN_TABLE_WORDS};
+use rules::planned::PlannedGrammar;
+use rules::plans::PER_RULE;
 
 // The size of the table of key words.
 pub const KEY_TABLE_WORDS: usize = 2240;
@@ -43,14 +42,15 @@ const NO_PIVOT: u64 = 72;
 
 // ---- pivots
 // Below a plan node that introduces edge i: the first position of the edge whose node is open at p, with that node.
-fn edge_pivot(g: &[u64], plans: &[u32; PLAN_TABLE_WORDS], r: u64, p: u64, i: u64) -> u64
-    requires { KnownNode g.now r p × KnownEdge g.now r i × PlanTable g.now plans.now }
-    ensures { EdgePivot (rule_of (grammar_of g.now) r) p (edge_nodes g.now r i) result × (result ≤ no_pivot) }
+fn edge_pivot(g: &PlannedGrammar, r: u64, p: u64, i: u64) -> u64
+    requires { KnownNode g.now.grammar.words.now r p × KnownEdge g.now.grammar.words.now r i }
+    ensures { EdgePivot (rule_of (grammar_of g.now.grammar.words.now) r) p (edge_nodes g.now.grammar.words.now r i) result × (result ≤ no_pivot) }
 {
-    let nodes = rules::plans::open_at(g, plans, r, p);
-    let rank = layout::rank_at(g, layout::edge_label(g, r, i));
+    let words = g.grammar.words;
+    let nodes = rules::plans::open_at(g, r, p);
+    let rank = layout::rank_at(words, layout::edge_label(words, r, i));
     for k in 0..rank {
-        let v = layout::edge_node(g, r, i, k);
+        let v = layout::edge_node(words, r, i, k);
         if masks::has(nodes, v) {
             return NODE_END * k + v;
         }
@@ -60,13 +60,13 @@ fn edge_pivot(g: &[u64], plans: &[u32; PLAN_TABLE_WORDS], r: u64, p: u64, i: u64
 
 // At the two children of a join: the last rule node that is open at both, 8 for none, as the definition of a pivot has
 // it.
-fn shared_node(g: &[u64], plans: &[u32; PLAN_TABLE_WORDS], r: u64, p: u64, q: u64) -> u64
-    requires { KnownNode g.now r p × KnownNode g.now r q × PlanTable g.now plans.now }
-    ensures { (result ≡ shared_node (grammar_of g.now) r p q) × (result ≤ 8) }
+fn shared_node(g: &PlannedGrammar, r: u64, p: u64, q: u64) -> u64
+    requires { KnownNode g.now.grammar.words.now r p × KnownNode g.now.grammar.words.now r q }
+    ensures { (result ≡ shared_node (grammar_of g.now.grammar.words.now) r p q) × (result ≤ 8) }
 {
-    let here = rules::plans::open_at(g, plans, r, p);
-    let there = rules::plans::open_at(g, plans, r, q);
-    for v in (0..layout::rule_nodes(g, r)).rev() {
+    let here = rules::plans::open_at(g, r, p);
+    let there = rules::plans::open_at(g, r, q);
+    for v in (0..layout::rule_nodes(g.grammar.words, r)).rev() {
         if masks::has(here, v) & masks::has(there, v) {
             return v;
         }
@@ -75,27 +75,28 @@ fn shared_node(g: &[u64], plans: &[u32; PLAN_TABLE_WORDS], r: u64, p: u64, q: u6
 }
 
 // What plan node q asks of the pivot of p.
-fn pivot_below(g: &[u64], plans: &[u32; PLAN_TABLE_WORDS], r: u64, p: u64, q: u64) -> u64
-    requires { KnownNode g.now r q × PlanTable g.now plans.now }
-    ensures { PivotBelow g.now r p q result × (result ≤ no_pivot) }
+fn pivot_below(g: &PlannedGrammar, r: u64, p: u64, q: u64) -> u64
+    requires { KnownNode g.now.grammar.words.now r q }
+    ensures { PivotBelow g.now.grammar.words.now r p q result × (result ≤ no_pivot) }
 {
-    let kind = layout::plan_kind(g, r, q);
-    let first = layout::plan_first(g, r, q);
-    let second = layout::plan_second(g, r, q);
+    let words = g.grammar.words;
+    let kind = layout::plan_kind(words, r, q);
+    let first = layout::plan_first(words, r, q);
+    let second = layout::plan_second(words, r, q);
     match kind {
         0 => NO_PIVOT,
         1 => {
             if first == p {
-                return edge_pivot(g, plans, r, p, second);
+                return edge_pivot(g, r, p, second);
             }
             NO_PIVOT
         }
         2 => {
             if first == p {
-                return 64 + shared_node(g, plans, r, p, second);
+                return 64 + shared_node(g, r, p, second);
             }
             if second == p {
-                return 64 + shared_node(g, plans, r, p, first);
+                return 64 + shared_node(g, r, p, first);
             }
             NO_PIVOT
         }
@@ -104,13 +105,12 @@ fn pivot_below(g: &[u64], plans: &[u32; PLAN_TABLE_WORDS], r: u64, p: u64, q: u6
 }
 
 // The pivot of rule r and plan node p.
-fn pivot(g: &[u64], plans: &[u32; PLAN_TABLE_WORDS], r: u64, p: u64) -> u64
-    requires { (check_grammar g.now ≡ true) × PlanTable g.now plans.now }
-    ensures { PivotOf g.now r p result }
+fn pivot(g: &PlannedGrammar, r: u64, p: u64) -> u64
+    ensures { PivotOf g.now.grammar.words.now r p result }
 {
-    match rules::plans::place_above(g, plans, r, p) {
+    match rules::plans::place_above(g, r, p) {
         None => NO_PIVOT,
-        Some(q) => pivot_below(g, plans, r, p, q),
+        Some(q) => pivot_below(g, r, p, q),
     }
 }
 
@@ -204,14 +204,14 @@ fn fill_places(t: &mut [u32])
 // The table, into words that are 0: for all rules and plan nodes the words by which active items are listed, then
 // those by which they ask; for each symbol the positions at which it is wanted, and the same two words of passive
 // items.
-pub fn fill(g: &[u64], plans: &[u32; PLAN_TABLE_WORDS], t: &mut [u32])
-    requires { (check_grammar g.now ≡ true) × PlanTable g.now plans.now × (t.old ≡ replicate key_table_words 0) }
-    ensures { KeyTable g.now t.new }
+pub fn fill(g: &PlannedGrammar, t: &mut [u32])
+    requires { t.old ≡ replicate key_table_words 0 }
+    ensures { KeyTable g.now.grammar.words.now t.new }
 {
-    for i in 0..PER_RULE * layout::rule_count(g) {
-        let want = rules::wants::want_of(g, plans, i / PER_RULE, i % PER_RULE);
+    for i in 0..PER_RULE * layout::rule_count(g.grammar.words) {
+        let want = rules::wants::want_of(g, i / PER_RULE, i % PER_RULE);
         if want != 80 {
-            let w = pivot(g, plans, i / PER_RULE, i % PER_RULE);
+            let w = pivot(g, i / PER_RULE, i % PER_RULE);
             enter(t, i, want, w);
         }
     }

@@ -9,8 +9,7 @@ use Rattle.agenda.specs.Records.{item_of}
 use Rattle.agenda.specs.declared.ChartItem.{ChartItem}
 use Rattle.questions.specs.Layout.{plan_kind, plan_first, plan_second, edge_label}
 use Rattle.questions.specs.Abstract.{grammar_of}
-use Rattle.joins.specs.Joins.{Accepted, KnownNode, OpenAt, nodes_word}
-use Rattle.joins.specs.Graphs.{GraphTable}
+use Rattle.joins.specs.Joins.{KnownNode, OpenAt, nodes_word}
 use Rattle.rules.specs.declared.plans.Parent.{Parent}
 use Rattle.rules.specs.Rules.{Above}
 
@@ -68,12 +67,6 @@ pub record Asks (g : List ℕ) (r q w : ℕ) : Type 0 where
   pub node : KnownNode g r q
   pub inner : plan_kind g r q ≡ 0 → ⊥
   pub word : w ≡ second_word g r q
-
--- accepted tables, and what a run works out from them for the rules
-pub record RunTables (g h plans graph : List ℕ) : Type 0 where
-  pub accepted : Accepted g h
-  pub planned : PlanTable g plans
-  pub graphed : GraphTable g h graph
 
 -- where two items make something in some graph, x is only the first of them or only the second
 pub record Leads (g : List ℕ) (x : ChartItem) (first : Bool) : Type 0 where

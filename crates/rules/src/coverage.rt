@@ -2,15 +2,12 @@
 ghost use Rattle.std.specs.Prelude.{◌≡◌, true, ℕ, ◌≤◌, ◌<◌};
 ghost use Rattle.masks.specs.Masks.{member};
 ghost use Rattle.hrg.specs.Trees.{at};
-ghost use Rattle.questions.specs.Checking.{check_grammar};
-ghost use Rattle.rules.specs.Plans.{PlanTable, RunTables};
 ghost use Rattle.rules.specs.Coverage.{Shown, Covering};
 
+use crate::planned::PlannedGrammar;
 use crate::plans;
-use crate::plans::PLAN_TABLE_WORDS;
+use crate::running::RunTables;
 use agenda::ChartItem;
-use joins::accepted::AcceptedTables;
-use joins::graphs::GRAPH_TABLE_WORDS;
 use places::PLACES;
 
 // The graph nodes at those of the first n places that are in the set `chosen`.
@@ -29,45 +26,43 @@ fn images(n: u64, chosen: u64, l: [u8; PLACES]) -> u64
 }
 
 // The graph nodes that an active or a passive item shows: none where its rule, plan node or symbol is unknown.
-fn shown(g: &[u64], plans: &[u32; PLAN_TABLE_WORDS], x: ChartItem) -> u64
-    requires { (check_grammar g.now ≡ true) × PlanTable g.now plans.now }
-    ensures { (v : ℕ) → v < 64 → member result v ≡ true → Shown g.now x v }
+fn shown(g: &PlannedGrammar, x: ChartItem) -> u64
+    ensures { (v : ℕ) → v < 64 → member result v ≡ true → Shown g.now.grammar.words.now x v }
 {
+    let words = g.grammar.words;
     let of = x.of as u64;
     if of >= 64 {
         return 0;
     }
     if x.kind != 0 {
-        return images(joins::rank_of(g, of), 255, x.nodes);
+        return images(joins::rank_of(words, of), 255, x.nodes);
     }
-    if of >= layout::rule_count(g) {
+    if of >= layout::rule_count(words) {
         return 0;
     }
     let p = x.plan as u64;
-    if p >= layout::rule_plan(g, of) {
+    if p >= layout::rule_plan(words, of) {
         return 0;
     }
     images(
-        layout::rule_nodes(g, of),
-        plans::open_at(g, plans, of, p),
+        layout::rule_nodes(words, of),
+        plans::open_at(g, of, p),
         x.nodes,
     )
 }
 
 // Whether x shows each open graph node of its edges. A fresh chart has items without edges only, and those have none.
 // A false where it does would cost time, not an answer.
-pub fn covers(
-    t: &AcceptedTables,
-    plans: &[u32; PLAN_TABLE_WORDS],
-    graph: &[u64; GRAPH_TABLE_WORDS],
-    x: ChartItem,
-) -> bool
-    requires { RunTables t.now.grammar.words.now t.now.graph.now plans.now graph.now }
-    ensures { result ≡ true → Covering t.now.grammar.words.now t.now.graph.now x }
+pub fn covers(t: &RunTables, x: ChartItem) -> bool
+    ensures { result ≡ true → Covering t.now.tables.grammar.words.now t.now.tables.graph.now x }
 {
     if x.edges == 0 {
         return true;
     }
-    let nodes = joins::open_in(t, graph, x.edges);
-    nodes & shown(t.grammar.words, plans, x) == nodes
+    let nodes = joins::open_in(&t.tables, t.graph, x.edges);
+    let g = PlannedGrammar {
+        grammar: t.tables.grammar,
+        plans: t.plans,
+    };
+    nodes & shown(&g, x) == nodes
 }

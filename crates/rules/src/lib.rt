@@ -8,23 +8,25 @@ ghost use Rattle.hrg.specs.Grammars.{edge_at};
 ghost use Rattle.hrg.specs.Trees.{padded};
 ghost use Rattle.agenda.specs.Records.{plus};
 ghost use Rattle.questions.specs.Layout.{rule_count, rule_nodes, graph_edges};
-ghost use Rattle.questions.specs.Checking.{check_grammar};
 ghost use Rattle.joins.specs.Joins.{BareFrom};
-ghost use Rattle.joins.specs.Graphs.{GraphTable};
 ghost use Rattle.joins.specs.Tables.{grammar_in, graph_in};
 ghost use Rattle.rules.specs.Rules.{Gives, GivesRoot, Second, root_list, pair_items, Usable, StandsFor};
 ghost use Rattle.rules.specs.Wants.{want_of};
-ghost use Rattle.rules.specs.Plans.{Asks, RunTables};
+ghost use Rattle.rules.specs.Plans.{Asks};
 ghost use Rattle.rules.specs.Candidates.{Introduces, Candidates};
 
 use agenda::ChartItem;
-use joins::accepted::AcceptedTables;
+use joins::accepted::{AcceptedGrammar, AcceptedTables};
 use joins::graphs::GRAPH_TABLE_WORDS;
 use places::{NONE, PLACES};
-use plans::{PER_RULE, PLAN_TABLE_WORDS};
+use planned::PlannedGrammar;
+use plans::PER_RULE;
+use running::RunTables;
 
 pub mod coverage;
+pub mod planned;
 pub mod plans;
+pub mod running;
 pub mod wants;
 
 // A sum of counts, or the most that a count can be.
@@ -37,15 +39,15 @@ pub fn plus(a: u32, b: u32) -> u32
 
 // ---- lists of graph nodes: eight places, 64 where there is none
 // The images of a rule's external nodes by a map.
-fn root_nodes(g: &[u64], r: u64, f: [u8; PLACES]) -> [u8; PLACES]
-    requires { (check_grammar g.now ≡ true) × (r < rule_count g.now) }
-    ensures { result ≡ root_list g.now r f }
+fn root_nodes(g: &AcceptedGrammar, r: u64, f: [u8; PLACES]) -> [u8; PLACES]
+    requires { r < rule_count g.now.words.now }
+    ensures { result ≡ root_list g.now.words.now r f }
 {
-    let rank = layout::rank_at(g, layout::rule_symbol(g, r));
+    let rank = layout::rank_at(g.words, layout::rule_symbol(g.words, r));
     let map = places::word_of(f);
     let mut l = NONE;
     for k in 0..rank {
-        let x = layout::rule_external(g, r, k);
+        let x = layout::rule_external(g.words, r, k);
         l = places::with_node(l, k, places::node_at(map, x));
     }
     places::nodes_of(l)
@@ -98,22 +100,24 @@ fn second_map(g: &[u64], of: u64, q: u64, w: u64, y: ChartItem) -> Option<[u8; P
 // What x first and y second make, with the count `count`. Items may have any numbers: an unknown rule or plan node
 // makes nothing. It may be sure that both cover their open nodes: then what they make does.
 pub fn combined(
-    t: &AcceptedTables,
-    plans: &[u32; PLAN_TABLE_WORDS],
-    graph: &[u64; GRAPH_TABLE_WORDS],
+    t: &RunTables,
     x: ChartItem,
     y: ChartItem,
     count: u32,
     sure: bool,
 ) -> Option<ChartItem>
-    requires { RunTables t.now.grammar.words.now t.now.graph.now plans.now graph.now × Usable t.now.grammar.words.now t.now.graph.now sure x × Usable t.now.grammar.words.now t.now.graph.now sure y }
-    ensures { Gives t.now.grammar.words.now t.now.graph.now sure (pair_items t.now.grammar.words.now t.now.graph.now x y) count result }
+    requires { Usable t.now.tables.grammar.words.now t.now.tables.graph.now sure x × Usable t.now.tables.grammar.words.now t.now.tables.graph.now sure y }
+    ensures { Gives t.now.tables.grammar.words.now t.now.tables.graph.now sure (pair_items t.now.tables.grammar.words.now t.now.tables.graph.now x y) count result }
 {
     if x.kind != 0 {
         return None;
     }
     let r = x.of as u64;
-    let above = plans::parent_in(t.grammar.words, plans, r, x.plan as u64);
+    let g = PlannedGrammar {
+        grammar: t.tables.grammar,
+        plans: t.plans,
+    };
+    let above = plans::parent_in(&g, r, x.plan as u64);
     let q = above.word % 32;
     if q >= PER_RULE {
         return None;
@@ -122,10 +126,12 @@ pub fn combined(
     if w % 4 == 3 {
         return None;
     }
-    let s = second_map(t.grammar.words, r, q, w, y)?;
+    let s = second_map(t.tables.grammar.words, r, q, w, y)?;
     let f = x.nodes;
     let stays = above.stays;
-    let nodes = joins::combine(t, graph, r, q, stays, x.edges, y.edges, sure, f, s)?;
+    let nodes = joins::combine(
+        &t.tables, t.graph, r, q, stays, x.edges, y.edges, sure, f, s,
+    )?;
     Some(ChartItem {
         kind: 0,
         of: x.of,
@@ -154,21 +160,20 @@ pub fn edge_item(t: &AcceptedTables, e: u64) -> ChartItem
 }
 
 // The passive item of x where that is at the root of its rule's plan, the last plan node.
-pub fn root(g: &[u64], x: ChartItem) -> Option<ChartItem>
-    requires { check_grammar g.now ≡ true }
-    ensures { GivesRoot g.now x result }
+pub fn root(g: &AcceptedGrammar, x: ChartItem) -> Option<ChartItem>
+    ensures { GivesRoot g.now.words.now x result }
 {
     if x.kind != 0 {
         return None;
     }
     let r = x.of as u64;
-    if r >= layout::rule_count(g) {
+    if r >= layout::rule_count(g.words) {
         return None;
     }
-    if x.plan as u64 + 1 != layout::rule_plan(g, r) {
+    if x.plan as u64 + 1 != layout::rule_plan(g.words, r) {
         return None;
     }
-    let of = layout::rule_symbol(g, r);
+    let of = layout::rule_symbol(g.words, r);
     Some(ChartItem {
         kind: 1,
         of: of as u8,
@@ -193,39 +198,26 @@ fn with_node(graph: &[u64; GRAPH_TABLE_WORDS], k: u64, a: u64, m: u64) -> u64
 }
 
 // Those of the candidates m whose nodes are the images that x has for the nodes of rule edge i, place by place.
-fn fitting(
-    t: &AcceptedTables,
-    graph: &[u64; GRAPH_TABLE_WORDS],
-    want: u64,
-    x: ChartItem,
-    i: u64,
-    m: u64,
-) -> u64
-    requires { Introduces t.now.grammar.words.now t.now.graph.now x want i × GraphTable t.now.grammar.words.now t.now.graph.now graph.now × Candidates t.now.grammar.words.now t.now.graph.now x m }
-    ensures { Candidates t.now.grammar.words.now t.now.graph.now x result }
+fn fitting(t: &RunTables, want: u64, x: ChartItem, i: u64, m: u64) -> u64
+    requires { Introduces t.now.tables.grammar.words.now t.now.tables.graph.now x want i × Candidates t.now.tables.grammar.words.now t.now.tables.graph.now x m }
+    ensures { Candidates t.now.tables.grammar.words.now t.now.tables.graph.now x result }
 {
     let of = x.of as u64;
     let map = places::word_of(x.nodes);
-    let rank = layout::rank_at(t.grammar.words, want);
+    let rank = layout::rank_at(t.tables.grammar.words, want);
     let mut rest = m;
     for k in 0..rank {
-        let y = layout::edge_node_in(t.grammar.words, of, i, k);
-        rest = with_node(graph, k, places::node_at(map, y), rest);
+        let y = layout::edge_node_in(t.tables.grammar.words, of, i, k);
+        rest = with_node(t.graph, k, places::node_at(map, y), rest);
     }
     rest
 }
 
 // The graph edges that x may make something with, where x wants `want` if it is active: with any other edge it makes
 // nothing.
-pub fn candidates(
-    t: &AcceptedTables,
-    plans: &[u32; PLAN_TABLE_WORDS],
-    graph: &[u64; GRAPH_TABLE_WORDS],
-    want: u64,
-    x: ChartItem,
-) -> u64
-    requires { RunTables t.now.grammar.words.now t.now.graph.now plans.now graph.now × (want ≡ want_of (grammar_in t.now) x.of x.plan) }
-    ensures { Candidates t.now.grammar.words.now t.now.graph.now x result }
+pub fn candidates(t: &RunTables, want: u64, x: ChartItem) -> u64
+    requires { want ≡ want_of (grammar_in t.now.tables) x.of x.plan }
+    ensures { Candidates t.now.tables.grammar.words.now t.now.tables.graph.now x result }
 {
     if x.kind != 0 {
         return 0;
@@ -234,11 +226,15 @@ pub fn candidates(
         return 0;
     }
     let of = x.of as u64;
-    let q = plans::parent_in(t.grammar.words, plans, of, x.plan as u64).word % 32;
+    let g = PlannedGrammar {
+        grammar: t.tables.grammar,
+        plans: t.plans,
+    };
+    let q = plans::parent_in(&g, of, x.plan as u64).word % 32;
     if q >= PER_RULE {
         return 0;
     }
-    let i = layout::plan_second_in(t.grammar.words, of, q);
-    let m = graph[(257 + want) as usize] & !x.edges;
-    fitting(t, graph, want, x, i, m)
+    let i = layout::plan_second_in(t.tables.grammar.words, of, q);
+    let m = t.graph[(257 + want) as usize] & !x.edges;
+    fitting(t, want, x, i, m)
 }

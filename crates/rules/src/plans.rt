@@ -1,11 +1,13 @@
 // What the plan node above each asks for, and the rule nodes that are open there: worked out once, for all pairs.
-ghost use Rattle.std.specs.Prelude.{◌≡◌, true, ◌+◌, ◌*◌, ◌<◌, length, replicate};
-ghost use Rattle.questions.specs.Checking.{check_grammar};
+ghost use Rattle.std.specs.Prelude.{◌≡◌, ◌+◌, ◌*◌, ◌<◌, length, replicate};
 ghost use Rattle.questions.specs.Layout.{rule_count, plan_kind};
 ghost use Rattle.joins.specs.Joins.{KnownNode, KnownEdge, OpenAt};
 ghost use Rattle.rules.specs.Rules.{Above};
 ghost use Rattle.rules.specs.Plans.{plan_table_words, edge_word, second_word, ParentAt, PlanTable};
 ghost use Rattle.rules.specs.Filling.{Placed, Put, ToldTo};
+
+use crate::planned::PlannedGrammar;
+use joins::accepted::AcceptedGrammar;
 
 // A plan node as one number (`join_word`), which has 16 for its number where there is none, as it has in the table's
 // words, and the rule nodes that are open there.
@@ -74,27 +76,27 @@ fn put_children(g: &[u64], r: u64, q: u64, o: u64, t: &mut [u32])
 }
 
 // The plan nodes of rule r, which have lower numbers than their parents.
-fn fill_rule(g: &[u64], r: u64, t: &mut [u32])
-    requires { (check_grammar g.now ≡ true) × (r < rule_count g.now) × ToldTo g.now t.old r 0 }
-    ensures { ToldTo g.now t.new (r + 1) 0 }
+fn fill_rule(g: &AcceptedGrammar, r: u64, t: &mut [u32])
+    requires { (r < rule_count g.now.words.now) × ToldTo g.now.words.now t.old r 0 }
+    ensures { ToldTo g.now.words.now t.new (r + 1) 0 }
 {
-    let n = layout::rule_plan(g, r);
+    let n = layout::rule_plan(g.words, r);
     let mut ms = [0u64; 16];
     for q in 0..n {
-        let m = joins::node_below(g, r, q, &ms);
+        let m = joins::node_below(g.words, r, q, &ms);
         ms[q as usize] = m;
-        let o = joins::open_at(g, r, q, m);
-        put_children(g, r, q, o, t);
+        let o = joins::open_at(g.words, r, q, m);
+        put_children(g.words, r, q, o, t);
     }
 }
 
 // The table for all rules and plan nodes, in two halves; where no plan node is above it stays as it was made, all
 // zeros.
-pub fn fill(g: &[u64], t: &mut [u32])
-    requires { (check_grammar g.now ≡ true) × (t.old ≡ replicate plan_table_words 0) }
-    ensures { PlanTable g.now t.new }
+pub fn fill(g: &AcceptedGrammar, t: &mut [u32])
+    requires { t.old ≡ replicate plan_table_words 0 }
+    ensures { PlanTable g.now.words.now t.new }
 {
-    for r in 0..layout::rule_count(g) {
+    for r in 0..layout::rule_count(g.words) {
         fill_rule(g, r, t);
     }
 }
@@ -102,9 +104,8 @@ pub fn fill(g: &[u64], t: &mut [u32])
 // ---- read off the table
 // The plan node above p in rule r and the rule nodes that are open there, for any r and p; a word 0 in the first half
 // of the table says that there is none.
-pub fn parent_in(g: &[u64], t: &[u32; PLAN_TABLE_WORDS], r: u64, p: u64) -> Parent
-    requires { (check_grammar g.now ≡ true) × PlanTable g.now t.now }
-    ensures { ParentAt g.now r p result }
+pub fn parent_in(g: &PlannedGrammar, r: u64, p: u64) -> Parent
+    ensures { ParentAt g.now.grammar.words.now r p result }
 {
     let none = Parent {
         word: PER_RULE,
@@ -117,32 +118,32 @@ pub fn parent_in(g: &[u64], t: &[u32; PLAN_TABLE_WORDS], r: u64, p: u64) -> Pare
         return none;
     }
     let i = (PER_RULE * r + p) as usize;
-    let w = t[i] as u64;
+    let w = g.plans[i] as u64;
     if w == 0 {
         return none;
     }
     Parent {
         word: w,
-        stays: t[STAYS_FROM + i] as u64,
+        stays: g.plans[STAYS_FROM + i] as u64,
     }
 }
 
 // The plan node above p in rule r: any rule and a plan node that may not be there.
-pub fn place_above(g: &[u64], t: &[u32; PLAN_TABLE_WORDS], r: u64, p: u64) -> Option<u64>
-    requires { (check_grammar g.now ≡ true) × PlanTable g.now t.now }
-    ensures { Above g.now r p result }
+pub fn place_above(g: &PlannedGrammar, r: u64, p: u64) -> Option<u64>
+    ensures { Above g.now.grammar.words.now r p result }
 {
-    let node = parent_in(g, t, r, p).word % 32;
+    let node = parent_in(g, r, p).word % 32;
     if node < PER_RULE { Some(node) } else { None }
 }
 
 // The open rule nodes at plan node p: those that its first child is told of, and none at a leaf.
-pub fn open_at(g: &[u64], t: &[u32; PLAN_TABLE_WORDS], r: u64, p: u64) -> u64
-    requires { KnownNode g.now r p × PlanTable g.now t.now }
-    ensures { OpenAt g.now r p result }
+pub fn open_at(g: &PlannedGrammar, r: u64, p: u64) -> u64
+    requires { KnownNode g.now.grammar.words.now r p }
+    ensures { OpenAt g.now.grammar.words.now r p result }
 {
-    match layout::plan_kind_in(g, r, p) {
+    let words = g.grammar.words;
+    match layout::plan_kind_in(words, r, p) {
         0 => 0,
-        _ => parent_in(g, t, r, layout::plan_first_in(g, r, p)).stays,
+        _ => parent_in(g, r, layout::plan_first_in(words, r, p)).stays,
     }
 }

@@ -1,12 +1,10 @@
 // What an active item at a plan node can be joined with above it, as one number, by the word of that plan node.
-ghost use Rattle.std.specs.Prelude.{◌≡◌, true};
-ghost use Rattle.questions.specs.Checking.{check_grammar};
+ghost use Rattle.std.specs.Prelude.{◌≡◌};
 ghost use Rattle.questions.specs.Abstract.{grammar_of};
-ghost use Rattle.rules.specs.Plans.{PlanTable};
 ghost use Rattle.rules.specs.Wants.{want_of, want_by};
 
+use crate::planned::PlannedGrammar;
 use crate::plans;
-use crate::plans::PLAN_TABLE_WORDS;
 
 // What the plan node of the word w wants, 80 for nothing: a number and no option, as what is wanted is part of words.
 fn wanted(w: u64) -> u64
@@ -23,9 +21,8 @@ fn wanted(w: u64) -> u64
 }
 
 // What an item of rule r at plan node p wants: nothing where there is no such rule or plan node.
-pub fn want_of(g: &[u64], plans: &[u32; PLAN_TABLE_WORDS], r: u64, p: u64) -> u64
-    requires { (check_grammar g.now ≡ true) × PlanTable g.now plans.now }
-    ensures { result ≡ want_of (grammar_of g.now) r p }
+pub fn want_of(g: &PlannedGrammar, r: u64, p: u64) -> u64
+    ensures { result ≡ want_of (grammar_of g.now.grammar.words.now) r p }
 {
-    wanted(plans::parent_in(g, plans, r, p).word)
+    wanted(plans::parent_in(g, r, p).word)
 }

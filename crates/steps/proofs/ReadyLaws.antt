@@ -11,7 +11,6 @@ use borrow.Author.Tests.{eqb-true}
 use Rattle.agenda.specs.Records.{is_handled}
 use Rattle.rules.specs.Coverage.{Covering}
 use Rattle.rules.specs.Rules.{Usable}
-use Rattle.rules.specs.Plans.{RunTables}
 use Rattle.agenda.specs.declared.ChartItem.{ChartItem}
 use Rattle.agenda.specs.declared.Record.{Record}
 use Rattle.agenda.specs.Consequences.{consequences}
@@ -92,10 +91,6 @@ covering_at g h w ix k S l d = subst (λ (y : Record). Covering g h y.item) (rec
 -- .. of its item, where the index says so
 pub covering_of : (g h w ix : List ℕ) (k : ℕ) (x : ChartItem) (sure : Bool) → Covered g h ix (chart_of w).records → k < item_count w → x ≡ (record_at w k).item → sure ≡ eqb (doubt_of ix) 0 → sure ≡ true → Covering g h x
 covering_of g h w ix k x sure S l e q s = subst (Covering g h) (sym e) (covering_at g h w ix k S l (eqb-true (doubt_of ix) 0 (sym q ∙ s)))
-
--- the tables that the rules look at
-pub run_tables : {g h plans keys graph : List ℕ} → Tables g h plans keys graph → RunTables g h plans graph
-run_tables T = record { accepted = T.accepted; planned = T.planned; graphed = T.graphed }
 
 -- the item of a record may be given to a rule
 pub usable_at : {g h keys w ix ls : List ℕ} → Accepted g h → Ready g h keys w ix ls → {k : ℕ} {x : ChartItem} {sure : Bool} → k < item_count w → x ≡ (record_at w k).item → sure ≡ eqb (doubt_of ix) 0 → Usable g h sure x

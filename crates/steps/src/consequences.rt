@@ -7,7 +7,6 @@ ghost use Rattle.agenda.specs.Consequences.{gather, at_root, with_terminal, pair
 ghost use Rattle.questions.specs.Layout.{graph_edges};
 ghost use Rattle.joins.specs.Tables.{grammar_in, graph_in};
 ghost use Rattle.rules.specs.Rules.{pair_items, Usable};
-ghost use Rattle.rules.specs.Plans.{RunTables};
 ghost use Rattle.rules.specs.Candidates.{Candidates};
 ghost use Rattle.lists.specs.Lists.{list_words, Within};
 ghost use Rattle.lists.specs.Cursors.{alone, starts_of, passed_of};
@@ -22,14 +21,15 @@ ghost use Rattle.steps.specs.Ways.{Rests};
 use crate::lookups::Lookups;
 use agenda::ChartItem;
 use index::Index;
+use rules::planned::PlannedGrammar;
 use rules::wants;
 
 // The passive item of a root item, made of the record at place j.
 fn add_root(t: &Lookups, chart: &mut [u64], index: &mut Index, j: u64)
-    requires { Ready t.now.tables.grammar.words.now t.now.tables.graph.now t.now.keys.now chart.old index.old.words index.old.lists × Handled chart.old j }
-    ensures { (chart.new ≡ grown_by chart.old (at_root (grammar_in t.now.tables) (item_of (grammar_in t.now.tables) (record_at chart.old j).item) (record_at chart.old j).item.count j)) × Ready t.now.tables.grammar.words.now t.now.tables.graph.now t.now.keys.now chart.new index.new.words index.new.lists }
+    requires { Ready t.now.run.tables.grammar.words.now t.now.run.tables.graph.now t.now.keys.now chart.old index.old.words index.old.lists × Handled chart.old j }
+    ensures { (chart.new ≡ grown_by chart.old (at_root (grammar_in t.now.run.tables) (item_of (grammar_in t.now.run.tables) (record_at chart.old j).item) (record_at chart.old j).item.count j)) × Ready t.now.run.tables.grammar.words.now t.now.run.tables.graph.now t.now.keys.now chart.new index.new.words index.new.lists }
 {
-    let Some(item) = rules::root(t.tables.grammar.words, records::item_at(chart, j)) else {
+    let Some(item) = rules::root(&t.run.tables.grammar, records::item_at(chart, j)) else {
         return;
     };
     let hash = chains::hash(item);
@@ -48,10 +48,10 @@ fn add_joined(
     first: u64,
     second: u64,
 )
-    requires { RunTables t.now.tables.grammar.words.now t.now.tables.graph.now t.now.plans.now t.now.graph.now × Usable t.now.tables.grammar.words.now t.now.tables.graph.now sure x × Usable t.now.tables.grammar.words.now t.now.tables.graph.now sure y × Indexed t.now.keys.now index.old.words index.old.lists (chart_of chart.old).records × Fits chart.old × (capacity chart.old ≤ 4096) × (first < 65536) × (second < 65536) }
-    ensures { Joined t.now.tables.grammar.words.now t.now.tables.graph.now sure (pair_items t.now.tables.grammar.words.now t.now.tables.graph.now x y) count first second t.now.keys.now chart.old index.old.words index.old.lists chart.new index.new.words index.new.lists }
+    requires { Usable t.now.run.tables.grammar.words.now t.now.run.tables.graph.now sure x × Usable t.now.run.tables.grammar.words.now t.now.run.tables.graph.now sure y × Indexed t.now.keys.now index.old.words index.old.lists (chart_of chart.old).records × Fits chart.old × (capacity chart.old ≤ 4096) × (first < 65536) × (second < 65536) }
+    ensures { Joined t.now.run.tables.grammar.words.now t.now.run.tables.graph.now sure (pair_items t.now.run.tables.grammar.words.now t.now.run.tables.graph.now x y) count first second t.now.keys.now chart.old index.old.words index.old.lists chart.new index.new.words index.new.lists }
 {
-    let Some(item) = rules::combined(&t.tables, t.plans, t.graph, x, y, count, sure) else {
+    let Some(item) = rules::combined(&t.run, x, y, count, sure) else {
         return;
     };
     let hash = chains::hash(item);
@@ -60,30 +60,34 @@ fn add_joined(
 
 // What it makes with graph edge e, if that is one of the candidates m.
 fn add_candidate(t: &Lookups, chart: &mut [u64], index: &mut Index, j: u64, m: u64, e: u64)
-    requires { Tables t.now.tables.grammar.words.now t.now.tables.graph.now t.now.plans.now t.now.keys.now t.now.graph.now × Ready t.now.tables.grammar.words.now t.now.tables.graph.now t.now.keys.now chart.old index.old.words index.old.lists × Handled chart.old j × Candidates t.now.tables.grammar.words.now t.now.tables.graph.now (record_at chart.old j).item m × (e < graph_edges t.now.tables.graph.now) }
-    ensures { (chart.new ≡ grown_by chart.old (with_terminal (grammar_in t.now.tables) (graph_in t.now.tables) (item_of (grammar_in t.now.tables) (record_at chart.old j).item) (record_at chart.old j).item.count j e)) × Ready t.now.tables.grammar.words.now t.now.tables.graph.now t.now.keys.now chart.new index.new.words index.new.lists }
+    requires { Tables t.now.run.tables.grammar.words.now t.now.run.tables.graph.now t.now.run.plans.now t.now.keys.now t.now.run.graph.now × Ready t.now.run.tables.grammar.words.now t.now.run.tables.graph.now t.now.keys.now chart.old index.old.words index.old.lists × Handled chart.old j × Candidates t.now.run.tables.grammar.words.now t.now.run.tables.graph.now (record_at chart.old j).item m × (e < graph_edges t.now.run.tables.graph.now) }
+    ensures { (chart.new ≡ grown_by chart.old (with_terminal (grammar_in t.now.run.tables) (graph_in t.now.run.tables) (item_of (grammar_in t.now.run.tables) (record_at chart.old j).item) (record_at chart.old j).item.count j e)) × Ready t.now.run.tables.grammar.words.now t.now.run.tables.graph.now t.now.keys.now chart.new index.new.words index.new.lists }
 {
     if !masks::has(m, e) {
         return;
     }
     let sure = index.sure();
     let x = records::item_at(chart, j);
-    let y = rules::edge_item(&t.tables, e);
+    let y = rules::edge_item(&t.run.tables, e);
     add_joined(t, chart, index, sure, x, y, x.count, j, e);
 }
 
 // What it makes with each graph edge: only those of the label that it wants, and that fit its map, are tried.
 fn add_terminals(t: &Lookups, chart: &mut [u64], index: &mut Index, j: u64)
-    requires { Tables t.now.tables.grammar.words.now t.now.tables.graph.now t.now.plans.now t.now.keys.now t.now.graph.now × Ready t.now.tables.grammar.words.now t.now.tables.graph.now t.now.keys.now chart.old index.old.words index.old.lists × Handled chart.old j }
-    ensures { (chart.new ≡ grown_by chart.old (gather (length (graph_in t.now.tables).edges) (λ e. with_terminal (grammar_in t.now.tables) (graph_in t.now.tables) (item_of (grammar_in t.now.tables) (record_at chart.old j).item) (record_at chart.old j).item.count j e))) × Ready t.now.tables.grammar.words.now t.now.tables.graph.now t.now.keys.now chart.new index.new.words index.new.lists }
+    requires { Tables t.now.run.tables.grammar.words.now t.now.run.tables.graph.now t.now.run.plans.now t.now.keys.now t.now.run.graph.now × Ready t.now.run.tables.grammar.words.now t.now.run.tables.graph.now t.now.keys.now chart.old index.old.words index.old.lists × Handled chart.old j }
+    ensures { (chart.new ≡ grown_by chart.old (gather (length (graph_in t.now.run.tables).edges) (λ e. with_terminal (grammar_in t.now.run.tables) (graph_in t.now.run.tables) (item_of (grammar_in t.now.run.tables) (record_at chart.old j).item) (record_at chart.old j).item.count j e))) × Ready t.now.run.tables.grammar.words.now t.now.run.tables.graph.now t.now.keys.now chart.new index.new.words index.new.lists }
 {
     let x = records::item_at(chart, j);
-    let want = wants::want_of(t.tables.grammar.words, t.plans, x.of as u64, x.plan as u64);
-    let m = rules::candidates(&t.tables, t.plans, t.graph, want, x);
+    let g = PlannedGrammar {
+        grammar: t.run.tables.grammar,
+        plans: t.run.plans,
+    };
+    let want = wants::want_of(&g, x.of as u64, x.plan as u64);
+    let m = rules::candidates(&t.run, want, x);
     if m == 0 {
         return;
     }
-    let n = layout::graph_edges(t.tables.graph);
+    let n = layout::graph_edges(t.run.tables.graph);
     for e in 0..n {
         add_candidate(t, chart, index, j, m, e);
     }
@@ -91,8 +95,8 @@ fn add_terminals(t: &Lookups, chart: &mut [u64], index: &mut Index, j: u64)
 
 // What the record at place j makes with the one at place k, the former first.
 fn add_pair(t: &Lookups, chart: &mut [u64], index: &mut Index, j: u64, k: u64)
-    requires { Tables t.now.tables.grammar.words.now t.now.tables.graph.now t.now.plans.now t.now.keys.now t.now.graph.now × Ready t.now.tables.grammar.words.now t.now.tables.graph.now t.now.keys.now chart.old index.old.words index.old.lists × Handled chart.old j × Handled chart.old k }
-    ensures { (chart.new ≡ grown_by chart.old (pair (grammar_in t.now.tables) (graph_in t.now.tables) (record_at chart.old j) j (record_at chart.old k) k)) × Ready t.now.tables.grammar.words.now t.now.tables.graph.now t.now.keys.now chart.new index.new.words index.new.lists }
+    requires { Tables t.now.run.tables.grammar.words.now t.now.run.tables.graph.now t.now.run.plans.now t.now.keys.now t.now.run.graph.now × Ready t.now.run.tables.grammar.words.now t.now.run.tables.graph.now t.now.keys.now chart.old index.old.words index.old.lists × Handled chart.old j × Handled chart.old k }
+    ensures { (chart.new ≡ grown_by chart.old (pair (grammar_in t.now.run.tables) (graph_in t.now.run.tables) (record_at chart.old j) j (record_at chart.old k) k)) × Ready t.now.run.tables.grammar.words.now t.now.run.tables.graph.now t.now.keys.now chart.new index.new.words index.new.lists }
 {
     let sure = index.sure();
     let x = records::item_at(chart, j);
@@ -122,8 +126,8 @@ fn add_met(
     k: u64,
     past: u64,
 ) -> u64
-    requires { Joining t.now.tables.grammar.words.now t.now.tables.graph.now t.now.plans.now t.now.keys.now t.now.graph.now chart.old index.old.words index.old.lists lead j × Handled chart.old k }
-    ensures { (chart.new ≡ grown_by chart.old (guard (leb past k) (with_record (grammar_in t.now.tables) (graph_in t.now.tables) (record_at chart.old j) j (record_at chart.old k) k))) × Ready t.now.tables.grammar.words.now t.now.tables.graph.now t.now.keys.now chart.new index.new.words index.new.lists × (result ≡ max past (k + 1)) }
+    requires { Joining t.now.run.tables.grammar.words.now t.now.run.tables.graph.now t.now.run.plans.now t.now.keys.now t.now.run.graph.now chart.old index.old.words index.old.lists lead j × Handled chart.old k }
+    ensures { (chart.new ≡ grown_by chart.old (guard (leb past k) (with_record (grammar_in t.now.run.tables) (graph_in t.now.run.tables) (record_at chart.old j) j (record_at chart.old k) k))) × Ready t.now.run.tables.grammar.words.now t.now.run.tables.graph.now t.now.keys.now chart.new index.new.words index.new.lists × (result ≡ max past (k + 1)) }
 {
     if k < past {
         return past;
@@ -144,8 +148,8 @@ fn add_next(
     k: u64,
     past: u64,
 ) -> u64
-    requires { Joining t.now.tables.grammar.words.now t.now.tables.graph.now t.now.plans.now t.now.keys.now t.now.graph.now chart.old index.old.words index.old.lists lead j × (k < item_count chart.old) }
-    ensures { (chart.new ≡ grown_by chart.old (guard (leb past k) (with_record (grammar_in t.now.tables) (graph_in t.now.tables) (record_at chart.old j) j (record_at chart.old k) k))) × Ready t.now.tables.grammar.words.now t.now.tables.graph.now t.now.keys.now chart.new index.new.words index.new.lists × (result ≡ max past (k + 1)) }
+    requires { Joining t.now.run.tables.grammar.words.now t.now.run.tables.graph.now t.now.run.plans.now t.now.keys.now t.now.run.graph.now chart.old index.old.words index.old.lists lead j × (k < item_count chart.old) }
+    ensures { (chart.new ≡ grown_by chart.old (guard (leb past k) (with_record (grammar_in t.now.run.tables) (graph_in t.now.run.tables) (record_at chart.old j) j (record_at chart.old k) k))) × Ready t.now.run.tables.grammar.words.now t.now.run.tables.graph.now t.now.keys.now chart.new index.new.words index.new.lists × (result ≡ max past (k + 1)) }
 {
     if k < past {
         return past;
@@ -167,8 +171,8 @@ fn add_listed(
     n: u64,
     key: u64,
 )
-    requires { Joining t.now.tables.grammar.words.now t.now.tables.graph.now t.now.plans.now t.now.keys.now t.now.graph.now chart.old index.old.words index.old.lists lead j × (n ≤ item_count chart.old) × (alone key ≡ query_of t.now.keys.now (record_at chart.old j).item) }
-    ensures { (chart.new ≡ grown_by chart.old (gather n (λ k. with_record (grammar_in t.now.tables) (graph_in t.now.tables) (record_at chart.old j) j (record_at chart.old k) k))) × Ready t.now.tables.grammar.words.now t.now.tables.graph.now t.now.keys.now chart.new index.new.words index.new.lists }
+    requires { Joining t.now.run.tables.grammar.words.now t.now.run.tables.graph.now t.now.run.plans.now t.now.keys.now t.now.run.graph.now chart.old index.old.words index.old.lists lead j × (n ≤ item_count chart.old) × (alone key ≡ query_of t.now.keys.now (record_at chart.old j).item) }
+    ensures { (chart.new ≡ grown_by chart.old (gather n (λ k. with_record (grammar_in t.now.run.tables) (graph_in t.now.run.tables) (record_at chart.old j) j (record_at chart.old k) k))) × Ready t.now.run.tables.grammar.words.now t.now.run.tables.graph.now t.now.keys.now chart.new index.new.words index.new.lists }
 {
     let edges = records::edges_at(chart, j);
     let end = 5 * n;
@@ -222,8 +226,8 @@ fn onward(chart: &[u64], index: &Index, edges: u64, n: u64, at: Cursors) -> Curs
 
 // What the record at place j makes with each of the first n records. Only those that its keys let through are tried.
 fn add_many(t: &Lookups, chart: &mut [u64], index: &mut Index, lead: bool, j: u64, n: u64)
-    requires { Joining t.now.tables.grammar.words.now t.now.tables.graph.now t.now.plans.now t.now.keys.now t.now.graph.now chart.old index.old.words index.old.lists lead j × (n ≤ item_count chart.old) }
-    ensures { (chart.new ≡ grown_by chart.old (gather n (λ k. with_record (grammar_in t.now.tables) (graph_in t.now.tables) (record_at chart.old j) j (record_at chart.old k) k))) × Ready t.now.tables.grammar.words.now t.now.tables.graph.now t.now.keys.now chart.new index.new.words index.new.lists }
+    requires { Joining t.now.run.tables.grammar.words.now t.now.run.tables.graph.now t.now.run.plans.now t.now.keys.now t.now.run.graph.now chart.old index.old.words index.old.lists lead j × (n ≤ item_count chart.old) }
+    ensures { (chart.new ≡ grown_by chart.old (gather n (λ k. with_record (grammar_in t.now.run.tables) (graph_in t.now.run.tables) (record_at chart.old j) j (record_at chart.old k) k))) × Ready t.now.run.tables.grammar.words.now t.now.run.tables.graph.now t.now.keys.now chart.new index.new.words index.new.lists }
 {
     let x = records::item_at(chart, j);
     let edges = x.edges;
@@ -238,8 +242,8 @@ fn add_many(t: &Lookups, chart: &mut [u64], index: &mut Index, lead: bool, j: u6
 
 // The same; most records ask for one key, whose list has a loop of its own.
 fn add_each(t: &Lookups, chart: &mut [u64], index: &mut Index, lead: bool, j: u64, n: u64)
-    requires { Joining t.now.tables.grammar.words.now t.now.tables.graph.now t.now.plans.now t.now.keys.now t.now.graph.now chart.old index.old.words index.old.lists lead j × (n ≤ item_count chart.old) }
-    ensures { (chart.new ≡ grown_by chart.old (gather n (λ k. with_record (grammar_in t.now.tables) (graph_in t.now.tables) (record_at chart.old j) j (record_at chart.old k) k))) × Ready t.now.tables.grammar.words.now t.now.tables.graph.now t.now.keys.now chart.new index.new.words index.new.lists }
+    requires { Joining t.now.run.tables.grammar.words.now t.now.run.tables.graph.now t.now.run.plans.now t.now.keys.now t.now.run.graph.now chart.old index.old.words index.old.lists lead j × (n ≤ item_count chart.old) }
+    ensures { (chart.new ≡ grown_by chart.old (gather n (λ k. with_record (grammar_in t.now.run.tables) (graph_in t.now.run.tables) (record_at chart.old j) j (record_at chart.old k) k))) × Ready t.now.run.tables.grammar.words.now t.now.run.tables.graph.now t.now.keys.now chart.new index.new.words index.new.lists }
 {
     match pivots::asked(t.keys, records::item_at(chart, j)) {
         Some(key) => add_listed(t, chart, index, lead, j, n, key),
@@ -251,19 +255,18 @@ fn add_each(t: &Lookups, chart: &mut [u64], index: &mut Index, lead: bool, j: u6
 // tried with, since with the rest it makes nothing: a passive item only with records, where it comes second; an
 // active one with no plan node above it only with the root rule; any other one with graph edges and records.
 pub(crate) fn add_all(t: &Lookups, chart: &mut [u64], index: &mut Index, j: u64)
-    requires { Tables t.now.tables.grammar.words.now t.now.tables.graph.now t.now.plans.now t.now.keys.now t.now.graph.now × Ready t.now.tables.grammar.words.now t.now.tables.graph.now t.now.keys.now chart.old index.old.words index.old.lists × Handled chart.old j }
-    ensures { (chart.new ≡ grown_by chart.old (consequences (grammar_in t.now.tables) (graph_in t.now.tables) (chart_of chart.old).records j)) × Ready t.now.tables.grammar.words.now t.now.tables.graph.now t.now.keys.now chart.new index.new.words index.new.lists }
+    requires { Tables t.now.run.tables.grammar.words.now t.now.run.tables.graph.now t.now.run.plans.now t.now.keys.now t.now.run.graph.now × Ready t.now.run.tables.grammar.words.now t.now.run.tables.graph.now t.now.keys.now chart.old index.old.words index.old.lists × Handled chart.old j }
+    ensures { (chart.new ≡ grown_by chart.old (consequences (grammar_in t.now.run.tables) (graph_in t.now.run.tables) (chart_of chart.old).records j)) × Ready t.now.run.tables.grammar.words.now t.now.run.tables.graph.now t.now.keys.now chart.new index.new.words index.new.lists }
 {
     let n = records::item_count(chart);
     let x = records::item_at(chart, j);
     let mut lead = false;
     if x.kind == 0 {
-        let w = rules::plans::parent_in(
-            t.tables.grammar.words,
-            t.plans,
-            x.of as u64,
-            x.plan as u64,
-        ).word;
+        let g = PlannedGrammar {
+            grammar: t.run.tables.grammar,
+            plans: t.run.plans,
+        };
+        let w = rules::plans::parent_in(&g, x.of as u64, x.plan as u64).word;
         if w % 32 >= 16 {
             add_root(t, chart, index, j);
             return;

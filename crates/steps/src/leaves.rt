@@ -1,15 +1,15 @@
 // The leaf items of a grammar, which a start makes present.
-ghost use Rattle.std.specs.Prelude.{◌≡◌, true, ◌<◌};
+ghost use Rattle.std.specs.Prelude.{◌≡◌, ◌<◌};
 ghost use Rattle.hrg.specs.ClosureRun.{each_to};
 ghost use Rattle.agenda.specs.Consequences.{leaf_records};
 ghost use Rattle.questions.specs.Layout.{rule_count, rule_plan};
-ghost use Rattle.questions.specs.Checking.{check_grammar};
 ghost use Rattle.questions.specs.Abstract.{grammar_of};
 ghost use Rattle.joins.specs.Joins.{KnownNode};
 ghost use Rattle.records.specs.Words.{Fits, grown_by};
 ghost use Rattle.steps.specs.Leaves.{leaf_item, leaf_record, rule_leaves};
 
 use agenda::ChartItem;
+use joins::accepted::AcceptedGrammar;
 use places::PLACES;
 
 // The item of a leaf.
@@ -39,21 +39,21 @@ fn add_leaf(g: &[u64], chart: &mut [u64], r: u64, p: u64)
 }
 
 // The leaf items of rule r, from its last plan node on.
-fn add_rule(g: &[u64], chart: &mut [u64], r: u64)
-    requires { (check_grammar g.now ≡ true) × (r < rule_count g.now) × Fits chart.old }
-    ensures { chart.new ≡ grown_by chart.old (rule_leaves (grammar_of g.now) r) }
+fn add_rule(g: &AcceptedGrammar, chart: &mut [u64], r: u64)
+    requires { (r < rule_count g.now.words.now) × Fits chart.old }
+    ensures { chart.new ≡ grown_by chart.old (rule_leaves (grammar_of g.now.words.now) r) }
 {
-    for p in (0..layout::rule_plan(g, r)).rev() {
-        add_leaf(g, chart, r, p);
+    for p in (0..layout::rule_plan(g.words, r)).rev() {
+        add_leaf(g.words, chart, r, p);
     }
 }
 
 // The leaf items of all rules, from the last rule on.
-pub(crate) fn add_leaves(g: &[u64], chart: &mut [u64])
-    requires { (check_grammar g.now ≡ true) × Fits chart.old }
-    ensures { chart.new ≡ grown_by chart.old (leaf_records (grammar_of g.now)) }
+pub(crate) fn add_leaves(g: &AcceptedGrammar, chart: &mut [u64])
+    requires { Fits chart.old }
+    ensures { chart.new ≡ grown_by chart.old (leaf_records (grammar_of g.now.words.now)) }
 {
-    for r in (0..layout::rule_count(g)).rev() {
+    for r in (0..layout::rule_count(g.words)).rev() {
         add_rule(g, chart, r);
     }
 }

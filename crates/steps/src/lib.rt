@@ -4,7 +4,6 @@
 
 ghost use Rattle.std.specs.Prelude.{None, ◌≡◌, true, List, ℕ, ◌≤◌, length};
 ghost use Rattle.agenda.specs.Steps.{start_chart, step_with, run_chart};
-ghost use Rattle.questions.specs.Checking.{check_grammar};
 ghost use Rattle.questions.specs.Abstract.{grammar_of};
 ghost use Rattle.joins.specs.Tables.{grammar_in, graph_in};
 ghost use Rattle.records.specs.Words.{header_words, capacity, chart_of, written};
@@ -14,20 +13,22 @@ ghost use Rattle.index.specs.Index.{index_words, ranks_of};
 ghost use Rattle.steps.specs.Ready.{Tables, Ready, Runnable};
 
 use index::Index;
-use joins::accepted::AcceptedTables;
+use joins::accepted::{AcceptedGrammar, AcceptedTables};
 use joins::graphs::GRAPH_TABLE_WORDS;
 use lookups::Lookups;
 use pivots::KEY_TABLE_WORDS;
+use rules::planned::PlannedGrammar;
 use rules::plans::PLAN_TABLE_WORDS;
+use rules::running::RunTables;
 
 mod consequences;
 mod leaves;
 mod lookups;
 
 // The chart made anew: only the leaf items are present.
-pub fn restart(g: &[u64], chart: &mut [u64])
-    requires { (check_grammar g.now ≡ true) × (header_words ≤ length chart.old) }
-    ensures { chart.new ≡ written chart.old (start_chart (grammar_of g.now) (capacity chart.old)) }
+pub fn restart(g: &AcceptedGrammar, chart: &mut [u64])
+    requires { header_words ≤ length chart.old }
+    ensures { chart.new ≡ written chart.old (start_chart (grammar_of g.now.words.now) (capacity chart.old)) }
 {
     records::clear(chart);
     leaves::add_leaves(g, chart);
@@ -48,8 +49,8 @@ fn take(chart: &mut [u64], index: &mut Index) -> Option<u64>
 
 // One step, if one is left: a record is handled, and what it makes with graph edges and handled records is added.
 fn step(t: &Lookups, chart: &mut [u64], index: &mut Index) -> bool
-    requires { Tables t.now.tables.grammar.words.now t.now.tables.graph.now t.now.plans.now t.now.keys.now t.now.graph.now × Ready t.now.tables.grammar.words.now t.now.tables.graph.now t.now.keys.now chart.old index.old.words index.old.lists }
-    ensures { (result ≡ is_some (next_in (chart_of chart.old))) × (chart.new ≡ written chart.old (step_with (grammar_in t.now.tables) (graph_in t.now.tables) (capacity chart.old) (chart_of chart.old) (next_in (chart_of chart.old)))) × Ready t.now.tables.grammar.words.now t.now.tables.graph.now t.now.keys.now chart.new index.new.words index.new.lists }
+    requires { Tables t.now.run.tables.grammar.words.now t.now.run.tables.graph.now t.now.run.plans.now t.now.keys.now t.now.run.graph.now × Ready t.now.run.tables.grammar.words.now t.now.run.tables.graph.now t.now.keys.now chart.old index.old.words index.old.lists }
+    ensures { (result ≡ is_some (next_in (chart_of chart.old))) × (chart.new ≡ written chart.old (step_with (grammar_in t.now.run.tables) (graph_in t.now.run.tables) (capacity chart.old) (chart_of chart.old) (next_in (chart_of chart.old)))) × Ready t.now.run.tables.grammar.words.now t.now.run.tables.graph.now t.now.keys.now chart.new index.new.words index.new.lists }
 {
     match take(chart, index) {
         None => false,
@@ -62,8 +63,8 @@ fn step(t: &Lookups, chart: &mut [u64], index: &mut Index) -> bool
 
 // So many steps, or as many as are left, with an index of the chart's records; true only where none is left.
 fn advance_by(t: &Lookups, chart: &mut [u64], index: &mut Index, steps: u64) -> bool
-    requires { Tables t.now.tables.grammar.words.now t.now.tables.graph.now t.now.plans.now t.now.keys.now t.now.graph.now × Ready t.now.tables.grammar.words.now t.now.tables.graph.now t.now.keys.now chart.old index.old.words index.old.lists }
-    ensures { (chart.new ≡ written chart.old (run_chart (grammar_in t.now.tables) (graph_in t.now.tables) (capacity chart.old) steps (chart_of chart.old))) × (result ≡ true → next_in (chart_of chart.new) ≡ None) }
+    requires { Tables t.now.run.tables.grammar.words.now t.now.run.tables.graph.now t.now.run.plans.now t.now.keys.now t.now.run.graph.now × Ready t.now.run.tables.grammar.words.now t.now.run.tables.graph.now t.now.keys.now chart.old index.old.words index.old.lists }
+    ensures { (chart.new ≡ written chart.old (run_chart (grammar_in t.now.run.tables) (graph_in t.now.run.tables) (capacity chart.old) steps (chart_of chart.old))) × (result ≡ true → next_in (chart_of chart.new) ≡ None) }
 {
     for _i in 0..steps {
         if !step(t, chart, index) {
@@ -85,16 +86,20 @@ pub fn advance(
     ensures { (chart.new ≡ written chart.old (run_chart (grammar_in t.now) (graph_in t.now) (capacity chart.old) steps (chart_of chart.old))) × (result ≡ true → next_in (chart_of chart.new) ≡ None) }
 {
     let mut keys = [0u32; KEY_TABLE_WORDS];
-    pivots::fill(t.grammar.words, plans, &mut keys);
+    let g = PlannedGrammar {
+        grammar: t.grammar,
+        plans,
+    };
+    pivots::fill(&g, &mut keys);
     let mut graph = [0u64; GRAPH_TABLE_WORDS];
     joins::graphs::fill(t, &mut graph);
     let mut index = Index::empty();
-    index.build(t, plans, &graph, &keys, chart);
-    let lookups = Lookups {
+    let run = RunTables {
         tables: *t,
         plans,
-        keys: &keys,
         graph: &graph,
     };
+    index.build(&run, &keys, chart);
+    let lookups = Lookups { run, keys: &keys };
     advance_by(&lookups, chart, &mut index, steps)
 }

@@ -17,6 +17,7 @@ ghost use Rattle.validator.specs.Sizes.{Sized};
 use agenda::Record;
 use joins::accepted::AcceptedTables;
 use places::PLACES;
+use rules::planned::PlannedGrammar;
 use rules::plans::PLAN_TABLE_WORDS;
 
 // What is asked of accepted tables once for all items: how many rules, symbols, graph nodes and graph edges there
@@ -134,7 +135,11 @@ fn known_active(
     if layout::rule_plan_in(t.grammar.words, of) <= plan {
         return false;
     }
-    let open = rules::plans::open_at(t.grammar.words, plans, of, plan);
+    let g = PlannedGrammar {
+        grammar: t.grammar,
+        plans,
+    };
+    let open = rules::plans::open_at(&g, of, plan);
     if !in_graph(s, open, x) {
         return false;
     }

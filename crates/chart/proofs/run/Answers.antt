@@ -20,7 +20,7 @@ invariant_of-t-2 c = record {
 }
 
 pub fill-requires : goal.fill-requires
-fill-requires c = ((fit_accepted _ _ _ _ c.is_fit.ensures c.if-not-is_fit.false).grammar, refl)
+fill-requires c = refl
 
 pub returns-then-is_none : goal.returns-then-is_none
 returns-then-is_none c =

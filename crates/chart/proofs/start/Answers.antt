@@ -8,14 +8,15 @@ returns-then-not-is_fit c =
     start_refuses s.grammar.now s.graph.now s.chart.now _ c.is_fit.ensures
     c.if-not-is_fit.true
 
+pub invariant_of-g : goal.invariant_of-g
+invariant_of-g c = record {
+  fit = (fit_accepted _ _ _ _ c.is_fit.ensures c.if-not-is_fit.false).grammar;
+}
+
 pub restart-requires : goal.restart-requires
 restart-requires c =
-    let s = c.args in (
-      (fit_accepted s.grammar.now s.graph.now s.chart.now _ c.is_fit.ensures
-          c.if-not-is_fit.false).grammar,
-      fit_header s.grammar.now s.graph.now s.chart.now
-          _ c.is_fit.ensures c.if-not-is_fit.false,
-    )
+    let s = c.args in
+    fit_header s.grammar.now s.graph.now s.chart.now _ c.is_fit.ensures c.if-not-is_fit.false
 
 pub returns-then-mark_of-ne0 : goal.returns-then-mark_of-ne0
 returns-then-mark_of-ne0 c =

@@ -7,8 +7,8 @@ use Rattle.index.proofs.cover_all.Goals as goal
 pub loop-j-init : goal.loop-j-init
 loop-j-init c = (
   c.requires.0,
-  covered_first c.args.t.now.grammar.words.now
-      c.args.t.now.graph.now
+  covered_first c.args.t.now.tables.grammar.words.now
+      c.args.t.now.tables.graph.now
       c.args.chart.now
       c.args.index.now,
   λ keys ls rs I. I,
@@ -18,16 +18,13 @@ pub item_at-requires : goal.item_at-requires
 item_at-requires c = item_inside c.args.chart.now c.loop-j.j
     (omega (arith, c.loop-j-test.true, c.item_count-n.ensures))
 
-pub covers-requires : goal.covers-requires
-covers-requires c = c.requires.2
-
 pub bounds-index-12423 : goal.bounds-index-12423
 bounds-index-12423 c = omega (arith, c.loop-j.invariant.0)
 
 pub returns-then-not-covers : goal.returns-then-not-covers
 returns-then-not-covers c =
     let l = c.loop-j in (
-      covered_doubted c.args.t.now.grammar.words.now c.args.t.now.graph.now l.index
+      covered_doubted c.args.t.now.tables.grammar.words.now c.args.t.now.tables.graph.now l.index
           (chart_of c.args.chart.now).records l.invariant.0,
       λ keys ls rs I. indexed_doubted l.index 1 keys ls rs (l.invariant.2 keys ls rs I),
     )
@@ -37,7 +34,7 @@ loop-j-preserved c =
     let s = c.args in
     let l = c.loop-j in (
       l.invariant.0,
-      covered_next s.t.now.grammar.words.now s.t.now.graph.now s.chart.now l.index l.j
+      covered_next s.t.now.tables.grammar.words.now s.t.now.tables.graph.now s.chart.now l.index l.j
           _ c.item_at.ensures (c.covers.ensures c.if-not-covers.false) l.invariant.1,
       l.invariant.2,
     )
@@ -45,7 +42,7 @@ loop-j-preserved c =
 pub returns : goal.returns
 returns c =
     let l = c.loop-j in (
-      covered_all c.args.t.now.grammar.words.now c.args.t.now.graph.now c.args.chart.now l.index
+      covered_all c.args.t.now.tables.grammar.words.now c.args.t.now.tables.graph.now c.args.chart.now l.index
           c.item_count-n.result l.j c.item_count-n.ensures l.auto.j-end
           c.loop-j-test.false l.invariant.1,
       l.invariant.2,

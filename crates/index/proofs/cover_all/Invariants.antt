@@ -8,6 +8,6 @@ use Rattle.index.specs.Index.{index_words, Indexed, Covered}
 use Rattle.index.proofs.cover_all.Given as goal
 
 abbrev pub invariant-loop-j : goal.invariant-loop-j
-invariant-loop-j l = (length l.index ≡ index_words) × Covered l.t.grammar.words.now l.t.graph.now l.index
+invariant-loop-j l = (length l.index ≡ index_words) × Covered l.t.tables.grammar.words.now l.t.tables.graph.now l.index
     (records_at l.chart l.j) × ((keys ls : List ℕ) (rs : List Record) → Indexed keys l.initial.index ls rs → Indexed keys l.index ls
     rs)

@@ -7,19 +7,19 @@ use Rattle.rules.proofs.CandidateLaws.{candidates_passive, candidates_none, cand
 use Rattle.rules.proofs.candidates.Goals as goal
 
 pub returns-then-x-ne0 : goal.returns-then-x-ne0
-returns-then-x-ne0 c = candidates_passive _ _ c.args.t.now.fit _ c.if-x-ne0.true
+returns-then-x-ne0 c = candidates_passive _ _ c.args.t.now.tables.fit _ c.if-x-ne0.true
 
 pub returns-then-want-ge64 : goal.returns-then-want-ge64
 returns-then-want-ge64 c =
     let pre = c.requires in
-    candidates_none _ _ c.args.t.now.fit _ c.if-x-ne0.false _ pre.1 c.if-want-ge64.true
+    candidates_none _ _ c.args.t.now.tables.fit _ c.if-x-ne0.false _ pre c.if-want-ge64.true
 
 pub returns-then-q-ge-PER_RULE : goal.returns-then-q-ge-PER_RULE
 returns-then-q-ge-PER_RULE c =
     let pre = c.requires in
     let is_active = c.if-x-ne0.false in
     let near = c.if-want-ge64.false in
-    candidates_nowhere _ _ c.args.t.now.fit _ is_active _ pre.1 near _ c.parent_in-q.ensures
+    candidates_nowhere _ _ c.args.t.now.tables.fit _ is_active _ pre near _ c.parent_in-q.ensures
     c.if-q-ge-PER_RULE.true
 
 pub plan_second_in-i-requires : goal.plan_second_in-i-requires
@@ -34,8 +34,7 @@ fitting-requires c =
     let near = c.if-want-ge64.false in
     let up = c.parent_in-q.ensures in
     let found = c.if-q-ge-PER_RULE.false in (
-      introduces _ _ c.args.t.now.fit _ is_active _ pre.1 near _ up found
+      introduces _ _ c.args.t.now.tables.fit _ is_active _ pre near _ up found
           _ c.plan_second_in-i.ensures,
-      pre.0.graphed,
-      candidates_first _ _ c.args.t.now.fit _ is_active _ pre.1 near small _ pre.0.graphed,
+      candidates_first _ _ c.args.t.now.tables.fit _ is_active _ pre near small _ c.args.t.now.graphed,
     )

@@ -28,7 +28,7 @@ second_map-requires c =
         inner = child_kind _ _ _ known _ (up.join near).child;
         word = (join_first _ _ _ _ (up.join near) c.if-w-eq3.false).1;
       },
-      c.requires.2.bare,
+      c.requires.1.bare,
     )
 
 pub returns-in_err-s : goal.returns-in_err-s
@@ -42,15 +42,15 @@ combine-requires c =
     let near = c.if-q-ge-PER_RULE.false in
     let second = c.in_ok-s.ensures in
     record {
-      accepted = c.args.t.now.fit;
+      accepted = c.args.t.now.tables.fit;
       node = (up.above near).known;
-      table = c.requires.0.graphed;
+      table = c.args.t.now.graphed;
       opened = up.opened near;
-      first_holds = λ s. first_holds _ _ _ c.if-x-ne0.false (c.requires.1.covering s);
-      second_holds = λ s. second_holds _ _ _ _ _ _ second (c.requires.2.covering s);
-      first_into = c.requires.1.into;
-      second_into = second.into _ c.requires.2.into;
-      first_bare = c.requires.1.bare c.if-x-ne0.false;
+      first_holds = λ s. first_holds _ _ _ c.if-x-ne0.false (c.requires.0.covering s);
+      second_holds = λ s. second_holds _ _ _ _ _ _ second (c.requires.1.covering s);
+      first_into = c.requires.0.into;
+      second_into = second.into _ c.requires.1.into;
+      first_bare = c.requires.0.bare c.if-x-ne0.false;
       second_bare = second.bare;
     }
 
@@ -68,4 +68,4 @@ returns c =
     let near = c.if-q-ge-PER_RULE.false in
     let first = join_first _ _ _ _ (up.join near) c.if-w-eq3.false in
     pair_made _ _ _ _ c.if-x-ne0.false _ (up.above near)
-    _ c.in_ok-s.ensures first.0 _ _ _ c.in_ok-nodes.ensures.makes c.args.t.now.fit
+    _ c.in_ok-s.ensures first.0 _ _ _ c.in_ok-nodes.ensures.makes c.args.t.now.tables.fit

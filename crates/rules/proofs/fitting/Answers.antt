@@ -39,9 +39,9 @@ pub returns : goal.returns
 returns c =
     let args = c.args in
     let nodes = places_packed c.word_of-map.ensures in
-    let passed : c.loop-k.k ≤ rank_at args.t.now.grammar.words.now
+    let passed : c.loop-k.k ≤ rank_at args.t.now.tables.grammar.words.now
     args.want = omega (arith, c.rank_at-rank.ensures.0) in
-    let rest = c.loop-k.invariant ∙ ap (λ l. fitted args.graph.now
-    (λ k. get_or l (edge_node args.t.now.grammar.words.now args.x.of args.i k) 0) c.loop-k.k args.m) nodes in
-    candidates_fitted _ _ _ _ _ c.requires.0 c.word_of-map.ensures.places.size _ c.requires.1
-    _ _ _ passed c.requires.2 rest
+    let rest = c.loop-k.invariant ∙ ap (λ l. fitted args.t.now.graph.now
+    (λ k. get_or l (edge_node args.t.now.tables.grammar.words.now args.x.of args.i k) 0) c.loop-k.k args.m) nodes in
+    candidates_fitted _ _ _ _ _ c.requires.0 c.word_of-map.ensures.places.size _ c.args.t.now.graphed
+    _ _ _ passed c.requires.1 rest

@@ -6,4 +6,4 @@ use Rattle.rules.proofs.CandidateLaws.{fitted}
 use Rattle.rules.proofs.fitting.Given as goal
 
 abbrev pub invariant-loop-k : goal.invariant-loop-k
-invariant-loop-k l = l.rest ≡ fitted l.graph (λ k. get_or (places_of l.map) (edge_node l.t.grammar.words.now l.of l.i k) 0) l.k l.m
+invariant-loop-k l = l.rest ≡ fitted l.t.graph.now (λ k. get_or (places_of l.map) (edge_node l.t.tables.grammar.words.now l.of l.i k) 0) l.k l.m

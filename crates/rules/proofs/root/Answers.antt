@@ -14,12 +14,12 @@ returns-then-r-rule_count c = root_unknown _ _ _ c.if-x-ne0.false c.rule_count.e
 
 pub returns-then-x-rule_plan : goal.returns-then-x-rule_plan
 returns-then-x-rule_plan c =
-    let known : c.args.x.of < rule_count c.args.g.now = omega (
+    let known : c.args.x.of < rule_count c.args.g.now.words.now = omega (
       arith,
       c.rule_count.ensures,
       c.if-r-rule_count.false,
     ) in
-    root_inner _ _ c.if-x-ne0.false c.requires known _ c.rule_plan.ensures
+    root_inner _ _ c.if-x-ne0.false c.args.g.now.fit known _ c.rule_plan.ensures
     (λ e. c.if-x-rule_plan.true (omega arith))
 
 pub overflow_cast-result : goal.overflow_cast-result
@@ -27,12 +27,12 @@ overflow_cast-result c = omega (arith, symbol_byte _ _ _ c.rule_symbol-of.ensure
 
 pub returns : goal.returns
 returns c =
-    let known : c.args.x.of < rule_count c.args.g.now = omega (
+    let known : c.args.x.of < rule_count c.args.g.now.words.now = omega (
       arith,
       c.rule_count.ensures,
       c.if-r-rule_count.false,
     ) in
     let plan = c.rule_plan in
     let last : suc c.args.x.plan ≡ plan.result = omega (arith, c.if-x-rule_plan.false) in
-    root_made _ _ c.if-x-ne0.false c.requires known _ plan.ensures _ _ _ last
+    root_made _ _ c.if-x-ne0.false c.args.g.now.fit known _ plan.ensures _ _ _ last
     c.rule_symbol-of.ensures c.plus.ensures c.root_nodes.ensures

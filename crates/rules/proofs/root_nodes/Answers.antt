@@ -15,20 +15,20 @@ use Rattle.rules.proofs.root_nodes.Goals as goal
 
 pub loop-k-init : goal.loop-k-init
 loop-k-init c = (
-  c.rank_at-rank.ensures.0 ∙ ap (rank_at c.args.g.now)
+  c.rank_at-rank.ensures.0 ∙ ap (rank_at c.args.g.now.words.now)
       c.rule_symbol.ensures,
   placed_bare _,
 )
 
 pub node_at-requires : goal.node_at-requires
 node_at-requires c =
-    let inside : c.loop-k.k < rank_at c.args.g.now
-    (rule_symbol c.args.g.now c.args.r) = omega arith in
-    external_few _ _ c.requires.0 c.requires.1 _ _ inside c.rule_external-x.ensures
+    let inside : c.loop-k.k < rank_at c.args.g.now.words.now
+    (rule_symbol c.args.g.now.words.now c.args.r) = omega arith in
+    external_few _ _ c.args.g.now.fit c.requires _ _ inside c.rule_external-x.ensures
 
 pub loop-k-preserved : goal.loop-k-preserved
 loop-k-preserved c =
-    let g = c.args.g.now in
+    let g = c.args.g.now.words.now in
     let r = c.args.r in
     let f = places_of c.word_of-map.result in
     let inside : c.loop-k.k < rank_at g (rule_symbol g r) = omega arith in
@@ -36,13 +36,13 @@ loop-k-preserved c =
       c.loop-k.invariant.0,
       subst (λ l. Placed (λ k. at (take (rule_nodes g r) f) (rule_external g r k)) (c.loop-k.k + 1) l)
           (sym c.with_node-l.ensures)
-          (image_next _ _ c.requires.0 c.requires.1 f (length_places _) _ _ _ _ inside few
+          (image_next _ _ c.args.g.now.fit c.requires f (length_places _) _ _ _ _ inside few
           c.node_at.ensures.0 c.rule_external-x.ensures c.loop-k.invariant.1),
     )
 
 pub returns : goal.returns
 returns c = c.nodes_of.ensures
-    ∙ image_all _ _ c.requires.0 c.requires.1 _ (length_places c.word_of-map.result)
+    ∙ image_all _ _ c.args.g.now.fit c.requires _ (length_places c.word_of-map.result)
     _ _ (omega (arith, c.loop-k.invariant.0)) (omega (arith, c.loop-k.invariant.0, c.loop-k-test.false))
     c.loop-k.invariant.1
-    ∙ ap (root_list c.args.g.now c.args.r) (places_packed c.word_of-map.ensures)
+    ∙ ap (root_list c.args.g.now.words.now c.args.r) (places_packed c.word_of-map.ensures)

@@ -8,4 +8,4 @@ use Rattle.rules.proofs.root_nodes.Given as goal
 
 abbrev pub invariant-loop-k : goal.invariant-loop-k
 invariant-loop-k l =
-    (l.rank ≡ rank_at l.g (rule_symbol l.g l.r)) × Placed (λ k. at (take (rule_nodes l.g l.r) (places_of l.map)) (rule_external l.g l.r k)) l.k (places_of l.l)
+    (l.rank ≡ rank_at l.g.words.now (rule_symbol l.g.words.now l.r)) × Placed (λ k. at (take (rule_nodes l.g.words.now l.r) (places_of l.map)) (rule_external l.g.words.now l.r k)) l.k (places_of l.l)

@@ -4,11 +4,7 @@ use Rattle.steps.proofs.ReadyLaws.{built_ready, count_small}
 use Rattle.steps.proofs.advance.Goals as goal
 
 pub fill-requires : goal.fill-requires
-fill-requires c = (
-  c.args.t.now.fit.grammar,
-  c.requires.planned,
-  refl,
-)
+fill-requires c = refl
 
 pub fill-requires-2 : goal.fill-requires-2
 fill-requires-2 c = refl
@@ -19,7 +15,6 @@ build-requires c =
       c.empty-index.ensures.0,
       c.empty-index.ensures.1,
       count_small _ p.small,
-      record { accepted = c.args.t.now.fit; planned = p.planned; graphed = c.fill-2.ensures },
     )
 
 pub advance_by-requires : goal.advance_by-requires

@@ -12,8 +12,8 @@ use Rattle.steps.proofs.advance_by.Goals as goal
 pub loop-i-init : goal.loop-i-init
 loop-i-init c =
     let s = c.args in
-    let G = grammar_of s.t.now.tables.grammar.words.now in
-    let H = graph_of s.t.now.tables.grammar.words.now s.t.now.tables.graph.now in (
+    let G = grammar_of s.t.now.run.tables.grammar.words.now in
+    let H = graph_of s.t.now.run.tables.grammar.words.now s.t.now.run.tables.graph.now in (
       refl,
       ran_none G H s.chart.now c.requires.1.fits,
       c.requires.1,
@@ -25,8 +25,8 @@ step-requires c = (c.requires.0, c.loop-i.invariant.2)
 pub returns-then-not-step : goal.returns-then-not-step
 returns-then-not-step c =
     let s = c.args in
-    let G = grammar_of s.t.now.tables.grammar.words.now in
-    let H = graph_of s.t.now.tables.grammar.words.now s.t.now.tables.graph.now in (
+    let G = grammar_of s.t.now.run.tables.grammar.words.now in
+    let H = graph_of s.t.now.run.tables.grammar.words.now s.t.now.run.tables.graph.now in (
       ran_idle G H s.chart.now c.loop-i._i c.loop-i.chart c.loop-i.invariant.1 s.steps
           c.step.result _ c.loop-i.auto._i-end c.if-not-step.true-raw c.step.ensures.0
           c.step.ensures.1,
@@ -37,13 +37,13 @@ returns-then-not-step c =
 pub loop-i-preserved : goal.loop-i-preserved
 loop-i-preserved c =
     let s = c.args in
-    let G = grammar_of s.t.now.tables.grammar.words.now in
-    let H = graph_of s.t.now.tables.grammar.words.now s.t.now.tables.graph.now in
+    let G = grammar_of s.t.now.run.tables.grammar.words.now in
+    let H = graph_of s.t.now.run.tables.grammar.words.now s.t.now.run.tables.graph.now in
     let A = c.requires.0.accepted in
     let R = c.loop-i.invariant.2 in (
       c.step.auto.chart ∙ c.loop-i.invariant.0,
       ran_step G H s.chart.now c.loop-i._i c.loop-i.chart c.loop-i.invariant.1
-          (checked_grammar_ok s.t.now.tables.grammar.words.now A.grammar) (graph_ok s.t.now.tables.grammar.words.now s.t.now.tables.graph.now A) (c.requires.1.small)
+          (checked_grammar_ok s.t.now.run.tables.grammar.words.now A.grammar) (graph_ok s.t.now.run.tables.grammar.words.now s.t.now.run.tables.graph.now A) (c.requires.1.small)
           (known_records G H _ R.fits R.known) _ _ (omega arith) c.step.ensures.1,
       c.step.ensures.2,
     )
@@ -51,8 +51,8 @@ loop-i-preserved c =
 pub returns : goal.returns
 returns c =
     let s = c.args in
-    let G = grammar_of s.t.now.tables.grammar.words.now in
-    let H = graph_of s.t.now.tables.grammar.words.now s.t.now.tables.graph.now in (
+    let G = grammar_of s.t.now.run.tables.grammar.words.now in
+    let H = graph_of s.t.now.run.tables.grammar.words.now s.t.now.run.tables.graph.now in (
       ran_all G H s.chart.now c.loop-i._i c.loop-i.chart c.loop-i.invariant.1 s.steps
           (omega (arith, c.loop-i-test.false, c.loop-i.auto._i-end)),
       λ e. absurd (false≢true e),

@@ -20,7 +20,6 @@ cover_all-requires c =
       both_size s.self.now.words _ (chart_of s.chart.now).records p.0 c.build.ensures
           _ c.build-2.ensures,
       p.2,
-      p.3,
     )
 
 pub returns : goal.returns

@@ -13,8 +13,7 @@ returns-then-p-rule_plan c = shown_none _ _
 
 pub images-requires-2 : goal.images-requires-2
 images-requires-2 c =
-    let pre = c.requires in
     let rules = c.rule_count.ensures in
     let rule = c.if-of-rule_count.false in
-    let known = known_by _ _ _ _ _ pre.0 rules rule c.rule_plan.ensures c.if-p-rule_plan.false in
+    let known = known_by _ _ _ _ _ c.args.g.now.grammar.fit rules rule c.rule_plan.ensures c.if-p-rule_plan.false in
     known_few _ _ _ _ known c.rule_nodes.ensures

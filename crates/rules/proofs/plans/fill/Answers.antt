@@ -9,12 +9,12 @@ use Rattle.rules.proofs.plans.fill.Goals as goal
 
 pub loop-r-init : goal.loop-r-init
 loop-r-init c = (
-  subst (λ (t : List ℕ). ToldTo c.args.g.now t 0 0)
-      (sym c.requires.1) (told_none c.args.g.now),
+  subst (λ (t : List ℕ). ToldTo c.args.g.now.words.now t 0 0)
+      (sym c.requires) (told_none c.args.g.now.words.now),
   λ k. omega (arith, c.slice_known-1.given k),
 )
 
 pub returns : goal.returns
-returns c = told_all _ c.requires.0
+returns c = told_all _ c.args.g.now.fit
     _ _ _ c.rule_count-r-end.ensures c.loop-r-test.false c.loop-r.auto.r-end
     c.loop-r.invariant.0 c.loop-r.invariant.1

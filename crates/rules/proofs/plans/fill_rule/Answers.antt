@@ -10,7 +10,7 @@ offset_bounds-ms-q c = omega (
   arith,
   c.rule_plan-n.ensures,
   c.loop-q-test.true,
-  plan_few _ _ c.requires.0 c.requires.1,
+  plan_few _ _ c.args.g.now.fit c.requires.0,
 )
 
 pub bounds-ms-q : goal.bounds-ms-q
@@ -18,20 +18,20 @@ bounds-ms-q c = omega (
   arith,
   c.rule_plan-n.ensures,
   c.loop-q-test.true,
-  plan_few _ _ c.requires.0 c.requires.1,
+  plan_few _ _ c.args.g.now.fit c.requires.0,
 )
 
 pub put_children-requires : goal.put_children-requires
 put_children-requires c = (
   record {
-    grammar = c.requires.0;
-    rule = c.requires.1;
+    grammar = c.args.g.now.fit;
+    rule = c.requires.0;
     node = omega (arith, c.rule_plan-n.ensures, c.loop-q-test.true);
   },
   c.loop-q.invariant.2.size,
   open_small _ _ _ _ (record {
-    grammar = c.requires.0;
-    rule = c.requires.1;
+    grammar = c.args.g.now.fit;
+    rule = c.requires.0;
     node = omega (
       arith,
       c.rule_plan-n.ensures,
@@ -47,20 +47,20 @@ loop-q-preserved c = (
     c.loop-q.invariant.1,
     c.rule_plan-n.ensures,
     c.loop-q-test.true,
-    plan_few _ _ c.requires.0 c.requires.1,
+    plan_few _ _ c.args.g.now.fit c.requires.0,
   )) c.loop-q.invariant.0
       c.node_below-m.ensures,
   set_size c.loop-q.ms c.loop-q.q
       c.node_below-m.result _ c.loop-q.invariant.1,
   told_next _ _ _ _ _ _ (record {
-    grammar = c.requires.0;
-    rule = c.requires.1;
+    grammar = c.args.g.now.fit;
+    rule = c.requires.0;
     node = omega (arith, c.rule_plan-n.ensures, c.loop-q-test.true);
   })
       c.open_at-o.ensures c.loop-q.invariant.2 c.put_children.ensures,
 )
 
 pub returns : goal.returns
-returns c = told_rule _ c.requires.0
-    _ _ _ _ c.requires.1 c.rule_plan-n.ensures
+returns c = told_rule _ c.args.g.now.fit
+    _ _ _ _ c.requires.0 c.rule_plan-n.ensures
     c.loop-q.auto.q-end c.loop-q-test.false c.loop-q.invariant.2

@@ -5,4 +5,4 @@ use Rattle.rules.specs.Filling.{ToldTo}
 use Rattle.rules.proofs.plans.fill_rule.Given as goal
 
 abbrev pub invariant-loop-q : goal.invariant-loop-q
-invariant-loop-q l = MasksBelow l.g l.r l.q l.ms × (length l.ms ≡ 16) × ToldTo l.g l.t l.r l.q
+invariant-loop-q l = MasksBelow l.g.words.now l.r l.q l.ms × (length l.ms ≡ 16) × ToldTo l.g.words.now l.t l.r l.q

@@ -19,7 +19,7 @@ returns-then-w-ge16 c = all_root c.requires c.item_at-x.ensures c.if-x-eq0.true
 -- where the ways meet
 met : (c : Joined-x-eq0)
     → let s = c.args in
-    Alone s.t.now.tables.grammar.words.now s.t.now.tables.graph.now s.t.now.keys.now s.chart.now s.j c.if-x-eq0.chart c.if-x-eq0.index.words
+    Alone s.t.now.run.tables.grammar.words.now s.t.now.run.tables.graph.now s.t.now.keys.now s.chart.now s.j c.if-x-eq0.chart c.if-x-eq0.index.words
     c.if-x-eq0.index.lists c.if-x-eq0.lead
 met c =
     let own = c.item_at-x.ensures in

@@ -2,7 +2,7 @@
 use native.Mathlib.Omega.{arith}
 use Rattle.joins.proofs.Known.{graph_edges_few}
 use Rattle.records.proofs.WordLaws.{item_inside}
-use Rattle.steps.proofs.ReadyLaws.{run_tables, usable_at, place_few}
+use Rattle.steps.proofs.ReadyLaws.{usable_at, place_few}
 use Rattle.steps.proofs.CandidateSteps.{candidate_none}
 use Rattle.steps.proofs.MadeLaws.{edge_grown}
 use Rattle.steps.proofs.consequences.add_candidate.Goals as goal
@@ -24,7 +24,6 @@ pub add_joined-requires : goal.add_joined-requires
 add_joined-requires c =
     let tables = c.requires.0 in
     let ready = c.requires.1 in (
-      run_tables tables,
       usable_at tables.accepted ready c.requires.2.there c.item_at-x.ensures
           c.sure-sure.ensures,
       c.edge_item-y.ensures.usable _,

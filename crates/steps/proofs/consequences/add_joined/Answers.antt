@@ -2,13 +2,6 @@
 use mathlib.Core.Path.{refl}
 use Rattle.steps.proofs.consequences.add_joined.Goals as goal
 
-pub combined-requires : goal.combined-requires
-combined-requires c = (
-  c.requires.0,
-  c.requires.1,
-  c.requires.2,
-)
-
 pub returns-in_default : goal.returns-in_default
 returns-in_default c = record {
   made = _;
@@ -20,7 +13,7 @@ returns-in_default c = record {
 pub add-requires : goal.add-requires
 add-requires c =
     let (hash, small) = c.hash-hash.ensures in
-    (c.requires.3, c.requires.4, c.requires.5, hash, small, c.requires.6, c.requires.7)
+    (c.requires.2, c.requires.3, c.requires.4, hash, small, c.requires.5, c.requires.6)
 
 pub returns : goal.returns
 returns c = record {

@@ -6,7 +6,7 @@ use Rattle.steps.proofs.consequences.add_listed.Given as goal
 
 abbrev pub invariant-loop-c : goal.invariant-loop-c
 invariant-loop-c l =
-    (length l.chart ≡ length l.initial.chart) × Along l.t.tables.grammar.words.now l.t.tables.graph.now l.t.keys.now
+    (length l.chart ≡ length l.initial.chart) × Along l.t.run.tables.grammar.words.now l.t.run.tables.graph.now l.t.keys.now
     l.initial.chart l.j l.n l.chart l.index.words l.index.lists l.c l.past
 
 abbrev pub decreases-loop-c : goal.decreases-loop-c

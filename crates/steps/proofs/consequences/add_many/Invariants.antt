@@ -6,7 +6,7 @@ use Rattle.steps.proofs.consequences.add_many.Given as goal
 
 abbrev pub invariant-loop-at : goal.invariant-loop-at
 invariant-loop-at l =
-    (length l.chart ≡ length l.initial.chart) × Turning l.t.tables.grammar.words.now l.t.tables.graph.now
+    (length l.chart ≡ length l.initial.chart) × Turning l.t.run.tables.grammar.words.now l.t.run.tables.graph.now
     l.t.keys.now l.initial.chart l.j l.n l.chart l.index.words l.index.lists l.at.cs l.at.k l.past
 
 abbrev pub decreases-loop-at : goal.decreases-loop-at

@@ -36,7 +36,7 @@ pub returns : goal.returns
 returns c =
     let s = c.args in (
       next_dealt s.chart.now _ s.past s.k _ c.if-k-past.false
-          (partner_led s.t.now.tables.grammar.words.now (graph_of s.t.now.tables.grammar.words.now s.t.now.tables.graph.now) s.chart.now s.j s.k s.lead
+          (partner_led s.t.now.run.tables.grammar.words.now (graph_of s.t.now.run.tables.grammar.words.now s.t.now.run.tables.graph.now) s.chart.now s.j s.k s.lead
           c.requires.0.leads _ c.pick-first.result c.pick-second.result c.requires.1.done
           c.pick-first.ensures c.pick-second.ensures c.add_pair.ensures.0),
       c.add_pair.ensures.1,

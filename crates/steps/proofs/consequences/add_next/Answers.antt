@@ -27,7 +27,7 @@ returns-then-quiet c =
     let s = c.args in
     let p = c.requires in (
       next_dealt s.chart.now _ s.past s.k _ c.if-k-past.false
-          (quiet_added (grammar_of s.t.now.tables.grammar.words.now) (graph_of s.t.now.tables.grammar.words.now s.t.now.tables.graph.now) s.j s.chart.now s.k
+          (quiet_added (grammar_of s.t.now.run.tables.grammar.words.now) (graph_of s.t.now.run.tables.grammar.words.now s.t.now.run.tables.graph.now) s.j s.chart.now s.k
           _ _ p.0.ready.fits c.edges_at.ensures c.quiet.ensures c.if-quiet.true),
       p.0.ready,
       omega (arith, c.if-k-past.false),

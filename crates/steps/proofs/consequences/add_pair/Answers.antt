@@ -1,6 +1,6 @@
 -- What the rules of two premises answer of the two items is added, or nothing.
 use Rattle.records.proofs.WordLaws.{item_inside}
-use Rattle.steps.proofs.ReadyLaws.{run_tables, usable_at, place_few}
+use Rattle.steps.proofs.ReadyLaws.{usable_at, place_few}
 use Rattle.steps.proofs.MadeLaws.{pair_grown}
 use Rattle.steps.proofs.consequences.add_pair.Goals as goal
 
@@ -15,7 +15,6 @@ add_joined-requires c =
     let tables = c.requires.0 in
     let ready = c.requires.1 in
     let sure = c.sure-sure.ensures in (
-      run_tables tables,
       usable_at tables.accepted ready c.requires.2.there c.item_at-x.ensures sure,
       usable_at tables.accepted ready c.requires.3.there c.item_at-y.ensures sure,
       ready.indexed,

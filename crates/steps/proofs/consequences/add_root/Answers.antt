@@ -9,7 +9,7 @@ pub item_at-requires : goal.item_at-requires
 item_at-requires c = item_inside _ _ c.requires.1.there
 
 pub returns-in_default : goal.returns-in_default
-returns-in_default c = root_missed c.args.t.now.tables.fit c.requires.0 _ c.item_at.ensures c.in_default.ensures
+returns-in_default c = root_missed c.args.t.now.run.tables.fit c.requires.0 _ c.item_at.ensures c.in_default.ensures
 
 pub add-requires : goal.add-requires
 add-requires c =
@@ -18,5 +18,5 @@ add-requires c =
     (ready.indexed, ready.fits, ready.small, hash, small, place_few ready c.requires.1.there, omega arith)
 
 pub returns : goal.returns
-returns c = root_added c.args.t.now.tables.fit c.requires.0 _ c.item_at.ensures c.in-Some.ensures
+returns c = root_added c.args.t.now.run.tables.fit c.requires.0 _ c.item_at.ensures c.in-Some.ensures
     c.requires.1.there c.add.ensures

@@ -2,18 +2,14 @@
 use native.Mathlib.Omega.{arith}
 use mathlib.Core.Path.{refl, ◌∙◌}
 use Rattle.records.proofs.WordLaws.{item_inside}
-use Rattle.steps.proofs.ReadyLaws.{run_tables}
 use Rattle.steps.proofs.CandidateSteps.{edges_skipped, edge_start, edge_handled, edge_candidates, edge_next, edge_end}
 use Rattle.steps.proofs.consequences.add_terminals.Goals as goal
 
 pub item_at-x-requires : goal.item_at-x-requires
 item_at-x-requires c = item_inside _ _ c.requires.2.there
 
-pub want_of-want-requires : goal.want_of-want-requires
-want_of-want-requires c = (c.requires.0.accepted.grammar, c.requires.0.planned)
-
 pub candidates-m-requires : goal.candidates-m-requires
-candidates-m-requires c = (run_tables c.requires.0, c.want_of-want.ensures)
+candidates-m-requires c = c.want_of-want.ensures
 
 pub returns-then-m-eq0 : goal.returns-then-m-eq0
 returns-then-m-eq0 c = edges_skipped c.requires c.item_at-x.ensures c.candidates-m.ensures c.if-m-eq0.true

@@ -8,5 +8,5 @@ use Rattle.steps.proofs.LeafLoops.{Left}
 use Rattle.steps.proofs.leaves.add_leaves.Given as goal
 
 abbrev pub invariant-loop-r : goal.invariant-loop-r
-invariant-loop-r l = (l.r ≤ rule_count l.g) × (length l.chart ≡ length l.initial.chart) × Left l.initial.chart
-    (length (grammar_of l.g).rules) (λ q. rule_leaves (grammar_of l.g) q) l.chart l.r
+invariant-loop-r l = (l.r ≤ rule_count l.g.words.now) × (length l.chart ≡ length l.initial.chart) × Left l.initial.chart
+    (length (grammar_of l.g.words.now).rules) (λ q. rule_leaves (grammar_of l.g.words.now) q) l.chart l.r

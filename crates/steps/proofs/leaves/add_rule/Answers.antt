@@ -16,16 +16,16 @@ loop-p-init c =
       omega (arith, c.rule_plan-p.ensures),
       refl,
       left_all_is s.chart.now
-          _ (λ q. leaf_record (grammar_of s.g.now) s.r q) pre.2
-          _ (rule_plan_lem s.g.now s.r _ pre.0 pre.1 c.rule_plan-p.ensures),
+          _ (λ q. leaf_record (grammar_of s.g.now.words.now) s.r q) pre.1
+          _ (rule_plan_lem s.g.now.words.now s.r _ s.g.now.fit pre.0 c.rule_plan-p.ensures),
     )
 
 pub add_leaf-requires : goal.add_leaf-requires
 add_leaf-requires c =
     let i = c.loop-p.invariant in (
       record {
-        grammar = c.requires.0;
-        rule = c.requires.1;
+        grammar = c.args.g.now.fit;
+        rule = c.requires.0;
         node = omega (arith, i.0, c.loop-p-test.true);
       },
       i.2.fits,
@@ -37,17 +37,17 @@ loop-p-preserved c =
     let i = c.loop-p.invariant in (
       omega (arith, i.0),
       c.add_leaf.auto.chart ∙ i.1,
-      left_next s.chart.now _ (λ q. leaf_record (grammar_of s.g.now) s.r q) c.loop-p.chart
+      left_next s.chart.now _ (λ q. leaf_record (grammar_of s.g.now.words.now) s.r q) c.loop-p.chart
           _ c.loop-p.p _ (omega (arith, c.loop-p-test.true))
-          (λ q l. leaf_whole (grammar_of s.g.now) (checked_grammar_ok s.g.now c.requires.0) s.r
-          (omega (arith, c.requires.1, rules_length s.g.now)) q
-          (omega (arith, i.0, plan_size s.g.now s.r c.requires.0 c.requires.1))) i.2
+          (λ q l. leaf_whole (grammar_of s.g.now.words.now) (checked_grammar_ok s.g.now.words.now c.args.g.now.fit) s.r
+          (omega (arith, c.requires.0, rules_length s.g.now.words.now)) q
+          (omega (arith, i.0, plan_size s.g.now.words.now s.r c.args.g.now.fit c.requires.0))) i.2
           c.add_leaf.ensures,
     )
 
 pub returns : goal.returns
 returns c =
     let s = c.args in
-    leaves_rule (grammar_of s.g.now) s.r s.chart.now
-    _ (left_none s.chart.now _ (λ q. leaf_record (grammar_of s.g.now) s.r q) _ c.loop-p.p
+    leaves_rule (grammar_of s.g.now.words.now) s.r s.chart.now
+    _ (left_none s.chart.now _ (λ q. leaf_record (grammar_of s.g.now.words.now) s.r q) _ c.loop-p.p
     (omega (arith, c.loop-p-test.false)) c.loop-p.invariant.2)

@@ -9,5 +9,5 @@ use Rattle.steps.proofs.LeafLoops.{Left}
 use Rattle.steps.proofs.leaves.add_rule.Given as goal
 
 abbrev pub invariant-loop-p : goal.invariant-loop-p
-invariant-loop-p l = (l.p ≤ rule_plan l.g l.r) × (length l.chart ≡ length l.initial.chart) × Left l.initial.chart
-    (length (plan_of (grammar_of l.g) l.r)) (λ q. leaf_record (grammar_of l.g) l.r q) l.chart l.p
+invariant-loop-p l = (l.p ≤ rule_plan l.g.words.now l.r) × (length l.chart ≡ length l.initial.chart) × Left l.initial.chart
+    (length (plan_of (grammar_of l.g.words.now) l.r)) (λ q. leaf_record (grammar_of l.g.words.now) l.r q) l.chart l.p
