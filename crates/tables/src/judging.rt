@@ -7,6 +7,7 @@ ghost use Rattle.questions.specs.Refusing.{number_in};
 ghost use Rattle.questions.specs.Walk.{Room};
 ghost use Rattle.tables.specs.Plans.{PlanRoom};
 
+use crate::plans::PlanLine;
 use crate::{marks, plans};
 use questions::{Due, Refusal};
 
@@ -126,13 +127,11 @@ fn judge_known_plan(
     r: u64,
     q: u64,
     n: u64,
-    kind: u64,
-    first: u64,
-    second: u64,
+    line: PlanLine,
     kept: bool,
 ) -> Result<(), Refusal>
     requires { PlanRoom g.now r q }
-    ensures { number_in result ≡ ask 4 (eqb n 3) (ask 7 (kept && (ltb (q + 1) (rule_plan g.now r) || plan_whole g.now r q kind first second)) 0) }
+    ensures { number_in result ≡ ask 4 (eqb n 3) (ask 7 (kept && (ltb (q + 1) (rule_plan g.now r) || plan_whole g.now r q line.kind line.first line.second)) 0) }
 {
     if n != 3 {
         return Err(Refusal::Count);
@@ -143,7 +142,7 @@ fn judge_known_plan(
     if q + 1 < layout::rule_plan(g, r) {
         return Ok(());
     }
-    if !plans::whole(g, r, q, kind, first, second) {
+    if !plans::whole(g, r, q, line) {
         return Err(Refusal::Plan);
     }
     Ok(())
@@ -156,24 +155,26 @@ fn judge_plan(g: &[u64], r: u64, q: u64, f: &[u64]) -> Result<(), Refusal>
     ensures { number_in result ≡ judge_plan g.now r q f.now }
 {
     let n = f.len() as u64;
-    let kind = layout::field(f, 0);
-    let first = layout::field(f, 1);
-    let second = layout::field(f, 2);
+    let line = PlanLine {
+        kind: layout::field(f, 0),
+        first: layout::field(f, 1),
+        second: layout::field(f, 2),
+    };
     if n < 3 {
         return Err(Refusal::Fields);
     }
-    match kind {
+    match line.kind {
         0 => {
-            let kept = first == 0 && second == 0;
-            judge_known_plan(g, r, q, n, 0, first, second, kept)
+            let kept = line.first == 0 && line.second == 0;
+            judge_known_plan(g, r, q, n, line, kept)
         }
         1 => {
-            let kept = plans::introduce_so_far(g, r, q, first, second);
-            judge_known_plan(g, r, q, n, 1, first, second, kept)
+            let kept = plans::introduce_so_far(g, r, q, line.first, line.second);
+            judge_known_plan(g, r, q, n, line, kept)
         }
         2 => {
-            let kept = plans::join_so_far(g, r, q, first, second);
-            judge_known_plan(g, r, q, n, 2, first, second, kept)
+            let kept = plans::join_so_far(g, r, q, line.first, line.second);
+            judge_known_plan(g, r, q, n, line, kept)
         }
         _ => Err(Refusal::Fields),
     }
