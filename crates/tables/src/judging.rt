@@ -121,33 +121,6 @@ fn judge_rule_edge(g: &[u64], r: u64, i: u64, f: &[u64]) -> Result<(), Refusal>
     Ok(())
 }
 
-// Questions 4 and 7 for a plan line of a known kind.
-fn judge_known_plan(
-    g: &[u64],
-    r: u64,
-    q: u64,
-    n: u64,
-    line: PlanLine,
-    kept: bool,
-) -> Result<(), Refusal>
-    requires { PlanRoom g.now r q }
-    ensures { number_in result ≡ ask 4 (eqb n 3) (ask 7 (kept && (ltb (q + 1) (rule_plan g.now r) || plan_whole g.now r q line.kind line.first line.second)) 0) }
-{
-    if n != 3 {
-        return Err(Refusal::Count);
-    }
-    if !kept {
-        return Err(Refusal::Plan);
-    }
-    if q + 1 < layout::rule_plan(g, r) {
-        return Ok(());
-    }
-    if !plans::whole(g, r, q, line) {
-        return Err(Refusal::Plan);
-    }
-    Ok(())
-}
-
 // `P`: kind, first, second.
 #[tactic(auto, unfolding(questions::specs::Questions::judge_plan))]
 fn judge_plan(g: &[u64], r: u64, q: u64, f: &[u64]) -> Result<(), Refusal>
@@ -160,24 +133,23 @@ fn judge_plan(g: &[u64], r: u64, q: u64, f: &[u64]) -> Result<(), Refusal>
         first: layout::field(f, 1),
         second: layout::field(f, 2),
     };
-    if n < 3 {
+    let fixed = (3 <= n) & (line.kind <= 2);
+    if !fixed {
         return Err(Refusal::Fields);
     }
-    match line.kind {
-        0 => {
-            let kept = line.first == 0 && line.second == 0;
-            judge_known_plan(g, r, q, n, line, kept)
-        }
-        1 => {
-            let kept = plans::introduce_so_far(g, r, q, line.first, line.second);
-            judge_known_plan(g, r, q, n, line, kept)
-        }
-        2 => {
-            let kept = plans::join_so_far(g, r, q, line.first, line.second);
-            judge_known_plan(g, r, q, n, line, kept)
-        }
-        _ => Err(Refusal::Fields),
+    if n != 3 {
+        return Err(Refusal::Count);
     }
+    if !plans::so_far(g, r, q, line) {
+        return Err(Refusal::Plan);
+    }
+    if q + 1 < layout::rule_plan(g, r) {
+        return Ok(());
+    }
+    if !plans::whole(g, r, q, line) {
+        return Err(Refusal::Plan);
+    }
+    Ok(())
 }
 
 // `H`: nodes (1-64), edges (1-64), then external nodes, as many as the start's rank.

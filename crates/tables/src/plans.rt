@@ -1,6 +1,6 @@
 // Question 7: the children and the introduced edges of a rule's plan lines, counted, or carried as sets from line to
 // line.
-ghost use Rattle.std.specs.Prelude.{◌≡◌, ◌++◌, ◌&&◌, ◌+◌, ◌<◌, ◌≤◌, length, eqb};
+ghost use Rattle.std.specs.Prelude.{◌≡◌, ◌++◌, ◌&&◌, ◌+◌, ◌<◌, ◌≤◌, length, eqb, leb};
 ghost use Rattle.hrg.specs.Counts.{occurs};
 ghost use Rattle.questions.specs.Layout.{rule_edges, plan_place, plan_kind, plan_first, plan_second};
 ghost use Rattle.questions.specs.Questions.{children_of, introduced_by, children_before, plan_so_far, plan_whole};
@@ -96,7 +96,7 @@ fn child_times(g: &[u64], r: u64, q: u64, line: PlanLine, c: u64) -> u64
 }
 
 // ---- a plan line over children keeps the plan rules so far
-pub(crate) fn introduce_so_far(g: &[u64], r: u64, q: u64, first: u64, second: u64) -> bool
+fn introduce_so_far(g: &[u64], r: u64, q: u64, first: u64, second: u64) -> bool
     requires { PlanRoom g.now r q }
     ensures { result ≡ plan_so_far g.now r q 1 first second }
 {
@@ -111,7 +111,7 @@ pub(crate) fn introduce_so_far(g: &[u64], r: u64, q: u64, first: u64, second: u6
     first < q && times == 1 && second < edges && before == 0
 }
 
-pub(crate) fn join_so_far(g: &[u64], r: u64, q: u64, first: u64, second: u64) -> bool
+fn join_so_far(g: &[u64], r: u64, q: u64, first: u64, second: u64) -> bool
     requires { PlanRoom g.now r q }
     ensures { result ≡ plan_so_far g.now r q 2 first second }
 {
@@ -123,6 +123,19 @@ pub(crate) fn join_so_far(g: &[u64], r: u64, q: u64, first: u64, second: u64) ->
     let one = child_times(g, r, q, line, first);
     let other = child_times(g, r, q, line, second);
     first < q && second < q && one == 1 && other == 1
+}
+
+// Any plan line of a known kind does.
+pub(crate) fn so_far(g: &[u64], r: u64, q: u64, line: PlanLine) -> bool
+    requires { PlanRoom g.now r q }
+    ensures { result ≡ (leb line.kind 2 && plan_so_far g.now r q line.kind line.first line.second) }
+{
+    match line.kind {
+        0 => line.first == 0 && line.second == 0,
+        1 => introduce_so_far(g, r, q, line.first, line.second),
+        2 => join_so_far(g, r, q, line.first, line.second),
+        _ => false,
+    }
 }
 
 // ---- the plan is whole at its last line
