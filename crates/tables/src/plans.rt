@@ -87,7 +87,7 @@ fn named_before(g: &[u64], r: u64, n: u64, what: Named) -> u64
     sum
 }
 
-// How often c is a child in the first q plan lines and the next one.
+// How often c is a child in the first q plan lines and in this one behind them.
 fn child_times(g: &[u64], r: u64, q: u64, line: PlanLine, c: u64) -> u64
     requires { PlanRoom g.now r q }
     ensures { result ≡ occurs c (children_before g.now r q ++ children_of line.kind line.first line.second) }
@@ -125,7 +125,8 @@ fn join_so_far(g: &[u64], r: u64, q: u64, first: u64, second: u64) -> bool
     first < q && second < q && one == 1 && other == 1
 }
 
-// Any plan line of a known kind does.
+// The same for a line of any kind; one of an unknown kind does not.
+#[tactic(auto, using(crate::proofs::Planning::leaf_ok))]
 pub(crate) fn so_far(g: &[u64], r: u64, q: u64, line: PlanLine) -> bool
     requires { PlanRoom g.now r q }
     ensures { result ≡ (leb line.kind 2 && plan_so_far g.now r q line.kind line.first line.second) }
