@@ -7,6 +7,7 @@ ghost use Rattle.questions.specs.Refusing.{number_in};
 ghost use Rattle.questions.specs.Walk.{Room};
 ghost use Rattle.tables.specs.Plans.{PlanRoom};
 
+use crate::plans::PlanLine;
 use crate::{marks, plans};
 use questions::{Due, Refusal};
 
@@ -120,35 +121,6 @@ fn judge_rule_edge(g: &[u64], r: u64, i: u64, f: &[u64]) -> Result<(), Refusal>
     Ok(())
 }
 
-// Questions 4 and 7 for a plan line of a known kind.
-fn judge_known_plan(
-    g: &[u64],
-    r: u64,
-    q: u64,
-    n: u64,
-    kind: u64,
-    first: u64,
-    second: u64,
-    kept: bool,
-) -> Result<(), Refusal>
-    requires { PlanRoom g.now r q }
-    ensures { number_in result ≡ ask 4 (eqb n 3) (ask 7 (kept && (ltb (q + 1) (rule_plan g.now r) || plan_whole g.now r q kind first second)) 0) }
-{
-    if n != 3 {
-        return Err(Refusal::Count);
-    }
-    if !kept {
-        return Err(Refusal::Plan);
-    }
-    if q + 1 < layout::rule_plan(g, r) {
-        return Ok(());
-    }
-    if !plans::whole(g, r, q, kind, first, second) {
-        return Err(Refusal::Plan);
-    }
-    Ok(())
-}
-
 // `P`: kind, first, second.
 #[tactic(auto, unfolding(questions::specs::Questions::judge_plan))]
 fn judge_plan(g: &[u64], r: u64, q: u64, f: &[u64]) -> Result<(), Refusal>
@@ -156,27 +128,28 @@ fn judge_plan(g: &[u64], r: u64, q: u64, f: &[u64]) -> Result<(), Refusal>
     ensures { number_in result ≡ judge_plan g.now r q f.now }
 {
     let n = f.len() as u64;
-    let kind = layout::field(f, 0);
-    let first = layout::field(f, 1);
-    let second = layout::field(f, 2);
-    if n < 3 {
+    let line = PlanLine {
+        kind: layout::field(f, 0),
+        first: layout::field(f, 1),
+        second: layout::field(f, 2),
+    };
+    let fixed = (3 <= n) & (line.kind <= 2);
+    if !fixed {
         return Err(Refusal::Fields);
     }
-    match kind {
-        0 => {
-            let kept = first == 0 && second == 0;
-            judge_known_plan(g, r, q, n, 0, first, second, kept)
-        }
-        1 => {
-            let kept = plans::introduce_so_far(g, r, q, first, second);
-            judge_known_plan(g, r, q, n, 1, first, second, kept)
-        }
-        2 => {
-            let kept = plans::join_so_far(g, r, q, first, second);
-            judge_known_plan(g, r, q, n, 2, first, second, kept)
-        }
-        _ => Err(Refusal::Fields),
+    if n != 3 {
+        return Err(Refusal::Count);
     }
+    if !plans::so_far(g, r, q, line) {
+        return Err(Refusal::Plan);
+    }
+    if q + 1 < layout::rule_plan(g, r) {
+        return Ok(());
+    }
+    if !plans::whole(g, r, q, line) {
+        return Err(Refusal::Plan);
+    }
+    Ok(())
 }
 
 // `H`: nodes (1-64), edges (1-64), then external nodes, as many as the start's rank.

@@ -1,14 +1,34 @@
 // Question 7: the children and the introduced edges of a rule's plan lines, counted, or carried as sets from line to
 // line.
-ghost use Rattle.std.specs.Prelude.{◌≡◌, ◌++◌, ◌&&◌, ◌+◌, ◌≤◌, eqb};
+ghost use Rattle.std.specs.Prelude.{◌≡◌, ◌++◌, ◌&&◌, ◌+◌, ◌<◌, ◌≤◌, length, eqb, leb};
 ghost use Rattle.hrg.specs.Counts.{occurs};
-ghost use Rattle.questions.specs.Layout.{rule_edges};
+ghost use Rattle.questions.specs.Layout.{rule_edges, plan_place, plan_kind, plan_first, plan_second};
 ghost use Rattle.questions.specs.Questions.{children_of, introduced_by, children_before, plan_so_far, plan_whole};
 ghost use Rattle.tables.specs.Marks.{marks};
 ghost use Rattle.tables.specs.Plans.{PlanRoom, Marked, named_in, named_before, introduce_fits, join_fits, Takes, Keeps};
 ghost use Rattle.tables.specs.Concluding.{Count};
 
 use crate::marks::has_all;
+
+// The fields of a plan line.
+#[derive(Clone, Copy)]
+pub(crate) struct PlanLine {
+    pub(crate) kind: u64,
+    pub(crate) first: u64,
+    pub(crate) second: u64,
+}
+
+// Line q of rule r, as it stands in the table.
+fn line_at(g: &[u64], r: u64, q: u64) -> PlanLine
+    requires { plan_place r q < length g.now }
+    ensures { (result.kind ≡ plan_kind g.now r q) × (result.first ≡ plan_first g.now r q) × (result.second ≡ plan_second g.now r q) }
+{
+    PlanLine {
+        kind: layout::plan_kind_in(g, r, q),
+        first: layout::plan_first_in(g, r, q),
+        second: layout::plan_second_in(g, r, q),
+    }
+}
 
 // The children and the introduced edges of some plan lines, as sets.
 #[derive(Clone, Copy)]
@@ -17,23 +37,23 @@ pub(crate) struct PlanMarks {
     pub(crate) introduced: u64,
 }
 
-// How often c is a child in a plan line of these fields: a count, so that 0 is none.
-fn child_in(kind: u64, first: u64, second: u64, c: u64) -> u64
-    ensures { (result ≡ occurs c (children_of kind first second)) × (result ≤ 2) }
+// How often c is a child in a plan line: a count, so that 0 is none.
+fn child_in(line: PlanLine, c: u64) -> u64
+    ensures { (result ≡ occurs c (children_of line.kind line.first line.second)) × (result ≤ 2) }
 {
-    match kind {
-        1 => u64::from(c == first),
-        2 => u64::from(c == first) + u64::from(c == second),
+    match line.kind {
+        1 => u64::from(c == line.first),
+        2 => u64::from(c == line.first) + u64::from(c == line.second),
         _ => 0,
     }
 }
 
-// How often the edge i is introduced by a plan line of these fields: a count as well.
-fn introduced_in(kind: u64, first: u64, second: u64, i: u64) -> u64
-    ensures { (result ≡ occurs i (introduced_by kind first second)) × (result ≤ 1) }
+// How often the edge i is introduced by a plan line: a count as well.
+fn introduced_in(line: PlanLine, i: u64) -> u64
+    ensures { (result ≡ occurs i (introduced_by line.kind line.first line.second)) × (result ≤ 1) }
 {
-    match kind {
-        1 => u64::from(i == second),
+    match line.kind {
+        1 => u64::from(i == line.second),
         _ => 0,
     }
 }
@@ -45,13 +65,13 @@ enum Named {
     Edge(u64),
 }
 
-// How often a plan line of these fields names it.
-fn named_in(kind: u64, first: u64, second: u64, what: Named) -> u64
-    ensures { (result ≡ named_in kind first second what) × (result ≤ 2) }
+// How often a plan line names it.
+fn named_in(line: PlanLine, what: Named) -> u64
+    ensures { (result ≡ named_in line.kind line.first line.second what) × (result ≤ 2) }
 {
     match what {
-        Named::Child(c) => child_in(kind, first, second, c),
-        Named::Edge(i) => introduced_in(kind, first, second, i),
+        Named::Child(c) => child_in(line, c),
+        Named::Edge(i) => introduced_in(line, i),
     }
 }
 
@@ -62,60 +82,81 @@ fn named_before(g: &[u64], r: u64, n: u64, what: Named) -> u64
 {
     let mut sum: u64 = 0;
     for q in 0..n {
-        let kind = layout::plan_kind_in(g, r, q);
-        let first = layout::plan_first_in(g, r, q);
-        let second = layout::plan_second_in(g, r, q);
-        sum += named_in(kind, first, second, what);
+        sum += named_in(line_at(g, r, q), what);
     }
     sum
 }
 
-// How often c is a child in the first q plan lines and the next one, which has these fields.
-fn child_times(g: &[u64], r: u64, q: u64, kind: u64, first: u64, second: u64, c: u64) -> u64
+// How often c is a child in the first q plan lines and in this one behind them.
+fn child_times(g: &[u64], r: u64, q: u64, line: PlanLine, c: u64) -> u64
     requires { PlanRoom g.now r q }
-    ensures { result ≡ occurs c (children_before g.now r q ++ children_of kind first second) }
+    ensures { result ≡ occurs c (children_before g.now r q ++ children_of line.kind line.first line.second) }
 {
-    named_before(g, r, q, Named::Child(c)) + child_in(kind, first, second, c)
+    named_before(g, r, q, Named::Child(c)) + child_in(line, c)
 }
 
 // ---- a plan line over children keeps the plan rules so far
-pub(crate) fn introduce_so_far(g: &[u64], r: u64, q: u64, first: u64, second: u64) -> bool
+fn introduce_so_far(g: &[u64], r: u64, q: u64, first: u64, second: u64) -> bool
     requires { PlanRoom g.now r q }
     ensures { result ≡ plan_so_far g.now r q 1 first second }
 {
-    let times = child_times(g, r, q, 1, first, second, first);
+    let line = PlanLine {
+        kind: 1,
+        first,
+        second,
+    };
+    let times = child_times(g, r, q, line, first);
     let edges = layout::rule_edges(g, r);
     let before = named_before(g, r, q, Named::Edge(second));
     first < q && times == 1 && second < edges && before == 0
 }
 
-pub(crate) fn join_so_far(g: &[u64], r: u64, q: u64, first: u64, second: u64) -> bool
+fn join_so_far(g: &[u64], r: u64, q: u64, first: u64, second: u64) -> bool
     requires { PlanRoom g.now r q }
     ensures { result ≡ plan_so_far g.now r q 2 first second }
 {
-    let one = child_times(g, r, q, 2, first, second, first);
-    let other = child_times(g, r, q, 2, first, second, second);
+    let line = PlanLine {
+        kind: 2,
+        first,
+        second,
+    };
+    let one = child_times(g, r, q, line, first);
+    let other = child_times(g, r, q, line, second);
     first < q && second < q && one == 1 && other == 1
 }
 
-// ---- the plan is whole at its last line
-// m with the children of a plan line of these fields.
-fn mark_children(m: u64, kind: u64, first: u64, second: u64) -> u64
-    ensures { result ≡ marks m (children_of kind first second) }
+// The same for a line of any kind; one of an unknown kind does not.
+#[tactic(auto, using(crate::proofs::Planning::leaf_ok))]
+pub(crate) fn so_far(g: &[u64], r: u64, q: u64, line: PlanLine) -> bool
+    requires { PlanRoom g.now r q }
+    ensures { result ≡ (leb line.kind 2 && plan_so_far g.now r q line.kind line.first line.second) }
 {
-    match kind {
-        1 => masks::with(m, first),
-        2 => masks::with(masks::with(m, first), second),
+    match line.kind {
+        0 => line.first == 0 && line.second == 0,
+        1 => introduce_so_far(g, r, q, line.first, line.second),
+        2 => join_so_far(g, r, q, line.first, line.second),
+        _ => false,
+    }
+}
+
+// ---- the plan is whole at its last line
+// m with the children of a plan line.
+fn mark_children(m: u64, line: PlanLine) -> u64
+    ensures { result ≡ marks m (children_of line.kind line.first line.second) }
+{
+    match line.kind {
+        1 => masks::with(m, line.first),
+        2 => masks::with(masks::with(m, line.first), line.second),
         _ => m,
     }
 }
 
 // m with the edge that it introduces.
-fn mark_introduced(m: u64, kind: u64, first: u64, second: u64) -> u64
-    ensures { result ≡ marks m (introduced_by kind first second) }
+fn mark_introduced(m: u64, line: PlanLine) -> u64
+    ensures { result ≡ marks m (introduced_by line.kind line.first line.second) }
 {
-    match kind {
-        1 => masks::with(m, second),
+    match line.kind {
+        1 => masks::with(m, line.second),
         _ => m,
     }
 }
@@ -128,11 +169,9 @@ fn marks_before(g: &[u64], r: u64, n: u64) -> PlanMarks
     let mut children: u64 = 0;
     let mut introduced: u64 = 0;
     for q in 0..n {
-        let kind = layout::plan_kind_in(g, r, q);
-        let first = layout::plan_first_in(g, r, q);
-        let second = layout::plan_second_in(g, r, q);
-        children = mark_children(children, kind, first, second);
-        introduced = mark_introduced(introduced, kind, first, second);
+        let line = line_at(g, r, q);
+        children = mark_children(children, line);
+        introduced = mark_introduced(introduced, line);
     }
     PlanMarks {
         children,
@@ -141,22 +180,22 @@ fn marks_before(g: &[u64], r: u64, n: u64) -> PlanMarks
 }
 
 // Whether every plan node but the last is a child, and each edge is introduced.
-pub(crate) fn whole(g: &[u64], r: u64, q: u64, kind: u64, first: u64, second: u64) -> bool
+pub(crate) fn whole(g: &[u64], r: u64, q: u64, line: PlanLine) -> bool
     requires { PlanRoom g.now r q }
-    ensures { result ≡ plan_whole g.now r q kind first second }
+    ensures { result ≡ plan_whole g.now r q line.kind line.first line.second }
 {
     let before = marks_before(g, r, q);
-    let children = mark_children(before.children, kind, first, second);
-    let introduced = mark_introduced(before.introduced, kind, first, second);
+    let children = mark_children(before.children, line);
+    let introduced = mark_introduced(before.introduced, line);
     has_all(children, q) && has_all(introduced, layout::rule_edges(g, r).min(8))
 }
 
 // ---- a line judged by the sets of the lines before it: where a table is checked they are carried from line to line
 // The sets with line q, a leaf, where it is kept.
-fn with_leaf(named: PlanMarks, first: u64, second: u64) -> Option<PlanMarks>
-    ensures { Takes (eqb first 0 && eqb second 0) 0 first second named result }
+fn with_leaf(named: PlanMarks, line: PlanLine) -> Option<PlanMarks>
+    ensures { Takes (eqb line.first 0 && eqb line.second 0) 0 line.first line.second named result }
 {
-    if first == 0 && second == 0 {
+    if line.first == 0 && line.second == 0 {
         return Some(named);
     }
     None
@@ -164,53 +203,47 @@ fn with_leaf(named: PlanMarks, first: u64, second: u64) -> Option<PlanMarks>
 
 // With line q, which introduces the edge `second` over the child `first`.
 #[tactic(auto, unfolding(crate::specs::Plans::introduce_fits))]
-fn with_introduce(
-    q: u64,
-    edges: u64,
-    named: PlanMarks,
-    first: u64,
-    second: u64,
-) -> Option<PlanMarks>
-    ensures { Takes (introduce_fits q edges named.children named.introduced first second) 1 first second named result }
+fn with_introduce(q: u64, edges: u64, named: PlanMarks, line: PlanLine) -> Option<PlanMarks>
+    ensures { Takes (introduce_fits q edges named.children named.introduced line.first line.second) 1 line.first line.second named result }
 {
-    if q <= first {
+    if q <= line.first {
         return None;
     }
-    if masks::has(named.children, first) {
+    if masks::has(named.children, line.first) {
         return None;
     }
-    if edges <= second {
+    if edges <= line.second {
         return None;
     }
-    if masks::has(named.introduced, second) {
+    if masks::has(named.introduced, line.second) {
         return None;
     }
     Some(PlanMarks {
-        children: masks::with(named.children, first),
-        introduced: masks::with(named.introduced, second),
+        children: masks::with(named.children, line.first),
+        introduced: masks::with(named.introduced, line.second),
     })
 }
 
 // With line q, which joins the children `first` and `second`.
 #[tactic(auto, using(crate::proofs::Covering::marked_by_lem), unfolding(crate::specs::Plans::join_fits))]
-fn with_join(q: u64, named: PlanMarks, first: u64, second: u64) -> Option<PlanMarks>
-    ensures { Takes (join_fits q named.children first second) 2 first second named result }
+fn with_join(q: u64, named: PlanMarks, line: PlanLine) -> Option<PlanMarks>
+    ensures { Takes (join_fits q named.children line.first line.second) 2 line.first line.second named result }
 {
-    if q <= first {
+    if q <= line.first {
         return None;
     }
-    if masks::has(named.children, first) {
+    if masks::has(named.children, line.first) {
         return None;
     }
-    if q <= second {
+    if q <= line.second {
         return None;
     }
-    let more = masks::with(named.children, first);
-    if masks::has(more, second) {
+    let more = masks::with(named.children, line.first);
+    if masks::has(more, line.second) {
         return None;
     }
     Some(PlanMarks {
-        children: masks::with(more, second),
+        children: masks::with(more, line.second),
         introduced: named.introduced,
     })
 }
@@ -226,13 +259,11 @@ pub(crate) fn with_line(
     requires { PlanRoom t.now r (q + 1) × Count edges (rule_edges t.now r) 8 × Marked t.now r q named.children named.introduced }
     ensures { Keeps t.now r q result }
 {
-    let kind = layout::plan_kind_in(t, r, q);
-    let first = layout::plan_first_in(t, r, q);
-    let second = layout::plan_second_in(t, r, q);
-    match kind {
-        0 => with_leaf(named, first, second),
-        1 => with_introduce(q, edges, named, first, second),
-        2 => with_join(q, named, first, second),
+    let line = line_at(t, r, q);
+    match line.kind {
+        0 => with_leaf(named, line),
+        1 => with_introduce(q, edges, named, line),
+        2 => with_join(q, named, line),
         _ => None,
     }
 }

@@ -4,5 +4,5 @@ use Rattle.std.proofs.lemmas.Grind.{common_steps}
 use Rattle.tables.proofs.Carrying.{with_none}
 use Rattle.tables.proofs.plans.with_leaf.Goals as goal
 
-pub returns-then-second-eq0 : goal.returns-then-second-eq0
-returns-then-second-eq0 c = (grind (arith, common_steps), with_none _ _ _ _)
+pub returns-then-line-eq0-2 : goal.returns-then-line-eq0-2
+returns-then-line-eq0-2 c = (grind (arith, common_steps), with_none _ _ _ _)
