@@ -15,7 +15,6 @@ use Rattle.joins.specs.Joins.{Accepted}
 use Rattle.records.specs.Words.{capacity, item_count, records_at, chart_of, written}
 use Rattle.records.proofs.WordLaws.{length_records}
 use Rattle.validity.specs.Checking.{holds, known_chart}
-use Rattle.rules.specs.Plans.{PlanTable}
 use Rattle.steps.specs.Runs.{next_in}
 use Rattle.steps.specs.Ready.{Runnable}
 use Rattle.charting.specs.Calls.{Called, fit, fit_chart, when_waiting, answer_of, start_answer, start_of, run_of, runs_of, standing_of, Outcome}
@@ -59,10 +58,10 @@ module _ (g h w : List ℕ) (b : Bool) (is : b ≡ fit g h w) (y : b ≡ true) w
   fit_header = holds_header w parts.0
 
   -- what a run needs, where the chart is known too
-  pub fit_runnable : (k : Bool) → k ≡ known_chart (grammar_of g) (graph_of g h) w → k ≡ true → (plans : List ℕ) → PlanTable g plans → Runnable g h plans w
-  fit_runnable k q z plans p =
+  pub fit_runnable : (k : Bool) → k ≡ known_chart (grammar_of g) (graph_of g h) w → k ≡ true → Runnable g h w
+  fit_runnable k q z =
       let known = sym q ∙ z in
-      record { accepted = fit_accepted; planned = p; fits = known_fits (grammar_of g) (graph_of g h) w fit_header known; small = holds_most w parts.0; known = known }
+      record { fits = known_fits (grammar_of g) (graph_of g h) w fit_header known; small = holds_most w parts.0; known = known }
 
 -- ---- start
 module _ (g h w : List ℕ) (b : Bool) (is : b ≡ fit g h w) where

@@ -11,6 +11,7 @@ ghost use Rattle.charting.specs.Facts.{StartChoices, RunChoices};
 
 use charting::Unready;
 use joins::accepted::{AcceptedGrammar, AcceptedTables};
+use rules::planned::PlannedTables;
 use rules::plans::PLAN_TABLE_WORDS;
 
 // Question 8 before a start: does the chart hold 1 to 4,096 items, and could texts have filled the tables?
@@ -84,7 +85,11 @@ pub fn standing(grammar: &[u64], graph: &[u64], chart: &[u64]) -> Result<u64, Un
     };
     let mut plans = [0u32; PLAN_TABLE_WORDS];
     rules::plans::fill(&t.grammar, &mut plans);
-    match validator::known(&t, &plans, chart) {
+    let planned = PlannedTables {
+        tables: t,
+        plans: &plans,
+    };
+    match validator::known(&planned, chart) {
         None => Err(Unready::Unfit),
         Some(handled) => outcome_of(chart, handled),
     }
@@ -103,9 +108,13 @@ pub fn run(grammar: &[u64], graph: &[u64], chart: &mut [u64], steps: u64) -> Res
     };
     let mut plans = [0u32; PLAN_TABLE_WORDS];
     rules::plans::fill(&t.grammar, &mut plans);
-    if validator::known(&t, &plans, chart).is_none() {
+    let planned = PlannedTables {
+        tables: t,
+        plans: &plans,
+    };
+    if validator::known(&planned, chart).is_none() {
         return Err(Unready::Unfit);
     }
-    let all = steps::advance(&t, &plans, chart, steps);
+    let all = steps::advance(&planned, chart, steps);
     outcome_after(chart, all)
 }

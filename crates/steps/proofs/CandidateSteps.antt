@@ -45,7 +45,7 @@ pub record Edging (g h keys w : List ℕ) (j : ℕ) (v jx ms : List ℕ) (e : �
   pub ready : Ready g h keys v jx ms
   pub within : e ≤ length (graph_of g h).edges
 
-module _ {g h plans keys graph w ix ls : List ℕ} {j : ℕ} (P : Tables g h plans keys graph × Ready g h keys w ix ls × Handled w j) where
+module _ {g h keys w ix ls : List ℕ} {j : ℕ} (P : Tables g h keys × Ready g h keys w ix ls × Handled w j) where
   abbrev own : ChartItem
   own = (record_at w j).item
 

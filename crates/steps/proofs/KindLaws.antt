@@ -43,7 +43,7 @@ alone_same {g} {h} {keys} {w} {j} {v} {jx} {ms} {u} {kx} {ns} {lead} a b l e A =
     (subst (λ (t : List ℕ). Alone g h keys w j u t ms lead) (sym b)
     (subst (λ (t : List ℕ). Alone g h keys w j u kx t lead) (sym l) (subst (Alone g h keys w j u kx ns) (sym e) A)))
 
-module _ {g h plans keys graph w ix ls : List ℕ} {j : ℕ} (P : Tables g h plans keys graph × Ready g h keys w ix ls × Handled w j) where
+module _ {g h keys w ix ls : List ℕ} {j : ℕ} (P : Tables g h keys × Ready g h keys w ix ls × Handled w j) where
   abbrev G : Grammar
   G = grammar_of g
 
@@ -119,7 +119,7 @@ module _ {g h plans keys graph w ix ls : List ℕ} {j : ℕ} (P : Tables g h pla
     same : record_at v j ≡ x
     same = stays_record w v j _ P.1.fits alone_whole A.is P.2
 
-    pub alone_joining : Joining g h plans keys graph v jx ms lead j
+    pub alone_joining : Joining g h keys v jx ms lead j
     alone_joining = record {
       tables = P.0;
       ready = A.ready;

@@ -253,7 +253,7 @@ module _ (g h keys : List ℕ) (H : Graph) (w : List ℕ) (x : Record) (j n : �
             (gathered_skip w f partner v done n (λ i a b. passed_over i a (omega arith) b) S.low S.gathered)
 
 -- ---- the loop over the partners of the record at place j, which stays as it is
-module _ {g h plans keys graph w ix₀ ls₀ : List ℕ} {lead : Bool} {j n : ℕ} (P : Joining g h plans keys graph w ix₀ ls₀ lead j) (all : n ≤ item_count w) where
+module _ {g h keys w ix₀ ls₀ : List ℕ} {lead : Bool} {j n : ℕ} (P : Joining g h keys w ix₀ ls₀ lead j) (all : n ≤ item_count w) where
   placed : (i : ℕ) → i < item_count w → AllPlaced (grammar_of g) (record_at w i).item
   placed = known_placed g h P.tables.accepted w P.ready.known
 
@@ -271,7 +271,7 @@ module _ {g h plans keys graph w ix₀ ls₀ : List ℕ} {lead : Bool} {j n : �
   partners_quiet {v = v} {past = past} S = dealt_quiet g h w (graph_of g h) j P.ready.fits P.handled partners_each v past (low S) S.gathered
 
   module _ {v ix ls cs : List ℕ} {k past : ℕ} (S : Going g h keys (graph_of g h) w (record_at w j) j n v ix ls cs k past) where
-    pub partners_joining : Joining g h plans keys graph v ix ls lead j
+    pub partners_joining : Joining g h keys v ix ls lead j
     partners_joining = record {
       tables = P.tables;
       ready = S.ready;

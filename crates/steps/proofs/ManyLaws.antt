@@ -21,7 +21,7 @@ abbrev pub Turning : List ℕ → List ℕ → List ℕ → List ℕ → ℕ →
 Turning g h keys w j n v ix ls cs k past = Going g h keys (graph_of g h) w (record_at w j) j n v ix ls cs k past
 
 -- y is the item at place j, as it was read
-module _ {g h plans keys graph w ix₀ ls₀ : List ℕ} {lead : Bool} {j n : ℕ} (P : Joining g h plans keys graph w ix₀ ls₀ lead j × (n ≤ item_count w)) {y : ChartItem} (own : y ≡ (record_at w j).item) where
+module _ {g h keys w ix₀ ls₀ : List ℕ} {lead : Bool} {j n : ℕ} (P : Joining g h keys w ix₀ ls₀ lead j × (n ≤ item_count w)) {y : ChartItem} (own : y ≡ (record_at w j).item) where
   skims : (v ws bs ds : List ℕ) → SkimsAll (quiet_in v y.edges) ws n bs ds → SkimsAll (quiet_in v (record_at w j).item.edges) ws n bs ds
   skims v ws bs ds = subst (λ (x : ChartItem). SkimsAll (quiet_in v x.edges) ws n bs ds) own
 

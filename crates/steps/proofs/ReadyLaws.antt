@@ -29,7 +29,7 @@ use Rattle.index.proofs.CoverLaws.{covered_kept}
 use Rattle.index.proofs.AddLaws.{handled_beside, handled_covered}
 use Rattle.ranking.specs.Ranking.{taken_from}
 use Rattle.steps.specs.Runs.{marked_by}
-use Rattle.steps.specs.Ready.{Tables, Ready, Runnable, Handled}
+use Rattle.steps.specs.Ready.{Ready, Runnable, Handled}
 use Rattle.steps.proofs.KnownLaws.{known_into, known_bare, known_handled, known_added}
 
 module _ (g h keys w ix ls : List ℕ) (R : Ready g h keys w ix ls) (v jx ms : List ℕ) (I : Indexed keys jx ms (chart_of v).records) (S : Covered g h jx (chart_of v).records) where
@@ -68,8 +68,8 @@ module _ (g h keys w ix ls : List ℕ) (R : Ready g h keys w ix ls) (v jx ms : L
       }
 
 -- the index of a chart that passes question 8
-pub built_ready : (g h plans keys w ix ls : List ℕ) → Runnable g h plans w → Indexed keys ix ls (chart_of w).records → Covered g h ix (chart_of w).records → Ready g h keys w ix ls
-built_ready g h plans keys w ix ls R i n = record { fits = R.fits; small = R.small; known = R.known; indexed = i; covered = n }
+pub built_ready : (g h keys w ix ls : List ℕ) → Runnable g h w → Indexed keys ix ls (chart_of w).records → Covered g h ix (chart_of w).records → Ready g h keys w ix ls
+built_ready g h keys w ix ls R i n = record { fits = R.fits; small = R.small; known = R.known; indexed = i; covered = n }
 
 pub count_small : (w : List ℕ) → capacity w ≤ 4096 → item_count w ≤ 4096
 unfolding item_count

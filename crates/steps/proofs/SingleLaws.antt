@@ -51,7 +51,7 @@ module _ (g h keys w : List ℕ) (j n : ℕ) where
         → t ≡ grown_by v (guard (leb past ((c - 1) / 5)) (with_record (grammar_of g) (graph_of g h) (record_at v j) j (record_at v ((c - 1) / 5)) ((c - 1) / 5))) → Ready g h keys t kx ns → m ≡ max past ((c - 1) / 5 + 1)
         → Met v ix ls c past u jx ms later
 
-module _ {g h plans keys graph w ix₀ ls₀ : List ℕ} {lead : Bool} {j n key : ℕ} (P : Joining g h plans keys graph w ix₀ ls₀ lead j × (n ≤ item_count w) × (alone key ≡ query_of keys (record_at w j).item)) where
+module _ {g h keys w ix₀ ls₀ : List ℕ} {lead : Bool} {j n key : ℕ} (P : Joining g h keys w ix₀ ls₀ lead j × (n ≤ item_count w) × (alone key ≡ query_of keys (record_at w j).item)) where
   abbrev H : Graph
   H = graph_of g h
 
@@ -71,7 +71,7 @@ module _ {g h plans keys graph w ix₀ ls₀ : List ℕ} {lead : Bool} {j n key 
       (skims_none (quiet_in w x.item.edges) ls₀ n (alone c)) refl (least_few (alone c))
 
   module _ {v ix ls : List ℕ} {c past : ℕ} (S : Along g h keys w j n v ix ls c past) where
-    pub single_joining : Joining g h plans keys graph v ix ls lead j
+    pub single_joining : Joining g h keys v ix ls lead j
     single_joining = partners_joining P.0 P.1 S
 
     pub single_end : not (eqb c 0) && leb c (5 * n) ≡ false → v ≡ grown_by w (gather n (λ k. with_record (grammar_of g) H x j (record_at w k) k))

@@ -6,20 +6,17 @@ use Rattle.agenda.specs.declared.ChartItem.{ChartItem}
 use Rattle.agenda.specs.Records.{is_handled, new_record}
 use Rattle.questions.specs.Abstract.{grammar_of, graph_of}
 use Rattle.joins.specs.Joins.{Accepted}
-use Rattle.joins.specs.Graphs.{GraphTable}
 use Rattle.rules.specs.Rules.{Gives}
-use Rattle.rules.specs.Plans.{PlanTable, Leads}
+use Rattle.rules.specs.Plans.{Leads}
 use Rattle.keys.specs.Keys.{KeyTable}
 use Rattle.records.specs.Words.{Fits, capacity, item_count, record_at, chart_of}
 use Rattle.index.specs.Index.{Indexed, Covered, Adds}
 use Rattle.validity.specs.Checking.{known_chart}
 
--- accepted tables, and what a run works out from them once
-pub record Tables (g h plans keys graph : List ℕ) : Type 0 where
+-- accepted tables, and the keys of their items
+pub record Tables (g h keys : List ℕ) : Type 0 where
   pub accepted : Accepted g h
-  pub planned : PlanTable g plans
   pub keyed : KeyTable g keys
-  pub graphed : GraphTable g h graph
 
 -- words of a chart that passes question 8, and the index of its records with their lists ls, which tells whether they
 -- cover their open nodes
@@ -30,11 +27,8 @@ pub record Ready (g h keys w ix ls : List ℕ) : Type 0 where
   pub indexed : Indexed keys ix ls (chart_of w).records
   pub covered : Covered g h ix (chart_of w).records
 
--- what a run starts from: accepted tables, what is worked out from their plans, and words of a chart that passes
--- question 8
-pub record Runnable (g h plans w : List ℕ) : Type 0 where
-  pub accepted : Accepted g h
-  pub planned : PlanTable g plans
+-- what a run starts from beside its tables: words of a chart that passes question 8
+pub record Runnable (g h w : List ℕ) : Type 0 where
   pub fits : Fits w
   pub small : capacity w ≤ 4096
   pub known : known_chart (grammar_of g) (graph_of g h) w ≡ true
@@ -45,8 +39,8 @@ pub record Handled (w : List ℕ) (j : ℕ) : Type 0 where
   pub done : is_handled (record_at w j) ≡ true
 
 -- it is to be joined with others, and comes first where it leads
-pub record Joining (g h plans keys graph w ix ls : List ℕ) (lead : Bool) (j : ℕ) : Type 0 where
-  pub tables : Tables g h plans keys graph
+pub record Joining (g h keys w ix ls : List ℕ) (lead : Bool) (j : ℕ) : Type 0 where
+  pub tables : Tables g h keys
   pub ready : Ready g h keys w ix ls
   pub handled : Handled w j
   pub leads : Leads g (record_at w j).item lead

@@ -60,7 +60,7 @@ fn add_joined(
 
 // What it makes with graph edge e, if that is one of the candidates m.
 fn add_candidate(t: &Lookups, chart: &mut [u64], index: &mut Index, j: u64, m: u64, e: u64)
-    requires { Tables t.now.run.tables.grammar.words.now t.now.run.tables.graph.now t.now.run.plans.now t.now.keys.now t.now.run.graph.now × Ready t.now.run.tables.grammar.words.now t.now.run.tables.graph.now t.now.keys.now chart.old index.old.words index.old.lists × Handled chart.old j × Candidates t.now.run.tables.grammar.words.now t.now.run.tables.graph.now (record_at chart.old j).item m × (e < graph_edges t.now.run.tables.graph.now) }
+    requires { Tables t.now.run.tables.grammar.words.now t.now.run.tables.graph.now t.now.keys.now × Ready t.now.run.tables.grammar.words.now t.now.run.tables.graph.now t.now.keys.now chart.old index.old.words index.old.lists × Handled chart.old j × Candidates t.now.run.tables.grammar.words.now t.now.run.tables.graph.now (record_at chart.old j).item m × (e < graph_edges t.now.run.tables.graph.now) }
     ensures { (chart.new ≡ grown_by chart.old (with_terminal (grammar_in t.now.run.tables) (graph_in t.now.run.tables) (item_of (grammar_in t.now.run.tables) (record_at chart.old j).item) (record_at chart.old j).item.count j e)) × Ready t.now.run.tables.grammar.words.now t.now.run.tables.graph.now t.now.keys.now chart.new index.new.words index.new.lists }
 {
     if !masks::has(m, e) {
@@ -74,7 +74,7 @@ fn add_candidate(t: &Lookups, chart: &mut [u64], index: &mut Index, j: u64, m: u
 
 // What it makes with each graph edge: only those of the label that it wants, and that fit its map, are tried.
 fn add_terminals(t: &Lookups, chart: &mut [u64], index: &mut Index, j: u64)
-    requires { Tables t.now.run.tables.grammar.words.now t.now.run.tables.graph.now t.now.run.plans.now t.now.keys.now t.now.run.graph.now × Ready t.now.run.tables.grammar.words.now t.now.run.tables.graph.now t.now.keys.now chart.old index.old.words index.old.lists × Handled chart.old j }
+    requires { Tables t.now.run.tables.grammar.words.now t.now.run.tables.graph.now t.now.keys.now × Ready t.now.run.tables.grammar.words.now t.now.run.tables.graph.now t.now.keys.now chart.old index.old.words index.old.lists × Handled chart.old j }
     ensures { (chart.new ≡ grown_by chart.old (gather (length (graph_in t.now.run.tables).edges) (λ e. with_terminal (grammar_in t.now.run.tables) (graph_in t.now.run.tables) (item_of (grammar_in t.now.run.tables) (record_at chart.old j).item) (record_at chart.old j).item.count j e))) × Ready t.now.run.tables.grammar.words.now t.now.run.tables.graph.now t.now.keys.now chart.new index.new.words index.new.lists }
 {
     let x = records::item_at(chart, j);
@@ -95,7 +95,7 @@ fn add_terminals(t: &Lookups, chart: &mut [u64], index: &mut Index, j: u64)
 
 // What the record at place j makes with the one at place k, the former first.
 fn add_pair(t: &Lookups, chart: &mut [u64], index: &mut Index, j: u64, k: u64)
-    requires { Tables t.now.run.tables.grammar.words.now t.now.run.tables.graph.now t.now.run.plans.now t.now.keys.now t.now.run.graph.now × Ready t.now.run.tables.grammar.words.now t.now.run.tables.graph.now t.now.keys.now chart.old index.old.words index.old.lists × Handled chart.old j × Handled chart.old k }
+    requires { Tables t.now.run.tables.grammar.words.now t.now.run.tables.graph.now t.now.keys.now × Ready t.now.run.tables.grammar.words.now t.now.run.tables.graph.now t.now.keys.now chart.old index.old.words index.old.lists × Handled chart.old j × Handled chart.old k }
     ensures { (chart.new ≡ grown_by chart.old (pair (grammar_in t.now.run.tables) (graph_in t.now.run.tables) (record_at chart.old j) j (record_at chart.old k) k)) × Ready t.now.run.tables.grammar.words.now t.now.run.tables.graph.now t.now.keys.now chart.new index.new.words index.new.lists }
 {
     let sure = index.sure();
@@ -126,7 +126,7 @@ fn add_met(
     k: u64,
     past: u64,
 ) -> u64
-    requires { Joining t.now.run.tables.grammar.words.now t.now.run.tables.graph.now t.now.run.plans.now t.now.keys.now t.now.run.graph.now chart.old index.old.words index.old.lists lead j × Handled chart.old k }
+    requires { Joining t.now.run.tables.grammar.words.now t.now.run.tables.graph.now t.now.keys.now chart.old index.old.words index.old.lists lead j × Handled chart.old k }
     ensures { (chart.new ≡ grown_by chart.old (guard (leb past k) (with_record (grammar_in t.now.run.tables) (graph_in t.now.run.tables) (record_at chart.old j) j (record_at chart.old k) k))) × Ready t.now.run.tables.grammar.words.now t.now.run.tables.graph.now t.now.keys.now chart.new index.new.words index.new.lists × (result ≡ max past (k + 1)) }
 {
     if k < past {
@@ -148,7 +148,7 @@ fn add_next(
     k: u64,
     past: u64,
 ) -> u64
-    requires { Joining t.now.run.tables.grammar.words.now t.now.run.tables.graph.now t.now.run.plans.now t.now.keys.now t.now.run.graph.now chart.old index.old.words index.old.lists lead j × (k < item_count chart.old) }
+    requires { Joining t.now.run.tables.grammar.words.now t.now.run.tables.graph.now t.now.keys.now chart.old index.old.words index.old.lists lead j × (k < item_count chart.old) }
     ensures { (chart.new ≡ grown_by chart.old (guard (leb past k) (with_record (grammar_in t.now.run.tables) (graph_in t.now.run.tables) (record_at chart.old j) j (record_at chart.old k) k))) × Ready t.now.run.tables.grammar.words.now t.now.run.tables.graph.now t.now.keys.now chart.new index.new.words index.new.lists × (result ≡ max past (k + 1)) }
 {
     if k < past {
@@ -171,7 +171,7 @@ fn add_listed(
     n: u64,
     key: u64,
 )
-    requires { Joining t.now.run.tables.grammar.words.now t.now.run.tables.graph.now t.now.run.plans.now t.now.keys.now t.now.run.graph.now chart.old index.old.words index.old.lists lead j × (n ≤ item_count chart.old) × (alone key ≡ query_of t.now.keys.now (record_at chart.old j).item) }
+    requires { Joining t.now.run.tables.grammar.words.now t.now.run.tables.graph.now t.now.keys.now chart.old index.old.words index.old.lists lead j × (n ≤ item_count chart.old) × (alone key ≡ query_of t.now.keys.now (record_at chart.old j).item) }
     ensures { (chart.new ≡ grown_by chart.old (gather n (λ k. with_record (grammar_in t.now.run.tables) (graph_in t.now.run.tables) (record_at chart.old j) j (record_at chart.old k) k))) × Ready t.now.run.tables.grammar.words.now t.now.run.tables.graph.now t.now.keys.now chart.new index.new.words index.new.lists }
 {
     let edges = records::edges_at(chart, j);
@@ -226,7 +226,7 @@ fn onward(chart: &[u64], index: &Index, edges: u64, n: u64, at: Cursors) -> Curs
 
 // What the record at place j makes with each of the first n records. Only those that its keys let through are tried.
 fn add_many(t: &Lookups, chart: &mut [u64], index: &mut Index, lead: bool, j: u64, n: u64)
-    requires { Joining t.now.run.tables.grammar.words.now t.now.run.tables.graph.now t.now.run.plans.now t.now.keys.now t.now.run.graph.now chart.old index.old.words index.old.lists lead j × (n ≤ item_count chart.old) }
+    requires { Joining t.now.run.tables.grammar.words.now t.now.run.tables.graph.now t.now.keys.now chart.old index.old.words index.old.lists lead j × (n ≤ item_count chart.old) }
     ensures { (chart.new ≡ grown_by chart.old (gather n (λ k. with_record (grammar_in t.now.run.tables) (graph_in t.now.run.tables) (record_at chart.old j) j (record_at chart.old k) k))) × Ready t.now.run.tables.grammar.words.now t.now.run.tables.graph.now t.now.keys.now chart.new index.new.words index.new.lists }
 {
     let x = records::item_at(chart, j);
@@ -242,7 +242,7 @@ fn add_many(t: &Lookups, chart: &mut [u64], index: &mut Index, lead: bool, j: u6
 
 // The same; most records ask for one key, whose list has a loop of its own.
 fn add_each(t: &Lookups, chart: &mut [u64], index: &mut Index, lead: bool, j: u64, n: u64)
-    requires { Joining t.now.run.tables.grammar.words.now t.now.run.tables.graph.now t.now.run.plans.now t.now.keys.now t.now.run.graph.now chart.old index.old.words index.old.lists lead j × (n ≤ item_count chart.old) }
+    requires { Joining t.now.run.tables.grammar.words.now t.now.run.tables.graph.now t.now.keys.now chart.old index.old.words index.old.lists lead j × (n ≤ item_count chart.old) }
     ensures { (chart.new ≡ grown_by chart.old (gather n (λ k. with_record (grammar_in t.now.run.tables) (graph_in t.now.run.tables) (record_at chart.old j) j (record_at chart.old k) k))) × Ready t.now.run.tables.grammar.words.now t.now.run.tables.graph.now t.now.keys.now chart.new index.new.words index.new.lists }
 {
     match pivots::asked(t.keys, records::item_at(chart, j)) {
@@ -255,7 +255,7 @@ fn add_each(t: &Lookups, chart: &mut [u64], index: &mut Index, lead: bool, j: u6
 // tried with, since with the rest it makes nothing: a passive item only with records, where it comes second; an
 // active one with no plan node above it only with the root rule; any other one with graph edges and records.
 pub(crate) fn add_all(t: &Lookups, chart: &mut [u64], index: &mut Index, j: u64)
-    requires { Tables t.now.run.tables.grammar.words.now t.now.run.tables.graph.now t.now.run.plans.now t.now.keys.now t.now.run.graph.now × Ready t.now.run.tables.grammar.words.now t.now.run.tables.graph.now t.now.keys.now chart.old index.old.words index.old.lists × Handled chart.old j }
+    requires { Tables t.now.run.tables.grammar.words.now t.now.run.tables.graph.now t.now.keys.now × Ready t.now.run.tables.grammar.words.now t.now.run.tables.graph.now t.now.keys.now chart.old index.old.words index.old.lists × Handled chart.old j }
     ensures { (chart.new ≡ grown_by chart.old (consequences (grammar_in t.now.run.tables) (graph_in t.now.run.tables) (chart_of chart.old).records j)) × Ready t.now.run.tables.grammar.words.now t.now.run.tables.graph.now t.now.keys.now chart.new index.new.words index.new.lists }
 {
     let n = records::item_count(chart);

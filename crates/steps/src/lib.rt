@@ -13,12 +13,11 @@ ghost use Rattle.index.specs.Index.{index_words, ranks_of};
 ghost use Rattle.steps.specs.Ready.{Tables, Ready, Runnable};
 
 use index::Index;
-use joins::accepted::{AcceptedGrammar, AcceptedTables};
+use joins::accepted::AcceptedGrammar;
 use joins::graphs::GRAPH_TABLE_WORDS;
 use lookups::Lookups;
 use pivots::KEY_TABLE_WORDS;
-use rules::planned::PlannedGrammar;
-use rules::plans::PLAN_TABLE_WORDS;
+use rules::planned::{PlannedGrammar, PlannedTables};
 use rules::running::RunTables;
 
 mod consequences;
@@ -49,7 +48,7 @@ fn take(chart: &mut [u64], index: &mut Index) -> Option<u64>
 
 // One step, if one is left: a record is handled, and what it makes with graph edges and handled records is added.
 fn step(t: &Lookups, chart: &mut [u64], index: &mut Index) -> bool
-    requires { Tables t.now.run.tables.grammar.words.now t.now.run.tables.graph.now t.now.run.plans.now t.now.keys.now t.now.run.graph.now × Ready t.now.run.tables.grammar.words.now t.now.run.tables.graph.now t.now.keys.now chart.old index.old.words index.old.lists }
+    requires { Tables t.now.run.tables.grammar.words.now t.now.run.tables.graph.now t.now.keys.now × Ready t.now.run.tables.grammar.words.now t.now.run.tables.graph.now t.now.keys.now chart.old index.old.words index.old.lists }
     ensures { (result ≡ is_some (next_in (chart_of chart.old))) × (chart.new ≡ written chart.old (step_with (grammar_in t.now.run.tables) (graph_in t.now.run.tables) (capacity chart.old) (chart_of chart.old) (next_in (chart_of chart.old)))) × Ready t.now.run.tables.grammar.words.now t.now.run.tables.graph.now t.now.keys.now chart.new index.new.words index.new.lists }
 {
     match take(chart, index) {
@@ -63,7 +62,7 @@ fn step(t: &Lookups, chart: &mut [u64], index: &mut Index) -> bool
 
 // So many steps, or as many as are left, with an index of the chart's records; true only where none is left.
 fn advance_by(t: &Lookups, chart: &mut [u64], index: &mut Index, steps: u64) -> bool
-    requires { Tables t.now.run.tables.grammar.words.now t.now.run.tables.graph.now t.now.run.plans.now t.now.keys.now t.now.run.graph.now × Ready t.now.run.tables.grammar.words.now t.now.run.tables.graph.now t.now.keys.now chart.old index.old.words index.old.lists }
+    requires { Tables t.now.run.tables.grammar.words.now t.now.run.tables.graph.now t.now.keys.now × Ready t.now.run.tables.grammar.words.now t.now.run.tables.graph.now t.now.keys.now chart.old index.old.words index.old.lists }
     ensures { (chart.new ≡ written chart.old (run_chart (grammar_in t.now.run.tables) (graph_in t.now.run.tables) (capacity chart.old) steps (chart_of chart.old))) × (result ≡ true → next_in (chart_of chart.new) ≡ None) }
 {
     for _i in 0..steps {
@@ -76,27 +75,22 @@ fn advance_by(t: &Lookups, chart: &mut [u64], index: &mut Index, steps: u64) -> 
 
 // So many steps, or as many as are left; true only where none is left. What hangs on the tables alone and the index
 // are made once for all of them.
-pub fn advance(
-    t: &AcceptedTables,
-    plans: &[u32; PLAN_TABLE_WORDS],
-    chart: &mut [u64],
-    steps: u64,
-) -> bool
-    requires { Runnable t.now.grammar.words.now t.now.graph.now plans.now chart.old }
-    ensures { (chart.new ≡ written chart.old (run_chart (grammar_in t.now) (graph_in t.now) (capacity chart.old) steps (chart_of chart.old))) × (result ≡ true → next_in (chart_of chart.new) ≡ None) }
+pub fn advance(t: &PlannedTables, chart: &mut [u64], steps: u64) -> bool
+    requires { Runnable t.now.tables.grammar.words.now t.now.tables.graph.now chart.old }
+    ensures { (chart.new ≡ written chart.old (run_chart (grammar_in t.now.tables) (graph_in t.now.tables) (capacity chart.old) steps (chart_of chart.old))) × (result ≡ true → next_in (chart_of chart.new) ≡ None) }
 {
     let mut keys = [0u32; KEY_TABLE_WORDS];
     let g = PlannedGrammar {
-        grammar: t.grammar,
-        plans,
+        grammar: t.tables.grammar,
+        plans: t.plans,
     };
     pivots::fill(&g, &mut keys);
     let mut graph = [0u64; GRAPH_TABLE_WORDS];
-    joins::graphs::fill(t, &mut graph);
+    joins::graphs::fill(&t.tables, &mut graph);
     let mut index = Index::empty();
     let run = RunTables {
-        tables: *t,
-        plans,
+        tables: t.tables,
+        plans: t.plans,
         graph: &graph,
     };
     index.build(&run, &keys, chart);

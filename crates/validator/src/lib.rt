@@ -8,7 +8,6 @@ ghost use Rattle.masks.specs.Masks.{member, full};
 ghost use Rattle.hrg.specs.Grammars.{plan_of, plan_node};
 ghost use Rattle.joins.specs.Joins.{KnownNode, KnownEdge};
 ghost use Rattle.joins.specs.Tables.{grammar_in, graph_in};
-ghost use Rattle.rules.specs.Plans.{PlanTable};
 ghost use Rattle.agenda.specs.Steps.{handled_count};
 ghost use Rattle.records.specs.Words.{records_at, item_count};
 ghost use Rattle.validity.specs.Checking.{holds, known_places, in_graph, known_second, known_partners, known_active, known_passive, known_record, known_chart};
@@ -17,8 +16,7 @@ ghost use Rattle.validator.specs.Sizes.{Sized};
 use agenda::Record;
 use joins::accepted::AcceptedTables;
 use places::PLACES;
-use rules::planned::PlannedGrammar;
-use rules::plans::PLAN_TABLE_WORDS;
+use rules::planned::{PlannedGrammar, PlannedTables};
 
 // What is asked of accepted tables once for all items: how many rules, symbols, graph nodes and graph edges there
 // are, and all graph edges as a set.
@@ -116,15 +114,9 @@ fn known_partners(t: &AcceptedTables, s: Sizes, n: u64, x: Record) -> bool
 
 // ---- records
 // The places of an active item are the open rule nodes at its plan node.
-fn known_active(
-    t: &AcceptedTables,
-    plans: &[u32; PLAN_TABLE_WORDS],
-    s: Sizes,
-    n: u64,
-    x: Record,
-) -> bool
-    requires { Sized t.now.grammar.words.now t.now.graph.now s × PlanTable t.now.grammar.words.now plans.now }
-    ensures { result ≡ known_active (grammar_in t.now) (graph_in t.now) n x }
+fn known_active(t: &PlannedTables, s: Sizes, n: u64, x: Record) -> bool
+    requires { Sized t.now.tables.grammar.words.now t.now.tables.graph.now s }
+    ensures { result ≡ known_active (grammar_in t.now.tables) (graph_in t.now.tables) n x }
 {
     let item = x.item;
     let of = item.of as u64;
@@ -132,18 +124,18 @@ fn known_active(
     if s.rules <= of {
         return false;
     }
-    if layout::rule_plan_in(t.grammar.words, of) <= plan {
+    if layout::rule_plan_in(t.tables.grammar.words, of) <= plan {
         return false;
     }
     let g = PlannedGrammar {
-        grammar: t.grammar,
-        plans,
+        grammar: t.tables.grammar,
+        plans: t.plans,
     };
     let open = rules::plans::open_at(&g, of, plan);
     if !in_graph(s, open, x) {
         return false;
     }
-    known_partners(t, s, n, x)
+    known_partners(&t.tables, s, n, x)
 }
 
 // Those of a passive item are as many as its symbol's rank; it has neither a plan node nor a second partner.
@@ -167,41 +159,33 @@ fn known_passive(t: &AcceptedTables, s: Sizes, n: u64, x: Record) -> bool
     (first < n) & (item.plan == 0) & (x.second == 0)
 }
 
-fn known_record(
-    t: &AcceptedTables,
-    plans: &[u32; PLAN_TABLE_WORDS],
-    s: Sizes,
-    n: u64,
-    x: Record,
-) -> bool
-    requires { Sized t.now.grammar.words.now t.now.graph.now s × PlanTable t.now.grammar.words.now plans.now }
-    ensures { result ≡ known_record (grammar_in t.now) (graph_in t.now) n x }
+fn known_record(t: &PlannedTables, s: Sizes, n: u64, x: Record) -> bool
+    requires { Sized t.now.tables.grammar.words.now t.now.tables.graph.now s }
+    ensures { result ≡ known_record (grammar_in t.now.tables) (graph_in t.now.tables) n x }
 {
     match x.item.kind {
-        0 => known_active(t, plans, s, n, x),
-        1 => known_passive(t, s, n, x),
+        0 => known_active(t, s, n, x),
+        1 => known_passive(&t.tables, s, n, x),
         _ => false,
     }
 }
 
 // ---- the chart
 // Is each record the image of an item that names a rule, plan node, symbol, graph nodes, edges and partner items that
-// exist, with no more items than the chart holds? The plan table is that of the grammar (`rules::plans::fill`). The
-// handled ones are counted in the same walk, so that whoever asks how the chart stands needs no other: their number,
-// if each record is known.
-pub fn known(t: &AcceptedTables, plans: &[u32; PLAN_TABLE_WORDS], chart: &[u64]) -> Option<u64>
-    requires { PlanTable t.now.grammar.words.now plans.now }
-    ensures { (is_some result ≡ known_chart (grammar_in t.now) (graph_in t.now) chart.now) × IfSome result (λ handled. handled ≡ handled_count (records_at chart.now (item_count chart.now))) }
+// exist, with no more items than the chart holds? The handled ones are counted in the same walk, so that whoever asks
+// how the chart stands needs no other: their number, if each record is known.
+pub fn known(t: &PlannedTables, chart: &[u64]) -> Option<u64>
+    ensures { (is_some result ≡ known_chart (grammar_in t.now.tables) (graph_in t.now.tables) chart.now) × IfSome result (λ handled. handled ≡ handled_count (records_at chart.now (item_count chart.now))) }
 {
     let n = records::telling::number_of(chart);
     if records::capacity_of(chart) < n {
         return None;
     }
-    let s = sizes_of(t);
+    let s = sizes_of(&t.tables);
     let mut handled = 0;
     for j in 0..n {
         let x = records::load(chart, j);
-        if !known_record(t, plans, s, n, x) {
+        if !known_record(t, s, n, x) {
             return None;
         }
         if x.handled != 0 {

@@ -1,8 +1,4 @@
 -- By the mark, where no step is left; else by what stands in the chart.
-use Prim.Native.Nat.{ℕ}
-use mathlib.Core.Path.{ap, ◌∙◌}
-use Rattle.agenda.specs.Steps.{handled_count}
-use Rattle.records.specs.Words.{records_at}
 use Rattle.chart.proofs.CallSteps.{outcome_small, outcome_idle}
 use native.Mathlib.Omega.{arith}
 use Rattle.records.proofs.WordLaws.{count_fits}

@@ -33,7 +33,6 @@ advance-all-requires c =
     let s = c.args in
     fit_runnable s.grammar.now s.graph.now s.chart.now _ c.is_fit.ensures
     c.if-not-is_fit.false _ c.known.ensures.0 (c.is_none.ensures ∙ ap not c.if-is_none.false)
-    _ c.fill.ensures
 
 pub returns : goal.returns
 returns c =

@@ -21,12 +21,10 @@ pub advance_by-requires : goal.advance_by-requires
 advance_by-requires c =
     let p = c.requires in (
       record {
-        accepted = c.args.t.now.fit;
-        planned = p.planned;
+        accepted = c.args.t.now.tables.fit;
         keyed = c.fill.ensures;
-        graphed = c.fill-2.ensures;
       },
-      built_ready _ _ _ _ _ _ _ p c.build.ensures.0 c.build.ensures.1,
+      built_ready _ _ _ _ _ _ p c.build.ensures.0 c.build.ensures.1,
     )
 
 pub returns : goal.returns

@@ -7,4 +7,4 @@ use Rattle.validator.proofs.known.Given as goal
 
 abbrev pub invariant-loop-j : goal.invariant-loop-j
 invariant-loop-j l =
-    (l.handled ≤ l.j) × Passed (record_test l.t.grammar.words.now l.t.graph.now l.n l.chart) l.j × (l.handled ≡ handled_count (records_at l.chart l.j))
+    (l.handled ≤ l.j) × Passed (record_test l.t.tables.grammar.words.now l.t.tables.graph.now l.n l.chart) l.j × (l.handled ≡ handled_count (records_at l.chart l.j))
