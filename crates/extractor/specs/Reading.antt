@@ -3,7 +3,7 @@ use Rattle.std.specs.Prelude.{◌≡◌, Bool, true, false, List, ℕ, ◌<◌}
 use Rattle.hrg.specs.Grammars.{Kind, terminal, nonterminal, plan_of, plan_node}
 use Rattle.questions.specs.Abstract.{plan_from, grammar_of}
 use Rattle.joins.specs.Joins.{KnownNode}
-use Rattle.extractor.specs.declared.lookup.PlanLine.{PlanLine}
+use Rattle.layout.specs.declared.plans.PlanLine.{PlanLine}
 
 abbrev pub is_nonterminal : Kind → Bool
 is_nonterminal terminal = false

@@ -6,14 +6,7 @@ ghost use Rattle.joins.specs.Joins.{KnownNode, KnownEdge};
 ghost use Rattle.extractor.specs.Reading.{PlanLineOf, is_nonterminal};
 
 use joins::accepted::AcceptedGrammar;
-
-// A line of a plan: kind 0 for a leaf.
-#[derive(Clone, Copy)]
-pub(crate) struct PlanLine {
-    pub(crate) kind: u64,
-    pub(crate) first: u64,
-    pub(crate) second: u64,
-}
+use layout::plans::{PlanLine, line_in};
 
 // How many nodes the right side of rule r has.
 pub(crate) fn node_count(g: &AcceptedGrammar, r: u64) -> u64
@@ -53,11 +46,7 @@ pub(crate) fn plan_line(g: &[u64], r: u64, p: u64) -> PlanLine
     requires { KnownNode g.now r p }
     ensures { PlanLineOf g.now r p result }
 {
-    PlanLine {
-        kind: layout::plan_kind_in(g, r, p),
-        first: layout::plan_first_in(g, r, p),
-        second: layout::plan_second_in(g, r, p),
-    }
+    line_in(g, r, p)
 }
 
 // Whether edge i of rule r has a nonterminal label.

@@ -12,6 +12,8 @@ ghost use Rattle.layout.specs.Storing.{store_at};
 
 use questions::Due;
 
+pub mod plans;
+
 // Words of the largest grammar and graph: one for each place.
 pub const GRAMMAR_WORDS: usize = 1665;
 

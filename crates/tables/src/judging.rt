@@ -7,8 +7,8 @@ ghost use Rattle.questions.specs.Refusing.{number_in};
 ghost use Rattle.questions.specs.Walk.{Room};
 ghost use Rattle.tables.specs.Plans.{PlanRoom};
 
-use crate::plans::PlanLine;
 use crate::{marks, plans};
+use layout::plans::PlanLine;
 use questions::{Due, Refusal};
 
 // `G`: symbols (1-64), rules (1-64), start symbol.

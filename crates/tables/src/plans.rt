@@ -9,26 +9,7 @@ ghost use Rattle.tables.specs.Plans.{PlanRoom, Marked, named_in, named_before, i
 ghost use Rattle.tables.specs.Concluding.{Count};
 
 use crate::marks::has_all;
-
-// The fields of a plan line.
-#[derive(Clone, Copy)]
-pub(crate) struct PlanLine {
-    pub(crate) kind: u64,
-    pub(crate) first: u64,
-    pub(crate) second: u64,
-}
-
-// Line q of rule r, as it stands in the table.
-fn line_at(g: &[u64], r: u64, q: u64) -> PlanLine
-    requires { plan_place r q < length g.now }
-    ensures { (result.kind ≡ plan_kind g.now r q) × (result.first ≡ plan_first g.now r q) × (result.second ≡ plan_second g.now r q) }
-{
-    PlanLine {
-        kind: layout::plan_kind_in(g, r, q),
-        first: layout::plan_first_in(g, r, q),
-        second: layout::plan_second_in(g, r, q),
-    }
-}
+use layout::plans::{PlanLine, line_in};
 
 // The children and the introduced edges of some plan lines, as sets.
 #[derive(Clone, Copy)]
@@ -82,7 +63,7 @@ fn named_before(g: &[u64], r: u64, n: u64, what: Named) -> u64
 {
     let mut sum: u64 = 0;
     for q in 0..n {
-        sum += named_in(line_at(g, r, q), what);
+        sum += named_in(line_in(g, r, q), what);
     }
     sum
 }
@@ -169,7 +150,7 @@ fn marks_before(g: &[u64], r: u64, n: u64) -> PlanMarks
     let mut children: u64 = 0;
     let mut introduced: u64 = 0;
     for q in 0..n {
-        let line = line_at(g, r, q);
+        let line = line_in(g, r, q);
         children = mark_children(children, line);
         introduced = mark_introduced(introduced, line);
     }
@@ -259,7 +240,7 @@ pub(crate) fn with_line(
     requires { PlanRoom t.now r (q + 1) × Count edges (rule_edges t.now r) 8 × Marked t.now r q named.children named.introduced }
     ensures { Keeps t.now r q result }
 {
-    let line = line_at(t, r, q);
+    let line = line_in(t, r, q);
     match line.kind {
         0 => with_leaf(named, line),
         1 => with_introduce(q, edges, named, line),

@@ -6,6 +6,6 @@ pub loop-q-init : goal.loop-q-init
 loop-q-init c = marked_start _ _
 
 pub loop-q-preserved : goal.loop-q-preserved
-loop-q-preserved c = marked_next _ _ _ _ _ _ _ _ _ _ c.line_at-line.ensures.0
-    c.line_at-line.ensures.1 c.line_at-line.ensures.2
+loop-q-preserved c = marked_next _ _ _ _ _ _ _ _ _ _ c.line_in-line.ensures.0
+    c.line_in-line.ensures.1 c.line_in-line.ensures.2
     c.loop-q.invariant c.mark_children-children.ensures c.mark_introduced-introduced.ensures
