@@ -231,9 +231,9 @@ impl Index {
         records::append(chart, n, x);
     }
 
-    // A new record of an item, made of these partners, in the chart, as `records::add` has it, with the indexes kept. Its
-    // hash comes from where the item was made, so that the first link is looked for before the item's words have been
-    // stored.
+    // A new record of an item, made of these partners, in the chart, as `records::add` has it, with the indexes kept.
+    // Its hash comes from where the item was made, so that the first link is looked for before the item's words have
+    // been stored.
     pub fn add(
         &mut self,
         keys: &[u32; KEY_TABLE_WORDS],
