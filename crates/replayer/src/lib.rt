@@ -31,7 +31,7 @@ pub enum ReplayError {
 }
 
 // What a row says of an edge of its rule: it has no such edge, a graph edge, or an application for a symbol by its
-// number.
+// number. Three cases of their own, so no `Option`.
 #[derive(Clone, Copy)]
 enum Part {
     End,

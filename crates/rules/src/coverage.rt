@@ -10,7 +10,8 @@ use crate::running::RunTables;
 use agenda::ChartItem;
 use places::PLACES;
 
-// The graph nodes at those of the first n places that are in the set `chosen`.
+// The graph nodes at those of the first n places that are in the set `chosen`. That of `joins` is of all eight places,
+// exact, and with no test in its loop, so that one for both would be no plainer.
 fn images(n: u64, chosen: u64, l: [u8; PLACES]) -> u64
     requires { n ≤ 8 }
     ensures { (v : ℕ) → v < 64 → member result v ≡ true → (i : ℕ) × (i < n) × (member chosen i ≡ true) × (at l i ≡ v) }

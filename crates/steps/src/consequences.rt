@@ -178,6 +178,7 @@ fn add_listed(
     let end = 5 * n;
     let mut c = lists::first(&index.lists, key);
     let mut past: u64 = 0;
+    // from entry to entry of one list, as its links lead
     while (c != 0) & (c <= end) {
         let k = (c - 1) / 5;
         if !index::quiet(chart, edges, k) {
@@ -234,6 +235,7 @@ fn add_many(t: &Lookups, chart: &mut [u64], index: &mut Index, lead: bool, j: u6
     let query = pivots::query(t.keys, x);
     let mut at = opening(chart, index, edges, n, query);
     let mut past: u64 = 0;
+    // from partner to partner, where the cursors lead
     while at.k < n {
         past = add_next(t, chart, index, lead, j, at.k, past);
         at = onward(chart, index, edges, n, at);
