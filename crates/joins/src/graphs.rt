@@ -14,18 +14,18 @@ pub const GRAPH_TABLE_WORDS: usize = 577;
 pub(crate) const SUBSETS: u64 = 16;
 
 // The nodes of each edge.
-fn edge_sets(g: &[u64], h: &[u64]) -> [u64; 64]
-    requires { graph_edges h.now ≤ 64 }
-    ensures { EdgeSets g.now h.now result }
+#[tactic(auto, using(crate::proofs::Known::graph_edges_few))]
+fn edge_sets(t: &AcceptedTables) -> [u64; 64]
+    ensures { EdgeSets t.now.grammar.words.now t.now.graph.now result }
 {
-    let mut t = [0u64; 64];
-    let n = layout::graph_edges(h);
+    let mut sets = [0u64; 64];
+    let n = layout::graph_edges(t.graph);
     for e in 0..n {
-        let rank = layout::rank_at(g, layout::graph_label(h, e));
-        let on = crate::listed(h, layout::graph_edge_place(e), 1, rank);
-        t[e as usize] = on;
+        let rank = layout::rank_at(t.grammar.words, layout::graph_label(t.graph, e));
+        let on = crate::listed(t.graph, layout::graph_edge_place(e), 1, rank);
+        sets[e as usize] = on;
     }
-    t
+    sets
 }
 
 // The set `on` where k is in v, else none.
@@ -94,8 +94,8 @@ pub fn fill(t: &AcceptedTables, words: &mut [u64])
     ensures { GraphTable t.now.grammar.words.now t.now.graph.now words.new }
 {
     mark_edges(t, words);
-    let sets = edge_sets(t.grammar.words, t.graph);
+    let sets = edge_sets(t);
     put_groups(t.graph, &sets, words);
-    let externals = crate::graph_externals(t.grammar.words, t.graph);
+    let externals = crate::graph_externals(t);
     words[256] = externals;
 }

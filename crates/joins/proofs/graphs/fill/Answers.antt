@@ -12,9 +12,6 @@ mark_edges-requires c = subst (λ (words : List ℕ). Indexed c.args.t.now.gramm
     c.args.t.now.graph.now words 0) (sym c.requires)
     (indexed_none c.args.t.now.grammar.words.now c.args.t.now.graph.now)
 
-pub edge_sets-sets-requires : goal.edge_sets-sets-requires
-edge_sets-sets-requires c = graph_edges_few _ _ c.args.t.now.fit
-
 pub put_groups-requires : goal.put_groups-requires
 put_groups-requires c = (graph_edges_few _ _ c.args.t.now.fit, c.mark_edges.ensures.size)
 
