@@ -113,16 +113,16 @@ unfolding nodes_from nodes_on_edges
 rule_from g r zero = refl
 rule_from g r (suc n) = ap (λ l. l ++ nodes_at g (edges_from r + n) (rank_at g (line_field g (edges_from r + n) 0))) (rule_from g r n)
 
-pub rule_marks : (g : List ℕ) (r n p x : ℕ) → p ≡ edges_from r → x ≡ marks 0 (nodes_from g g p n) → x ≡ marks 0 (nodes_on_edges g r n)
-rule_marks g r n p x e m = m ∙ ap (λ q. marks 0 (nodes_from g g q n)) e ∙ ap (marks 0) (rule_from g r n)
+pub rule_on : (g : List ℕ) (r n p : ℕ) → p ≡ edges_from r → nodes_from g g p n ≡ nodes_on_edges g r n
+rule_on g r n p e = ap (λ q. nodes_from g g q n) e ∙ rule_from g r n
 
 graph_from : (g h : List ℕ) (n : ℕ) → nodes_from g h (graph_edge_place 0) n ≡ nodes_on_graph g h n
 unfolding nodes_from nodes_on_graph
 graph_from g h zero = refl
 graph_from g h (suc n) = ap (λ l. l ++ nodes_at h (1 + n) (rank_at g (line_field h (1 + n) 0))) (graph_from g h n)
 
-pub graph_marks : (g h : List ℕ) (n p x : ℕ) → p ≡ graph_edge_place 0 → x ≡ marks 0 (nodes_from g h p n) → x ≡ marks 0 (nodes_on_graph g h n)
-graph_marks g h n p x e m = m ∙ ap (λ q. marks 0 (nodes_from g h q n)) e ∙ ap (marks 0) (graph_from g h n)
+pub graph_on : (g h : List ℕ) (n p : ℕ) → p ≡ graph_edge_place 0 → nodes_from g h p n ≡ nodes_on_graph g h n
+graph_on g h n p e = ap (λ q. nodes_from g h q n) e ∙ graph_from g h n
 
 -- ---- the members of a mask of a list
 marked_bit : (m y x : ℕ) → x < 64 → (0 < bit (marked m y) x → 0 < bit m x + hit x y) × (0 < bit m x + hit x y → 0 < bit (marked m y) x)

@@ -91,20 +91,36 @@ pub(crate) fn has_all(m: u64, nodes: u64) -> bool
     nodes <= 64 && all == m
 }
 
-// Whether every node of rule r is on one of the first n edges, or in the fields of the next edge's line.
+// Whether each of so many nodes is on one of the n edges whose lines stand in t from place p on, with the labels of g,
+// or in the fields of the next edge's line.
+fn covered(g: &[u64], t: &[u64], p: u64, n: u64, nodes: u64, f: &[u64]) -> bool
+    requires { (p ≤ 1666) × (n ≤ 64) }
+    ensures { result ≡ covered nodes (nodes_from g.now t.now p n ++ drop 1 f.now) }
+{
+    has_all(mark_fields(mark_edges(g, t, p, n), f, 1), nodes)
+}
+
+// Every node of rule r so, by its first n edges.
+#[tactic(auto, using(crate::proofs::Covering::rule_on))]
 pub(crate) fn rule_covered(g: &[u64], r: u64, n: u64, f: &[u64]) -> bool
     requires { (r ≤ 63) × (n ≤ 8) }
     ensures { result ≡ covered (rule_nodes g.now r) (nodes_on_edges g.now r n ++ drop 1 f.now) }
 {
-    let m = mark_fields(mark_edges(g, g, layout::edges_from(r), n), f, 1);
-    has_all(m, layout::rule_nodes(g, r))
+    covered(g, g, layout::edges_from(r), n, layout::rule_nodes(g, r), f)
 }
 
-// The same of a graph.
+// Every node of a graph.
+#[tactic(auto, using(crate::proofs::Covering::graph_on))]
 pub(crate) fn graph_covered(g: &[u64], h: &[u64], n: u64, f: &[u64]) -> bool
     requires { n ≤ 64 }
     ensures { result ≡ covered (graph_nodes h.now) (nodes_on_graph g.now h.now n ++ drop 1 f.now) }
 {
-    let m = mark_fields(mark_edges(g, h, layout::graph_edge_place(0), n), f, 1);
-    has_all(m, layout::graph_nodes(h))
+    covered(
+        g,
+        h,
+        layout::graph_edge_place(0),
+        n,
+        layout::graph_nodes(h),
+        f,
+    )
 }
