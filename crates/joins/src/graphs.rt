@@ -50,8 +50,8 @@ fn group(sets: &[u64; 64], i: u64) -> u64
 }
 
 // The words of the groups that have an edge.
-fn put_groups(h: &[u64], sets: &[u64; 64], t: &mut [u64])
-    requires { (graph_edges h.now ≤ 64) × (length t.old ≡ graph_table_words) }
+fn put_groups(h: &[u64], sets: &[u64; 64], t: &mut [u64; GRAPH_TABLE_WORDS])
+    requires { graph_edges h.now ≤ 64 }
     ensures { Grouped h.now sets.now t.old t.new }
 {
     let n = SUBSETS * layout::graph_edges(h).div_ceil(4);
@@ -62,7 +62,7 @@ fn put_groups(h: &[u64], sets: &[u64; 64], t: &mut [u64])
 }
 
 // Edge e in the words of its label and of the node at each of its places.
-fn mark_edge(t: &AcceptedTables, e: u64, words: &mut [u64])
+fn mark_edge(t: &AcceptedTables, e: u64, words: &mut [u64; GRAPH_TABLE_WORDS])
     requires { (e < graph_edges t.now.graph.now) × Indexed t.now.grammar.words.now t.now.graph.now words.old e }
     ensures { Indexed t.now.grammar.words.now t.now.graph.now words.new (e + 1) }
 {
@@ -79,7 +79,7 @@ fn mark_edge(t: &AcceptedTables, e: u64, words: &mut [u64])
 }
 
 // Every edge so.
-fn mark_edges(t: &AcceptedTables, words: &mut [u64])
+fn mark_edges(t: &AcceptedTables, words: &mut [u64; GRAPH_TABLE_WORDS])
     requires { Indexed t.now.grammar.words.now t.now.graph.now words.old 0 }
     ensures { Indexed t.now.grammar.words.now t.now.graph.now words.new (graph_edges t.now.graph.now) }
 {
@@ -89,7 +89,7 @@ fn mark_edges(t: &AcceptedTables, words: &mut [u64])
 }
 
 // The table of the graph, into words that are 0.
-pub fn fill(t: &AcceptedTables, words: &mut [u64])
+pub fn fill(t: &AcceptedTables, words: &mut [u64; GRAPH_TABLE_WORDS])
     requires { words.old ≡ replicate graph_table_words 0 }
     ensures { GraphTable t.now.grammar.words.now t.now.graph.now words.new }
 {

@@ -13,7 +13,7 @@ mark_edges-requires c = subst (λ (words : List ℕ). Indexed c.args.t.now.gramm
     (indexed_none c.args.t.now.grammar.words.now c.args.t.now.graph.now)
 
 pub put_groups-requires : goal.put_groups-requires
-put_groups-requires c = (graph_edges_few _ _ c.args.t.now.fit, c.mark_edges.ensures.size)
+put_groups-requires c = graph_edges_few _ _ c.args.t.now.fit
 
 pub returns : goal.returns
 returns c = table_is _ _ _ _ _ _ c.args.t.now.fit c.mark_edges.ensures c.edge_sets-sets.ensures
