@@ -1,6 +1,6 @@
 // What is looked up of a graph for each joined set of edges, worked out once: nodes by sets of four edges, external
 // nodes, and edges by label and place.
-ghost use Rattle.std.specs.Prelude.{◌≡◌, ◌&&◌, ℕ, ◌+◌, ◌≤◌, ◌<◌, length, replicate};
+ghost use Rattle.std.specs.Prelude.{◌≡◌, ◌&&◌, ℕ, ◌+◌, ◌<◌, replicate};
 ghost use Rattle.masks.specs.Masks.{member};
 ghost use Rattle.questions.specs.Layout.{graph_edges};
 ghost use Rattle.joins.specs.Graphs.{graph_table_words, EdgeSets, Group, Grouped, Indexed, GraphTable};
@@ -50,18 +50,19 @@ fn group(sets: &[u64; 64], i: u64) -> u64
 }
 
 // The words of the groups that have an edge.
-fn put_groups(h: &[u64], sets: &[u64; 64], t: &mut [u64; GRAPH_TABLE_WORDS])
-    requires { graph_edges h.now ≤ 64 }
-    ensures { Grouped h.now sets.now t.old t.new }
+#[tactic(auto, using(crate::proofs::Known::graph_edges_few))]
+fn put_groups(t: &AcceptedTables, sets: &[u64; 64], words: &mut [u64; GRAPH_TABLE_WORDS])
+    ensures { Grouped t.now.graph.now sets.now words.old words.new }
 {
-    let n = SUBSETS * layout::graph_edges(h).div_ceil(4);
+    let n = SUBSETS * layout::graph_edges(t.graph).div_ceil(4);
     for i in 0..n {
         let m = group(sets, i);
-        t[i as usize] = m;
+        words[i as usize] = m;
     }
 }
 
 // Edge e in the words of its label and of the node at each of its places.
+#[tactic(auto, using(crate::proofs::GraphLaws::label_few, crate::proofs::GraphLaws::node_few))]
 fn mark_edge(t: &AcceptedTables, e: u64, words: &mut [u64; GRAPH_TABLE_WORDS])
     requires { (e < graph_edges t.now.graph.now) × Indexed t.now.grammar.words.now t.now.graph.now words.old e }
     ensures { Indexed t.now.grammar.words.now t.now.graph.now words.new (e + 1) }
@@ -95,7 +96,7 @@ pub fn fill(t: &AcceptedTables, words: &mut [u64; GRAPH_TABLE_WORDS])
 {
     mark_edges(t, words);
     let sets = edge_sets(t);
-    put_groups(t.graph, &sets, words);
+    put_groups(t, &sets, words);
     let externals = crate::graph_externals(t);
     words[256] = externals;
 }
