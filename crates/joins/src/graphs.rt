@@ -40,13 +40,13 @@ fn group(sets: &[u64; 64], i: u64) -> u64
     requires { i < 256 }
     ensures { Group sets.now i result }
 {
-    let b = 4 * (i / SUBSETS);
+    let first = 4 * (i / SUBSETS);
     let v = i % SUBSETS;
-    let m0 = chosen(v, 0, sets[b as usize]);
-    let m1 = chosen(v, 1, sets[(b + 1) as usize]);
-    let m2 = chosen(v, 2, sets[(b + 2) as usize]);
-    let m3 = chosen(v, 3, sets[(b + 3) as usize]);
-    m0 | m1 | m2 | m3
+    let mut nodes = 0;
+    for k in 0..4 {
+        nodes |= chosen(v, k, sets[(first + k) as usize]);
+    }
+    nodes
 }
 
 // The words of the groups that have an edge.
