@@ -10,6 +10,8 @@ use lib.Bits.{bit_or, bit_and, or_zero_l, or_zero_r, and_mask}
 use lib.ListN.{length, get_or, drop, drop_of_length-le}
 use lib.Seq.{drop-cons}
 use lib.Dec.{ltb, leb, eqb}
+use Rattle.std.specs.Prelude.{map}
+use Rattle.std.specs.List.{fold, range_with_len}
 use borrow.Author.Tests.{lt-ltb, le-ltb}
 use Rattle.masks.specs.Masks.{bit, member, ◌∪◌, single, full, Added}
 use Rattle.masks.proofs.Laws.{bit_le, bit_empty, member_union, member_single, member_full, member_true, true_member, member_false, false_member, shifted_single, mask_ext}
@@ -88,6 +90,14 @@ unfolding marks
 marks_union m [] = sym (union_empty m)
 marks_union m (x ∷ l) =
     marks_union (marked m x) l ∙ ap (λ n. n ∪ marks 0 l) (marked_union m x) ∙ union_on m (marked 0 x) (marks 0 l) ∙ ap (λ n. m ∪ n) (sym (marks_union (marked 0 x) l))
+
+-- what a function gives at the numbers of a range
+pub marks_range : (f g : ℕ → ℕ) (m a n : ℕ) → ((i : ℕ) → f (a + i) ≡ g i) → marks m (map f (range_with_len a n)) ≡ marks m (tabulate n g)
+unfolding marks tabulate
+marks_range f g m a zero h = refl
+marks_range f g m a (suc n) h =
+    marks_range f (λ i. g (suc i)) (marked m (f a)) (a + 1) n (λ i. ap f (omega arith) ∙ h (suc i))
+    ∙ ap (λ x. fold marked (marked m x) (tabulate n (λ i. g (suc i)))) (ap f (omega arith) ∙ h 0)
 
 -- a list made of a function, in the same terms
 pub line_next : (n : ℕ) (f : ℕ → ℕ) (k x m r v : ℕ) → k < n → x ≡ f k → Added m x r → marks m (drop k (tabulate n f)) ≡ v → marks r (drop (k + 1) (tabulate n f)) ≡ v

@@ -1,10 +1,11 @@
 // Nodes as masks: a list of nodes in range and distinct (question 5), and every node on an edge (question 6).
-ghost use Rattle.std.specs.Prelude.{◌≡◌, ◌++◌, ◌&&◌, ◌+◌, ◌≤◌, ◌<◌, min, leb, eqb, drop, length};
+ghost use Rattle.std.specs.List.{range_with_len};
+ghost use Rattle.std.specs.Prelude.{◌≡◌, map, ◌++◌, ◌&&◌, ◌+◌, ◌≤◌, ◌<◌, min, leb, eqb, drop, length};
 ghost use Rattle.masks.specs.Masks.{◌∪◌, full};
 ghost use Rattle.hrg.specs.Counts.{tabulate};
 ghost use Rattle.questions.specs.Layout.{line_field, rule_nodes, graph_nodes};
 ghost use Rattle.questions.specs.Questions.{listed, covered, nodes_on_edges, nodes_on_graph};
-ghost use Rattle.tables.specs.Marks.{marks, nodes_at, nodes_from, Distinct};
+ghost use Rattle.tables.specs.Marks.{marked, marks, nodes_at, nodes_from, Distinct};
 
 // Whether the fields from `from` on are in range and distinct.
 pub(crate) fn listed(f: &[u64], from: u64, nodes: u64) -> bool
@@ -46,28 +47,32 @@ pub(crate) fn distinct(t: &[u64], p: u64, n: u64, nodes: u64) -> Option<u64>
     Some(seen)
 }
 
+// m with x.
+fn mark(m: u64, x: u64) -> u64
+    ensures { result ≡ marked m x }
+{
+    masks::with(m, x)
+}
+
 // m with the fields from `from` on.
+#[tactic(auto, unfolding(crate::specs::Marks::marks))]
 fn mark_fields(m: u64, f: &[u64], from: u64) -> u64
     ensures { result ≡ marks m (drop from f.now) }
 {
-    let n = f.len() as u64;
-    let mut mask = m;
-    for k in from..n {
-        mask = masks::with(mask, f[k as usize]);
-    }
-    mask
+    f.iter()
+        .skip(from as usize)
+        .fold(m, |mask, x| mark(mask, *x))
 }
 
 // m with the fields 1 to n of the line at place p.
+#[tactic(auto, unfolding(crate::specs::Marks::marks))]
 fn mark_line(m: u64, t: &[u64], p: u64, n: u64) -> u64
     requires { n ≤ 4 }
-    ensures { result ≡ marks m (tabulate n (λ k. line_field t.now p (1 + k))) }
+    ensures { result ≡ marks m (map (λ k. line_field t.now p k) (range_with_len 1 n)) }
 {
-    let mut mask = m;
-    for k in 0..n {
-        mask = masks::with(mask, layout::field_at(t, p, 1 + k));
-    }
-    mask
+    (1..1 + n)
+        .map(|k| layout::field_at(t, p, k))
+        .fold(m, |mask, x| mark(mask, x))
 }
 
 // The nodes on the n edges whose lines stand in t from place p on, with the labels of g.
