@@ -59,9 +59,7 @@ fn mark(m: u64, x: u64) -> u64
 fn mark_fields(m: u64, f: &[u64], from: u64) -> u64
     ensures { result ≡ marks m (drop from f.now) }
 {
-    f.iter()
-        .skip(from as usize)
-        .fold(m, |mask, x| mark(mask, *x))
+    f.iter().skip(from as usize).copied().fold(m, mark)
 }
 
 // m with the fields 1 to n of the line at place p.
@@ -70,9 +68,7 @@ fn mark_line(m: u64, t: &[u64], p: u64, n: u64) -> u64
     requires { n ≤ 4 }
     ensures { result ≡ marks m (map (λ k. line_field t.now p k) (range_with_len 1 n)) }
 {
-    (1..1 + n)
-        .map(|k| layout::field_at(t, p, k))
-        .fold(m, |mask, x| mark(mask, x))
+    (1..1 + n).map(|k| layout::field_at(t, p, k)).fold(m, mark)
 }
 
 // The nodes on the n edges whose lines stand in t from place p on, with the labels of g.
