@@ -141,18 +141,23 @@ chosen_in v k on b found t x = rw (sym found.value ∙ t)
 pub chosen_out : (v k on : ℕ) (b : Bool) → Found v k b → b ≡ false → (x : ℕ) → member 0 x ≡ (member v k && member on x)
 chosen_out v k on b found t x = rw (sym found.value ∙ t) (member_none x)
 
-pub group_is : (sets : List ℕ) (i m₀ m₁ m₂ m₃ : ℕ) → ((x : ℕ) → member m₀ x ≡ (member (i % 16) 0 && member (get_or sets (4 * (i / 16)) 0) x))
-    → ((x : ℕ) → member m₁ x ≡ (member (i % 16) 1 && member (get_or sets (4 * (i / 16) + 1) 0) x))
-    → ((x : ℕ) → member m₂ x ≡ (member (i % 16) 2 && member (get_or sets (4 * (i / 16) + 2) 0) x))
-    → ((x : ℕ) → member m₃ x ≡ (member (i % 16) 3 && member (get_or sets (4 * (i / 16) + 3) 0) x))
-    → Group sets i (bit_or (bit_or (bit_or m₀ m₁) m₂) m₃)
+-- so far of the first n of the four edges
+pub record GroupTo (sets : List ℕ) (i m n : ℕ) : Type 0 where
+  pub members : (x : ℕ) → member m x ≡ some_both (λ k. member (i % 16) k) (λ k. member (get_or sets (4 * (i / 16) + k) 0) x) n
+
+pub group_none : (sets : List ℕ) (i : ℕ) → GroupTo sets i 0 0
+unfolding some_both
+group_none sets i = record { members = λ x. member_none x }
+
+pub group_next : (sets : List ℕ) (i m k on : ℕ) → ((x : ℕ) → member on x ≡ (member (i % 16) k && member (get_or sets (4 * (i / 16) + k) 0) x))
+    → GroupTo sets i m k → GroupTo sets i (bit_or m on) (k + 1)
 unfolding ◌∪◌ some_both
-group_is sets i m₀ m₁ m₂ m₃ a b c d = record {
-  members = λ x.
-      let e : 4 * (i / 16) + 0 ≡ 4 * (i / 16) = omega arith in
-      member_union (m₀ ∪ m₁ ∪ m₂) m₃ x
-      ∙ ap₂ ◌||◌ (member_union (m₀ ∪ m₁) m₂ x ∙ ap₂ ◌||◌ (member_union m₀ m₁ x ∙ ap₂ ◌||◌ (a x ∙ ap (λ n. member (i % 16) 0 && member (get_or sets n 0) x) (sym e)) (b x)) (c x)) (d x);
+group_next sets i m k on here p = record {
+  members = λ x. let s : k + 1 ≡ suc k = omega arith in rw s (member_union m on x ∙ ap₂ ◌||◌ (p.members x) (here x));
 }
+
+pub group_all : (sets : List ℕ) (i m k : ℕ) → k ≤ 4 → 4 ≤ k → GroupTo sets i m k → Group sets i m
+group_all sets i m k a b p = let e : k ≡ 4 = omega arith in record { members = λ x. rw e at (p.members x) }
 
 -- the words before i
 pub record GroupsTo (sets t u : List ℕ) (i : ℕ) : Type 0 where

@@ -1,6 +1,6 @@
 // What is looked up of a graph for each joined set of edges, worked out once: nodes by sets of four edges, external
 // nodes, and edges by label and place.
-ghost use Rattle.std.specs.Prelude.{◌≡◌, ◌&&◌, ℕ, ◌+◌, ◌≤◌, ◌<◌, length, replicate};
+ghost use Rattle.std.specs.Prelude.{◌≡◌, ◌&&◌, ℕ, ◌+◌, ◌<◌, replicate};
 ghost use Rattle.masks.specs.Masks.{member};
 ghost use Rattle.questions.specs.Layout.{graph_edges};
 ghost use Rattle.joins.specs.Graphs.{graph_table_words, EdgeSets, Group, Grouped, Indexed, GraphTable};
@@ -14,18 +14,18 @@ pub const GRAPH_TABLE_WORDS: usize = 577;
 pub(crate) const SUBSETS: u64 = 16;
 
 // The nodes of each edge.
-fn edge_sets(g: &[u64], h: &[u64]) -> [u64; 64]
-    requires { graph_edges h.now ≤ 64 }
-    ensures { EdgeSets g.now h.now result }
+#[tactic(auto, using(crate::proofs::Known::graph_edges_few))]
+fn edge_sets(t: &AcceptedTables) -> [u64; 64]
+    ensures { EdgeSets t.now.grammar.words.now t.now.graph.now result }
 {
-    let mut t = [0u64; 64];
-    let n = layout::graph_edges(h);
+    let mut sets = [0u64; 64];
+    let n = layout::graph_edges(t.graph);
     for e in 0..n {
-        let rank = layout::rank_at(g, layout::graph_label(h, e));
-        let on = crate::listed(h, layout::graph_edge_place(e), 1, rank);
-        t[e as usize] = on;
+        let rank = layout::rank_at(t.grammar.words, layout::graph_label(t.graph, e));
+        let on = crate::listed(t.graph, layout::graph_edge_place(e), 1, rank);
+        sets[e as usize] = on;
     }
-    t
+    sets
 }
 
 // The set `on` where k is in v, else none.
@@ -40,29 +40,30 @@ fn group(sets: &[u64; 64], i: u64) -> u64
     requires { i < 256 }
     ensures { Group sets.now i result }
 {
-    let b = 4 * (i / SUBSETS);
+    let first = 4 * (i / SUBSETS);
     let v = i % SUBSETS;
-    let m0 = chosen(v, 0, sets[b as usize]);
-    let m1 = chosen(v, 1, sets[(b + 1) as usize]);
-    let m2 = chosen(v, 2, sets[(b + 2) as usize]);
-    let m3 = chosen(v, 3, sets[(b + 3) as usize]);
-    m0 | m1 | m2 | m3
+    let mut nodes = 0;
+    for k in 0..4 {
+        nodes |= chosen(v, k, sets[(first + k) as usize]);
+    }
+    nodes
 }
 
 // The words of the groups that have an edge.
-fn put_groups(h: &[u64], sets: &[u64; 64], t: &mut [u64])
-    requires { (graph_edges h.now ≤ 64) × (length t.old ≡ graph_table_words) }
-    ensures { Grouped h.now sets.now t.old t.new }
+#[tactic(auto, using(crate::proofs::Known::graph_edges_few))]
+fn put_groups(t: &AcceptedTables, sets: &[u64; 64], words: &mut [u64; GRAPH_TABLE_WORDS])
+    ensures { Grouped t.now.graph.now sets.now words.old words.new }
 {
-    let n = SUBSETS * layout::graph_edges(h).div_ceil(4);
+    let n = SUBSETS * layout::graph_edges(t.graph).div_ceil(4);
     for i in 0..n {
         let m = group(sets, i);
-        t[i as usize] = m;
+        words[i as usize] = m;
     }
 }
 
 // Edge e in the words of its label and of the node at each of its places.
-fn mark_edge(t: &AcceptedTables, e: u64, words: &mut [u64])
+#[tactic(auto, using(crate::proofs::GraphLaws::label_few, crate::proofs::GraphLaws::node_few))]
+fn mark_edge(t: &AcceptedTables, e: u64, words: &mut [u64; GRAPH_TABLE_WORDS])
     requires { (e < graph_edges t.now.graph.now) × Indexed t.now.grammar.words.now t.now.graph.now words.old e }
     ensures { Indexed t.now.grammar.words.now t.now.graph.now words.new (e + 1) }
 {
@@ -79,7 +80,7 @@ fn mark_edge(t: &AcceptedTables, e: u64, words: &mut [u64])
 }
 
 // Every edge so.
-fn mark_edges(t: &AcceptedTables, words: &mut [u64])
+fn mark_edges(t: &AcceptedTables, words: &mut [u64; GRAPH_TABLE_WORDS])
     requires { Indexed t.now.grammar.words.now t.now.graph.now words.old 0 }
     ensures { Indexed t.now.grammar.words.now t.now.graph.now words.new (graph_edges t.now.graph.now) }
 {
@@ -89,13 +90,13 @@ fn mark_edges(t: &AcceptedTables, words: &mut [u64])
 }
 
 // The table of the graph, into words that are 0.
-pub fn fill(t: &AcceptedTables, words: &mut [u64])
+pub fn fill(t: &AcceptedTables, words: &mut [u64; GRAPH_TABLE_WORDS])
     requires { words.old ≡ replicate graph_table_words 0 }
     ensures { GraphTable t.now.grammar.words.now t.now.graph.now words.new }
 {
     mark_edges(t, words);
-    let sets = edge_sets(t.grammar.words, t.graph);
-    put_groups(t.graph, &sets, words);
-    let externals = crate::graph_externals(t.grammar.words, t.graph);
+    let sets = edge_sets(t);
+    put_groups(t, &sets, words);
+    let externals = crate::graph_externals(t);
     words[256] = externals;
 }

@@ -121,11 +121,11 @@ pub fn open_at(g: &[u64], r: u64, p: u64, m: u64) -> u64
 }
 
 // The external nodes of the graph.
-fn graph_externals(g: &[u64], h: &[u64]) -> u64
-    ensures { NodesIn result (tabulate (rank_at g.now (start_symbol g.now)) (λ k. graph_external h.now k)) }
+fn graph_externals(t: &AcceptedTables) -> u64
+    ensures { NodesIn result (tabulate (rank_at t.now.grammar.words.now (start_symbol t.now.grammar.words.now)) (λ k. graph_external t.now.graph.now k)) }
 {
-    let rank = layout::rank_at(g, layout::start_symbol(g));
-    listed(h, 0, 2, rank)
+    let rank = layout::rank_at(t.grammar.words, layout::start_symbol(t.grammar.words));
+    listed(t.graph, 0, 2, rank)
 }
 
 // The nodes on the edges of the set m, and on the others, by sets of four edges.

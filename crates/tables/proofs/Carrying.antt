@@ -73,11 +73,11 @@ module _ (g : List ℕ) (r q children introduced : ℕ) (M : Marked g r q childr
       (omega (arith, occurs_append first (children_before g r q) (first ∷ []), hit_self first))))
       (and_if (ltb second edges) _ _ (λ h.
       not_in (introduced_before g r q) introduced second M.edges (omega (arith, ltb-true second edges h))))
-      ∙ introduce_ok g r q first second _ edges _ refl e refl
+      ∙ introduce_ok g r q first second 1 _ edges _ refl refl e refl
 
   join_fits_is : join_fits q children first second ≡ plan_so_far g r q 2 first second
   unfolding join_fits children_of occurs marks
-  join_fits_is = ap₂ ◌&&◌ (and_if (ltb first q) _ _ one) (and_if (ltb second q) _ _ other) ∙ go (ℕ_discrete first second) ∙ join_ok g r q first second _ _ refl refl
+  join_fits_is = ap₂ ◌&&◌ (and_if (ltb first q) _ _ one) (and_if (ltb second q) _ _ other) ∙ go (ℕ_discrete first second) ∙ join_ok g r q first second 2 _ _ refl refl refl
     where
       one : ltb first q ≡ true → not (member children first) ≡ eqb (occurs first (children_before g r q)) 0
       one h = not_in (children_before g r q) children first M.below (omega (arith, ltb-true first q h))

@@ -10,6 +10,8 @@ use lib.Bits.{bit_or, bit_and, or_zero_l, or_zero_r, and_mask}
 use lib.ListN.{length, get_or, drop, drop_of_length-le}
 use lib.Seq.{drop-cons}
 use lib.Dec.{ltb, leb, eqb}
+use Rattle.std.specs.Prelude.{map}
+use Rattle.std.specs.List.{fold, range_with_len}
 use borrow.Author.Tests.{lt-ltb, le-ltb}
 use Rattle.masks.specs.Masks.{bit, member, ◌∪◌, single, full, Added}
 use Rattle.masks.proofs.Laws.{bit_le, bit_empty, member_union, member_single, member_full, member_true, true_member, member_false, false_member, shifted_single, mask_ext}
@@ -89,6 +91,14 @@ marks_union m [] = sym (union_empty m)
 marks_union m (x ∷ l) =
     marks_union (marked m x) l ∙ ap (λ n. n ∪ marks 0 l) (marked_union m x) ∙ union_on m (marked 0 x) (marks 0 l) ∙ ap (λ n. m ∪ n) (sym (marks_union (marked 0 x) l))
 
+-- what a function gives at the numbers of a range
+pub marks_range : (f g : ℕ → ℕ) (m a n : ℕ) → ((i : ℕ) → f (a + i) ≡ g i) → marks m (map f (range_with_len a n)) ≡ marks m (tabulate n g)
+unfolding marks tabulate
+marks_range f g m a zero h = refl
+marks_range f g m a (suc n) h =
+    marks_range f (λ i. g (suc i)) (marked m (f a)) (a + 1) n (λ i. ap f (omega arith) ∙ h (suc i))
+    ∙ ap (λ x. fold marked (marked m x) (tabulate n (λ i. g (suc i)))) (ap f (omega arith) ∙ h 0)
+
 -- a list made of a function, in the same terms
 pub line_next : (n : ℕ) (f : ℕ → ℕ) (k x m r v : ℕ) → k < n → x ≡ f k → Added m x r → marks m (drop k (tabulate n f)) ≡ v → marks r (drop (k + 1) (tabulate n f)) ≡ v
 line_next n f k x m r v h e a p =
@@ -113,16 +123,16 @@ unfolding nodes_from nodes_on_edges
 rule_from g r zero = refl
 rule_from g r (suc n) = ap (λ l. l ++ nodes_at g (edges_from r + n) (rank_at g (line_field g (edges_from r + n) 0))) (rule_from g r n)
 
-pub rule_marks : (g : List ℕ) (r n p x : ℕ) → p ≡ edges_from r → x ≡ marks 0 (nodes_from g g p n) → x ≡ marks 0 (nodes_on_edges g r n)
-rule_marks g r n p x e m = m ∙ ap (λ q. marks 0 (nodes_from g g q n)) e ∙ ap (marks 0) (rule_from g r n)
+pub rule_on : (g : List ℕ) (r n p : ℕ) → p ≡ edges_from r → nodes_from g g p n ≡ nodes_on_edges g r n
+rule_on g r n p e = ap (λ q. nodes_from g g q n) e ∙ rule_from g r n
 
 graph_from : (g h : List ℕ) (n : ℕ) → nodes_from g h (graph_edge_place 0) n ≡ nodes_on_graph g h n
 unfolding nodes_from nodes_on_graph
 graph_from g h zero = refl
 graph_from g h (suc n) = ap (λ l. l ++ nodes_at h (1 + n) (rank_at g (line_field h (1 + n) 0))) (graph_from g h n)
 
-pub graph_marks : (g h : List ℕ) (n p x : ℕ) → p ≡ graph_edge_place 0 → x ≡ marks 0 (nodes_from g h p n) → x ≡ marks 0 (nodes_on_graph g h n)
-graph_marks g h n p x e m = m ∙ ap (λ q. marks 0 (nodes_from g h q n)) e ∙ ap (marks 0) (graph_from g h n)
+pub graph_on : (g h : List ℕ) (n p : ℕ) → p ≡ graph_edge_place 0 → nodes_from g h p n ≡ nodes_on_graph g h n
+graph_on g h n p e = ap (λ q. nodes_from g h q n) e ∙ graph_from g h n
 
 -- ---- the members of a mask of a list
 marked_bit : (m y x : ℕ) → x < 64 → (0 < bit (marked m y) x → 0 < bit m x + hit x y) × (0 < bit m x + hit x y → 0 < bit (marked m y) x)

@@ -105,17 +105,17 @@ module _ (g : List ℕ) (r q first second : ℕ) where
   unfolding plan_so_far each children_of introduced_by
   leaf_ok = simp and_yes
 
-  pub introduce_ok : (times edges before : ℕ) → times ≡ occurs first (children_before g r q ++ children_of 1 first second) → edges ≡ rule_edges g r
+  pub introduce_ok : (kind times edges before : ℕ) → kind ≡ 1 → times ≡ occurs first (children_before g r q ++ children_of kind first second) → edges ≡ rule_edges g r
       → before ≡ occurs second (introduced_before g r q)
       → (ltb first q && eqb times 1 && (ltb second edges && eqb before 0)) ≡ plan_so_far g r q 1 first second
   unfolding plan_so_far each children_of introduced_by
-  introduce_ok times edges before p e i = rw (p, e, i) (simp and_yes)
+  introduce_ok kind times edges before k p e i = rw (p, e, i, k) (simp and_yes)
 
-  pub join_ok : (one other : ℕ) → one ≡ occurs first (children_before g r q ++ children_of 2 first second)
-      → other ≡ occurs second (children_before g r q ++ children_of 2 first second)
+  pub join_ok : (kind one other : ℕ) → kind ≡ 2 → one ≡ occurs first (children_before g r q ++ children_of kind first second)
+      → other ≡ occurs second (children_before g r q ++ children_of kind first second)
       → ((ltb first q && ltb second q) && (eqb one 1 && eqb other 1)) ≡ plan_so_far g r q 2 first second
   unfolding plan_so_far each children_of introduced_by
-  join_ok one other p e = rw (p, e) (simp and_yes)
+  join_ok kind one other k p e = rw (p, e, k) (simp and_yes)
 
 -- ---- the same as sets
 module _ (m kind first second : ℕ) where

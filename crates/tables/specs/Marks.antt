@@ -1,5 +1,5 @@
 -- The numbers of a list as a mask, as question 6 collects the nodes on edges.
-use Rattle.std.specs.Prelude.{◌≡◌, true, false, cond, List, [], ◌∷◌, ◌++◌, ℕ, zero, suc, ◌+◌, ltb, Option, MatchOption}
+use Rattle.std.specs.Prelude.{◌≡◌, true, false, cond, List, [], ◌++◌, ℕ, zero, suc, ◌+◌, ltb, fold, Option, MatchOption}
 use Rattle.masks.specs.Masks.{◌∪◌, single}
 use Rattle.hrg.specs.Counts.{tabulate}
 use Rattle.questions.specs.Layout.{line_field, rank_at}
@@ -11,8 +11,7 @@ marked m x = cond (ltb x 64) (m ∪ single x) m
 
 -- m with the numbers of a list
 unfoldable pub marks : ℕ → List ℕ → ℕ
-marks m [] = m
-marks m (x ∷ xs) = marks (marked m x) xs
+marks m xs = fold marked m xs
 
 -- the n nodes of the edge's line at place p
 abbrev pub nodes_at : List ℕ → ℕ → ℕ → List ℕ

@@ -77,33 +77,23 @@ fn child_times(g: &[u64], r: u64, q: u64, line: PlanLine, c: u64) -> u64
 }
 
 // ---- a plan line over children keeps the plan rules so far
-fn introduce_so_far(g: &[u64], r: u64, q: u64, first: u64, second: u64) -> bool
-    requires { PlanRoom g.now r q }
-    ensures { result ≡ plan_so_far g.now r q 1 first second }
+fn introduce_so_far(g: &[u64], r: u64, q: u64, line: PlanLine) -> bool
+    requires { PlanRoom g.now r q × (line.kind ≡ 1) }
+    ensures { result ≡ plan_so_far g.now r q 1 line.first line.second }
 {
-    let line = PlanLine {
-        kind: 1,
-        first,
-        second,
-    };
-    let times = child_times(g, r, q, line, first);
+    let times = child_times(g, r, q, line, line.first);
     let edges = layout::rule_edges(g, r);
-    let before = named_before(g, r, q, Named::Edge(second));
-    first < q && times == 1 && second < edges && before == 0
+    let before = named_before(g, r, q, Named::Edge(line.second));
+    line.first < q && times == 1 && line.second < edges && before == 0
 }
 
-fn join_so_far(g: &[u64], r: u64, q: u64, first: u64, second: u64) -> bool
-    requires { PlanRoom g.now r q }
-    ensures { result ≡ plan_so_far g.now r q 2 first second }
+fn join_so_far(g: &[u64], r: u64, q: u64, line: PlanLine) -> bool
+    requires { PlanRoom g.now r q × (line.kind ≡ 2) }
+    ensures { result ≡ plan_so_far g.now r q 2 line.first line.second }
 {
-    let line = PlanLine {
-        kind: 2,
-        first,
-        second,
-    };
-    let one = child_times(g, r, q, line, first);
-    let other = child_times(g, r, q, line, second);
-    first < q && second < q && one == 1 && other == 1
+    let one = child_times(g, r, q, line, line.first);
+    let other = child_times(g, r, q, line, line.second);
+    line.first < q && line.second < q && one == 1 && other == 1
 }
 
 // The same for a line of any kind; one of an unknown kind does not.
@@ -114,8 +104,8 @@ pub(crate) fn so_far(g: &[u64], r: u64, q: u64, line: PlanLine) -> bool
 {
     match line.kind {
         0 => line.first == 0 && line.second == 0,
-        1 => introduce_so_far(g, r, q, line.first, line.second),
-        2 => join_so_far(g, r, q, line.first, line.second),
+        1 => introduce_so_far(g, r, q, line),
+        2 => join_so_far(g, r, q, line),
         _ => false,
     }
 }

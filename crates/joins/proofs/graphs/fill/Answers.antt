@@ -3,7 +3,6 @@ use mathlib.Core.Path.{sym, subst}
 use mathlib.Core.List.{List}
 use Prim.Native.Nat.{ℕ}
 use Rattle.joins.specs.Graphs.{Indexed}
-use Rattle.joins.proofs.Known.{graph_edges_few}
 use Rattle.joins.proofs.GraphLaws.{indexed_none, table_is}
 use Rattle.joins.proofs.graphs.fill.Goals as goal
 
@@ -11,12 +10,6 @@ pub mark_edges-requires : goal.mark_edges-requires
 mark_edges-requires c = subst (λ (words : List ℕ). Indexed c.args.t.now.grammar.words.now
     c.args.t.now.graph.now words 0) (sym c.requires)
     (indexed_none c.args.t.now.grammar.words.now c.args.t.now.graph.now)
-
-pub edge_sets-sets-requires : goal.edge_sets-sets-requires
-edge_sets-sets-requires c = graph_edges_few _ _ c.args.t.now.fit
-
-pub put_groups-requires : goal.put_groups-requires
-put_groups-requires c = (graph_edges_few _ _ c.args.t.now.fit, c.mark_edges.ensures.size)
 
 pub returns : goal.returns
 returns c = table_is _ _ _ _ _ _ c.args.t.now.fit c.mark_edges.ensures c.edge_sets-sets.ensures

@@ -3,89 +3,10 @@ use native.Mathlib.Omega.{arith}
 use Rattle.joins.proofs.GraphLaws.{label_few, node_few, marked_label, marked_place, marked_edge, place_in_lem}
 use Rattle.joins.proofs.graphs.mark_edge.Goals as goal
 
-pub overflow_add-first : goal.overflow_add-first
-overflow_add-first c = omega (
-  arith,
-  label_few _ _ c.args.t.now.fit
-      _ c.requires.0 _ c.graph_label-label.ensures,
-)
-
-pub offset_bounds-words-first : goal.offset_bounds-words-first
-offset_bounds-words-first c = omega (
-  arith,
-  label_few _ _ c.args.t.now.fit
-      _ c.requires.0 _ c.graph_label-label.ensures,
-)
-
-pub bounds-words-first : goal.bounds-words-first
-bounds-words-first c = omega (
-  arith,
-  label_few _ _ c.args.t.now.fit
-      _ c.requires.0 _ c.graph_label-label.ensures,
-  c.requires.1.size,
-)
-
-pub offset_bounds-words-first-2 : goal.offset_bounds-words-first-2
-offset_bounds-words-first-2 c = omega (arith, label_few _ _ c.args.t.now.fit _ c.requires.0 _ c.graph_label-label.ensures)
-
-pub bounds-words-first-2 : goal.bounds-words-first-2
-bounds-words-first-2 c = omega (
-  arith,
-  label_few _ _ c.args.t.now.fit _ c.requires.0 _ c.graph_label-label.ensures,
-  c.requires.1.size,
-)
-
 pub loop-k-init : goal.loop-k-init
 loop-k-init c = marked_label _ _ _ _ _ _ (label_few _ _ c.args.t.now.fit _ c.requires.0
     _ c.graph_label-label.ensures) c.graph_label-label.ensures
     c.with-w.ensures c.requires.1
-
-pub overflow_add-i-in-loop-k : goal.overflow_add-i-in-loop-k
-overflow_add-i-in-loop-k c = omega (
-  arith,
-  c.rank_at-rank.ensures.1,
-  node_few _ _ c.args.t.now.fit _ c.requires.0
-      _ _ (place_in_lem _ _ _ _ _ _ c.graph_label-label.ensures c.rank_at-rank.ensures.0
-      c.loop-k-test.true) c.graph_node.ensures,
-)
-
-pub offset_bounds-words-i : goal.offset_bounds-words-i
-offset_bounds-words-i c = omega (
-  arith,
-  c.rank_at-rank.ensures.1,
-  node_few _ _ c.args.t.now.fit _ c.requires.0
-      _ _ (place_in_lem _ _ _ _ _ _ c.graph_label-label.ensures c.rank_at-rank.ensures.0
-      c.loop-k-test.true) c.graph_node.ensures,
-)
-
-pub bounds-words-i : goal.bounds-words-i
-bounds-words-i c = omega (
-  arith,
-  c.rank_at-rank.ensures.1,
-  c.loop-k.invariant.size,
-  node_few _ _ c.args.t.now.fit _ c.requires.0 _ _ (place_in_lem
-      _ _ _ _ _ _ c.graph_label-label.ensures c.rank_at-rank.ensures.0
-      c.loop-k-test.true) c.graph_node.ensures,
-)
-
-pub offset_bounds-words-i-in-loop-k : goal.offset_bounds-words-i-in-loop-k
-offset_bounds-words-i-in-loop-k c = omega (
-  arith,
-  c.rank_at-rank.ensures.1,
-  node_few _ _ c.args.t.now.fit _ c.requires.0
-      _ _ (place_in_lem _ _ _ _ _ _ c.graph_label-label.ensures c.rank_at-rank.ensures.0
-      c.loop-k-test.true) c.graph_node.ensures,
-)
-
-pub bounds-words-i-in-loop-k : goal.bounds-words-i-in-loop-k
-bounds-words-i-in-loop-k c = omega (
-  arith,
-  c.rank_at-rank.ensures.1,
-  c.loop-k.invariant.size,
-  node_few _ _ c.args.t.now.fit _ c.requires.0 _ _ (place_in_lem
-      _ _ _ _ _ _ c.graph_label-label.ensures c.rank_at-rank.ensures.0
-      c.loop-k-test.true) c.graph_node.ensures,
-)
 
 pub loop-k-preserved : goal.loop-k-preserved
 loop-k-preserved c = marked_place _ _ _ _ _ _ _ (omega (arith, c.rank_at-rank.ensures.1))

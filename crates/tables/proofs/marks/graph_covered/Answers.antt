@@ -1,7 +1,0 @@
--- A mask of the nodes has them all exactly where each is in the list (proofs/Covering).
-use Rattle.tables.proofs.Covering.{graph_marks, covered_by}
-use Rattle.tables.proofs.marks.graph_covered.Goals as goal
-
-pub returns : goal.returns
-returns c = covered_by _ _ _ _ _ _ _ c.graph_nodes.ensures (graph_marks _ _ _ _ _ c.graph_edge_place.ensures c.mark_edges.ensures)
-    c.mark_fields-m.ensures c.has_all.ensures
