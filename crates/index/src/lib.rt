@@ -12,10 +12,10 @@ ghost use Rattle.chains.specs.Chains.{hash_of};
 ghost use Rattle.ranking.specs.Ranking.{Ranked, taken_from};
 ghost use Rattle.keys.specs.Keys.{keys_of};
 ghost use Rattle.rules.specs.Coverage.{Covering};
-ghost use Rattle.lists.specs.Lists.{list_words, Listed, Ready, Unlisted, entered_all};
+ghost use Rattle.lists.specs.Lists.{Listed, Ready, Unlisted, entered_all};
 ghost use Rattle.lists.specs.Cursors.{Skims, SkimsAll};
 ghost use Rattle.index.specs.Quiet.{quiet_in};
-ghost use Rattle.index.specs.Index.{index_words, ranks_of, doubt_of, keys_for, Indexed, Empty, Covered, DoubtKept, Adds};
+ghost use Rattle.index.specs.Index.{ranks_of, doubt_of, keys_for, Indexed, Empty, Covered, DoubtKept, Adds};
 
 use agenda::{ChartItem, Record};
 use lists::LIST_WORDS;
@@ -70,8 +70,8 @@ fn list_all(keys: &[u32; KEY_TABLE_WORDS], chart: &[u64], lists: &mut [u16; LIST
 }
 
 // Whether each of a chart's records covers its open nodes is kept in mind.
-fn cover_all(t: &RunTables, chart: &[u64], index: &mut [u32])
-    requires { (length index.old ≡ index_words) × (item_count chart.now ≤ 4096) }
+fn cover_all(t: &RunTables, chart: &[u64], index: &mut [u32; INDEX_WORDS])
+    requires { item_count chart.now ≤ 4096 }
     ensures { Covered t.now.tables.grammar.words.now t.now.tables.graph.now index.new (chart_of chart.now).records × ((keys ls : List ℕ) (rs : List Record) → Indexed keys index.old ls rs → Indexed keys index.new ls rs) }
 {
     let n = records::item_count(chart);
@@ -122,17 +122,25 @@ fn skim(ws: &[u16; LIST_WORDS], chart: &[u64], edges: u64, n: u64, from: u64) ->
     c
 }
 
+// Each of five cursors goes on over the entries of quiet records of the first n.
+pub fn skimmed(ws: &[u16; LIST_WORDS], chart: &[u64], edges: u64, n: u64, cs: [u64; 5]) -> [u64; 5]
+    requires { (n ≤ item_count chart.now) × (n ≤ 4096) }
+    ensures { SkimsAll (quiet_in chart.now edges) ws.now n cs result }
+{
+    cs.map(|c| skim(ws, chart, edges, n, c))
+}
+
 // Record j, which waits with the count `old`, has the count of x.
-fn recount(index: &mut [u32], j: u64, old: u64, count: u64)
-    requires { (length index.old ≡ index_words) × (j < 4096) }
+fn recount(index: &mut [u32; INDEX_WORDS], j: u64, old: u64, count: u64)
+    requires { j < 4096 }
     ensures { ((keys ls : List ℕ) (rs : List Record) (x : Record) → Indexed keys index.old ls rs → j < length rs → is_handled (record_in rs j) ≡ false → old ≡ (record_in rs j).item.count → count ≡ x.item.count → Indexed keys index.new ls (set rs j (improved (record_in rs j) x))) × DoubtKept index.old index.new }
 {
     ranking::recount(&mut index[RANKS..DOUBT], j, old, count);
 }
 
 // The record at place j, found again with the item of x, takes the count and the partners of x if that is better.
-fn again(chart: &mut [u64], index: &mut [u32], j: u64, x: Record)
-    requires { (length index.old ≡ index_words) × (j < item_count chart.old) × (j < 4096) }
+fn again(chart: &mut [u64], index: &mut [u32; INDEX_WORDS], j: u64, x: Record)
+    requires { (j < item_count chart.old) × (j < 4096) }
     ensures { (chart.new ≡ improved_at chart.old j x) × ((keys ls : List ℕ) → Indexed keys index.old ls (chart_of chart.old).records → Indexed keys index.new ls (placed (capacity chart.old) x (chart_of chart.old) (Some j)).records) × DoubtKept index.old index.new }
 {
     if records::is_handled(chart, j) {
@@ -173,29 +181,14 @@ impl Index {
     // The first waiting record of least count waits no more: whoever takes it marks it in the chart. The ranking may be
     // made anew for it.
     pub fn take(&mut self, chart: &[u64]) -> Option<u64>
-        requires { (length self.old.words ≡ index_words) × Ranked (ranks_of self.old.words) (chart_of chart.now).records × (length (chart_of chart.now).records ≤ 4096) }
+        requires { Ranked (ranks_of self.old.words) (chart_of chart.now).records × (length (chart_of chart.now).records ≤ 4096) }
         ensures { (result ≡ least_waiting (chart_of chart.now).records (length (chart_of chart.now).records)) × ((keys ls : List ℕ) → Indexed keys self.old.words ls (chart_of chart.now).records → Indexed keys self.new.words ls (taken_from (chart_of chart.now).records result)) × DoubtKept self.old.words self.new.words × (self.new.lists ≡ self.old.lists) }
     {
         ranking::take(chart, &mut self.words[RANKS..DOUBT])
     }
 
-    // Each of five cursors goes on over the entries of quiet records of the first n.
-    pub fn skimmed(&self, chart: &[u64], edges: u64, n: u64, cs: [u64; 5]) -> [u64; 5]
-        requires { (n ≤ item_count chart.now) × (n ≤ 4096) }
-        ensures { SkimsAll (quiet_in chart.now edges) self.now.lists n cs result }
-    {
-        [
-            skim(&self.lists, chart, edges, n, cs[0]),
-            skim(&self.lists, chart, edges, n, cs[1]),
-            skim(&self.lists, chart, edges, n, cs[2]),
-            skim(&self.lists, chart, edges, n, cs[3]),
-            skim(&self.lists, chart, edges, n, cs[4]),
-        ]
-    }
-
     // Whether it is sure that each record covers its open nodes.
     pub fn sure(&self) -> bool
-        requires { length self.now.words ≡ index_words }
         ensures { result ≡ eqb (doubt_of self.now.words) 0 }
     {
         self.words[DOUBT] == 0
@@ -203,7 +196,7 @@ impl Index {
 
     // Record n, one more than there are, is x.
     fn enter(&mut self, keys: &[u32; KEY_TABLE_WORDS], n: u64, x: Record, h: u64)
-        requires { (length self.old.words ≡ index_words) × Ready self.old.lists × (n < 4096) × (h ≡ hash_of x.item) × (h < 4294967296) }
+        requires { Ready self.old.lists × (n < 4096) × (h ≡ hash_of x.item) × (h < 4294967296) }
         ensures { (rs : List Record) → Indexed keys.now self.old.words self.old.lists rs → n ≡ length rs → Indexed keys.now self.new.words self.new.lists (rs ++ (x ∷ [])) × DoubtKept self.old.words self.new.words }
     {
         let item = x.item;

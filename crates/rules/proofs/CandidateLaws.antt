@@ -3,7 +3,7 @@
 use mathlib.Core.Path.{◌≡◌, refl, sym, ap, ◌∙◌, subst}
 use mathlib.Core.Bool.{Bool, true, false, ◌&&◌, not, cond, false≢true, or-true}
 use mathlib.Core.List.{List, [], ◌∷◌, ◌++◌, map}
-use Prim.Native.Nat.{ℕ, zero, suc, ◌+◌, ◌-◌, ◌*◌, ◌%◌, ◌^◌, ◌≤◌, ◌<◌}
+use Prim.Native.Nat.{ℕ, zero, suc, ◌+◌, ◌-◌, ◌*◌, ◌^◌, ◌≤◌, ◌<◌}
 use native.Mathlib.Omega.{arith}
 use native.Mathlib.Numerals.{add-one}
 use lib.ListN.{length, get_or, take}
@@ -35,10 +35,9 @@ use Rattle.joins.proofs.MapLaws.{get_d_any}
 use Rattle.joins.proofs.EdgeMaps.{edge_ok, edge_rank, edge_label_is, node_there, edge_node_known, attach_place}
 use Rattle.joins.proofs.GraphLaws.{edge_nodes_lem, edge_few, label_few, node_few, some_in}
 use Rattle.joins.proofs.Combining.{combine_differ}
-use Rattle.rules.specs.declared.plans.Parent.{Parent}
-use Rattle.rules.specs.Rules.{terminal_items}
+use Rattle.std.specs.Prelude.{Some, None}
+use Rattle.rules.specs.Rules.{terminal_items, Above}
 use Rattle.rules.specs.Wants.{wants_at, want_of}
-use Rattle.rules.specs.Plans.{ParentAt}
 use Rattle.rules.specs.Candidates.{Introduces, Candidates}
 use Rattle.rules.proofs.NodeLists.{label_is}
 use Rattle.rules.proofs.RuleItems.{guard_none, terminal_place, with_terminal_lem, item_active, item_edges, binary_apart, edge_pair}
@@ -126,16 +125,12 @@ module _ (g h : List ℕ) (accepted : Accepted g h) (x : ChartItem) where
 
     module _ (near : want < 64) where
       -- the plan node above
-      module _ (up : Parent) (there : ParentAt g x.of x.plan up) where
-        abbrev q : ℕ
-        q = up.word % 32
+      pub candidates_nowhere : Above g x.of x.plan None → Candidates g h x 0
+      candidates_nowhere none = absurd (omega (arith, is, want_missing g x.of x.plan none))
 
-        pub candidates_nowhere : 16 ≤ q → Candidates g h x 0
-        candidates_nowhere far = absurd (omega (arith, is, want_missing g x.of x.plan (there.nowhere far)))
-
-        pub introduces : q < 16 → (i : ℕ) → i ≡ plan_second g x.of q → Introduces g h x want i
-        introduces l i second =
-            let above = there.above l in
+      module _ (q : ℕ) (above : Above g x.of x.plan (Some q)) where
+        pub introduces : (i : ℕ) → i ≡ plan_second g x.of q → Introduces g h x want i
+        introduces i second =
             let k = above.known in
             let node = plan_node (plan_of G x.of) q in
             let told : want ≡ get_or (wants_at G x.of x.plan node) 0 80 = is ∙ sym (want_found g x.of x.plan q above (get_or (wants_at G x.of x.plan node) 0 80) refl) in

@@ -20,7 +20,7 @@ use joins::accepted::{AcceptedGrammar, AcceptedTables};
 use joins::graphs::GRAPH_TABLE_WORDS;
 use places::{NONE, PLACES};
 use planned::PlannedGrammar;
-use plans::PER_RULE;
+use plans::{ASKS_EDGE, ASKS_FIRST, KINDS, NODES, PER_RULE};
 use running::RunTables;
 
 pub mod coverage;
@@ -74,8 +74,8 @@ fn second_map(g: &[u64], of: u64, q: u64, w: u64, y: ChartItem) -> Option<[u8; P
     requires { Asks g.now of q w × (y.kind ≡ 0 → BareFrom (rule_nodes g.now y.of) y.nodes) }
     ensures { Second g.now of q y result }
 {
-    let asked = w / 4;
-    if w % 4 == 1 {
+    let asked = w / KINDS;
+    if w % KINDS == ASKS_EDGE {
         if y.kind == 0 {
             return None;
         }
@@ -118,12 +118,12 @@ pub fn combined(
         plans: t.plans,
     };
     let above = plans::parent_in(&g, r, x.plan as u64);
-    let q = above.word % 32;
+    let q = above.word % NODES;
     if q >= PER_RULE {
         return None;
     }
-    let w = above.word / 32;
-    if w % 4 == 3 {
+    let w = above.word / NODES;
+    if w % KINDS == ASKS_FIRST {
         return None;
     }
     let s = second_map(t.tables.grammar.words, r, q, w, y)?;
@@ -230,10 +230,9 @@ pub fn candidates(t: &RunTables, want: u64, x: ChartItem) -> u64
         grammar: t.tables.grammar,
         plans: t.plans,
     };
-    let q = plans::parent_in(&g, of, x.plan as u64).word % 32;
-    if q >= PER_RULE {
+    let Some(q) = plans::place_above(&g, of, x.plan as u64) else {
         return 0;
-    }
+    };
     let i = layout::plan_second_in(t.tables.grammar.words, of, q);
     let m = t.graph[(257 + want) as usize] & !x.edges;
     fitting(t, want, x, i, m)

@@ -17,6 +17,19 @@ pub struct Parent {
     pub stays: u64,
 }
 
+// A plan node's word modulo this is its number; the rest is what it asks for beside an item.
+pub const NODES: u64 = 32;
+
+// .. and that modulo this is one of the three kinds below; the rest tells which edge or child.
+pub const KINDS: u64 = 4;
+
+// it asks for an edge, which it introduces
+pub(crate) const ASKS_EDGE: u64 = 1;
+// it asks for an item at its second child
+pub(crate) const ASKS_SECOND: u64 = 2;
+// it asks for an item at its first child, as seen from the second
+pub const ASKS_FIRST: u64 = 3;
+
 // ---- the table
 // Words of the table: one for each plan node of each rule, in two halves.
 pub const PLAN_TABLE_WORDS: usize = 2048;
@@ -42,8 +55,8 @@ fn second_word(g: &[u64], r: u64, q: u64) -> u64
 {
     let second = layout::plan_second_in(g, r, q);
     match layout::plan_kind_in(g, r, q) {
-        1 => 1 + 4 * edge_word(g, r, second),
-        _ => 2 + 4 * second,
+        1 => ASKS_EDGE + KINDS * edge_word(g, r, second),
+        _ => ASKS_SECOND + KINDS * second,
     }
 }
 
@@ -54,7 +67,7 @@ fn put(t: &mut [u32], r: u64, p: u64, q: u64, w: u64, o: u64)
     ensures { Placed t.old t.new (16 * r + p) (q + 32 * w) o }
 {
     let i = (PER_RULE * r + p) as usize;
-    t[i] = (q + 32 * w) as u32;
+    t[i] = (q + NODES * w) as u32;
     t[STAYS_FROM + i] = o as u32;
 }
 
@@ -70,7 +83,7 @@ fn put_children(g: &[u64], r: u64, q: u64, o: u64, t: &mut [u32])
         _ => {
             put(t, r, first, q, second_word(g, r, q), o);
             let second = layout::plan_second_in(g, r, q);
-            put(t, r, second, q, 3 + 4 * first, o);
+            put(t, r, second, q, ASKS_FIRST + KINDS * first, o);
         }
     }
 }
@@ -91,7 +104,7 @@ fn fill_rule(g: &AcceptedGrammar, r: u64, t: &mut [u32])
 }
 
 // The table for all rules and plan nodes, in two halves; where no plan node is above it stays as it was made, all
-// zeros.
+// zeros. A slice: of the words of an array that a loop hands on no bound is known, which the table's readers need.
 pub fn fill(g: &AcceptedGrammar, t: &mut [u32])
     requires { t.old ≡ replicate plan_table_words 0 }
     ensures { PlanTable g.now.words.now t.new }
@@ -132,7 +145,7 @@ pub fn parent_in(g: &PlannedGrammar, r: u64, p: u64) -> Parent
 pub fn place_above(g: &PlannedGrammar, r: u64, p: u64) -> Option<u64>
     ensures { Above g.now.grammar.words.now r p result }
 {
-    let node = parent_in(g, r, p).word % 32;
+    let node = parent_in(g, r, p).word % NODES;
     if node < PER_RULE { Some(node) } else { None }
 }
 

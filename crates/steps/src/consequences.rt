@@ -22,6 +22,7 @@ use crate::lookups::Lookups;
 use agenda::ChartItem;
 use index::Index;
 use rules::planned::PlannedGrammar;
+use rules::plans::{ASKS_FIRST, KINDS, NODES, PER_RULE};
 use rules::wants;
 
 // The passive item of a root item, made of the record at place j.
@@ -178,7 +179,7 @@ fn add_listed(
     let end = 5 * n;
     let mut c = lists::first(&index.lists, key);
     let mut past: u64 = 0;
-    // from entry to entry of one list, as its links lead
+    // a `while`: the links of the records' entries lead on, so no range has the places
     while (c != 0) & (c <= end) {
         let k = (c - 1) / 5;
         if !index::quiet(chart, edges, k) {
@@ -200,7 +201,7 @@ fn resting(chart: &[u64], index: &Index, edges: u64, n: u64, cs: [u64; 5]) -> Cu
     requires { (n ≤ item_count chart.now) × (n ≤ 4096) }
     ensures { Rests (quiet_in chart.now edges) index.now.lists n cs result.k result.cs }
 {
-    let es = index.skimmed(chart, edges, n, cs);
+    let es = index::skimmed(&index.lists, chart, edges, n, cs);
     let k = lists::least(es);
     Cursors { k, cs: es }
 }
@@ -235,7 +236,7 @@ fn add_many(t: &Lookups, chart: &mut [u64], index: &mut Index, lead: bool, j: u6
     let query = pivots::query(t.keys, x);
     let mut at = opening(chart, index, edges, n, query);
     let mut past: u64 = 0;
-    // from partner to partner, where the cursors lead
+    // a `while`: each turn itself tells how far the cursors go, so no range has the places
     while at.k < n {
         past = add_next(t, chart, index, lead, j, at.k, past);
         at = onward(chart, index, edges, n, at);
@@ -269,12 +270,12 @@ pub(crate) fn add_all(t: &Lookups, chart: &mut [u64], index: &mut Index, j: u64)
             plans: t.run.plans,
         };
         let w = rules::plans::parent_in(&g, x.of as u64, x.plan as u64).word;
-        if w % 32 >= 16 {
+        if w % NODES >= PER_RULE {
             add_root(t, chart, index, j);
             return;
         }
         add_terminals(t, chart, index, j);
-        lead = w / 32 % 4 != 3;
+        lead = w / NODES % KINDS != ASKS_FIRST;
     }
     add_each(t, chart, index, lead, j, n);
 }

@@ -9,7 +9,7 @@ ghost use Rattle.joins.specs.Tables.{grammar_in, graph_in};
 ghost use Rattle.records.specs.Words.{header_words, capacity, chart_of, written};
 ghost use Rattle.steps.specs.Runs.{next_in, is_some, marked_by};
 ghost use Rattle.ranking.specs.Ranking.{Ranked};
-ghost use Rattle.index.specs.Index.{index_words, ranks_of};
+ghost use Rattle.index.specs.Index.{ranks_of};
 ghost use Rattle.steps.specs.Ready.{Tables, Ready, Runnable};
 
 use index::Index;
@@ -35,7 +35,7 @@ pub fn restart(g: &AcceptedGrammar, chart: &mut [u64])
 
 // The record that the next step takes becomes handled: none where nothing waits or the chart is marked.
 fn take(chart: &mut [u64], index: &mut Index) -> Option<u64>
-    requires { (length index.old.words ≡ index_words) × Ranked (ranks_of index.old.words) (chart_of chart.old).records × (length (chart_of chart.old).records ≤ 4096) }
+    requires { Ranked (ranks_of index.old.words) (chart_of chart.old).records × (length (chart_of chart.old).records ≤ 4096) }
     ensures { (result ≡ next_in (chart_of chart.old)) × (chart.new ≡ marked_by chart.old result) × ((g h keys : List ℕ) → Ready g h keys chart.old index.old.words index.old.lists → Ready g h keys chart.new index.new.words index.new.lists) }
 {
     if records::mark_of(chart) != 0 {

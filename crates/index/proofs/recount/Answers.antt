@@ -6,13 +6,10 @@ use Rattle.index.proofs.CoverLaws.{doubt_put}
 use native.Mathlib.Omega.{arith}
 use Rattle.index.proofs.recount.Goals as goal
 
-pub slice_bounds-recount-end : goal.slice_bounds-recount-end
-slice_bounds-recount-end c = omega (arith, c.requires.0)
-
 pub recount-requires : goal.recount-requires
 recount-requires c = (
-  ranks_long c.args.index.now c.requires.0,
-  c.requires.1,
+  ranks_long c.args.index.now c.told-index,
+  c.requires,
 )
 
 pub returns : goal.returns
@@ -23,5 +20,5 @@ returns c =
       λ keys ls rs x I l h o e. recounted s.index.now ls t.new.ranks s.j keys rs I l x s.old s.count h o
           e (t.ensures rs _),
       doubt_put link_words rank_words s.index.now t.new.ranks
-          c.requires.0 (omega arith) (omega arith),
+          c.told-index (omega arith) (omega arith),
     )

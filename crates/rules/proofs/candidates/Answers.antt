@@ -14,16 +14,15 @@ returns-then-want-ge64 c =
     let pre = c.requires in
     candidates_none _ _ c.args.t.now.tables.fit _ c.if-x-ne0.false _ pre c.if-want-ge64.true
 
-pub returns-then-q-ge-PER_RULE : goal.returns-then-q-ge-PER_RULE
-returns-then-q-ge-PER_RULE c =
+pub returns-in_default : goal.returns-in_default
+returns-in_default c =
     let pre = c.requires in
     let is_active = c.if-x-ne0.false in
     let near = c.if-want-ge64.false in
-    candidates_nowhere _ _ c.args.t.now.tables.fit _ is_active _ pre near _ c.parent_in-q.ensures
-    c.if-q-ge-PER_RULE.true
+    candidates_nowhere _ _ c.args.t.now.tables.fit _ is_active _ pre near c.in_default.ensures
 
 pub plan_second_in-i-requires : goal.plan_second_in-i-requires
-plan_second_in-i-requires c = node_inside (c.parent_in-q.ensures.above c.if-q-ge-PER_RULE.false).known
+plan_second_in-i-requires c = node_inside c.in-Some.ensures.known
 
 pub fitting-requires : goal.fitting-requires
 fitting-requires c =
@@ -32,9 +31,8 @@ fitting-requires c =
     let pre = c.requires in
     let is_active = c.if-x-ne0.false in
     let near = c.if-want-ge64.false in
-    let up = c.parent_in-q.ensures in
-    let found = c.if-q-ge-PER_RULE.false in (
-      introduces _ _ c.args.t.now.tables.fit _ is_active _ pre near _ up found
+    let above = c.in-Some.ensures in (
+      introduces _ _ c.args.t.now.tables.fit _ is_active _ pre near _ above
           _ c.plan_second_in-i.ensures,
       candidates_first _ _ c.args.t.now.tables.fit _ is_active _ pre near small _ c.args.t.now.graphed,
     )

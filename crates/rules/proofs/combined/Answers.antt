@@ -11,11 +11,11 @@ pub returns-then-q-ge-PER_RULE : goal.returns-then-q-ge-PER_RULE
 returns-then-q-ge-PER_RULE c = gives_none _ _ _ _ _ (pair_nowhere _ _ _ _ c.if-x-ne0.false
     (c.parent_in-above.ensures.nowhere c.if-q-ge-PER_RULE.true))
 
-pub returns-then-w-eq3 : goal.returns-then-w-eq3
-returns-then-w-eq3 c =
+pub returns-then-w-eq-ASKS_FIRST : goal.returns-then-w-eq-ASKS_FIRST
+returns-then-w-eq-ASKS_FIRST c =
     let up = c.parent_in-above.ensures in
     let near = c.if-q-ge-PER_RULE.false in
-    let later = join_later _ _ _ _ (up.join near) c.if-w-eq3.true in
+    let later = join_later _ _ _ _ (up.join near) c.if-w-eq-ASKS_FIRST.true in
     gives_none _ _ _ _ _ (pair_other _ _ _ _ c.if-x-ne0.false _ (up.above near) later.0)
 
 pub second_map-requires : goal.second_map-requires
@@ -26,7 +26,7 @@ second_map-requires c =
       record {
         node = known;
         inner = child_kind _ _ _ known _ (up.join near).child;
-        word = (join_first _ _ _ _ (up.join near) c.if-w-eq3.false).1;
+        word = (join_first _ _ _ _ (up.join near) c.if-w-eq-ASKS_FIRST.false).1;
       },
       c.requires.1.bare,
     )
@@ -58,7 +58,7 @@ pub returns-in_err-nodes : goal.returns-in_err-nodes
 returns-in_err-nodes c =
     let up = c.parent_in-above.ensures in
     let near = c.if-q-ge-PER_RULE.false in
-    let first = join_first _ _ _ _ (up.join near) c.if-w-eq3.false in
+    let first = join_first _ _ _ _ (up.join near) c.if-w-eq-ASKS_FIRST.false in
     rw c.from_residual-in_err-nodes.ensures (gives_none _ _ _ _ _ (pair_unmade _ _ _ _ c.if-x-ne0.false _ (up.above near)
     _ c.in_ok-s.ensures first.0 c.in_err-nodes.ensures.makes))
 
@@ -66,6 +66,6 @@ pub returns : goal.returns
 returns c =
     let up = c.parent_in-above.ensures in
     let near = c.if-q-ge-PER_RULE.false in
-    let first = join_first _ _ _ _ (up.join near) c.if-w-eq3.false in
+    let first = join_first _ _ _ _ (up.join near) c.if-w-eq-ASKS_FIRST.false in
     pair_made _ _ _ _ c.if-x-ne0.false _ (up.above near)
     _ c.in_ok-s.ensures first.0 _ _ _ c.in_ok-nodes.ensures.makes c.args.t.now.tables.fit

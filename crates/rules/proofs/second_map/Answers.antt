@@ -10,12 +10,12 @@ use Rattle.rules.proofs.second_map.Goals as goal
 pub returns-then-y-eq0 : goal.returns-then-y-eq0
 returns-then-y-eq0 c =
     let asks = c.requires.0 in
-    filled_active _ _ _ asks.node _ _ _ asks.word c.if-w-eq1.true refl c.if-y-eq0.true
+    filled_active _ _ _ asks.node _ _ _ asks.word c.if-w-eq-ASKS_EDGE.true refl c.if-y-eq0.true
 
 pub returns-then-asked-y : goal.returns-then-asked-y
 returns-then-asked-y c =
     let asks = c.requires.0 in
-    filled_label _ _ _ asks.node _ _ _ asks.word c.if-w-eq1.true refl c.if-y-eq0.false
+    filled_label _ _ _ asks.node _ _ _ asks.word c.if-w-eq-ASKS_EDGE.true refl c.if-y-eq0.false
     c.if-asked-y.true
 
 pub plan_second_in-i-requires : goal.plan_second_in-i-requires
@@ -25,38 +25,38 @@ pub attach_by-requires : goal.attach_by-requires
 attach_by-requires c =
     let asks = c.requires.0 in
     let second = c.plan_second_in-i.ensures in (
-      asked_known _ _ _ _ asks.word c.if-w-eq1.true asks.node _ second,
-      asked_nodes _ _ _ _ asks.word c.if-w-eq1.true asks.node _ second,
+      asked_known _ _ _ _ asks.word c.if-w-eq-ASKS_EDGE.true asks.node _ second,
+      asked_nodes _ _ _ _ asks.word c.if-w-eq-ASKS_EDGE.true asks.node _ second,
     )
 
-pub returns-then-w-eq1 : goal.returns-then-w-eq1
-returns-then-w-eq1 c =
+pub returns-then-w-eq-ASKS_EDGE : goal.returns-then-w-eq-ASKS_EDGE
+returns-then-w-eq-ASKS_EDGE c =
     let y = c.args.y in
     let eight : length y.nodes ≡ 8 = search rules in
     let asks = c.requires.0 in
     let second = c.plan_second_in-i.ensures in
-    filled_made _ _ _ asks.node _ _ _ asks.word c.if-w-eq1.true second c.if-y-eq0.false _
+    filled_made _ _ _ asks.node _ _ _ asks.word c.if-w-eq-ASKS_EDGE.true second c.if-y-eq0.false _
     c.if-asked-y.false eight c.attach_by.ensures
 
 pub returns-then-y-ne0 : goal.returns-then-y-ne0
 returns-then-y-ne0 c =
     let asks = c.requires.0 in
-    joined_passive _ _ _ asks.node _ _ asks.word asks.inner c.if-w-eq1.false c.if-y-ne0.true
+    joined_passive _ _ _ asks.node _ _ asks.word asks.inner c.if-w-eq-ASKS_EDGE.false c.if-y-ne0.true
 
 pub returns-then-y-of : goal.returns-then-y-of
 returns-then-y-of c =
     let asks = c.requires.0 in
-    joined_rule _ _ _ asks.node _ _ asks.word asks.inner c.if-w-eq1.false c.if-y-ne0.false
+    joined_rule _ _ _ asks.node _ _ asks.word asks.inner c.if-w-eq-ASKS_EDGE.false c.if-y-ne0.false
     c.if-y-of.true
 
 pub returns-then-asked-y-2 : goal.returns-then-asked-y-2
 returns-then-asked-y-2 c =
     let asks = c.requires.0 in
-    joined_second _ _ _ asks.node _ _ asks.word asks.inner c.if-w-eq1.false c.if-y-ne0.false
+    joined_second _ _ _ asks.node _ _ asks.word asks.inner c.if-w-eq-ASKS_EDGE.false c.if-y-ne0.false
     c.if-asked-y-2.true
 
 pub returns : goal.returns
 returns c =
     let asks = c.requires.0 in
-    joined_made _ _ _ asks.node _ _ asks.word asks.inner c.if-w-eq1.false c.if-y-ne0.false _
+    joined_made _ _ _ asks.node _ _ asks.word asks.inner c.if-w-eq-ASKS_EDGE.false c.if-y-ne0.false _
     c.if-y-of.false c.if-asked-y-2.false (c.requires.1 c.if-y-ne0.false) refl

@@ -7,7 +7,7 @@ use Rattle.steps.proofs.RunLaws.{next_known, step_marked, step_some, step_none}
 use Rattle.steps.proofs.step.Goals as goal
 
 pub take-requires : goal.take-requires
-take-requires c = (c.requires.1.indexed.size, c.requires.1.indexed.ranked, records_small _ c.requires.1.small)
+take-requires c = (c.requires.1.indexed.ranked, records_small _ c.requires.1.small)
 
 pub add_all-requires : goal.add_all-requires
 add_all-requires c =

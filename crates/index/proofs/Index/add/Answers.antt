@@ -27,7 +27,7 @@ again-requires c =
     let s = c.args in
     let l = found_inside s.chart.now (new_record s.item s.first s.second) _ c.find.ensures
     _ c.in-Some.is in
-    (c.requires.0.size, l, small s.keys.now s.chart.now s.self.now.words s.self.now.lists _ c.requires.0 l)
+    (l, small s.keys.now s.chart.now s.self.now.words s.self.now.lists _ c.requires.0 l)
 
 pub behind-requires : goal.behind-requires
 behind-requires c = (c.requires.0, c.requires.2, rw c.new_record-x.ensures.0 c.requires.3, c.requires.4)

@@ -1,6 +1,5 @@
 use native.Mathlib.Omega.{arith}
 use mathlib.Core.Path.{ap, ◌∙◌}
-use mathlib.Core.Path.{ap, ◌∙◌}
 use Rattle.records.specs.Words.{chart_of, appended_to}
 use Rattle.index.proofs.IndexLaws.{indexed_ready}
 use Rattle.index.proofs.AddLaws.{number, behind_room, behind_full, room_covered, full_covered}
@@ -8,7 +7,6 @@ use Rattle.index.proofs.Index.behind.Goals as goal
 
 pub enter-requires : goal.enter-requires
 enter-requires c = (
-  c.requires.0.size,
   indexed_ready c.args.keys.now c.args.self.now.words c.args.self.now.lists
       (chart_of c.args.chart.now).records c.requires.0,
   omega (arith, c.if-n-capacity_of.true, c.capacity_of.ensures, c.requires.1),

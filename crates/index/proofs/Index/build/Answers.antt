@@ -1,6 +1,6 @@
 -- Links and ranking are built of zeros, the lists of none, and the last word tells what they cover.
 use Rattle.records.specs.Words.{chart_of}
-use Rattle.index.proofs.IndexLaws.{links_empty, ranks_blank, both_size, indexed_both}
+use Rattle.index.proofs.IndexLaws.{links_empty, ranks_blank, indexed_both}
 use Rattle.index.proofs.Index.build.Goals as goal
 
 pub build-requires : goal.build-requires
@@ -15,12 +15,7 @@ build-requires-2 c =
 
 pub cover_all-requires : goal.cover_all-requires
 cover_all-requires c =
-    let s = c.args in
-    let p = c.requires in (
-      both_size s.self.now.words _ (chart_of s.chart.now).records p.0 c.build.ensures
-          _ c.build-2.ensures,
-      p.2,
-    )
+    c.requires.2
 
 pub returns : goal.returns
 returns c =

@@ -5,14 +5,12 @@ use Rattle.ranking.specs.Ranking.{rank_words}
 use Rattle.index.proofs.IndexLaws.{taken_by}
 use Rattle.index.proofs.CoverLaws.{doubt_put}
 use native.Mathlib.Omega.{arith}
+use borrow.Author.Rules.{rules}
 use mathlib.Core.Path.{refl}
 use Rattle.index.proofs.Index.take.Goals as goal
 
-pub slice_bounds-take-end : goal.slice_bounds-take-end
-slice_bounds-take-end c = omega (arith, c.requires.0)
-
 pub take-requires : goal.take-requires
-take-requires c = (c.requires.1, c.requires.2)
+take-requires c = c.requires
 
 pub returns : goal.returns
 returns c =
@@ -21,7 +19,7 @@ returns c =
       t.ensures.0,
       λ keys ls I. taken_by keys c.args.self.now.words ls t.new.ranks
           (chart_of c.args.chart.now).records _ t.ensures.0 t.ensures.1 I,
-      doubt_put link_words rank_words c.args.self.now.words t.new.ranks c.requires.0 (omega arith)
+      doubt_put link_words rank_words c.args.self.now.words t.new.ranks (search rules) (omega arith)
           (omega arith),
       refl,
     )
