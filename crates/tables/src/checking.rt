@@ -285,6 +285,7 @@ pub fn check_grammar(t: &[u64]) -> bool
 }
 
 // The lines of the n edges of a graph, and the words behind them; `mask` has the nodes on those passed.
+// The loop is that of check_edges; a function of both would take the test as a closure, and say what any test gives.
 fn check_graph_edges(g: &[u64], t: &[u64], n: u64) -> bool
     requires { Room (length t.now) Graph × Count n (graph_edges t.now) 64 }
     ensures { Concludes graph_words g.now t.now (GraphEdge 0) (graph_edge_place 0) result }

@@ -1,8 +1,7 @@
 // Nodes as masks: a list of nodes in range and distinct (question 5), and every node on an edge (question 6).
+ghost use Rattle.std.specs.Prelude.{◌≡◌, ◌++◌, ◌&&◌, ◌+◌, ◌≤◌, ◌<◌, min, leb, eqb, map, drop, length};
 ghost use Rattle.std.specs.List.{range_with_len};
-ghost use Rattle.std.specs.Prelude.{◌≡◌, map, ◌++◌, ◌&&◌, ◌+◌, ◌≤◌, ◌<◌, min, leb, eqb, drop, length};
 ghost use Rattle.masks.specs.Masks.{◌∪◌, full};
-ghost use Rattle.hrg.specs.Counts.{tabulate};
 ghost use Rattle.questions.specs.Layout.{line_field, rule_nodes, graph_nodes};
 ghost use Rattle.questions.specs.Questions.{listed, covered, nodes_on_edges, nodes_on_graph};
 ghost use Rattle.tables.specs.Marks.{marked, marks, nodes_at, nodes_from, Distinct};
@@ -66,7 +65,7 @@ fn mark_fields(m: u64, f: &[u64], from: u64) -> u64
 #[tactic(auto, unfolding(crate::specs::Marks::marks))]
 fn mark_line(m: u64, t: &[u64], p: u64, n: u64) -> u64
     requires { n ≤ 4 }
-    ensures { result ≡ marks m (map (λ k. line_field t.now p k) (range_with_len 1 n)) }
+    ensures { result ≡ marks m (map (line_field t.now p) (range_with_len 1 n)) }
 {
     (1..1 + n).map(|k| layout::field_at(t, p, k)).fold(m, mark)
 }
