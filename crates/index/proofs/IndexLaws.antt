@@ -152,9 +152,6 @@ module _ (ix links : List ℕ) (rs : List Record) (e : Empty ix) (c : Chained li
         zeros = λ n. ap (λ (w : List ℕ). get_or w n 0) (links_ranks ix links e.size c.words) ∙ part_zeros link_words rank_words ix (omega arith) e.zeros n;
       }
 
-  pub both_size : (ranks : List ℕ) → Ranked ranks rs → length (with_ranks (with_links ix links) ranks) ≡ index_words
-  both_size ranks r = ranks_size (with_links ix links) ranks mid_size r.size
-
 -- ---- one record more
 module _ (keys ix ls new links ranks : List ℕ) (n h : ℕ) (x : Record) (rs : List Record) (I : Indexed keys ix ls rs) (e : n ≡ length rs) (f : n < 4096) where
   longer : h ≡ hash_of x.item → links ≡ linked (links_of ix) n h → Chained links (rs ++ (x ∷ []))
