@@ -297,9 +297,6 @@ module _ (w : List ℕ) where
         here x (yes d) = at_tabulate P.nodes (λ x. unplaced) x d
         here x (no d) = at_past (tabulate P.nodes (λ x. unplaced)) x (omega (arith, length_tabulate P.nodes (λ x. unplaced)))
 
-    pub placed_long : (f : List ℕ) (i : ℕ) → f ≡ padded (placed_by look G H P bs i) → length f ≡ 8
-    placed_long f i e = ap length e ∙ length_padded (placed_by look G H P bs i)
-
     pub placed_bare : (n : ℕ) (f : List ℕ) (i : ℕ) → n ≡ P.nodes → f ≡ padded (placed_by look G H P bs i) → BareFrom n f
     placed_bare n f i e q = same_bare n P.nodes f (padded (placed_by look G H P bs i)) e q (padded_bare P.nodes (placed_by look G H P bs i) (omega (arith, length_placed G H P bs i)))
 
