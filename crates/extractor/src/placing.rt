@@ -13,18 +13,14 @@ ghost use Rattle.extraction.specs.Extraction.{part_nodes, placed_by};
 
 use joins::accepted::{AcceptedGrammar, AcceptedTables};
 use places::PLACES;
+use std::array;
 
 // The nodes of graph edge b, in four places.
 fn nodes_of(graph: &[u64], b: u64) -> [u64; 4]
     requires { graph_edge_place b < length graph.now }
     ensures { result ≡ tabulate 4 (λ k. graph_node graph.now b k) }
 {
-    [
-        layout::graph_node_in(graph, b, 0),
-        layout::graph_node_in(graph, b, 1),
-        layout::graph_node_in(graph, b, 2),
-        layout::graph_node_in(graph, b, 3),
-    ]
+    array::from_fn(|k| layout::graph_node_in(graph, b, k as u64))
 }
 
 // Places the nodes of edge i of rule r that have no place yet: at the first nodes of l, in order. Its nodes are
