@@ -22,7 +22,7 @@ use Rattle.questions.proofs.StoredLaws.{take_tabulate}
 use Rattle.joins.specs.Joins.{KnownEdge, edge_nodes, BareFrom}
 use Rattle.joins.proofs.Known.{graph_size}
 use Rattle.joins.proofs.GraphLaws.{edge_nodes_lem}
-use Rattle.joins.proofs.EdgeMaps.{length_padded, at_padded, at_past, is_padded, padded_bare, same_bare, at_none, edge_ok, edge_rank, node_there, edge_node_few}
+use Rattle.joins.proofs.EdgeMaps.{at_padded, at_past, is_padded, padded_bare, same_bare, at_none, edge_ok, edge_rank, node_there, edge_node_few}
 use Rattle.joins.proofs.MapLaws.{get_d_any, length_joined, at_joined}
 use Rattle.agenda.specs.declared.Record.{Record}
 use Rattle.records.specs.Words.{record_at}

@@ -1,6 +1,5 @@
 -- The first four fields behind the label: each is what the call at its number answers.
 use Rattle.std.proofs.Common.{of_calls, ◌≡◌, ◌∙◌, List, [], ◌∷◌, ℕ, length, slice_index_or, arith}
-use Rattle.questions.specs.Layout.{graph_node}
 use Rattle.questions.proofs.StoredLaws.{tabulate_four}
 use Rattle.extractor.proofs.placing.nodes_of.Goals as goal
 
