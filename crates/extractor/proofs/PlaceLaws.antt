@@ -22,7 +22,7 @@ use Rattle.questions.proofs.StoredLaws.{take_tabulate}
 use Rattle.joins.specs.Joins.{KnownEdge, edge_nodes, BareFrom}
 use Rattle.joins.proofs.Known.{graph_size}
 use Rattle.joins.proofs.GraphLaws.{edge_nodes_lem}
-use Rattle.joins.proofs.EdgeMaps.{length_padded, at_padded, at_past, is_padded, padded_bare, same_bare, at_none, edge_ok, edge_rank, node_there, edge_node_few}
+use Rattle.joins.proofs.EdgeMaps.{at_padded, at_past, is_padded, padded_bare, same_bare, at_none, edge_ok, edge_rank, node_there, edge_node_few}
 use Rattle.joins.proofs.MapLaws.{get_d_any, length_joined, at_joined}
 use Rattle.agenda.specs.declared.Record.{Record}
 use Rattle.records.specs.Words.{record_at}
@@ -296,9 +296,6 @@ module _ (w : List ℕ) where
         here : (x : ℕ) → Dec (x < P.nodes) → at (tabulate P.nodes (λ x. unplaced)) x ≡ unplaced
         here x (yes d) = at_tabulate P.nodes (λ x. unplaced) x d
         here x (no d) = at_past (tabulate P.nodes (λ x. unplaced)) x (omega (arith, length_tabulate P.nodes (λ x. unplaced)))
-
-    pub placed_long : (f : List ℕ) (i : ℕ) → f ≡ padded (placed_by look G H P bs i) → length f ≡ 8
-    placed_long f i e = ap length e ∙ length_padded (placed_by look G H P bs i)
 
     pub placed_bare : (n : ℕ) (f : List ℕ) (i : ℕ) → n ≡ P.nodes → f ≡ padded (placed_by look G H P bs i) → BareFrom n f
     placed_bare n f i e q = same_bare n P.nodes f (padded (placed_by look G H P bs i)) e q (padded_bare P.nodes (placed_by look G H P bs i) (omega (arith, length_placed G H P bs i)))

@@ -4,7 +4,7 @@ use mathlib.Core.List.{List, [], ◌∷◌, ◌++◌, append_assoc}
 use Prim.Native.Nat.{ℕ, ◌+◌, ◌-◌, ◌*◌, ◌≤◌}
 use native.Mathlib.Omega.{arith}
 use lib.ListN.{length, get_or, set, take, drop}
-use lib.Seq.{take-append-add, take-append-le, sets, sets-eq, length-sets, length-take-le, drop_at}
+use lib.Seq.{take-length, take-append-add, take-append-le, sets, sets-eq, length-sets, length-take-le, drop_at}
 use borrow.Rule.Slice.PartMut.{post_of, put_mid}
 use Rattle.format.specs.Writing.{line_text}
 use Rattle.format.proofs.WritingLaws.{line_text_length}
@@ -87,13 +87,14 @@ drop_sets text vs start at e h =
     ∙ drop_at (take start text) (vs ++ drop (start + length vs) text) start (length-take-le start text (omega arith))
     ∙ ap (λ (k : ℕ). vs ++ drop k text) e
 
-pub line_by : (fields text now : List ℕ) (count at : ℕ) → length fields ≡ 18 → count ≤ 18 → 74 ≤ at → at ≤ length text
-    → now ≡ sets text (at - (4 * count + 2)) (line_text 65 (take count fields)) → LineAt (take count fields) text at now (at - (4 * count + 2))
-line_by fields text now count at size few low high e =
-    let bytes : length (line_text 65 (take count fields)) ≡ 4 * count + 2 = line_text_length 65 (take count fields) ∙ ap (λ (k : ℕ). 4 * k + 2) (length-take-le count fields (omega arith)) in
+pub line_by : (row text now : List ℕ) (at : ℕ) → length row ≤ 18 → 74 ≤ at → at ≤ length text
+    → now ≡ sets text (at - (4 * length row + 2)) (line_text 65 (take (length row) row)) → LineAt row text at now (at - (4 * length row + 2))
+line_by row text now at few low high put =
+    let start : ℕ = at - (4 * length row + 2) in
+    let e : now ≡ sets text start (line_text 65 row) = put ∙ ap (λ (l : List ℕ). sets text start (line_text 65 l)) (take-length row) in
     record {
-      same = ap length e ∙ length-sets text (at - (4 * count + 2)) (line_text 65 (take count fields));
+      same = ap length e ∙ length-sets text start (line_text 65 row);
       low = omega arith;
       near = omega arith;
-      contents = ap (drop (at - (4 * count + 2))) e ∙ drop_sets text (line_text 65 (take count fields)) (at - (4 * count + 2)) at (omega (arith, bytes)) high;
+      contents = ap (drop start) e ∙ drop_sets text (line_text 65 row) start at (omega (arith, line_text_length 65 row)) high;
     }

@@ -24,24 +24,40 @@ use Rattle.extractor.specs.Reading.{PlanLineOf, is_nonterminal}
 pub unknown : (g : List ℕ) (r : ℕ) → rule_count g ≤ r → rule_of (grammar_of g) r ≡ no_rule
 unknown g r h = get_or-eq_default (grammar_of g).rules no_rule (omega (arith, rules_length g))
 
-module _ (g : List ℕ) (r n : ℕ) (e : n ≡ rule_count g) where
-  pub nodes_none : n ≤ r → (0 ≡ (right_of (grammar_of g) r).nodes) × (0 ≤ 8)
-  nodes_none h = (sym (ap (λ (R : Rule). R.production.right.nodes) (unknown g r (omega arith))), omega arith)
+pub edges_none : (g : List ℕ) (r : ℕ) → rule_count g ≤ r → 0 ≡ length (right_of (grammar_of g) r).edges
+edges_none g r h = sym (ap (λ (R : Rule). length R.production.right.edges) (unknown g r h))
 
-  pub edges_none : n ≤ r → (0 ≡ length (right_of (grammar_of g) r).edges) × (0 ≤ 8)
-  edges_none h = (sym (ap (λ (R : Rule). length R.production.right.edges) (unknown g r (omega arith))), omega arith)
+pub plan_none : (g : List ℕ) (r : ℕ) → rule_count g ≤ r → 0 ≡ length (plan_of (grammar_of g) r)
+plan_none g r h = sym (ap (λ (R : Rule). length R.plan) (unknown g r h))
 
-  pub plan_none : n ≤ r → 0 ≡ length (plan_of (grammar_of g) r)
-  plan_none h = sym (ap (λ (R : Rule). length R.plan) (unknown g r (omega arith)))
+-- ---- a number x that is counted of a rule, 0 where it is unknown
+pub nodes_counted : (g : List ℕ) (r x : ℕ) → check_grammar g ≡ true → (r < rule_count g → x ≡ rule_nodes g r) → (rule_count g ≤ r → x ≡ 0)
+    → (x ≡ (right_of (grammar_of g) r).nodes) × (x ≤ 8)
+nodes_counted g r x checked known other = go (dec_lt r (rule_count g))
+  where
+    go : Dec (r < rule_count g) → (x ≡ (right_of (grammar_of g) r).nodes) × (x ≤ 8)
+    go (yes d) = (known d ∙ sym (right_nodes g r checked d), omega (arith, known d, nodes_few g r checked d))
+    go (no d) =
+        let none = other (omega arith) in
+        (none ∙ sym (ap (λ (R : Rule). R.production.right.nodes) (unknown g r (omega arith))), omega (arith, none))
 
-  pub nodes_some : (x : ℕ) → check_grammar g ≡ true → r < n → x ≡ rule_nodes g r → (x ≡ (right_of (grammar_of g) r).nodes) × (x ≤ 8)
-  nodes_some x checked h a = (a ∙ sym (right_nodes g r checked (omega arith)), omega (arith, nodes_few g r checked (omega arith)))
+pub edges_counted : (g : List ℕ) (r x : ℕ) → check_grammar g ≡ true → (r < rule_count g → x ≡ rule_edges g r) → (rule_count g ≤ r → x ≡ 0)
+    → (x ≡ length (right_of (grammar_of g) r).edges) × (x ≤ 8)
+edges_counted g r x checked known other = go (dec_lt r (rule_count g))
+  where
+    go : Dec (r < rule_count g) → (x ≡ length (right_of (grammar_of g) r).edges) × (x ≤ 8)
+    go (yes d) = (known d ∙ sym (right_edges g r checked d), omega (arith, known d, edges_few g r checked d))
+    go (no d) =
+        let none = other (omega arith) in
+        (none ∙ edges_none g r (omega arith), omega (arith, none))
 
-  pub edges_some : (x : ℕ) → check_grammar g ≡ true → r < n → x ≡ rule_edges g r → (x ≡ length (right_of (grammar_of g) r).edges) × (x ≤ 8)
-  edges_some x checked h a = (a ∙ sym (right_edges g r checked (omega arith)), omega (arith, edges_few g r checked (omega arith)))
-
-  pub plan_some : (x : ℕ) → r < n → x ≡ rule_plan g r → x ≡ length (plan_of (grammar_of g) r)
-  plan_some x h a = a ∙ sym (ap (λ (R : Rule). length R.plan) (rule_is g r (omega arith)) ∙ plan_length g r)
+pub plan_counted : (g : List ℕ) (r x : ℕ) → (r < rule_count g → x ≡ rule_plan g r) → (rule_count g ≤ r → x ≡ 0)
+    → x ≡ length (plan_of (grammar_of g) r)
+plan_counted g r x known other = go (dec_lt r (rule_count g))
+  where
+    go : Dec (r < rule_count g) → x ≡ length (plan_of (grammar_of g) r)
+    go (yes d) = known d ∙ sym (ap (λ (R : Rule). length R.plan) (rule_is g r d) ∙ plan_length g r)
+    go (no d) = other (omega arith) ∙ plan_none g r (omega arith)
 
 -- a rule that has an edge or a plan node is known
 pub known_by_edge : (g : List ℕ) (r i : ℕ) → i < length (right_of (grammar_of g) r).edges → r < rule_count g
@@ -49,14 +65,14 @@ known_by_edge g r i h = go (dec_lt r (rule_count g))
   where
     go : Dec (r < rule_count g) → r < rule_count g
     go (yes d) = d
-    go (no d) = absurd (omega (arith, (edges_none g r (rule_count g) refl (omega arith)).0))
+    go (no d) = absurd (omega (arith, edges_none g r (omega arith)))
 
 pub known_by_node : (g : List ℕ) (r p : ℕ) → p < length (plan_of (grammar_of g) r) → r < rule_count g
 known_by_node g r p h = go (dec_lt r (rule_count g))
   where
     go : Dec (r < rule_count g) → r < rule_count g
     go (yes d) = d
-    go (no d) = absurd (omega (arith, plan_none g r (rule_count g) refl (omega arith)))
+    go (no d) = absurd (omega (arith, plan_none g r (omega arith)))
 
 pub known_edge : (g : List ℕ) (r i : ℕ) → check_grammar g ≡ true → i < length (right_of (grammar_of g) r).edges → KnownEdge g r i
 known_edge g r i checked h =

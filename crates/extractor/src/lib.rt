@@ -41,6 +41,6 @@ pub fn extract(
     let at = rows::write_rows(t, chart, &list[..n], sizes, text);
     let head = [n as u64];
     let start = at - 6;
-    lines::write_line(text, start, 68, &head, 1);
+    lines::write_line(text, start, b'D', &head, 1);
     start
 }

@@ -1,6 +1,6 @@
 // The passive records of the applications, from the top: one list with those that are listed in front and those that
 // are due at its end.
-ghost use Rattle.std.specs.Prelude.{◌≡◌, [], ◌∷◌, ◌+◌, ◌-◌, ◌≤◌, length};
+ghost use Rattle.std.specs.Prelude.{[], ◌∷◌, ◌+◌, ◌-◌, ◌≤◌, length};
 ghost use Rattle.hrg.specs.Grammars.{kind_of, right_of, edge_at};
 ghost use Rattle.questions.specs.Abstract.{grammar_of};
 ghost use Rattle.joins.specs.Joins.{KnownEdge};
@@ -23,8 +23,14 @@ fn push_part(grammar: &[u64], r: u64, i: u64, b: u64, list: &mut [u64], top: usi
 }
 
 // The partners of all nonterminal edges of rule r: from the last edge on, so that the first one's comes on top.
-fn push_parts(grammar: &AcceptedGrammar, r: u64, bs: &[u64], list: &mut [u64], top: usize) -> usize
-    requires { (length bs.now ≡ 8) × (8 ≤ top) × (top ≤ length list.old) }
+fn push_parts(
+    grammar: &AcceptedGrammar,
+    r: u64,
+    bs: &[u64; 8],
+    list: &mut [u64],
+    top: usize,
+) -> usize
+    requires { (8 ≤ top) × (top ≤ length list.old) }
     ensures { Pushed (children_from (grammar_of grammar.now.words.now) bs.now (right_of (grammar_of grammar.now.words.now) r).edges 0) list.old top list.new result × (top ≤ result + 8) }
 {
     let mut t = top;
@@ -47,8 +53,7 @@ fn push_children(
     ensures { Pushed (children_at (λ k. record_at chart.now k) (grammar_of grammar.now.words.now) j) list.old top list.new result × (top ≤ result + 8) }
 {
     let r = crate::partners::rule_at(chart, j);
-    let mut bs = [0u64; 8];
-    crate::partners::partners_at(grammar, chart, r, j, &mut bs);
+    let bs = crate::partners::partners_at(grammar, chart, r, j);
     push_parts(grammar, r, &bs, list, top)
 }
 

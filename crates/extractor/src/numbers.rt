@@ -32,13 +32,13 @@ pub(crate) fn number_parts(
     grammar: &AcceptedGrammar,
     r: u64,
     edges: u64,
-    bs: &[u64],
+    bs: &[u64; 8],
     sizes: &[u64],
     from: u64,
-    fields: &mut [u64],
+    fields: &mut [u64; 18],
     at: u64,
 ) -> u64
-    requires { (edges ≡ length (right_of (grammar_of grammar.now.words.now) r).edges) × (edges ≤ 8) × (length bs.now ≡ 8) × SizesFit sizes.now × (from < length sizes.now) × (at + edges ≤ length fields.old) }
+    requires { (edges ≡ length (right_of (grammar_of grammar.now.words.now) r).edges) × (edges ≤ 8) × SizesFit sizes.now × (from < length sizes.now) × (at + edges ≤ 18) }
     ensures { NumberedBy (grammar_of grammar.now.words.now) bs.now sizes.now (right_of (grammar_of grammar.now.words.now) r).edges from fields.old at fields.new result }
 {
     let mut next = from;

@@ -1,5 +1,5 @@
 // Where an application places the nodes of its rule: by the nodes that its edges stand on, the first edge counting.
-// Maps have eight places, 64 where a node has none yet, and are filled where they stand.
+// Maps have eight places, 64 where a node has none yet.
 ghost use Rattle.std.specs.Prelude.{◌≡◌, ◌≤◌, ◌<◌, length, take};
 ghost use Rattle.hrg.specs.Counts.{tabulate};
 ghost use Rattle.hrg.specs.Grammars.{right_of, edge_at};
@@ -13,24 +13,20 @@ ghost use Rattle.extraction.specs.Extraction.{part_nodes, placed_by};
 
 use joins::accepted::{AcceptedGrammar, AcceptedTables};
 use places::PLACES;
+use std::array;
 
 // The nodes of graph edge b, in four places.
 fn nodes_of(graph: &[u64], b: u64) -> [u64; 4]
     requires { graph_edge_place b < length graph.now }
     ensures { result ≡ tabulate 4 (λ k. graph_node graph.now b k) }
 {
-    [
-        layout::graph_node_in(graph, b, 0),
-        layout::graph_node_in(graph, b, 1),
-        layout::graph_node_in(graph, b, 2),
-        layout::graph_node_in(graph, b, 3),
-    ]
+    array::from_fn(|k| layout::graph_node_in(graph, b, k as u64))
 }
 
 // Places the nodes of edge i of rule r that have no place yet: at the first nodes of l, in order. Its nodes are
 // different, so that each is written once.
-fn place_nodes(grammar: &AcceptedGrammar, r: u64, i: u64, l: &[u64], f: &mut [u64])
-    requires { KnownEdge grammar.now.words.now r i × (length f.old ≡ 8) × BareFrom (rule_nodes grammar.now.words.now r) f.old }
+fn place_nodes(grammar: &AcceptedGrammar, r: u64, i: u64, l: &[u64], f: &mut [u64; 8])
+    requires { KnownEdge grammar.now.words.now r i × BareFrom (rule_nodes grammar.now.words.now r) f.old }
     ensures { f.new ≡ padded (joined (rule_nodes grammar.now.words.now r) f.old (attach (rule_nodes grammar.now.words.now r) (edge_nodes grammar.now.words.now r i) (take (rank_at grammar.now.words.now (edge_label grammar.now.words.now r i)) l.now))) }
 {
     let rank = joins::rank_of(grammar.words, layout::edge_label_in(grammar.words, r, i));
@@ -43,8 +39,8 @@ fn place_nodes(grammar: &AcceptedGrammar, r: u64, i: u64, l: &[u64], f: &mut [u6
 }
 
 // The same by graph edge b, which has as many nodes as the rank of its label.
-fn place_edge(t: &AcceptedTables, r: u64, i: u64, b: u64, f: &mut [u64])
-    requires { KnownEdge t.now.grammar.words.now r i × (b < graph_edges t.now.graph.now) × (length f.old ≡ 8) × BareFrom (rule_nodes t.now.grammar.words.now r) f.old }
+fn place_edge(t: &AcceptedTables, r: u64, i: u64, b: u64, f: &mut [u64; 8])
+    requires { KnownEdge t.now.grammar.words.now r i × (b < graph_edges t.now.graph.now) × BareFrom (rule_nodes t.now.grammar.words.now r) f.old }
     ensures { f.new ≡ padded (joined (rule_nodes t.now.grammar.words.now r) f.old (attach (rule_nodes t.now.grammar.words.now r) (edge_nodes t.now.grammar.words.now r i) (take (rank_at t.now.grammar.words.now (edge_label t.now.grammar.words.now r i)) (edge_at (graph_in t.now).edges b).attachment))) }
 {
     let rank = joins::rank_of(t.grammar.words, layout::graph_label_in(t.graph, b));
@@ -65,8 +61,8 @@ fn nodes_at(chart: &[u64], b: u64) -> [u64; PLACES]
 }
 
 // The same by the nodes that the record at b lists.
-fn place_record(grammar: &AcceptedGrammar, chart: &[u64], r: u64, i: u64, b: u64, f: &mut [u64])
-    requires { KnownEdge grammar.now.words.now r i × (length f.old ≡ 8) × BareFrom (rule_nodes grammar.now.words.now r) f.old }
+fn place_record(grammar: &AcceptedGrammar, chart: &[u64], r: u64, i: u64, b: u64, f: &mut [u64; 8])
+    requires { KnownEdge grammar.now.words.now r i × BareFrom (rule_nodes grammar.now.words.now r) f.old }
     ensures { f.new ≡ padded (joined (rule_nodes grammar.now.words.now r) f.old (attach (rule_nodes grammar.now.words.now r) (edge_nodes grammar.now.words.now r i) (take (rank_at grammar.now.words.now (edge_label grammar.now.words.now r i)) (record_at chart.now b).item.nodes))) }
 {
     let nodes = nodes_at(chart, b);
@@ -74,8 +70,8 @@ fn place_record(grammar: &AcceptedGrammar, chart: &[u64], r: u64, i: u64, b: u64
 }
 
 // The same by the partner b of the edge: a graph edge, or a record. Past the graph's edges there is no node.
-fn place_part(t: &AcceptedTables, chart: &[u64], r: u64, i: u64, b: u64, f: &mut [u64])
-    requires { KnownEdge t.now.grammar.words.now r i × (length f.old ≡ 8) × BareFrom (rule_nodes t.now.grammar.words.now r) f.old }
+fn place_part(t: &AcceptedTables, chart: &[u64], r: u64, i: u64, b: u64, f: &mut [u64; 8])
+    requires { KnownEdge t.now.grammar.words.now r i × BareFrom (rule_nodes t.now.grammar.words.now r) f.old }
     ensures { f.new ≡ padded (joined (rule_nodes t.now.grammar.words.now r) f.old (attach (rule_nodes t.now.grammar.words.now r) (edge_nodes t.now.grammar.words.now r i) (part_nodes (λ k. record_at chart.now k) (grammar_in t.now) (graph_in t.now) (edge_at (right_of (grammar_in t.now) r).edges i) b))) }
 {
     if crate::lookup::is_nonterminal(t.grammar.words, r, i) {
@@ -91,14 +87,14 @@ pub(crate) fn place(
     chart: &[u64],
     r: u64,
     edges: u64,
-    bs: &[u64],
-    f: &mut [u64],
-)
-    requires { (edges ≡ length (right_of (grammar_in t.now) r).edges) × (edges ≤ 8) × (length bs.now ≡ 8) × (length f.old ≡ 8) }
-    ensures { f.new ≡ padded (placed_by (λ k. record_at chart.now k) (grammar_in t.now) (graph_in t.now) (right_of (grammar_in t.now) r) bs.now edges) }
+    bs: &[u64; 8],
+) -> [u64; 8]
+    requires { (edges ≡ length (right_of (grammar_in t.now) r).edges) × (edges ≤ 8) }
+    ensures { result ≡ padded (placed_by (λ k. record_at chart.now k) (grammar_in t.now) (graph_in t.now) (right_of (grammar_in t.now) r) bs.now edges) }
 {
-    f.fill(64);
+    let mut f = [64u64; 8];
     for i in 0..edges {
-        place_part(t, chart, r, i, bs[i as usize], f);
+        place_part(t, chart, r, i, bs[i as usize], &mut f);
     }
+    f
 }

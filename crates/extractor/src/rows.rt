@@ -1,5 +1,5 @@
 // The rows of the applications as lines of text, from the last application up to the first.
-ghost use Rattle.std.specs.Prelude.{◌≡◌, ◌+◌, ◌*◌, ◌≤◌, ◌<◌, length, take, replicate};
+ghost use Rattle.std.specs.Prelude.{◌≡◌, ◌+◌, ◌*◌, ◌≤◌, ◌<◌, length, replicate};
 ghost use Rattle.joins.specs.Tables.{grammar_in, graph_in};
 ghost use Rattle.records.specs.Words.{record_at};
 ghost use Rattle.scripts.specs.Scripts.{row_lines};
@@ -12,7 +12,7 @@ use joins::accepted::AcceptedTables;
 // How many fields a row has, and the size of the tree under its application.
 #[derive(Clone, Copy)]
 pub(crate) struct Row {
-    count: u64,
+    count: usize,
     size: u64,
 }
 
@@ -25,19 +25,19 @@ fn row_of(
     sizes: &[u64],
     n: u64,
     j: u64,
-    fields: &mut [u64],
+    fields: &mut [u64; 18],
 ) -> Row
-    requires { SizesFit sizes.now × (n < 4096) × (n + 1 < length sizes.now) × (length fields.old ≡ 18) }
+    requires { SizesFit sizes.now × (n < 4096) × (n + 1 < length sizes.now) }
     ensures { RowOf (λ k. record_at chart.now k) (grammar_in t.now) (graph_in t.now) sizes.now n j fields.new result }
 {
     let r = crate::partners::rule_at(chart, j);
-    let mut bs = [0u64; 8];
-    crate::partners::partners_at(&t.grammar, chart, r, j, &mut bs);
+    let bs = crate::partners::partners_at(&t.grammar, chart, r, j);
     let nodes = crate::lookup::node_count(&t.grammar, r);
     let edges = crate::lookup::edge_count(&t.grammar, r);
     fields[0] = n;
     fields[1] = r;
-    crate::placing::place(t, chart, r, edges, &bs, &mut fields[2..10]);
+    let places = crate::placing::place(t, chart, r, edges, &bs);
+    fields[2..10].copy_from_slice(&places);
     let end = crate::numbers::number_parts(
         &t.grammar,
         r,
@@ -49,19 +49,19 @@ fn row_of(
         2 + nodes,
     );
     Row {
-        count: 2 + nodes + edges,
+        count: (2 + nodes + edges) as usize,
         size: end - n,
     }
 }
 
 // The line of a row in front of the text that starts at `at`; answers where it starts.
-fn write_row(fields: &[u64], count: u64, text: &mut [u8], at: usize) -> usize
-    requires { (length fields.now ≡ 18) × (count ≤ 18) × (74 ≤ at) × (at ≤ length text.old) }
-    ensures { LineAt (take count fields.now) text.old at text.new result }
+fn write_row(fields: &[u64], text: &mut [u8], at: usize) -> usize
+    requires { (length fields.now ≤ 18) × (74 ≤ at) × (at ≤ length text.old) }
+    ensures { LineAt fields.now text.old at text.new result }
 {
-    let n = count as usize;
+    let n = fields.len();
     let start = at - (4 * n + 2);
-    lines::write_line(text, start, 65, fields, n);
+    lines::write_line(text, start, b'A', fields, n);
     start
 }
 
@@ -82,7 +82,7 @@ pub(crate) fn write_rows(
     for k in (0..listed.len()).rev() {
         let row = row_of(t, chart, sizes, k as u64, listed[k], &mut fields);
         sizes[k] = row.size;
-        at = write_row(&fields, row.count, text, at);
+        at = write_row(&fields[..row.count], text, at);
     }
     at
 }

@@ -10,8 +10,8 @@ loop-i-init c = parts_none _ _ _ _ _ _ c.edge_count-edges.ensures.0 c.edge_count
 pub push_part-t-requires : goal.push_part-t-requires
 push_part-t-requires c = (
   known_edge _ _ _ c.args.grammar.now.fit (omega (arith, c.loop-i.invariant.inside, c.loop-i-test.true)),
-  omega (arith, c.loop-i.invariant.room, c.loop-i-test.true, c.requires.1),
-  omega (arith, c.loop-i.invariant.low, c.loop-i.invariant.pushed.same, c.requires.2),
+  omega (arith, c.loop-i.invariant.room, c.loop-i-test.true, c.requires.0),
+  omega (arith, c.loop-i.invariant.low, c.loop-i.invariant.pushed.same, c.requires.1),
 )
 
 pub loop-i-preserved : goal.loop-i-preserved

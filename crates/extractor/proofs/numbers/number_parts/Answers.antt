@@ -10,7 +10,7 @@ is_nonterminal-tree-requires c = known_edge _ _ _ c.args.grammar.now.fit
 
 pub loop-i-preserved : goal.loop-i-preserved
 loop-i-preserved c = numbering_next _ _ _ _ _ _ _ _ _ _ _ _ _ (omega (arith, c.loop-i-test.true, c.requires.0))
-    (omega (arith, c.loop-i-test.true, c.requires.5)) c.loop-i.invariant
+    (omega (arith, c.loop-i-test.true, c.requires.4)) c.loop-i.invariant
     c.is_nonterminal-tree.ensures c.number_of.ensures c.next_after-next.ensures
 
 pub returns : goal.returns

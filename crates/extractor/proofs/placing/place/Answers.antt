@@ -1,14 +1,13 @@
 -- The map so far is that of the edges passed.
 use native.Mathlib.Omega.{arith}
-use mathlib.Core.Path.{sym, ap, ◌∙◌}
-use lib.ListN.{replicate}
+use mathlib.Core.Path.{refl, sym}
 use Rattle.joins.proofs.Known.{right_nodes, nodes_few}
 use Rattle.extractor.proofs.RuleLookup.{known_by_edge, known_edge}
-use Rattle.extractor.proofs.PlaceLaws.{placed_start, placed_long, placed_bare, placed_more}
+use Rattle.extractor.proofs.PlaceLaws.{placed_start, placed_bare, placed_more}
 use Rattle.extractor.proofs.placing.place.Goals as goal
 
 pub loop-i-init : goal.loop-i-init
-loop-i-init c = placed_start _ _ _ _ _ _ (c.fill.ensures.after (λ y h. h) ∙ ap (λ n. replicate n 64) c.requires.3)
+loop-i-init c = placed_start _ _ _ _ _ _ refl
 
 pub place_part-requires : goal.place_part-requires
 place_part-requires c =
@@ -16,7 +15,6 @@ place_part-requires c =
     let checked = c.args.t.now.fit.grammar in
     let known = known_by_edge g c.args.r c.loop-i.i (omega (arith, c.loop-i-test.true, c.requires.0)) in (
       known_edge _ _ _ checked (omega (arith, c.loop-i-test.true, c.requires.0)),
-      placed_long _ _ _ _ _ _ _ c.loop-i.invariant,
       placed_bare _ _ _ _ _ _ _ _ (sym (right_nodes g c.args.r checked known)) c.loop-i.invariant,
     )
 

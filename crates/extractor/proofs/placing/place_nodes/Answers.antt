@@ -19,7 +19,7 @@ loop-k-init c =
     let pre = c.requires in
     let label = c.edge_label_in.ensures in
     let rank = c.rank_of-rank.ensures.0 in
-    placing_start _ _ _ pre.0 _ _ pre.1 _ _ _ label rank c.min-k.ensures
+    placing_start _ _ _ pre.0 _ _ c.told-f _ _ _ label rank c.min-k.ensures
 
 pub edge_node_in-x-requires : goal.edge_node_in-x-requires
 edge_node_in-x-requires c =
@@ -34,7 +34,7 @@ offset_bounds-f-x c =
     let before = c.loop-k.invariant in
     let some = c.loop-k-test.true in
     let node = c.edge_node_in-x.ensures in
-    let few = node_few _ _ _ pre.0 _ _ pre.1 _ _ _ some before node in
+    let few = node_few _ _ _ pre.0 _ _ c.told-f _ _ _ some before node in
     omega (arith, few)
 
 pub bounds-f-x : goal.bounds-f-x
@@ -43,7 +43,7 @@ bounds-f-x c =
     let before = c.loop-k.invariant in
     let some = c.loop-k-test.true in
     let node = c.edge_node_in-x.ensures in
-    let few = node_few _ _ _ pre.0 _ _ pre.1 _ _ _ some before node in
+    let few = node_few _ _ _ pre.0 _ _ c.told-f _ _ _ some before node in
     omega (arith, before.merged.size, few)
 
 pub loop-k-preserved-then-f-x-eq64 : goal.loop-k-preserved-then-f-x-eq64
@@ -52,7 +52,7 @@ loop-k-preserved-then-f-x-eq64 c =
     let before = c.loop-k.invariant in
     let some = c.loop-k-test.true in
     let node = c.edge_node_in-x.ensures in
-    placing_put _ _ _ pre.0 _ _ pre.1 _ _ _ some before node c.if-f-x-eq64.true
+    placing_put _ _ _ pre.0 _ _ c.told-f _ _ _ some before node c.if-f-x-eq64.true
 
 pub loop-k-preserved : goal.loop-k-preserved
 loop-k-preserved c =
@@ -60,9 +60,9 @@ loop-k-preserved c =
     let before = c.loop-k.invariant in
     let some = c.loop-k-test.true in
     let node = c.edge_node_in-x.ensures in
-    placing_kept _ _ _ pre.0 _ _ pre.1 _ _ _ some before node c.if-f-x-eq64.false
+    placing_kept _ _ _ pre.0 _ _ c.told-f _ _ _ some before node c.if-f-x-eq64.false
 
 pub returns : goal.returns
 returns c =
     let pre = c.requires in
-    placing_done _ _ _ pre.0 _ _ pre.1 _ _ pre.2 c.loop-k-test.false c.loop-k.invariant
+    placing_done _ _ _ pre.0 _ _ c.told-f _ _ pre.1 c.loop-k-test.false c.loop-k.invariant

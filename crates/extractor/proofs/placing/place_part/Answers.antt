@@ -8,8 +8,8 @@ returns-then-is_nonterminal c = placed_record _ _ _ _ _ _ c.requires.0 _ c.is_no
     _ _ c.if-is_nonterminal.true c.place_record.ensures
 
 pub returns-else-b-graph_edges : goal.returns-else-b-graph_edges
-returns-else-b-graph_edges c = placed_past _ _ _ _ _ _ c.requires.0 _ c.is_nonterminal.ensures _ _ c.requires.1
-    c.requires.2 c.if-is_nonterminal.false c.graph_edges.ensures c.if-b-graph_edges.false
+returns-else-b-graph_edges c = placed_past _ _ _ _ _ _ c.requires.0 _ c.is_nonterminal.ensures _ _ c.told-f
+    c.requires.1 c.if-is_nonterminal.false c.graph_edges.ensures c.if-b-graph_edges.false
 
 pub returns-then-b-graph_edges : goal.returns-then-b-graph_edges
 returns-then-b-graph_edges c = placed_edge _ _ _ _ _ _ c.requires.0 _ c.is_nonterminal.ensures
