@@ -108,7 +108,6 @@ fn places_known(row: &[u64], count: u64, nodes: u64) -> bool
 
 // Whether the graph nodes of the rule's external nodes are the listed ones, in order.
 fn externals_fit(row: &Row, listed: &[u64; 4]) -> bool
-    requires { length listed.now ≡ 4 }
     ensures { result ≡ same_list (images (place_of row.now) (side_of row.now).externals) (take (rank_of (grammar_in row.now.tables) (lhs_of (grammar_in row.now.tables) (rule_in row.now.fields.now))) listed.now) }
 {
     let r = row.fields[1];
@@ -176,7 +175,6 @@ pub(crate) fn taken(
     listed: &[u64; 4],
     used: u64,
 ) -> Option<u64>
-    requires { length listed.now ≡ 4 }
     ensures { result ≡ taken_if (row_passes (grammar_in t.now) (graph_in t.now) n s (take (rank_of (grammar_in t.now) s) listed.now) used row.now) (with_all used (new_nodes (right_of (grammar_in t.now) (rule_in row.now)) row.now)) }
 {
     if !head_passes(&t.grammar, row, n, s) {

@@ -98,7 +98,7 @@ fn application(
     listed: &[u64; 4],
     st: &mut Progress,
 ) -> bool
-    requires { RowsAt text.now st.old.next st.old.at × (length listed.now ≡ 4) }
+    requires { RowsAt text.now st.old.next st.old.at }
     ensures { Applied (grammar_in t.now) (graph_in t.now) text.now s (take (rank_of (grammar_in t.now) s) listed.now) (progress_in true st.old) (progress_in result st.new) }
 {
     if text.len() <= st.at {
