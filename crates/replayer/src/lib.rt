@@ -154,15 +154,11 @@ fn edge_list(row: &Row, text: &[u8], i: u64, st: &mut Progress) -> bool
 
 // ---- the whole replay
 // The graph's external nodes, in four places.
+#[tactic(auto, unfolding(hrg::specs::Counts::tabulate))]
 fn externals(graph: &[u64]) -> [u64; 4]
     ensures { result ≡ tabulate 4 (λ k. graph_external graph.now k) }
 {
-    [
-        layout::graph_external(graph, 0),
-        layout::graph_external(graph, 1),
-        layout::graph_external(graph, 2),
-        layout::graph_external(graph, 3),
-    ]
+    [0, 1, 2, 3].map(|k| layout::graph_external(graph, k))
 }
 
 // The first n of the listed nodes as a mask.
