@@ -161,18 +161,6 @@ fn externals(graph: &[u64]) -> [u64; 4]
     [0, 1, 2, 3].map(|k| layout::graph_external(graph, k))
 }
 
-// The first n of the listed nodes as a mask.
-fn mask_of(listed: [u64; 4], n: u64) -> u64
-    requires { (n ≤ 4) × ((k : ℕ) → k < n → get_or listed k 0 < 64) }
-    ensures { result ≡ with_all 0 (take n listed) }
-{
-    let mut mask: u64 = 0;
-    for k in 0..n {
-        mask = masks::with(mask, listed[k as usize]);
-    }
-    mask
-}
-
 // The replay of the rows of the text, from one edge with the start symbol on the external nodes: how far it came,
 // where all its tests passed.
 fn from_start(t: &AcceptedTables, text: &[u8]) -> Option<Progress>
@@ -185,7 +173,7 @@ fn from_start(t: &AcceptedTables, text: &[u8]) -> Option<Progress>
         next: 0,
         at: lines::after_line(text, 0),
         edges: 0,
-        nodes: mask_of(listed, layout::rank_at(t.grammar.words, s)),
+        nodes: fitting::mask_of(listed, layout::rank_at(t.grammar.words, s)),
     };
     if application(t, text, s, &listed, &mut st) {
         Some(st)
