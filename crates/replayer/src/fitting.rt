@@ -99,12 +99,8 @@ fn places_known(row: &[u64], count: u64, nodes: u64) -> bool
     requires { (count ≤ 8) × (2 + count ≤ length row.now) }
     ensures { result ≡ every count (λ x. ltb (node_in row.now x) nodes) }
 {
-    for x in 0..count {
-        if nodes <= row[(2 + x) as usize] {
-            return false;
-        }
-    }
-    true
+    let end = 2 + count as usize;
+    row[2..end].iter().all(|v| *v < nodes)
 }
 
 // Whether the graph nodes of the rule's external nodes are the listed ones, in order.
