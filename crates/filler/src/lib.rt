@@ -78,8 +78,8 @@ fn fill_row(rows: &mut [Application], grammar: &[u64], text: &[u8], n: usize)
     ensures { rows.new ≡ filled_from grammar.now text.now n rows.old }
 {
     let mut at = 6;
-    for k in 0..n {
-        rows[k] = application_at(grammar, text, at);
+    for row in rows[..n].iter_mut() {
+        *row = application_at(grammar, text, at);
         at = lines::after_line(text, at);
     }
 }
