@@ -17,6 +17,7 @@ fn eight_from(line: &[u8], from: usize, count: usize) -> [u64; 8]
     ensures { result ≡ eight (take count (drop from (fields_of line.now))) }
 {
     let mut row = [0u64; 8];
+    // The index is also the field's.
     for i in 0..count.min(8) {
         row[i] = lines::number(line, from + i);
     }

@@ -7,7 +7,7 @@ use native.Mathlib.Omega.{arith}
 use native.Mathlib.Numerals.{add-one}
 use native.Mathlib.Decide.{dec_lt}
 use lib.ListN.{length, get_or, take, drop, drop_of_length-le}
-use lib.Seq.{drop-cons, take_all}
+use lib.Seq.{drop-cons}
 use lib.Dec.{eqb}
 use lib.Pow.{pow-lt}
 use Rattle.masks.specs.Masks.{member, single, Found, Added}
@@ -27,7 +27,7 @@ use Rattle.preorder.specs.Replay.{rule_in, place_in, new_nodes}
 use Rattle.preorder.proofs.Used.{Holds, holds_new}
 use Rattle.std.specs.Prelude.{Some, None}
 use Rattle.replayer.specs.Fitting.{node_in, new_in, with_all, taken_if, SizedRow}
-use Rattle.replayer.proofs.MaskTests.{held, marks_none, marks_append, mask_next}
+use Rattle.replayer.proofs.MaskTests.{held, marks_none, marks_append}
 use Rattle.replayer.proofs.RowPlaces.{externals_are, external_known, rule_known, node_there, place_at_lem, place_small}
 
 -- ---- what is answered of a row

@@ -103,7 +103,8 @@ fn places_known(row: &[u64], count: u64, nodes: u64) -> bool
     row[2..end].iter().all(|v| *v < nodes)
 }
 
-// Whether the graph nodes of the rule's external nodes are the listed ones, in order.
+// Whether the graph nodes of the rule's external nodes are the listed ones, in order. Each external node is read from
+// the words by its number, so the loop is over a range.
 fn externals_fit(row: &Row, listed: &[u64; 4]) -> bool
     ensures { result ≡ same_list (images (place_of row.now) (side_of row.now).externals) (take (rank_of (grammar_in row.now.tables) (lhs_of (grammar_in row.now.tables) (rule_in row.now.fields.now))) listed.now) }
 {
