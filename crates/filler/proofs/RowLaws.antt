@@ -7,7 +7,7 @@ use Prim.Native.Nat.{ℕ, zero, suc, ◌+◌, ◌≤◌, ◌<◌}
 use native.Mathlib.Omega.{arith}
 use native.Mathlib.Numerals.{add-one}
 use lib.ListN.{length, length-set, length-map, take, drop, get_or, set, take-append-drop}
-use lib.Seq.{take-suc, take-length, drop-cons, length-take-le, set_at, append_snoc}
+use lib.Seq.{take-suc, take-length, drop-cons, length-take-le, set_at, set-append_left, append_snoc}
 use lib.Dec.{leb}
 use borrow.Author.Tests.{leb-true, leb-false}
 use Rattle.format.specs.Lines.{after_line}
@@ -35,6 +35,18 @@ pub filled_next : (g text : List ℕ) (n : ℕ) (former : List Application) (x :
     → set (filled_from g text n former) n x ≡ filled_from g text (n + 1) former
 unfolding filled_from
 filled_next g text n former x e = rw (e, add-one)
+
+-- the front of a row that is filled by itself
+pub filled_front : (g text : List ℕ) (m n : ℕ) (former : List Application) → m ≤ n → n ≤ length former
+    → filled_from g text m (take n former) ++ drop n former ≡ filled_from g text m former
+unfolding filled_from
+filled_front g text zero n former h few = take-append-drop n former
+filled_front g text (suc m) n former h few =
+    let before = filled_from g text m (take n former) in
+    let size : length before ≡ n = filled_length g text m (take n former) ∙ length-take-le n former few in
+    let x = application_at g text (offset_of text m) in
+    sym (set-append_left before (drop n former) m x (omega arith))
+    ∙ ap (λ rows. set rows m x) (filled_front g text m n former (omega arith) few)
 
 pub offset_next : (text : List ℕ) (n r : ℕ) → r ≡ after_line text (offset_of text n) → r ≡ offset_of text (n + 1)
 unfolding offset_of

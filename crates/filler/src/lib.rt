@@ -17,6 +17,7 @@ fn eight_from(line: &[u8], from: usize, count: usize) -> [u64; 8]
     ensures { result ≡ eight (take count (drop from (fields_of line.now))) }
 {
     let mut row = [0u64; 8];
+    // The index is also the field's.
     for i in 0..count.min(8) {
         row[i] = lines::number(line, from + i);
     }
@@ -78,8 +79,8 @@ fn fill_row(rows: &mut [Application], grammar: &[u64], text: &[u8], n: usize)
     ensures { rows.new ≡ filled_from grammar.now text.now n rows.old }
 {
     let mut at = 6;
-    for k in 0..n {
-        rows[k] = application_at(grammar, text, at);
+    for row in rows[..n].iter_mut() {
+        *row = application_at(grammar, text, at);
         at = lines::after_line(text, at);
     }
 }

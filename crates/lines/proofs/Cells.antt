@@ -2,13 +2,14 @@
 use mathlib.Core.Path.{◌≡◌, refl, sym, ap, ◌∙◌}
 use mathlib.Core.Bool.{Bool}
 use mathlib.Core.List.{List, [], ◌∷◌}
+use lib.ListN.{length, get_or}
 use lib.Dec.{eqb}
 use lib.Pointwise.{pointwise}
 use Prim.Native.Nat.{ℕ, ◌+◌, ◌-◌, ◌*◌, ◌≤◌}
 use native.Mathlib.Omega.{arith}
-use Rattle.format.specs.Fields.{field_text, value_from, value_of, cell_of, none, more}
+use Rattle.format.specs.Fields.{digit_of, field_text, value_from, value_of, cell_of, none, more}
 use Rattle.format.specs.Tests.{same_bytes}
-use Rattle.format.proofs.FieldLaws.{digit_in, cell_yes, cell_no}
+use Rattle.format.proofs.FieldLaws.{digit_in, value_four, cell_yes, cell_no}
 use Rattle.format.proofs.TestLaws.{same_pointwise}
 use Rattle.format.proofs.DecimalLaws.{decimal_reads}
 use Rattle.format.specs.declared.Cell.TheVariants.{Number}
@@ -44,6 +45,19 @@ two_digits c d n l h k m q =
       lead = λ z. absurd (omega arith);
       value = omega (arith, digit_in c tens m, digit_in d l h);
     }))
+
+-- ---- four bytes
+pub four_bytes : (l : List ℕ) → length l ≡ 4 → l ≡ get_or l 0 0 ∷ get_or l 1 0 ∷ get_or l 2 0 ∷ get_or l 3 0 ∷ []
+four_bytes [] h = absurd (omega arith)
+four_bytes (a ∷ []) h = absurd (omega arith)
+four_bytes (a ∷ b ∷ []) h = absurd (omega arith)
+four_bytes (a ∷ b ∷ c ∷ []) h = absurd (omega arith)
+four_bytes (a ∷ b ∷ c ∷ d ∷ []) h = refl
+four_bytes (a ∷ b ∷ c ∷ d ∷ e ∷ l) h = absurd (omega arith)
+
+pub value_cell : (l : List ℕ) → length l ≡ 4
+    → value_of l ≡ ((digit_of (get_or l 0 0) * 10 + digit_of (get_or l 1 0)) * 10 + digit_of (get_or l 2 0)) * 10 + digit_of (get_or l 3 0)
+value_cell l h = ap value_of (four_bytes l h) ∙ value_four (get_or l 0 0) (get_or l 1 0) (get_or l 2 0) (get_or l 3 0)
 
 -- bytes compared with the text of a number
 pub compared : (bs text : List ℕ) (n : ℕ) (b : Bool) → text ≡ field_text n → b ≡ pointwise eqb bs text → b ≡ same_bytes bs (field_text n)

@@ -131,10 +131,11 @@ fn last_column(n: u64) -> u8
     b'0' + (n % 10) as u8
 }
 
-#[tactic(auto, using(format::proofs::FieldLaws::value_four))]
-fn value(a: u8, b: u8, c: u8, d: u8) -> u64
-    ensures { (result ≡ value_of (a ∷ b ∷ c ∷ d ∷ [])) × (result ≤ 9999) }
+#[tactic(auto, using(crate::proofs::Cells::value_cell))]
+fn value(cell: [u8; 4]) -> u64
+    ensures { (result ≡ value_of cell) × (result ≤ 9999) }
 {
+    let [a, b, c, d] = cell;
     ((digit(a) * 10 + digit(b)) * 10 + digit(c)) * 10 + digit(d)
 }
 
@@ -153,11 +154,11 @@ fn field_bytes(n: u64) -> [u8; 4]
 
 // Any four bytes: a number where they are the text of their value.
 #[tactic(auto, using(crate::proofs::Cells::comparing))]
-fn compared_cell(a: u8, b: u8, c: u8, d: u8) -> Cell
-    ensures { result ≡ cell_of (a ∷ b ∷ c ∷ d ∷ []) }
+fn compared_cell(cell: [u8; 4]) -> Cell
+    ensures { result ≡ cell_of cell }
 {
-    let n = value(a, b, c, d);
-    if [a, b, c, d] == field_bytes(n) {
+    let n = value(cell);
+    if cell == field_bytes(n) {
         Cell::Number(n)
     } else {
         Cell::Bad
@@ -177,16 +178,15 @@ fn last_two(c: u8, d: u8) -> Option<u64>
 }
 
 // Most numbers are below 100, and need no division.
-fn read_cell(a: u8, b: u8, c: u8, d: u8) -> Cell
-    ensures { result ≡ cell_of (a ∷ b ∷ c ∷ d ∷ []) }
+fn read_cell(cell: [u8; 4]) -> Cell
+    ensures { result ≡ cell_of cell }
 {
-    if a == b' '
-        && b == b' '
+    if let [b' ', b' ', c, d] = cell
         && let Some(n) = last_two(c, d)
     {
         return Cell::Number(n);
     }
-    compared_cell(a, b, c, d)
+    compared_cell(cell)
 }
 
 // How many whole fields a line has behind its letter.
@@ -206,7 +206,7 @@ pub fn field(line: &[u8], k: usize) -> Cell
         return Cell::Missing;
     }
     let at = 4 * k;
-    read_cell(line[at + 1], line[at + 2], line[at + 3], line[at + 4])
+    read_cell([line[at + 1], line[at + 2], line[at + 3], line[at + 4]])
 }
 
 // 10,000 stands for none, as the definitions have it: every test against the largest number refuses it.

@@ -7,7 +7,7 @@ use native.Mathlib.Omega.{arith}
 use native.Mathlib.Numerals.{add-one}
 use native.Mathlib.Decide.{dec_lt}
 use lib.ListN.{length, get_or, take, drop, drop_of_length-le}
-use lib.Seq.{drop-cons, take_all}
+use lib.Seq.{drop-cons}
 use lib.Dec.{eqb}
 use lib.Pow.{pow-lt}
 use Rattle.masks.specs.Masks.{member, single, Found, Added}
@@ -20,14 +20,14 @@ use Rattle.hrg.proofs.Sums.{length_tabulate}
 use Rattle.questions.specs.Layout.{rank_at, rule_count, rule_nodes, rule_symbol, rule_external}
 use Rattle.questions.specs.Checking.{check_grammar}
 use Rattle.questions.specs.Abstract.{grammar_of, graph_of}
-use Rattle.questions.proofs.StoredLaws.{get_d_tabulate}
+use Rattle.questions.proofs.StoredLaws.{get_d_tabulate, take_tabulate}
 use Rattle.joins.specs.Joins.{Accepted}
 use Rattle.joins.proofs.Known.{rule_ok, right_nodes, nodes_few}
 use Rattle.preorder.specs.Replay.{rule_in, place_in, new_nodes}
 use Rattle.preorder.proofs.Used.{Holds, holds_new}
 use Rattle.std.specs.Prelude.{Some, None}
 use Rattle.replayer.specs.Fitting.{node_in, new_in, with_all, taken_if, SizedRow}
-use Rattle.replayer.proofs.MaskTests.{held, marks_none, marks_append, mask_next}
+use Rattle.replayer.proofs.MaskTests.{held, marks_none, marks_append}
 use Rattle.replayer.proofs.RowPlaces.{externals_are, external_known, rule_known, node_there, place_at_lem, place_small}
 
 -- ---- what is answered of a row
@@ -54,17 +54,18 @@ module _ (g : List ℕ) (r : ℕ) (checked : check_grammar g ≡ true) (known : 
     outside_are : outside ≡ tabulate rank (λ k. rule_external g r k)
     outside_are = externals_are g r checked known ∙ ap (λ n. tabulate n (λ k. rule_external g r k)) (sym rank_same)
 
-    outside_length : length outside ≡ rank
-    outside_length = ap length outside_are ∙ length_tabulate rank (λ k. rule_external g r k)
+    module _ (few : rank ≤ 4) (nodes : List ℕ) (l : nodes ≡ tabulate 4 (λ k. rule_external g r k)) where
+      outside_take : take rank nodes ≡ outside
+      outside_take = ap (take rank) l ∙ take_tabulate rank 4 (λ k. rule_external g r k) few ∙ sym outside_are
 
-    pub outer_next : (k x m n : ℕ) → k < rank → x ≡ rule_external g r k → Added m x n → m ≡ with_all 0 (take k outside) → n ≡ with_all 0 (take (k + 1) outside)
-    outer_next k x m n h e added before =
-        let here : x ≡ get_or outside k 0 = e ∙ sym (ap (λ (l : List ℕ). get_or l k 0) outside_are ∙ get_d_tabulate rank (λ k. rule_external g r k) k 0 h) in
-        let small : get_or outside k 0 < 64 = omega (arith, here, e, external_known g r checked known k (omega (arith, rank_same)), nodes_few g r checked known) in
-        mask_next outside k m n (omega (arith, outside_length)) small before (subst (λ (y : ℕ). Added m y n) here added)
+      pub outer_small : (k : ℕ) → k < rank → get_or nodes k 0 < 64
+      outer_small k h =
+          let here : get_or nodes k 0 ≡ rule_external g r k =
+          ap (λ (m : List ℕ). get_or m k 0) l ∙ get_d_tabulate 4 (λ k. rule_external g r k) k 0 (omega arith) in
+          omega (arith, here, external_known g r checked known k (omega (arith, rank_same)), nodes_few g r checked known)
 
-    pub outer_all : (k m : ℕ) → rank ≤ k → m ≡ with_all 0 (take k outside) → m ≡ with_all 0 outside
-    outer_all k m h e = e ∙ ap (with_all 0) (take_all k outside (omega (arith, outside_length)))
+      pub outer_all : (m : ℕ) → m ≡ with_all 0 (take rank nodes) → m ≡ with_all 0 outside
+      outer_all m e = e ∙ ap (with_all 0) outside_take
 
 -- ---- the graph node of an inner rule node
 -- the graph node of rule node x, 64 where x is one of the outer ones

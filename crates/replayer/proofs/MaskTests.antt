@@ -155,7 +155,3 @@ four_take (a ∷ b ∷ []) h = refl
 four_take (a ∷ b ∷ c ∷ []) h = refl
 four_take (a ∷ b ∷ c ∷ d ∷ []) h = refl
 four_take (a ∷ b ∷ c ∷ d ∷ e ∷ L) h = absurd (omega arith)
-
-pub four_tabulated : (l : List ℕ) (f : ℕ → ℕ) → l ≡ tabulate 4 f → length l ≡ 4
-unfolding tabulate
-four_tabulated l f e = ap length e

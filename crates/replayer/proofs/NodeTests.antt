@@ -2,12 +2,14 @@
 use mathlib.Core.Path.{◌≡◌, refl, sym, ap, ◌∙◌}
 use mathlib.Core.Bool.{Bool, true, false, ◌&&◌, false≢true}
 use mathlib.Core.List.{List, ◌∷◌, map}
-use Prim.Native.Nat.{ℕ, zero, suc, ◌+◌, ◌≤◌, ◌<◌}
+use Prim.Native.Nat.{ℕ, zero, suc, ◌+◌, ◌-◌, ◌≤◌, ◌<◌}
 use native.Mathlib.Omega.{arith}
 use native.Mathlib.Decide.{dec_lt}
-use lib.ListN.{length, get_or, set, take, replicate, length-set}
-use lib.Seq.{get_or-set_same, get_or-set_other, get_or-take, ext_get_or, length-take-le}
-use lib.Dec.{eqb}
+use lib.ListN.{length, get_or, set, take, drop, length-drop, replicate, length-set}
+use lib.Seq.{get_or-set_same, get_or-set_other, get_or-take, get_or-drop, ext_get_or, length-take-le}
+use lib.Dec.{eqb, ltb}
+use borrow.Author.Tests.{lt-ltb, ltb-true}
+use Rattle.std.proofs.Common.{◌↔◌, IsTrue}
 use Rattle.hrg.specs.Counts.{tabulate}
 use Rattle.hrg.specs.Trees.{unplaced, at}
 use Rattle.hrg.specs.WellFormedTest.{every, each}
@@ -17,7 +19,7 @@ use Rattle.hrg.proofs.WellFormedTest.{every_false}
 use Rattle.questions.proofs.WellFormedLists.{tabulate_list}
 use Rattle.joins.proofs.MapLaws.{every_true}
 use Rattle.joins.proofs.EdgeMaps.{at_past, at_none}
-use Rattle.replayer.specs.Fitting.{four_of}
+use Rattle.replayer.specs.Fitting.{four_of, node_in}
 
 -- ---- every number below n passes
 pub record PassedTo (t : ℕ → Bool) (k : ℕ) : Type 0 where
@@ -42,6 +44,24 @@ every_at n t h x l = go (t x) refl
     go : (b : Bool) → t x ≡ b → b ≡ true
     go true e = refl
     go false e = absurd (false≢true (every_false n t x l e ∙ h))
+
+-- a test of every number below n, by what it says
+pub every_below : (n m : ℕ) (f : ℕ → ℕ) (b : Bool) → (IsTrue b ↔ ((k : ℕ) → k < n → f k < m)) → b ≡ every n (λ k. ltb (f k) m)
+every_below n m f b h = go b (every n (λ k. ltb (f k) m)) refl h
+  where
+    go : (a t : Bool) → every n (λ k. ltb (f k) m) ≡ t → (IsTrue a ↔ ((k : ℕ) → k < n → f k < m)) → a ≡ t
+    go true t e h = sym (every_true n (λ k. ltb (f k) m) (λ k l. lt-ltb (f k) m (h.0 refl k l))) ∙ e
+    go false true e h = h.1 (λ k l. ltb-true (f k) m (every_at n (λ k. ltb (f k) m) e k l))
+    go false false e h = refl
+
+-- the same of the first n placed nodes of a row
+pub every_place : (row : List ℕ) (n m : ℕ) (b : Bool) → 2 + n ≤ length row → (IsTrue b ↔ ((k : ℕ) → k < length (take (2 + n - 2) (drop 2 row)) → get_or (take (2 + n - 2) (drop 2 row)) k 0 < m)) → b ≡ every n (λ x. ltb (node_in row x) m)
+every_place row n m b few h =
+    let long : length (take (2 + n - 2) (drop 2 row)) ≡ n = length-take-le (2 + n - 2) (drop 2 row) (omega (arith, length-drop 2 row)) ∙ omega arith in
+    let same : (k : ℕ) → k < n → get_or (take (2 + n - 2) (drop 2 row)) k 0 ≡ node_in row k =
+    λ k l. get_or-take (2 + n - 2) (drop 2 row) k 0 (omega arith) ∙ get_or-drop 2 row k 0 in
+    every_below n m (node_in row) b
+    (λ y k l. omega (arith, same k l, h.0 y k (omega (arith, long))), λ all. h.1 (λ k l. omega (arith, long, same k (omega (arith, long)), all k (omega (arith, long)))))
 
 -- ---- tabulated lists
 pub each_tabulated : (n : ℕ) (f : ℕ → ℕ) (t : ℕ → Bool) → each (tabulate n f) t ≡ every n (λ x. t (f x))

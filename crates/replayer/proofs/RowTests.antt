@@ -31,10 +31,6 @@ use Rattle.replayer.proofs.RowPlaces.{lhs_is, lhs_rank, externals_are, external_
 other_place : (row : List ℕ) (x y w : ℕ) → x ≡ y → (node_in row x ≡ w → ⊥) → eqb (node_in row y) w ≡ false
 other_place row x y w e s = ne_eqb (node_in row y) w (λ d. s (ap (node_in row) e ∙ d))
 
--- ---- every place is a graph node
-pub places_no : (row : List ℕ) (count nodes x : ℕ) → x < count → nodes ≤ node_in row x → false ≡ every count (λ x. ltb (node_in row x) nodes)
-places_no row count nodes x h l = every_false count (λ x. ltb (node_in row x) nodes) x h (le-ltb (node_in row x) nodes l)
-
 -- ---- the external nodes lie on the listed nodes
 module _ (g h row : List ℕ) (accepted : Accepted g h) (sized : SizedRow (grammar_of g) (graph_of g h) row) (symbol rank : ℕ) (s : symbol ≡ rule_symbol g (rule_in row)) (t : rank ≡ rank_at g symbol) where
   abbrev r : ℕ

@@ -1,15 +1,16 @@
 // The lines of a derivation file, and one row against accepted tables: whether an application and its terminal edges
 // fit.
-ghost use Rattle.std.specs.Prelude.{◌≡◌, not, ◌+◌, ◌≤◌, ◌<◌, length, take, drop, replicate, ltb};
+ghost use Rattle.std.specs.Prelude.{◌≡◌, not, ◌+◌, ◌≤◌, ◌<◌, ℕ, length, get_or, take, drop, replicate, ltb};
 ghost use Rattle.masks.specs.Masks.{member};
 ghost use Rattle.format.specs.Lines.{line_of};
 ghost use Rattle.scripts.specs.Scripts.{rows_in, has_letter};
+ghost use Rattle.hrg.specs.Counts.{tabulate};
 ghost use Rattle.hrg.specs.Grammars.{lhs_of, right_of, rank_of, edge_at};
 ghost use Rattle.hrg.specs.Trees.{images};
 ghost use Rattle.hrg.specs.Items.{keep_if};
 ghost use Rattle.hrg.specs.WellFormedTest.{every};
 ghost use Rattle.hrg.specs.ClosureRun.{same_list};
-ghost use Rattle.questions.specs.Layout.{rule_count, edge_label, graph_edges, graph_label};
+ghost use Rattle.questions.specs.Layout.{rule_count, rule_external, edge_label, graph_edges, graph_label};
 ghost use Rattle.questions.specs.Abstract.{grammar_of};
 ghost use Rattle.joins.specs.Tables.{grammar_in, graph_in};
 ghost use Rattle.preorder.specs.Replay.{rule_in, new_nodes};
@@ -98,17 +99,13 @@ fn places_known(row: &[u64], count: u64, nodes: u64) -> bool
     requires { (count ≤ 8) × (2 + count ≤ length row.now) }
     ensures { result ≡ every count (λ x. ltb (node_in row.now x) nodes) }
 {
-    for x in 0..count {
-        if nodes <= row[(2 + x) as usize] {
-            return false;
-        }
-    }
-    true
+    let end = 2 + count as usize;
+    row[2..end].iter().all(|v| *v < nodes)
 }
 
-// Whether the graph nodes of the rule's external nodes are the listed ones, in order.
+// Whether the graph nodes of the rule's external nodes are the listed ones, in order. Each external node is read from
+// the words by its number, so the loop is over a range.
 fn externals_fit(row: &Row, listed: &[u64; 4]) -> bool
-    requires { length listed.now ≡ 4 }
     ensures { result ≡ same_list (images (place_of row.now) (side_of row.now).externals) (take (rank_of (grammar_in row.now.tables) (lhs_of (grammar_in row.now.tables) (rule_in row.now.fields.now))) listed.now) }
 {
     let r = row.fields[1];
@@ -125,17 +122,33 @@ fn externals_fit(row: &Row, listed: &[u64; 4]) -> bool
     true
 }
 
+// The first n of the listed nodes as a mask.
+pub(crate) fn mask_of(listed: [u64; 4], n: u64) -> u64
+    requires { (n ≤ 4) × ((k : ℕ) → k < n → get_or listed k 0 < 64) }
+    ensures { result ≡ with_all 0 (take n listed) }
+{
+    let mut mask: u64 = 0;
+    for k in 0..n {
+        mask = masks::with(mask, listed[k as usize]);
+    }
+    mask
+}
+
+// The external nodes of a rule, in four places: its symbol's rank says how many of them count.
+#[tactic(auto, unfolding(hrg::specs::Counts::tabulate))]
+fn rule_externals(grammar: &AcceptedGrammar, r: u64) -> [u64; 4]
+    ensures { result ≡ tabulate 4 (λ k. rule_external grammar.now.words.now r k) }
+{
+    [0, 1, 2, 3].map(|k| layout::rule_external(grammar.words, r, k))
+}
+
 // The external nodes of a rule as a mask.
 fn external_mask(grammar: &AcceptedGrammar, r: u64) -> u64
     requires { r < rule_count grammar.now.words.now }
     ensures { result ≡ with_all 0 (right_of (grammar_of grammar.now.words.now) r).externals }
 {
     let rank = layout::rank_at(grammar.words, layout::rule_symbol(grammar.words, r));
-    let mut mask: u64 = 0;
-    for k in 0..rank {
-        mask = masks::with(mask, layout::rule_external(grammar.words, r, k));
-    }
-    mask
+    mask_of(rule_externals(grammar, r), rank)
 }
 
 // The graph node of rule node x where that is inner, and 64, which is in no mask, where it is one of the outer ones.
@@ -176,7 +189,6 @@ pub(crate) fn taken(
     listed: &[u64; 4],
     used: u64,
 ) -> Option<u64>
-    requires { length listed.now ≡ 4 }
     ensures { result ≡ taken_if (row_passes (grammar_in t.now) (graph_in t.now) n s (take (rank_of (grammar_in t.now) s) listed.now) used row.now) (with_all used (new_nodes (right_of (grammar_in t.now) (rule_in row.now)) row.now)) }
 {
     if !head_passes(&t.grammar, row, n, s) {

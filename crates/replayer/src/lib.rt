@@ -2,7 +2,7 @@
 
 #![tactic(auto)]
 
-ghost use Rattle.std.specs.Prelude.{◌≡◌, true, ◌&&◌, ℕ, ◌+◌, ◌≤◌, ◌<◌, length, get_or, take, drop, eqb};
+ghost use Rattle.std.specs.Prelude.{◌≡◌, true, ◌&&◌, ◌+◌, ◌≤◌, ◌<◌, length, take, drop, eqb};
 ghost use Rattle.masks.specs.Masks.{◌∪◌, single, full};
 ghost use Rattle.format.specs.Lines.{line_of, after_line};
 ghost use Rattle.hrg.specs.Counts.{tabulate};
@@ -12,7 +12,6 @@ ghost use Rattle.questions.specs.Abstract.{grammar_of};
 ghost use Rattle.joins.specs.Tables.{grammar_in, graph_in};
 ghost use Rattle.preorder.specs.Replay.{replayed};
 ghost use Rattle.derivation.specs.Derivations.{replay_text};
-ghost use Rattle.replayer.specs.Fitting.{with_all};
 ghost use Rattle.replayer.specs.Following.{text_rows, RowsAt, progress_in, progress_of, Stands, Applied, Followed, RuledRow, part_of};
 ghost use Rattle.replayer.specs.Verdicts.{replay_of, Exact};
 
@@ -98,7 +97,7 @@ fn application(
     listed: &[u64; 4],
     st: &mut Progress,
 ) -> bool
-    requires { RowsAt text.now st.old.next st.old.at × (length listed.now ≡ 4) }
+    requires { RowsAt text.now st.old.next st.old.at }
     ensures { Applied (grammar_in t.now) (graph_in t.now) text.now s (take (rank_of (grammar_in t.now) s) listed.now) (progress_in true st.old) (progress_in result st.new) }
 {
     if text.len() <= st.at {
@@ -154,27 +153,11 @@ fn edge_list(row: &Row, text: &[u8], i: u64, st: &mut Progress) -> bool
 
 // ---- the whole replay
 // The graph's external nodes, in four places.
+#[tactic(auto, unfolding(hrg::specs::Counts::tabulate))]
 fn externals(graph: &[u64]) -> [u64; 4]
     ensures { result ≡ tabulate 4 (λ k. graph_external graph.now k) }
 {
-    [
-        layout::graph_external(graph, 0),
-        layout::graph_external(graph, 1),
-        layout::graph_external(graph, 2),
-        layout::graph_external(graph, 3),
-    ]
-}
-
-// The first n of the listed nodes as a mask.
-fn mask_of(listed: [u64; 4], n: u64) -> u64
-    requires { (n ≤ 4) × ((k : ℕ) → k < n → get_or listed k 0 < 64) }
-    ensures { result ≡ with_all 0 (take n listed) }
-{
-    let mut mask: u64 = 0;
-    for k in 0..n {
-        mask = masks::with(mask, listed[k as usize]);
-    }
-    mask
+    [0, 1, 2, 3].map(|k| layout::graph_external(graph, k))
 }
 
 // The replay of the rows of the text, from one edge with the start symbol on the external nodes: how far it came,
@@ -189,7 +172,7 @@ fn from_start(t: &AcceptedTables, text: &[u8]) -> Option<Progress>
         next: 0,
         at: lines::after_line(text, 0),
         edges: 0,
-        nodes: mask_of(listed, layout::rank_at(t.grammar.words, s)),
+        nodes: fitting::mask_of(listed, layout::rank_at(t.grammar.words, s)),
     };
     if application(t, text, s, &listed, &mut st) {
         Some(st)

@@ -13,18 +13,18 @@ use Rattle.replayer.proofs.+application_edge_list.Goals as goal
 
 pub application-returns-then-text-st : goal.application-returns-then-text-st
 application-returns-then-text-st t c =
-    applied_past _ _ _ _ _ _ _ c.requires.0 c.if-text-st.true refl
+    applied_past _ _ _ _ _ _ _ c.requires c.if-text-st.true refl
 
 pub application-read_row-count-requires : goal.application-read_row-count-requires
 application-read_row-count-requires t c =
-    fields_few _ _ _ c.requires.0 c.if-text-st.false _ c.next_line-line.ensures.contents
+    fields_few _ _ _ c.requires c.if-text-st.false _ c.next_line-line.ensures.contents
 
 pub application-slice_bounds-fields-end : goal.application-slice_bounds-fields-end
 application-slice_bounds-fields-end t c =
     omega (
       arith,
       c.read_row-count.ensures.0,
-      fields_few _ _ _ c.requires.0 c.if-text-st.false _
+      fields_few _ _ _ c.requires c.if-text-st.false _
           c.next_line-line.ensures.contents,
     )
 
@@ -37,11 +37,11 @@ pub application-open_row-requires : goal.application-open_row-requires
 application-open_row-requires t c =
     let pre = c.requires in
     let inside = c.if-text-st.false in
-    (row_few _ _ _ pre.0 inside, omega (arith, inside), c.next_line-line.ensures.contents)
+    (row_few _ _ _ pre inside, omega (arith, inside), c.next_line-line.ensures.contents)
 
 pub application-invariant_of-row : goal.application-invariant_of-row
 application-invariant_of-row t c = record {
-  sized = taken_sized _ _ _ _ _ (progress_in true c.args.st.now) c.requires.0 c.if-text-st.false _
+  sized = taken_sized _ _ _ _ _ (progress_in true c.args.st.now) c.requires c.if-text-st.false _
       c.next_line-line.ensures.contents _ c.read_row-count.ensures.1 _ c.taken-taken.ensures _ c.in-Some.is;
 }
 
@@ -56,16 +56,16 @@ application-edge_list-requires t c =
     let taken = c.in-Some.is in
     let opened = row_opened c.args.st.now c.open_row.new.st _ _ _
     c.open_row.ensures in
-    let sized = taken_sized _ _ _ _ _ p pre.0 inside _ line _ fields _ answer _ taken in
+    let sized = taken_sized _ _ _ _ _ p pre inside _ line _ fields _ answer _ taken in
     let few = edges_small _ _ c.args.t.now.fit.grammar (ruled _ _ _ sized) in (
-      omega (arith, opened_falls _ _ _ _ _ p pre.0 inside _ line _ fields _ answer _ taken _ opened few),
-      opened_rows _ p pre.0 inside _ _ opened,
+      omega (arith, opened_falls _ _ _ _ _ p pre inside _ line _ fields _ answer _ taken _ opened few),
+      opened_rows _ p pre inside _ _ opened,
     )
 
 pub application-returns-in-None : goal.application-returns-in-None
 application-returns-in-None t c =
     let pre = c.requires in
-    applied_refused _ _ _ _ _ (progress_in true c.args.st.now) pre.0 c.if-text-st.false _
+    applied_refused _ _ _ _ _ (progress_in true c.args.st.now) pre c.if-text-st.false _
     c.next_line-line.ensures.contents _ c.read_row-count.ensures.1 _
     c.taken-taken.ensures _ c.in-None.is refl
 
@@ -80,9 +80,9 @@ application-returns-in-Some t c =
     let taken = c.in-Some.is in
     let opened = row_opened c.args.st.now c.open_row.new.st _ _ _
     c.open_row.ensures in
-    let sized = taken_sized _ _ _ _ _ p pre.0 inside _ line _ fields _ answer _ taken in
+    let sized = taken_sized _ _ _ _ _ p pre inside _ line _ fields _ answer _ taken in
     let few = edges_small _ _ c.args.t.now.fit.grammar (ruled _ _ _ sized) in
-    applied_opened _ _ _ _ _ p pre.0 inside _ line _ fields _ answer _ taken _ opened few _
+    applied_opened _ _ _ _ _ p pre inside _ line _ fields _ answer _ taken _ opened few _
     c.edge_list.ensures
 
 pub edge_list-edge_passes-requires : goal.edge_list-edge_passes-requires

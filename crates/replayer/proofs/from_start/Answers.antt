@@ -1,7 +1,6 @@
 -- The start stands for that of the definition.
 use mathlib.Core.Path.{refl}
 use mathlib.Core.Bool.{false}
-use Rattle.replayer.proofs.MaskTests.{four_tabulated}
 use Rattle.replayer.specs.Following.{progress_in}
 use Rattle.replayer.proofs.Verdicts.{externals_small, start_rows, start_stands, stands_failed}
 use Rattle.replayer.proofs.from_start.Goals as goal
@@ -15,8 +14,7 @@ mask_of-requires c = (
 )
 
 pub application-requires : goal.application-requires
-application-requires c =
-    (start_rows _ c.requires _ c.after_line.ensures, four_tabulated _ _ c.externals-listed.ensures)
+application-requires c = start_rows _ c.requires _ c.after_line.ensures
 
 pub returns-then-application : goal.returns-then-application
 returns-then-application c =

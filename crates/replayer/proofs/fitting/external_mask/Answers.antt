@@ -1,20 +1,15 @@
--- The mask has the external nodes that were passed.
-use Rattle.hrg.specs.Grammars.{right_of}
-use Rattle.questions.specs.Abstract.{grammar_of}
-use Rattle.replayer.proofs.MaskTests.{with_none}
-use Rattle.replayer.proofs.InnerNodes.{outer_next, outer_all}
+-- As many of the four places as the rank says have the external nodes.
+use Rattle.replayer.proofs.InnerNodes.{outer_small, outer_all}
 use Rattle.replayer.proofs.fitting.external_mask.Goals as goal
 
-pub loop-k-init : goal.loop-k-init
-loop-k-init c = with_none (right_of (grammar_of c.args.grammar.now.words.now)
-    c.args.r).externals
-
-pub loop-k-preserved : goal.loop-k-preserved
-loop-k-preserved c = outer_next _ _ c.args.grammar.now.fit c.requires _ _ c.rule_symbol.ensures
-    c.rank_at-rank.ensures.0 _ _ _ _ c.loop-k-test.true
-    c.rule_external.ensures c.with-mask.ensures c.loop-k.invariant
+pub mask_of-requires : goal.mask_of-requires
+mask_of-requires c = (
+  c.rank_at-rank.ensures.1,
+  outer_small _ _ c.args.grammar.now.fit c.requires _ _ c.rule_symbol.ensures
+      c.rank_at-rank.ensures.0 c.rank_at-rank.ensures.1 _ c.rule_externals.ensures,
+)
 
 pub returns : goal.returns
-returns c = outer_all _ _ c.args.grammar.now.fit
-    c.requires _ _ c.rule_symbol.ensures
-    c.rank_at-rank.ensures.0 _ _ c.loop-k-test.false c.loop-k.invariant
+returns c = outer_all _ _ c.args.grammar.now.fit c.requires _ _ c.rule_symbol.ensures
+    c.rank_at-rank.ensures.0 c.rank_at-rank.ensures.1 _ c.rule_externals.ensures
+    _ c.mask_of.ensures

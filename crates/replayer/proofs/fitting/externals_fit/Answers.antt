@@ -26,9 +26,9 @@ bounds-row-x c = omega (
 
 pub returns-then-row-x : goal.returns-then-row-x
 returns-then-row-x c = externals_no _ _ _ c.args.row.now.tables.fit c.args.row.now.sized _ _ c.rule_symbol.ensures
-    c.rank_at-rank.ensures.0 _ c.requires _ _ c.loop-k-test.true
+    c.rank_at-rank.ensures.0 _ (omega arith) _ _ c.loop-k-test.true
     c.rule_external-x.ensures c.if-row-x.true
 
 pub returns : goal.returns
 returns c = externals_all _ _ _ c.args.row.now.tables.fit c.args.row.now.sized _ _ c.rule_symbol.ensures
-    c.rank_at-rank.ensures.0 _ c.requires _ c.loop-k-test.false c.loop-k.invariant
+    c.rank_at-rank.ensures.0 _ (omega arith) _ c.loop-k-test.false c.loop-k.invariant

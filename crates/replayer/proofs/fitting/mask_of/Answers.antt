@@ -1,7 +1,7 @@
 -- The mask has the nodes passed.
 use native.Mathlib.Omega.{arith}
 use Rattle.replayer.proofs.MaskTests.{with_none, mask_next}
-use Rattle.replayer.proofs.mask_of.Goals as goal
+use Rattle.replayer.proofs.fitting.mask_of.Goals as goal
 
 pub loop-k-init : goal.loop-k-init
 loop-k-init c = with_none c.args.listed
