@@ -87,15 +87,19 @@ pub fn read_file<R: Files + Eprint>(rt: &R, path: &[u8], text: &mut [u8; 32769])
     }
 }
 
-// Reads a file's text and hands it on, 32,769 bytes at most. Of a file that is there and cannot be read, which is told
-// on standard error, nothing is handed on.
-pub fn with_text<R: Files + Eprint, F: FnOnce(&[u8])>(rt: &R, path: &[u8], go: F)
+// Reads a file's text, hands it on, 32,769 bytes at most, and answers what `go` does. Of a file that is there and
+// cannot be read, which is told on standard error, nothing is handed on.
+pub fn with_text<R: Files + Eprint, T, F: FnOnce(&[u8]) -> T>(
+    rt: &R,
+    path: &[u8],
+    go: F,
+) -> Option<T>
     requires { (t : _) → length t.now ≤ 32769 → F.pre go t }
+    ensures { IfSome result (λ x. (t : _) × (length t.now ≤ 32769) × F.post go t x) }
 {
     let mut text = [0u8; 32769];
-    if let Some(n) = read_file(rt, path, &mut text) {
-        go(&text[..n]);
-    }
+    let n = read_file(rt, path, &mut text)?;
+    Some(go(&text[..n]))
 }
 
 // Writes the bytes to standard output, and answers how many: all, or 0 where not all were taken, which is told on
