@@ -133,9 +133,12 @@ fn judge_plan(g: &[u64], r: u64, q: u64, f: &[u64]) -> Result<(), Refusal>
         first: layout::field(f, 1),
         second: layout::field(f, 2),
     };
-    let fixed = (3 <= n) & (line.kind <= 2);
-    if !fixed {
+    if n < 3 {
         return Err(Refusal::Fields);
+    }
+    match line.kind {
+        0..=2 => {}
+        _ => return Err(Refusal::Fields),
     }
     if n != 3 {
         return Err(Refusal::Count);
