@@ -17,6 +17,7 @@ ghost use Rattle.replayer.specs.Verdicts.{number_of as verdictNumber, replay_of,
 ghost use Rattle.programs.specs.Files.{FileGives, numbered};
 ghost use Rattle.capi.specs.Crossing.{steps_told, bytes_told, Started, Ran, Written, FilledRow, Replayed};
 
+use charting::Unready;
 use writing::{Application, WriteError};
 
 // ---- how many words to lend
@@ -85,6 +86,13 @@ fn tell(a: Result<u64, WriteError>, told: &mut u64) -> u64
     driver::writing_number(a)
 }
 
+// The same of what a run answers, which tells its steps.
+fn tell_steps(o: Result<u64, Unready>, done: &mut u64) -> u64
+    ensures { (result ≡ chartNumber o) × (done.new ≡ steps_told o done.old) }
+{
+    tell(o.map_err(WriteError::from), done)
+}
+
 #[unsafe(no_mangle)]
 pub extern "C" fn bobbinmarl_run(
     grammar: &[u64],
@@ -96,7 +104,7 @@ pub extern "C" fn bobbinmarl_run(
     ensures { Ran grammar.now graph.now chart.old steps done.old result chart.new done.new }
 {
     let outcome = chart::run(grammar, graph, chart, steps);
-    tell(outcome.map_err(WriteError::from), done)
+    tell_steps(outcome, done)
 }
 
 // ---- the chart's items

@@ -53,7 +53,8 @@ fn push_children(
     ensures { Pushed (children_at (λ k. record_at chart.now k) (grammar_of grammar.now.words.now) j) list.old top list.new result × (top ≤ result + 8) }
 {
     let r = crate::partners::rule_at(chart, j);
-    let bs = crate::partners::partners_at(grammar, chart, r, j);
+    let mut bs = [0u64; 8];
+    crate::partners::partners_at(grammar, chart, r, j, &mut bs);
     push_parts(grammar, r, &bs, list, top)
 }
 

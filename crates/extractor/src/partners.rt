@@ -1,5 +1,5 @@
 // What stands for the edges of an application: the partners of the records from its root item down.
-ghost use Rattle.std.specs.Prelude.{◌≡◌};
+ghost use Rattle.std.specs.Prelude.{◌≡◌, replicate};
 ghost use Rattle.hrg.specs.Grammars.{plan_of};
 ghost use Rattle.questions.specs.Abstract.{grammar_of};
 ghost use Rattle.joins.specs.Joins.{KnownNode};
@@ -51,15 +51,20 @@ pub(crate) fn rule_at(chart: &[u64], j: u64) -> u64
     records::of_at(chart, records::first_at(chart, j))
 }
 
-// For each edge of its rule r, in eight places that are 0 behind them: a graph edge, or the place of a passive record.
-pub(crate) fn partners_at(grammar: &AcceptedGrammar, chart: &[u64], r: u64, j: u64) -> [u64; 8]
-    requires { r ≡ rule_at (λ k. record_at chart.now k) j }
-    ensures { result ≡ partners_at (λ k. record_at chart.now k) (grammar_of grammar.now.words.now) j }
+// For each edge of its rule r, in eight places that were 0: a graph edge, or the place of a passive record.
+pub(crate) fn partners_at(
+    grammar: &AcceptedGrammar,
+    chart: &[u64],
+    r: u64,
+    j: u64,
+    bs: &mut [u64; 8],
+)
+    requires { (r ≡ rule_at (λ k. record_at chart.now k) j) × (bs.old ≡ replicate 8 0) }
+    ensures { bs.new ≡ partners_at (λ k. record_at chart.now k) (grammar_of grammar.now.words.now) j }
 {
-    let mut bs = [0u64; 8];
     let n = crate::lookup::plan_size(grammar, r);
     if n == 0 {
-        return bs;
+        return;
     }
     partners_within(
         grammar.words,
@@ -68,7 +73,6 @@ pub(crate) fn partners_at(grammar: &AcceptedGrammar, chart: &[u64], r: u64, j: u
         n,
         n - 1,
         records::first_at(chart, j),
-        &mut bs,
+        bs,
     );
-    bs
 }

@@ -1,5 +1,5 @@
 // Where an application places the nodes of its rule: by the nodes that its edges stand on, the first edge counting.
-// Maps have eight places, 64 where a node has none yet.
+// Maps have eight places, 64 where a node has none yet, and are filled where they stand.
 ghost use Rattle.std.specs.Prelude.{◌≡◌, ◌≤◌, ◌<◌, length, take};
 ghost use Rattle.hrg.specs.Counts.{tabulate};
 ghost use Rattle.hrg.specs.Grammars.{right_of, edge_at};
@@ -81,20 +81,23 @@ fn place_part(t: &AcceptedTables, chart: &[u64], r: u64, i: u64, b: u64, f: &mut
     }
 }
 
-// The places of the nodes of rule r, by the partners of all its edges.
+// The places of the nodes of rule r, by the partners of all its edges, over eight words of a longer row.
 pub(crate) fn place(
     t: &AcceptedTables,
     chart: &[u64],
     r: u64,
     edges: u64,
     bs: &[u64; 8],
-) -> [u64; 8]
-    requires { (edges ≡ length (right_of (grammar_in t.now) r).edges) × (edges ≤ 8) }
-    ensures { result ≡ padded (placed_by (λ k. record_at chart.now k) (grammar_in t.now) (graph_in t.now) (right_of (grammar_in t.now) r) bs.now edges) }
+    f: &mut [u64],
+)
+    requires { (edges ≡ length (right_of (grammar_in t.now) r).edges) × (edges ≤ 8) × (length f.old ≡ 8) }
+    ensures { f.new ≡ padded (placed_by (λ k. record_at chart.now k) (grammar_in t.now) (graph_in t.now) (right_of (grammar_in t.now) r) bs.now edges) }
 {
-    let mut f = [64u64; 8];
+    let Some(map) = f.as_mut_array() else {
+        unreachable!()
+    };
+    *map = [64; 8];
     for i in 0..edges {
-        place_part(t, chart, r, i, bs[i as usize], &mut f);
+        place_part(t, chart, r, i, bs[i as usize], map);
     }
-    f
 }

@@ -31,13 +31,13 @@ fn row_of(
     ensures { RowOf (λ k. record_at chart.now k) (grammar_in t.now) (graph_in t.now) sizes.now n j fields.new result }
 {
     let r = crate::partners::rule_at(chart, j);
-    let bs = crate::partners::partners_at(&t.grammar, chart, r, j);
+    let mut bs = [0u64; 8];
+    crate::partners::partners_at(&t.grammar, chart, r, j, &mut bs);
     let nodes = crate::lookup::node_count(&t.grammar, r);
     let edges = crate::lookup::edge_count(&t.grammar, r);
     fields[0] = n;
     fields[1] = r;
-    let places = crate::placing::place(t, chart, r, edges, &bs);
-    fields[2..10].copy_from_slice(&places);
+    crate::placing::place(t, chart, r, edges, &bs, &mut fields[2..10]);
     let end = crate::numbers::number_parts(
         &t.grammar,
         r,

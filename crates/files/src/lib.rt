@@ -3,7 +3,7 @@
 
 #![tactic(auto)]
 
-ghost use Rattle.std.specs.Prelude.{◌≤◌, length, IfOk, IfSome};
+ghost use Rattle.std.specs.Prelude.{◌≡◌, ◌≤◌, length, take, IfOk, IfSome};
 ghost use Rattle.files.specs.Counts.{IsPrefixLen};
 
 use std::fmt::Display;
@@ -87,6 +87,14 @@ pub fn read_file<R: Files + Eprint>(rt: &R, path: &[u8], text: &mut [u8; 32769])
     }
 }
 
+// Hands on the first n bytes, which were read, and no other.
+fn hand_on<T, F: FnOnce(&[u8]) -> T>(text: &[u8; 32769], n: usize, go: F) -> T
+    requires { (n ≤ 32769) × ((t : _) → t.now ≡ take n text.now → F.pre go t) }
+    ensures { (t : _) × (t.now ≡ take n text.now) × F.post go t result }
+{
+    go(&text[..n])
+}
+
 // Reads a file's text, hands it on, 32,769 bytes at most, and answers what `go` does. Of a file that is there and
 // cannot be read, which is told on standard error, nothing is handed on.
 pub fn with_text<R: Files + Eprint, T, F: FnOnce(&[u8]) -> T>(
@@ -99,7 +107,7 @@ pub fn with_text<R: Files + Eprint, T, F: FnOnce(&[u8]) -> T>(
 {
     let mut text = [0u8; 32769];
     let n = read_file(rt, path, &mut text)?;
-    Some(go(&text[..n]))
+    Some(hand_on(&text, n, go))
 }
 
 // Writes the bytes to standard output, and answers how many: all, or 0 where not all were taken, which is told on

@@ -23,7 +23,7 @@ use pivots::KEY_TABLE_WORDS;
 use rules::running::RunTables;
 
 // How many words there are but for the lists.
-const INDEX_WORDS: usize = 12424;
+pub const INDEX_WORDS: usize = 12424;
 // where the links end and the ranking starts
 const RANKS: usize = 8192;
 // where the ranking ends: the last word, not 0 where some record may not cover its open nodes
@@ -156,6 +156,110 @@ fn again(chart: &mut [u64], index: &mut [u32; INDEX_WORDS], j: u64, x: Record)
     records::improve(chart, j, x);
 }
 
+// The records of a chart, indexed: the words are 0 before, and nothing is on a list.
+pub fn build(
+    t: &RunTables,
+    keys: &[u32; KEY_TABLE_WORDS],
+    chart: &[u64],
+    lists: &mut [u16; LIST_WORDS],
+    index: &mut [u32; INDEX_WORDS],
+)
+    requires { Empty index.old × Unlisted lists.old × (item_count chart.now ≤ 4096) }
+    ensures { Indexed keys.now index.new lists.new (chart_of chart.now).records × Covered t.now.tables.grammar.words.now t.now.tables.graph.now index.new (chart_of chart.now).records }
+{
+    chains::build(chart, &mut index[0..RANKS]);
+    ranking::build(chart, &mut index[RANKS..DOUBT]);
+    list_all(keys, chart, lists);
+    cover_all(t, chart, index);
+}
+
+// The first waiting record of least count waits no more: whoever takes it marks it in the chart. The ranking may be
+// made anew for it.
+pub fn take(chart: &[u64], index: &mut [u32; INDEX_WORDS]) -> Option<u64>
+    requires { Ranked (ranks_of index.old) (chart_of chart.now).records × (length (chart_of chart.now).records ≤ 4096) }
+    ensures { (result ≡ least_waiting (chart_of chart.now).records (length (chart_of chart.now).records)) × ((keys ls : List ℕ) → Indexed keys index.old ls (chart_of chart.now).records → Indexed keys index.new ls (taken_from (chart_of chart.now).records result)) × DoubtKept index.old index.new }
+{
+    ranking::take(chart, &mut index[RANKS..DOUBT])
+}
+
+// Whether it is sure that each record covers its open nodes.
+pub fn sure(index: &[u32; INDEX_WORDS]) -> bool
+    ensures { result ≡ eqb (doubt_of index.now) 0 }
+{
+    index[DOUBT] == 0
+}
+
+// Record n, one more than there are, is x.
+fn enter(
+    keys: &[u32; KEY_TABLE_WORDS],
+    lists: &mut [u16; LIST_WORDS],
+    index: &mut [u32; INDEX_WORDS],
+    n: u64,
+    x: Record,
+    h: u64,
+)
+    requires { Ready lists.old × (n < 4096) × (h ≡ hash_of x.item) × (h < 4294967296) }
+    ensures { (rs : List Record) → Indexed keys.now index.old lists.old rs → n ≡ length rs → Indexed keys.now index.new lists.new (rs ++ (x ∷ [])) × DoubtKept index.old index.new }
+{
+    let item = x.item;
+    list(keys, lists, n, item);
+    chains::link(&mut index[0..RANKS], n, h);
+    ranking::place(
+        &mut index[RANKS..DOUBT],
+        n,
+        x.handled == 0,
+        item.count as u64,
+    );
+}
+
+// The record x behind the others; where no place is left the chart is marked.
+fn behind(
+    keys: &[u32; KEY_TABLE_WORDS],
+    chart: &mut [u64],
+    lists: &mut [u16; LIST_WORDS],
+    index: &mut [u32; INDEX_WORDS],
+    x: Record,
+    h: u64,
+)
+    requires { Indexed keys.now index.old lists.old (chart_of chart.old).records × (capacity chart.old ≤ 4096) × (h ≡ hash_of x.item) × (h < 4294967296) }
+    ensures { (chart.new ≡ appended_to chart.old (item_count chart.old) x) × Indexed keys.now index.new lists.new (placed (capacity chart.old) x (chart_of chart.old) None).records × ((g h : List ℕ) → Covered g h index.old (chart_of chart.old).records → (doubt_of index.old ≡ 0 → Covering g h x.item) → Covered g h index.new (placed (capacity chart.old) x (chart_of chart.old) None).records) }
+{
+    let n = records::item_count(chart);
+    if n < records::capacity_of(chart) {
+        enter(keys, lists, index, n, x, h);
+        records::append(chart, n, x);
+        return;
+    }
+    records::append(chart, n, x);
+}
+
+// A new record of an item, made of these partners, in the chart, as `records::add` has it, with the indexes kept. Its
+// hash comes from where the item was made, so that the first link is looked for before the item's words have been
+// stored.
+pub fn add(
+    keys: &[u32; KEY_TABLE_WORDS],
+    chart: &mut [u64],
+    lists: &mut [u16; LIST_WORDS],
+    index: &mut [u32; INDEX_WORDS],
+    item: ChartItem,
+    h: u64,
+    first: u64,
+    second: u64,
+)
+    requires { Indexed keys.now index.old lists.old (chart_of chart.old).records × Fits chart.old × (capacity chart.old ≤ 4096) × (h ≡ hash_of item) × (h < 4294967296) × (first < 65536) × (second < 65536) }
+    ensures { Adds keys.now chart.old index.old chart.new index.new lists.new (new_record item first second) }
+{
+    let x = records::new_record(item, first, second);
+    if records::mark_of(chart) != 0 {
+        return;
+    }
+    match chains::find(chart, &index[0..RANKS], item, h) {
+        Some(j) => again(chart, index, j, x),
+        None => behind(keys, chart, lists, index, x, h),
+    }
+}
+
+// What a run goes by: the functions above, on the arrays of one struct.
 impl Index {
     // The index of no records.
     pub fn empty() -> Index
@@ -167,66 +271,26 @@ impl Index {
         }
     }
 
-    // The records of a chart, indexed: the words are 0 before, and nothing is on a list.
     pub fn build(&mut self, t: &RunTables, keys: &[u32; KEY_TABLE_WORDS], chart: &[u64])
         requires { Empty self.old.words × Unlisted self.old.lists × (item_count chart.now ≤ 4096) }
         ensures { Indexed keys.now self.new.words self.new.lists (chart_of chart.now).records × Covered t.now.tables.grammar.words.now t.now.tables.graph.now self.new.words (chart_of chart.now).records }
     {
-        chains::build(chart, &mut self.words[0..RANKS]);
-        ranking::build(chart, &mut self.words[RANKS..DOUBT]);
-        list_all(keys, chart, &mut self.lists);
-        cover_all(t, chart, &mut self.words);
+        build(t, keys, chart, &mut self.lists, &mut self.words);
     }
 
-    // The first waiting record of least count waits no more: whoever takes it marks it in the chart. The ranking may be
-    // made anew for it.
     pub fn take(&mut self, chart: &[u64]) -> Option<u64>
         requires { Ranked (ranks_of self.old.words) (chart_of chart.now).records × (length (chart_of chart.now).records ≤ 4096) }
         ensures { (result ≡ least_waiting (chart_of chart.now).records (length (chart_of chart.now).records)) × ((keys ls : List ℕ) → Indexed keys self.old.words ls (chart_of chart.now).records → Indexed keys self.new.words ls (taken_from (chart_of chart.now).records result)) × DoubtKept self.old.words self.new.words × (self.new.lists ≡ self.old.lists) }
     {
-        ranking::take(chart, &mut self.words[RANKS..DOUBT])
+        take(chart, &mut self.words)
     }
 
-    // Whether it is sure that each record covers its open nodes.
     pub fn sure(&self) -> bool
         ensures { result ≡ eqb (doubt_of self.now.words) 0 }
     {
-        self.words[DOUBT] == 0
+        sure(&self.words)
     }
 
-    // Record n, one more than there are, is x.
-    fn enter(&mut self, keys: &[u32; KEY_TABLE_WORDS], n: u64, x: Record, h: u64)
-        requires { Ready self.old.lists × (n < 4096) × (h ≡ hash_of x.item) × (h < 4294967296) }
-        ensures { (rs : List Record) → Indexed keys.now self.old.words self.old.lists rs → n ≡ length rs → Indexed keys.now self.new.words self.new.lists (rs ++ (x ∷ [])) × DoubtKept self.old.words self.new.words }
-    {
-        let item = x.item;
-        list(keys, &mut self.lists, n, item);
-        chains::link(&mut self.words[0..RANKS], n, h);
-        ranking::place(
-            &mut self.words[RANKS..DOUBT],
-            n,
-            x.handled == 0,
-            item.count as u64,
-        );
-    }
-
-    // The record x behind the others; where no place is left the chart is marked.
-    fn behind(&mut self, keys: &[u32; KEY_TABLE_WORDS], chart: &mut [u64], x: Record, h: u64)
-        requires { Indexed keys.now self.old.words self.old.lists (chart_of chart.old).records × (capacity chart.old ≤ 4096) × (h ≡ hash_of x.item) × (h < 4294967296) }
-        ensures { (chart.new ≡ appended_to chart.old (item_count chart.old) x) × Indexed keys.now self.new.words self.new.lists (placed (capacity chart.old) x (chart_of chart.old) None).records × ((g h : List ℕ) → Covered g h self.old.words (chart_of chart.old).records → (doubt_of self.old.words ≡ 0 → Covering g h x.item) → Covered g h self.new.words (placed (capacity chart.old) x (chart_of chart.old) None).records) }
-    {
-        let n = records::item_count(chart);
-        if n < records::capacity_of(chart) {
-            self.enter(keys, n, x, h);
-            records::append(chart, n, x);
-            return;
-        }
-        records::append(chart, n, x);
-    }
-
-    // A new record of an item, made of these partners, in the chart, as `records::add` has it, with the indexes kept.
-    // Its hash comes from where the item was made, so that the first link is looked for before the item's words have
-    // been stored.
     pub fn add(
         &mut self,
         keys: &[u32; KEY_TABLE_WORDS],
@@ -239,13 +303,15 @@ impl Index {
         requires { Indexed keys.now self.old.words self.old.lists (chart_of chart.old).records × Fits chart.old × (capacity chart.old ≤ 4096) × (h ≡ hash_of item) × (h < 4294967296) × (first < 65536) × (second < 65536) }
         ensures { Adds keys.now chart.old self.old.words chart.new self.new.words self.new.lists (new_record item first second) }
     {
-        let x = records::new_record(item, first, second);
-        if records::mark_of(chart) != 0 {
-            return;
-        }
-        match chains::find(chart, &self.words[0..RANKS], item, h) {
-            Some(j) => again(chart, &mut self.words, j, x),
-            None => self.behind(keys, chart, x, h),
-        }
+        add(
+            keys,
+            chart,
+            &mut self.lists,
+            &mut self.words,
+            item,
+            h,
+            first,
+            second,
+        );
     }
 }

@@ -270,7 +270,10 @@ pub fn combine(
     if !masks::disjoint(m1, m2) {
         return None;
     }
-    let merged = merging::merge(stays, f, s)?;
+    let merged = match merging::merge(stays, f, s) {
+        Ok(parts) => parts,
+        Err(_) => return None,
+    };
     let m = masks::union(m1, m2);
     if loses(graph, m, merged.dropped) {
         return None;

@@ -434,7 +434,7 @@ pub fn in_table(due: Due) -> bool
 
 // The place of the line, if it is in a table.
 #[tactic(auto, unfolding(questions::specs::Layout::in_table, questions::specs::Layout::place_of))]
-pub fn place_of(due: Due) -> Option<u64>
+pub fn place_in_table(due: Due) -> Option<u64>
     ensures { (result ≡ cond (in_table due) (Some (place_of due)) None) × IfSome result (λ p. p < grammar_words) }
 {
     if !in_table(due) {
@@ -449,6 +449,13 @@ pub fn place_of(due: Due) -> Option<u64>
         Due::GraphEdge(e) => graph_edge_place(e),
     };
     Some(p)
+}
+
+// The same as a number for every line: 0 where it is in no table.
+pub fn place_of(due: Due) -> u64
+    ensures { (result ≡ cond (in_table due) (place_of due) 0) × (result < grammar_words) }
+{
+    place_in_table(due).unwrap_or(0)
 }
 
 // ---- the order of lines
@@ -547,7 +554,7 @@ fn line_word(f: &[u64]) -> u64
 pub fn store(t: &mut [u64], due: Due, f: &[u64])
     ensures { t.new ≡ store_at t.old due f.now }
 {
-    if let Some(p) = place_of(due)
+    if let Some(p) = place_in_table(due)
         && p < t.len() as u64
     {
         t[p as usize] = line_word(f);

@@ -1,5 +1,5 @@
 -- What two maps of eight places make, and what is asked of one.
-use Rattle.std.specs.Prelude.{◌≡◌, Option, is_some, IfSome, Bool, ◌&&◌, not, cond, List, ℕ, eqb, ltb}
+use Rattle.std.specs.Prelude.{◌≡◌, Result, is_ok, MatchResult, Bool, ◌&&◌, not, cond, List, ℕ, eqb, ltb}
 use Rattle.std.specs.Int.Bits.{bit_xor}
 use Rattle.masks.specs.Masks.{member}
 use Rattle.hrg.specs.Counts.{tabulate}
@@ -15,10 +15,10 @@ pub record Parts (stays : ℕ) (f t : List ℕ) (x : Merged) : Type 0 where
   pub kept : places_of x.kept ≡ tabulate 8 (λ i. keep_if (member stays i) (or_else (at f i) (at t i)))
   pub dropped : places_of x.dropped ≡ tabulate 8 (λ i. bit_xor (keep_if (not (member stays i)) (or_else (at f i) (at t i))) 64)
 
--- whether they are one map and one to one, and then its parts
-pub record Merges (stays : ℕ) (f t : List ℕ) (x : Option Merged) : Type 0 where
-  pub test : is_some x ≡ (agree 8 f t && one_to_one 64 (joined 8 f t))
-  pub parts : IfSome x (Parts stays f t)
+-- whether they are one map and one to one, and its parts in either case
+pub record Merges (stays : ℕ) (f t : List ℕ) (x : Result Merged Merged) : Type 0 where
+  pub test : is_ok x ≡ (agree 8 f t && one_to_one 64 (joined 8 f t))
+  pub parts : MatchResult x (Parts stays f t) (Parts stays f t)
 
 -- each place in a set has a node below n, and each other none
 unfoldable pub fits : ℕ → ℕ → List ℕ → Bool

@@ -77,21 +77,22 @@ pub(crate) fn spread(m: u64) -> u64
     ((m % 256 * ONES & STEPS) + LOW & HIGH) / 128 * 255
 }
 
-// Two maps as one, if they agree and that is one to one: the node of f at each place, and where that has none, the node
-// of t. The places in `stays` are kept.
-pub fn merge(stays: u64, f: [u8; PLACES], t: [u8; PLACES]) -> Option<Merged>
+// Two maps as one: the node of f at each place, and where that has none, the node of t. The places in `stays` are kept.
+// Where the maps do not agree, or are not one to one together, the parts are the error.
+pub fn merge(stays: u64, f: [u8; PLACES], t: [u8; PLACES]) -> Result<Merged, Merged>
     requires { ((i : ℕ) → at f i ≤ unplaced) × ((i : ℕ) → at t i ≤ unplaced) }
     ensures { Merges stays f t result }
 {
     let a = crate::word_of(f);
     let b = crate::word_of(t);
     let j = choose(bare(a), b, a);
-    if once(j) & agrees(j, b) != HIGH {
-        return None;
-    }
     let s = spread(stays);
-    Some(Merged {
+    let parts = Merged {
         kept: choose(s, j, NONE),
         dropped: (j ^ NONE) & !s,
-    })
+    };
+    if once(j) & agrees(j, b) != HIGH {
+        return Err(parts);
+    }
+    Ok(parts)
 }

@@ -19,33 +19,20 @@ use format::Letter;
 use questions::{Due, Refusal};
 
 // ---- question 2
-// The letter of the line that is due.
-#[tactic(auto, unfolding(questions::specs::Layout::letter_due))]
-fn letter_of(due: Due) -> Letter
-    ensures { result ≡ letter_due due }
-{
-    match due {
-        Due::Grammar => Letter::G,
-        Due::Symbol(_) => Letter::S,
-        Due::Rule(_) => Letter::R,
-        Due::RuleEdge(_, _) => Letter::E,
-        Due::PlanLine(_, _) => Letter::P,
-        Due::Graph => Letter::H,
-        Due::GraphEdge(_) => Letter::E,
-        Due::Nothing => Letter::Other,
-    }
-}
-
-// Whether a line of this letter is due; one of any other letter never is.
+// Whether a line of this letter is due: its kind says which lines have to be, and one of any other kind never is.
 fn letter_due(line: &[u8], due: Due) -> bool
     requires { 0 < letter_of line.now }
     ensures { result ≡ eqb (letter_of line.now) (kind_letter (letter_due due)) }
 {
-    let kind = lines::letter_kind(line);
-    if kind == Letter::Other {
-        return false;
+    match lines::letter_kind(line) {
+        Letter::G => matches!(due, Due::Grammar),
+        Letter::S => matches!(due, Due::Symbol(_)),
+        Letter::R => matches!(due, Due::Rule(_)),
+        Letter::E => matches!(due, Due::RuleEdge(_, _) | Due::GraphEdge(_)),
+        Letter::P => matches!(due, Due::PlanLine(_, _)),
+        Letter::H => matches!(due, Due::Graph),
+        _ => false,
     }
-    kind == letter_of(due)
 }
 
 // ---- one line

@@ -1,43 +1,96 @@
 -- The lines of a derivation file by places: the first line, each row, and what stands behind them.
 use mathlib.Core.Path.{◌≡◌, refl, sym, ap, ◌∙◌}
-use mathlib.Core.Bool.{Bool, true, false}
+use mathlib.Core.Bool.{Bool, true, false, ◌&&◌}
 use mathlib.Core.List.{List, ◌∷◌}
 use Prim.Native.Nat.{ℕ, suc, ◌+◌, ◌-◌, ◌≤◌, ◌<◌}
 use native.Mathlib.Omega.{arith}
 use native.Mathlib.Decide.{dec_lt}
-use lib.ListN.{length, get_or, drop}
-use lib.Dec.{eqb}
+use lib.ListN.{length, drop}
 use borrow.Author.Tests.{eq-eqb, ne_eqb, le-leb, lt-leb, ltb-true}
+use denote.Enum.Declared.{tag_of}
 use Rattle.std.specs.Prelude.{Option, Some, None}
 use Rattle.std.proofs.lemmas.Option.{none-some, same_Some}
-use Rattle.format.specs.Lines.{lines_of, line_of, is_ended, after_line, line_end}
+use Rattle.format.proofs.TestLaws.{both}
+use Rattle.format.specs.declared.Letter.{Letter}
+use Rattle.format.specs.declared.Letter.TheVariants.{D, A, Other}
+use Rattle.format.specs.contracts.Letter.{the_type}
+use Rattle.format.specs.Lines.{Line, lines_of, line_of, is_ended, after_line, line_end}
 use Rattle.format.proofs.LineLaws.{end_in, after_le}
 use Rattle.format.specs.Fields.{field_count, number_of, fields_of}
-use Rattle.format.specs.Shape.{letter_of, shape_of}
-use Rattle.format.proofs.ShapeLaws.{shape_shaped}
+use Rattle.format.specs.Shape.{letter_of, letter_kind, kind_letter, shape_of}
+use Rattle.format.proofs.ShapeLaws.{letter_kind_lem, kind_letter_lem}
 use Rattle.scripts.specs.Scripts.{Script, bad, rows, with_row, has_letter, opens, rows_from, rows_in}
 use Rattle.scripts.proofs.ScriptTests.{has_lettered, lettered_has, opens_opening}
 use Rattle.scripts.proofs.ScriptReading.{row_at_is, row_refused_at, row_missing_at, rows_read_at, line_behind_at, script_opened_at, script_refused_at, script_missing_at}
 use Rattle.replayer.specs.Fitting.{count_in}
-use Rattle.replayer.specs.RowParts.{line_from, said_count}
+use Rattle.replayer.specs.RowParts.{line_from, letter_in, said_count}
 
 -- ---- the letter of a line
-pub letter_first : (line : List ℕ) (s : Bool) → s ≡ shape_of line → s ≡ true → 0 < length line
-letter_first line s shaped h = omega (arith, (shape_shaped line (sym shaped ∙ h)).whole)
-
 module _ (text : List ℕ) (from : ℕ) (ended : Bool) (feed : ended ≡ is_ended text from) where
-  pub letter_open : (letter : ℕ) → ended ≡ false → false ≡ has_letter letter (line_from text from)
-  unfolding has_letter
-  letter_open letter h = rw (← feed, h)
+  pub letter_open : ended ≡ false → Other ≡ letter_in (line_from text from)
+  unfolding letter_in
+  letter_open h = rw (← feed, h)
 
   module _ (closed : ended ≡ true) (line : List ℕ) (part : line ≡ line_of (drop from text)) (s : Bool) (shaped : s ≡ shape_of line) where
-    pub letter_shape : (letter : ℕ) → s ≡ false → false ≡ has_letter letter (line_from text from)
-    unfolding has_letter
-    letter_shape letter h = rw (← feed, closed, ← part, ← shaped, h)
+    pub letter_shape : s ≡ false → Other ≡ letter_in (line_from text from)
+    unfolding letter_in
+    letter_shape h = rw (← feed, closed, ← part, ← shaped, h)
 
-    pub letter_kept : (letter : ℕ) → s ≡ true → (b : Bool) → b ≡ eqb (get_or line 0 0) letter → b ≡ has_letter letter (line_from text from)
-    unfolding has_letter letter_of
-    letter_kept letter h b e = rw (← feed, closed, ← part, ← shaped, h) e
+    pub letter_kept : s ≡ true → (x : Letter) → x ≡ letter_kind (letter_of line)
+        → x ≡ letter_in (line_from text from)
+    unfolding letter_in
+    letter_kept h x e = rw (← feed, closed, ← part, ← shaped, h, ← e)
+
+-- a line has the letter that is found in it, and no other of the three files
+letter_has : (l : Line) (x : Letter) → letter_in l ≡ x → (x ≡ Other → ⊥) → has_letter (kind_letter x) l ≡ true
+unfolding letter_in
+letter_has l x e known = go (l.ended && shape_of l.bytes) refl
+  where
+    go : (b : Bool) → (l.ended && shape_of l.bytes) ≡ b → has_letter (kind_letter x) l ≡ true
+    go true h =
+        let t = both l.ended (shape_of l.bytes) h in
+        let same = kind_letter_lem (letter_of l.bytes) x (rw h at e) known in
+        lettered_has (kind_letter x) l (record { closed = t.0; shape = t.1; first = same })
+    go false h = absurd (known (sym (rw h at e)))
+
+has_letter_lem : (l : Line) (x : Letter) → has_letter (kind_letter x) l ≡ true → letter_in l ≡ x
+unfolding letter_in
+has_letter_lem l x h =
+    let t = has_lettered (kind_letter x) l h in
+    rw (t.closed, t.shape, t.first) (letter_kind_lem x)
+
+letter_has_not : (l : Line) (x : Letter) → (letter_in l ≡ x → ⊥) → false ≡ has_letter (kind_letter x) l
+letter_has_not l x n = go (has_letter (kind_letter x) l) refl
+  where
+    go : (b : Bool) → has_letter (kind_letter x) l ≡ b → false ≡ b
+    go true h = absurd (n (has_letter_lem l x h))
+    go false h = refl
+
+-- what the match on the letter found says of `D` and `A`
+module _ (l : Line) (x : Letter) (e : x ≡ letter_in l) where
+  found : (y : Letter) → tag_of the_type y < 8 → x ≡ y → true ≡ has_letter (kind_letter y) l
+  found y known is = sym (letter_has l y (sym e ∙ is) not_other)
+    where
+      not_other : y ≡ Other → ⊥
+      not_other o =
+          let last : tag_of the_type y ≡ 8 = ap (tag_of the_type) o in
+          omega arith
+
+  pub count_line_is : x ≡ D → true ≡ has_letter 68 l
+  unfolding kind_letter
+  count_line_is = found D (omega arith)
+
+  pub no_count_line : (x ≡ D → ⊥) → false ≡ has_letter 68 l
+  unfolding kind_letter
+  no_count_line n = letter_has_not l D (λ is. n (e ∙ is))
+
+  pub row_line : x ≡ A → true ≡ has_letter 65 l
+  unfolding kind_letter
+  row_line = found A (omega arith)
+
+  pub no_row_line : (x ≡ A → ⊥) → false ≡ has_letter 65 l
+  unfolding kind_letter
+  no_row_line n = letter_has_not l A (λ is. n (e ∙ is))
 
 -- a line feed ends no line at the end of the text
 ended_inside : (text : List ℕ) (from : ℕ) → from ≤ length text → is_ended text from ≡ true → from < length text

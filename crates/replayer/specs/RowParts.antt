@@ -2,6 +2,9 @@
 use Rattle.std.specs.Prelude.{Bool, cond, ◌&&◌, Option, Some, None, List, ℕ, ◌+◌, length, drop, eqb, ltb}
 use Rattle.format.specs.Lines.{Line, line_of, is_ended}
 use Rattle.format.specs.Fields.{number_of}
+use Rattle.format.specs.Shape.{letter_of, letter_kind, shape_of}
+use Rattle.format.specs.declared.Letter.{Letter}
+use Rattle.format.specs.declared.Letter.TheVariants.{Other}
 use Rattle.hrg.specs.Grammars.{Grammar, lhs_of, right_of}
 use Rattle.scripts.specs.Scripts.{opens}
 use Rattle.preorder.specs.Replay.{number_in, rule_in}
@@ -9,6 +12,10 @@ use Rattle.preorder.specs.Replay.{number_in, rule_in}
 -- the line at a place of a text
 abbrev pub line_from : List ℕ → ℕ → Line
 line_from text from = record { bytes = line_of (drop from text); ended = is_ended text from }
+
+-- the letter of an ended line of the shape, `Other` of every other line
+unfoldable pub letter_in : Line → Letter
+letter_in l = cond (l.ended && shape_of l.bytes) (letter_kind (letter_of l.bytes)) Other
 
 -- how many rows the first line says, where it opens the file
 unfoldable pub said_count : List ℕ → Option ℕ

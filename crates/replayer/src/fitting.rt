@@ -3,7 +3,7 @@
 ghost use Rattle.std.specs.Prelude.{◌≡◌, not, ◌+◌, ◌≤◌, ◌<◌, ℕ, length, get_or, take, drop, replicate, ltb};
 ghost use Rattle.masks.specs.Masks.{member};
 ghost use Rattle.format.specs.Lines.{line_of};
-ghost use Rattle.scripts.specs.Scripts.{rows_in, has_letter};
+ghost use Rattle.scripts.specs.Scripts.{rows_in};
 ghost use Rattle.hrg.specs.Counts.{tabulate};
 ghost use Rattle.hrg.specs.Grammars.{lhs_of, right_of, rank_of, edge_at};
 ghost use Rattle.hrg.specs.Trees.{images};
@@ -16,18 +16,25 @@ ghost use Rattle.joins.specs.Tables.{grammar_in, graph_in};
 ghost use Rattle.preorder.specs.Replay.{rule_in, new_nodes};
 ghost use Rattle.replayer.specs.Fitting.{count_in, node_in, four_of, new_in, with_all, taken_if, row_passes, edge_passes};
 ghost use Rattle.replayer.specs.Rows.{side_of, place_of, new_of};
-ghost use Rattle.replayer.specs.RowParts.{line_from, said_count, head_passes};
+ghost use Rattle.replayer.specs.RowParts.{line_from, letter_in, said_count, head_passes};
 
 use crate::rows::Row;
+use format::Letter;
 use joins::accepted::{AcceptedGrammar, AcceptedTables};
 
 // ---- the lines of a derivation file
-// Whether the line that was found at `from` is an ended one of the shape with this letter.
-fn has_letter(text: &[u8], from: usize, line: &[u8], letter: u8) -> bool
+// The letter of the line that was found at `from`, where that is an ended one of the shape.
+fn letter_at(text: &[u8], from: usize, line: &[u8]) -> Letter
     requires { (from ≤ length text.now) × (line.now ≡ line_of (drop from text.now)) }
-    ensures { result ≡ has_letter letter (line_from text.now from) }
+    ensures { result ≡ letter_in (line_from text.now from) }
 {
-    lines::ends(text, from, line) && lines::shape(line) && line[0] == letter
+    if !lines::ends(text, from, line) {
+        return Letter::Other;
+    }
+    if !lines::shape(line) {
+        return Letter::Other;
+    }
+    lines::letter_kind(line)
 }
 
 // How many applications the first line says, where it opens the file.
@@ -35,8 +42,9 @@ fn said_count(text: &[u8]) -> Option<u64>
     ensures { result ≡ said_count text.now }
 {
     let line = lines::next_line(text, 0);
-    if !has_letter(text, 0, line, b'D') {
-        return None;
+    match letter_at(text, 0, line) {
+        Letter::D => {}
+        _ => return None,
     }
     if lines::field_count(line) != 1 {
         return None;
@@ -59,8 +67,9 @@ pub(crate) fn row_count(text: &[u8]) -> Option<u64>
     let mut at = lines::after_line(text, 0);
     for _k in 0..n {
         let line = lines::next_line(text, at);
-        if !has_letter(text, at, line, b'A') {
-            return None;
+        match letter_at(text, at, line) {
+            Letter::A => {}
+            _ => return None,
         }
         at = lines::behind(text, at, line);
     }

@@ -1,23 +1,25 @@
 -- The line that is due, judged where it stands in a table.
-use Prim.Native.Nat.{ℕ, ◌-◌, ◌≤◌, ◌<◌}
+use Prim.Native.Nat.{ℕ, ◌≤◌, ◌<◌}
 use native.Mathlib.Omega.{arith}
 use mathlib.Core.Path.{◌≡◌, sym, ap, ap₂, ◌∙◌}
-use mathlib.Core.Bool.{Bool, true, false, cond, false≢true}
+use mathlib.Core.Bool.{Bool, true, false, ◌&&◌, false≢true}
 use mathlib.Core.List.{List}
-use lib.ListN.{length, get_or, take, drop}
+use lib.ListN.{length, get_or, take}
 use lib.Seq.{get_or-take, ext_get_or, length-take-le}
 use lib.Dec.{eqb}
 use borrow.Author.Tests.{eqb-true, eqb-false}
 use Rattle.hrg.specs.Counts.{tabulate}
 use Rattle.hrg.proofs.Sums.{length_tabulate}
 use Rattle.questions.specs.declared.Due.{Due}
-use Rattle.questions.specs.Walk.{Room}
-use Rattle.questions.proofs.WellFormedWalk.{room_in}
-use Rattle.questions.specs.Layout.{place_of, in_table, line_field}
+use Rattle.questions.specs.declared.Refusal.{Refusal}
+use Rattle.questions.specs.Refusing.{number_in}
+use Rattle.questions.proofs.Refusals.{number_some}
+use Rattle.questions.specs.Layout.{place_of, line_field}
 use Rattle.questions.specs.Questions.{judge}
 use Rattle.questions.specs.Checking.{fields_due, stored_fields}
 use Rattle.questions.proofs.StoredLaws.{get_d_tabulate}
-use Rattle.tables.specs.Concluding.{behind, Stands}
+use Rattle.std.specs.Prelude.{⊤, Result, Ok, Err, is_ok}
+use Rattle.tables.specs.Concluding.{behind, Judged, Stands}
 
 -- ---- whether a line's word ends with its fields
 module _ (t : List ℕ) (p n : ℕ) (z : Bool) (e : z ≡ eqb (behind t p n) 0) where
@@ -45,39 +47,25 @@ module _ (t : List ℕ) (p : ℕ) (f : List ℕ) (k : ℕ) (C : Copied t p f k) 
       ∙ sym (get_d_tabulate n (λ j. line_field t p j) j 0 (omega (arith, length-take-le n f l)))
 
 -- ---- and judged
--- a line that the table has room for is in a table
-pub judged_in : (g t : List ℕ) (due : Due) (fs : List ℕ) (k : ℕ) → Room (length t) due → k ≡ cond (in_table due) (judge g t due fs) 2 → k ≡ judge g t due fs
-judged_in g t due fs k r e = e ∙ rw (room_in (length t) due r)
-
-module _ (g t : List ℕ) (due : Due) (p n : ℕ) (place : p ≡ place_of due) (count : n ≡ fields_due g t t due) (fs : List ℕ) (own : fs ≡ tabulate n (λ j. line_field t p j))
-    (k : ℕ) (e : k ≡ judge g t due fs) where
-  fields : fs ≡ stored_fields g t t due
+-- the line at place p is the one that is due, and J says what the questions of its kind answer
+module _ (g t : List ℕ) (due : Due) (p n : ℕ) (place : p ≡ place_of due) (count : n ≡ fields_due g t t due)
+    (J : List ℕ → Result ⊤ Refusal → Type 0) (own : (fs : List ℕ) (k : Result ⊤ Refusal) → J fs k → number_in k ≡ judge g t due fs) where
+  fields : tabulate n (λ j. line_field t p j) ≡ stored_fields g t t due
   unfolding stored_fields
-  fields = own ∙ ap₂ (λ m q. tabulate m (λ j. line_field t q j)) count place
+  fields = ap₂ (λ m q. tabulate m (λ j. line_field t q j)) count place
 
-  judged : k ≡ judge g t due (stored_fields g t t due)
-  judged = e ∙ ap (judge g t due) fields
+  answered : (k : Result ⊤ Refusal) → J (tabulate n (λ j. line_field t p j)) k → number_in k ≡ judge g t due (stored_fields g t t due)
+  answered k a = own _ k a ∙ ap (judge g t due) fields
 
-  stands_no : (k ≡ 0 → ⊥) → Stands g t due false
-  stands_no h = record { yes = λ y. absurd (false≢true y); no = λ y s. h (judged ∙ s.passed) }
+  there : behind t p n ≡ behind t (place_of due) (fields_due g t t due)
+  there = ap₂ (behind t) place count
 
-  stands_rest : k ≡ 0 → (b : Bool) → b ≡ eqb (behind t p n) 0 → Stands g t due b
-  stands_rest h b z = record {
-    yes = λ y. record { passed = sym judged ∙ h; rest = sym there ∙ ends_yes t p n b z y };
+  verdict : (k : Result ⊤ Refusal) → J (tabulate n (λ j. line_field t p j)) k → (b : Bool) → b ≡ (is_ok k && eqb (behind t p n) 0) → Stands g t due b
+  verdict (Ok x) a b z = record {
+    yes = λ y. record { passed = sym (answered (Ok x) a); rest = sym there ∙ ends_yes t p n b z y };
     no = λ y s. ends_no t p n b z y (there ∙ s.rest);
   }
-    where
-      there : behind t p n ≡ behind t (place_of due) (fields_due g t t due)
-      there = ap₂ (behind t) place count
+  verdict (Err r) a b z = record { yes = λ y. absurd (false≢true (sym z ∙ y)); no = λ y s. number_some r (answered (Err r) a ∙ s.passed) }
 
--- the same where their number is not known beforehand
-module _ (g t : List ℕ) (due : Due) (p n : ℕ) (place : p ≡ place_of due) (count : n ≡ fields_due g t t due) (f : List ℕ) (own : take n f ≡ tabulate n (λ j. line_field t p j))
-    (k : ℕ) (e : k ≡ judge g t due (take (n - 0) (drop 0 f))) where
-  part : take (n - 0) (drop 0 f) ≡ tabulate n (λ j. line_field t p j)
-  part = ap (λ m. take m f) (let s : n - 0 ≡ n = omega arith in s) ∙ own
-
-  pub part_no : (k ≡ 0 → ⊥) → Stands g t due false
-  part_no = stands_no g t due p n place count (take (n - 0) (drop 0 f)) part k e
-
-  pub part_rest : k ≡ 0 → (b : Bool) → b ≡ eqb (behind t p n) 0 → Stands g t due b
-  part_rest = stands_rest g t due p n place count (take (n - 0) (drop 0 f)) part k e
+  pub stands_by : (b : Bool) → Judged J t p n b → Stands g t due b
+  stands_by b j = verdict j.answer j.asked b j.so

@@ -1,12 +1,14 @@
 -- What the functions of question 8's check promise one another.
-use Rattle.std.specs.Prelude.{◌≡◌, ◌⊎◌, Bool, true, false, cond, List, ℕ, ◌+◌, ◌*◌, ◌/◌, ◌^◌, ◌≤◌, ◌<◌, min, get_or, drop, ltb, Option, MatchOption}
+use Rattle.std.specs.Prelude.{◌≡◌, ◌⊎◌, ◌&&◌, ⊤, Bool, true, false, cond, List, ℕ, ◌+◌, ◌*◌, ◌/◌, ◌^◌, ◌≤◌, ◌<◌, min, get_or, drop, eqb, ltb, Option, MatchOption, Result, is_ok}
 use Rattle.std.specs.Int.Bits.{bit_or}
-use Rattle.questions.specs.Layout.{place_of, rule_count}
+use Rattle.hrg.specs.Counts.{tabulate}
+use Rattle.questions.specs.Layout.{place_of, line_field, rule_count}
 use Rattle.questions.specs.Questions.{listed, judge}
 use Rattle.questions.specs.Reading.{next}
 use Rattle.questions.specs.Checking.{fields_due, stored_fields}
 use Rattle.questions.specs.declared.Due.{Due}
 use Rattle.questions.specs.declared.Due.TheVariants.{Rule, Nothing}
+use Rattle.questions.specs.declared.Refusal.{Refusal}
 use Rattle.tables.specs.Marks.{marks, nodes_at, Listed}
 
 -- the words from a on are 0, as far as b
@@ -33,6 +35,13 @@ eight_from t i any =
 -- what the word of the line at place p has behind its first n fields
 unfoldable pub behind : List ℕ → ℕ → ℕ → ℕ
 behind t p n = get_or t p 0 / 2 ^ (7 * n)
+
+-- r says whether nothing is refused of the n fields of the line at place p, and nothing is behind them, where J says
+-- what the questions of its kind answer
+pub record Judged (J : List ℕ → Result ⊤ Refusal → Type 0) (t : List ℕ) (p n : ℕ) (r : Bool) : Type 0 where
+  pub answer : Result ⊤ Refusal
+  pub asked : J (tabulate n (λ j. line_field t p j)) answer
+  pub so : r ≡ (is_ok answer && eqb (behind t p n) 0)
 
 -- the line that is due stands in t: it passes, and there is nothing behind its fields
 pub record Standing (g t : List ℕ) (due : Due) : Type 0 where

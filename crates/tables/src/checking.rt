@@ -1,16 +1,17 @@
 // Question 8 for tables, in one pass: the lines that a table holds are judged where they stand, and the words between
 // them must be 0.
 ghost use Rattle.std.specs.Prelude.{◌≡◌, true, [], ◌+◌, ◌*◌, ◌≤◌, ◌<◌, min, length, take, eqb};
+ghost use Rattle.std.specs.Fn.{FnOnceReturnsAt};
 ghost use Rattle.hrg.specs.Counts.{tabulate};
 ghost use Rattle.questions.specs.declared.Due.TheVariants.{Grammar, Symbol, Rule, RuleEdge, PlanLine, Graph, GraphEdge};
-ghost use Rattle.questions.specs.Layout.{place_of, symbol_place, rule_place, edges_from, edge_place, plans_from, plan_place, graph_edge_place, grammar_words, graph_words, line_field, symbol_count, rule_count, rule_nodes, rule_edges, rule_plan, graph_nodes, graph_edges};
+ghost use Rattle.questions.specs.Layout.{symbol_place, rule_place, edges_from, edge_place, plans_from, plan_place, graph_edge_place, grammar_words, graph_words, line_field, symbol_count, rule_count, rule_nodes, rule_edges, rule_plan, graph_nodes, graph_edges};
 ghost use Rattle.questions.specs.Walk.{Room};
-ghost use Rattle.questions.specs.Checking.{fields_due, check_grammar, check_graph};
-ghost use Rattle.tables.specs.Concluding.{Zeros, Gathered, eight_from, behind, Stands, Attached, NearlyStands, Count, rule_after, Reaches, Concludes};
+ghost use Rattle.questions.specs.Checking.{check_grammar, check_graph};
+ghost use Rattle.tables.specs.Concluding.{Zeros, Gathered, eight_from, behind, Judged, Stands, Attached, NearlyStands, Count, rule_after, Reaches, Concludes};
 
 use crate::plans::PlanMarks;
 use crate::{judging, marks, plans};
-use questions::Due;
+use questions::Refusal;
 
 // How many words are looked at together.
 const TWO_EIGHTS: u64 = 16;
@@ -85,52 +86,52 @@ fn fields_into(t: &[u64], p: u64, n: u64, f: &mut [u64])
     }
 }
 
-// ---- a line: whether it passes where it stands in t, with nothing behind its fields
-// The line that is due, at its place p, with n fields.
-fn stands(g: &[u64], t: &[u64], due: Due, p: u64, n: u64) -> bool
-    requires { Room (length t.now) due × (p < length t.now) × (n ≤ 9) × (p ≡ place_of due) × (n ≡ fields_due g.now t.now t.now due) }
-    ensures { Stands g.now t.now due result }
+// ---- a line: whether it passes where it stands in t, with nothing behind its fields. Each kind has a function, which
+// names the questions of its kind, so that no line's kind is asked for while the table is read.
+// A line at place p with n fields: `judge` asks questions 3 to 7 as they are for its kind.
+fn stands<F: FnOnce(&[u64]) -> Result<(), Refusal>>(t: &[u64], p: u64, n: u64, judge: F) -> bool
+    requires callable { F.IsAlwaysCallable judge }
+    requires held { (p < length t.now) × (n ≤ 9) }
+    ensures { Judged (FnOnceReturnsAt F.FnOnce judge) t.now p n result }
 {
     let mut f = [0u64; 9];
     fields_into(t, p, n, &mut f);
-    if judging::judge(g, t, due, &f[0..n as usize]).is_err() {
+    if judge(&f[0..n as usize]).is_err() {
         return false;
     }
     ends(t, p, n)
 }
 
-#[tactic(auto, unfolding(questions::specs::Layout::place_of, questions::specs::Checking::fields_due))]
 fn grammar_stands(t: &[u64]) -> bool
     requires { Room (length t.now) Grammar }
     ensures { Stands [] t.now Grammar result }
 {
-    stands(&[], t, Due::Grammar, 0, 3)
+    stands(t, 0, 3, judging::judge_grammar)
 }
 
-#[tactic(auto, unfolding(questions::specs::Layout::place_of, questions::specs::Checking::fields_due))]
 fn symbol_stands(t: &[u64], s: u64) -> bool
     requires { Room (length t.now) (Symbol s) }
     ensures { Stands [] t.now (Symbol s) result }
 {
-    stands(&[], t, Due::Symbol(s), layout::symbol_place(s), 3)
+    let p = layout::symbol_place(s);
+    stands(t, p, 3, |f| judging::judge_symbol(t, s, f))
 }
 
-#[tactic(auto, unfolding(questions::specs::Layout::place_of, questions::specs::Checking::fields_due))]
 fn rule_stands(t: &[u64], r: u64) -> bool
     requires { Room (length t.now) (Rule r) }
     ensures { Stands [] t.now (Rule r) result }
 {
+    let p = layout::rule_place(r);
     let n = 5 + layout::rank_at(t, layout::rule_symbol_in(t, r));
-    stands(&[], t, Due::Rule(r), layout::rule_place(r), n)
+    stands(t, p, n, |f| judging::judge_rule(t, r, f))
 }
 
-#[tactic(auto, unfolding(questions::specs::Layout::place_of, questions::specs::Checking::fields_due))]
 fn graph_stands(g: &[u64], t: &[u64]) -> bool
     requires { Room (length t.now) Graph }
     ensures { Stands g.now t.now Graph result }
 {
     let n = 2 + layout::rank_at(g, layout::start_symbol(g));
-    stands(g, t, Due::Graph, 0, n)
+    stands(t, 0, n, |f| judging::judge_graph(g, f))
 }
 
 // The set of the n nodes of the edge's line at place p, where they are in range and distinct, with nothing behind them.

@@ -13,7 +13,7 @@ use questions::{Due, Refusal};
 
 // `G`: symbols (1-64), rules (1-64), start symbol.
 #[tactic(auto, unfolding(questions::specs::Questions::judge_grammar))]
-fn judge_grammar(f: &[u64]) -> Result<(), Refusal>
+pub(crate) fn judge_grammar(f: &[u64]) -> Result<(), Refusal>
     ensures { number_in result ≡ judge_grammar f.now }
 {
     let n = f.len() as u64;
@@ -35,7 +35,7 @@ fn judge_grammar(f: &[u64]) -> Result<(), Refusal>
 
 // `S`: its number, kind, rank.
 #[tactic(auto, unfolding(questions::specs::Questions::judge_symbol))]
-fn judge_symbol(g: &[u64], s: u64, f: &[u64]) -> Result<(), Refusal>
+pub(crate) fn judge_symbol(g: &[u64], s: u64, f: &[u64]) -> Result<(), Refusal>
     ensures { number_in result ≡ judge_symbol g.now s f.now }
 {
     let n = f.len() as u64;
@@ -60,7 +60,7 @@ fn judge_symbol(g: &[u64], s: u64, f: &[u64]) -> Result<(), Refusal>
 
 // `R`: its number, its nonterminal, nodes (1-8), edges (1-8), plan nodes (2-16), then its external nodes.
 #[tactic(auto, unfolding(questions::specs::Questions::judge_rule))]
-fn judge_rule(g: &[u64], r: u64, f: &[u64]) -> Result<(), Refusal>
+pub(crate) fn judge_rule(g: &[u64], r: u64, f: &[u64]) -> Result<(), Refusal>
     ensures { number_in result ≡ judge_rule g.now r f.now }
 {
     let n = f.len() as u64;
@@ -133,9 +133,12 @@ fn judge_plan(g: &[u64], r: u64, q: u64, f: &[u64]) -> Result<(), Refusal>
         first: layout::field(f, 1),
         second: layout::field(f, 2),
     };
-    let fixed = (3 <= n) & (line.kind <= 2);
-    if !fixed {
+    if n < 3 {
         return Err(Refusal::Fields);
+    }
+    match line.kind {
+        0..=2 => {}
+        _ => return Err(Refusal::Fields),
     }
     if n != 3 {
         return Err(Refusal::Count);
@@ -154,7 +157,7 @@ fn judge_plan(g: &[u64], r: u64, q: u64, f: &[u64]) -> Result<(), Refusal>
 
 // `H`: nodes (1-64), edges (1-64), then external nodes, as many as the start's rank.
 #[tactic(auto, unfolding(questions::specs::Questions::judge_graph))]
-fn judge_graph(g: &[u64], f: &[u64]) -> Result<(), Refusal>
+pub(crate) fn judge_graph(g: &[u64], f: &[u64]) -> Result<(), Refusal>
     ensures { number_in result ≡ judge_graph g.now f.now }
 {
     let n = f.len() as u64;

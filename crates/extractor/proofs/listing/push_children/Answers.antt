@@ -3,5 +3,5 @@ use Rattle.extractor.proofs.ListLaws.{children_by}
 use Rattle.extractor.proofs.listing.push_children.Goals as goal
 
 pub returns : goal.returns
-returns c = children_by _ _ _ _ _ _ _ _ _ c.rule_at-r.ensures c.partners_at-bs.ensures
+returns c = children_by _ _ _ _ _ _ _ _ _ c.rule_at-r.ensures c.partners_at.ensures
     c.push_parts.ensures

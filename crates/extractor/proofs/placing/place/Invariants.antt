@@ -7,5 +7,5 @@ use Rattle.extraction.specs.Extraction.{placed_by}
 use Rattle.extractor.proofs.placing.place.Given as goal
 
 abbrev pub invariant-loop-i : goal.invariant-loop-i
-invariant-loop-i l = l.f ≡ padded (placed_by (λ k. record_at l.chart k) (grammar_in l.t) (graph_in l.t)
+invariant-loop-i l = l.map ≡ padded (placed_by (λ k. record_at l.chart k) (grammar_in l.t) (graph_in l.t)
     (right_of (grammar_in l.t) l.r) l.bs l.i)

@@ -10,9 +10,17 @@ use Rattle.places.proofs.merging.merge.Goals as goal
 
 pub returns-then-once-agrees : goal.returns-then-once-agrees
 returns-then-once-agrees c =
+    let f = c.word_of-a.ensures in
+    let t = c.word_of-b.ensures in
     let pre = c.requires in
     let no : eqb (bit_and c.once.result c.agrees.result) high_bits ≡ false = ne_eqb _ _ c.if-once-agrees.true in
-    record { test = cc (no, test_is c.word_of-a.ensures c.word_of-b.ensures pre.0 pre.1); parts = tt }
+    record {
+      test = cc (no, test_is f t pre.0 pre.1);
+      parts = record {
+        kept = cc (kept_is f t pre.0 pre.1 c.args.stays);
+        dropped = cc (dropped_is f t pre.0 pre.1 c.args.stays);
+      };
+    }
 
 pub returns : goal.returns
 returns c =

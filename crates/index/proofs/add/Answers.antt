@@ -6,7 +6,7 @@ use Rattle.agenda.specs.Records.{new_record}
 use Rattle.records.specs.Words.{Compact}
 use Rattle.records.proofs.WordLaws.{add_marked}
 use Rattle.index.proofs.AddLaws.{small, found_inside, adds_again, adds_behind}
-use Rattle.index.proofs.Index.add.Goals as goal
+use Rattle.index.proofs.add.Goals as goal
 
 pub returns-then-mark_of-ne0 : goal.returns-then-mark_of-ne0
 returns-then-mark_of-ne0 c = record {
@@ -27,7 +27,7 @@ again-requires c =
     let s = c.args in
     let l = found_inside s.chart.now (new_record s.item s.first s.second) _ c.find.ensures
     _ c.in-Some.is in
-    (l, small s.keys.now s.chart.now s.self.now.words s.self.now.lists _ c.requires.0 l)
+    (l, small s.keys.now s.chart.now s.index.now s.lists.now _ c.requires.0 l)
 
 pub behind-requires : goal.behind-requires
 behind-requires c = (c.requires.0, c.requires.2, rw c.new_record-x.ensures.0 c.requires.3, c.requires.4)
@@ -39,9 +39,9 @@ returns-in-Some c =
     let (new, compact) = c.new_record-x.ensures in
     let again = c.again in
     adds_again s.chart.now z _ c.find.ensures s.keys.now c.requires.1
-    (subst Compact new compact) _ c.mark_of.ensures c.if-mark_of-ne0.false _ s.self.now.words
-    again.new.index s.self.now.lists _ c.in-Some.is
-    (rw new at again.ensures.0) (rw new at (again.ensures.1 s.keys.now s.self.now.lists c.requires.0))
+    (subst Compact new compact) _ c.mark_of.ensures c.if-mark_of-ne0.false _ s.index.now
+    again.new.index s.lists.now _ c.in-Some.is
+    (rw new at again.ensures.0) (rw new at (again.ensures.1 s.keys.now s.lists.now c.requires.0))
     again.ensures.2
 
 pub returns-in-None : goal.returns-in-None
@@ -51,6 +51,6 @@ returns-in-None c =
     let (new, compact) = c.new_record-x.ensures in
     let behind = c.behind in
     adds_behind s.chart.now z _ c.find.ensures s.keys.now c.requires.1
-    (subst Compact new compact) _ c.mark_of.ensures c.if-mark_of-ne0.false _ s.self.now.words
-    behind.new.self.words behind.new.self.lists c.in-None.is
+    (subst Compact new compact) _ c.mark_of.ensures c.if-mark_of-ne0.false _ s.index.now
+    behind.new.index behind.new.lists c.in-None.is
     (rw new at behind.ensures.0) (rw new at behind.ensures.1) (rw new at behind.ensures.2)

@@ -6,8 +6,7 @@ use Rattle.index.proofs.IndexLaws.{taken_by}
 use Rattle.index.proofs.CoverLaws.{doubt_put}
 use native.Mathlib.Omega.{arith}
 use borrow.Author.Rules.{rules}
-use mathlib.Core.Path.{refl}
-use Rattle.index.proofs.Index.take.Goals as goal
+use Rattle.index.proofs.take.Goals as goal
 
 pub take-requires : goal.take-requires
 take-requires c = c.requires
@@ -17,9 +16,8 @@ returns c =
     let t = c.take in
     let d = t.auto in (
       t.ensures.0,
-      λ keys ls I. taken_by keys c.args.self.now.words ls t.new.ranks
+      λ keys ls I. taken_by keys c.args.index.now ls t.new.ranks
           (chart_of c.args.chart.now).records _ t.ensures.0 t.ensures.1 I,
-      doubt_put link_words rank_words c.args.self.now.words t.new.ranks (search rules) (omega arith)
+      doubt_put link_words rank_words c.args.index.now t.new.ranks (search rules) (omega arith)
           (omega arith),
-      refl,
     )

@@ -3,11 +3,11 @@ use mathlib.Core.Path.{ap, ◌∙◌}
 use Rattle.records.specs.Words.{chart_of, appended_to}
 use Rattle.index.proofs.IndexLaws.{indexed_ready}
 use Rattle.index.proofs.AddLaws.{number, behind_room, behind_full, room_covered, full_covered}
-use Rattle.index.proofs.Index.behind.Goals as goal
+use Rattle.index.proofs.behind.Goals as goal
 
 pub enter-requires : goal.enter-requires
 enter-requires c = (
-  indexed_ready c.args.keys.now c.args.self.now.words c.args.self.now.lists
+  indexed_ready c.args.keys.now c.args.index.now c.args.lists.now
       (chart_of c.args.chart.now).records c.requires.0,
   omega (arith, c.if-n-capacity_of.true, c.capacity_of.ensures, c.requires.1),
   c.requires.2,
@@ -23,12 +23,12 @@ returns-then-n-capacity_of c =
     let both = c.enter.ensures (chart_of s.chart.now).records c.requires.0
     (number s.chart.now n.result n.ensures) in (
       c.append.ensures ∙ ap (λ k. appended_to s.chart.now k x) n.ensures,
-      behind_room s.keys.now s.chart.now c.enter.new.self.words
-          c.enter.new.self.lists x n.result cap.result n.ensures cap.ensures
+      behind_room s.keys.now s.chart.now c.enter.new.index
+          c.enter.new.lists x n.result cap.result n.ensures cap.ensures
           c.if-n-capacity_of.true both.0,
-      λ g h C f. room_covered s.keys.now s.chart.now s.self.now.words
-          s.self.now.lists x n.result cap.result n.ensures cap.ensures g h
-          c.enter.new.self.words c.if-n-capacity_of.true both.1 C f,
+      λ g h C f. room_covered s.keys.now s.chart.now s.index.now
+          s.lists.now x n.result cap.result n.ensures cap.ensures g h
+          c.enter.new.index c.if-n-capacity_of.true both.1 C f,
     )
 
 pub returns : goal.returns
@@ -38,8 +38,8 @@ returns c =
     let cap = c.capacity_of in
     let x = s.x in (
       c.append-2.ensures ∙ ap (λ k. appended_to s.chart.now k x) n.ensures,
-      behind_full s.keys.now s.chart.now s.self.now.words s.self.now.lists x n.result cap.result
+      behind_full s.keys.now s.chart.now s.index.now s.lists.now x n.result cap.result
           n.ensures cap.ensures c.if-n-capacity_of.false c.requires.0,
-      λ g h C f. full_covered s.keys.now s.chart.now s.self.now.words s.self.now.lists x n.result
+      λ g h C f. full_covered s.keys.now s.chart.now s.index.now s.lists.now x n.result
           cap.result n.ensures cap.ensures g h c.if-n-capacity_of.false C,
     )
