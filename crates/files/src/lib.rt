@@ -87,7 +87,7 @@ pub fn read_file<R: Files + Eprint>(rt: &R, path: &[u8], text: &mut [u8; 32769])
     }
 }
 
-// Hands on the first n bytes, which were read, and no other.
+// Hands on the first n bytes and no other.
 fn hand_on<T, F: FnOnce(&[u8]) -> T>(text: &[u8; 32769], n: usize, go: F) -> T
     requires { (n ≤ 32769) × ((t : _) → t.now ≡ take n text.now → F.pre go t) }
     ensures { (t : _) × (t.now ≡ take n text.now) × F.post go t result }
