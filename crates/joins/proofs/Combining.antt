@@ -4,7 +4,7 @@ use mathlib.Core.Bool.{Bool, true, false, ◌&&◌, ◌||◌, not, or-true, fals
 use mathlib.Core.Logic.{⊎_elim}
 use mathlib.Core.List.{List, [], ◌∷◌}
 use Prim.Native.Nat.{ℕ, zero, suc, ◌+◌, ◌^◌, ◌≤◌, ◌<◌}
-use Rattle.std.specs.Prelude.{Option, Some, None, Result, Ok, Err, is_ok}
+use Rattle.std.specs.Prelude.{Option, Some, None, Ok}
 use native.Mathlib.Omega.{arith}
 use native.Mathlib.Decide.{dec_lt}
 use lib.ListN.{length, take}
@@ -283,19 +283,20 @@ module _ {g h w : List ℕ} {r q stays m₁ m₂ : ℕ} {sure : Bool} {f k : Lis
   combine_apart e fails = none_made (apart_no H R r q m₁ m₂ (agree n f k) (joined n f k) (sym e ∙ fails))
 
   -- two maps merged
-  fits : {x : Result Merged Merged} → Merges stays f k x → is_ok x ≡ (agree n f k && one_to_one H.nodes (joined n f k))
-  fits merges =
-      merges.test
+  fits : {b : Bool} → b ≡ (agree 8 f k && one_to_one 64 (joined 8 f k)) → b ≡ (agree n f k && one_to_one H.nodes (joined n f k))
+  fits test =
+      test
       ∙ ap₂ ◌&&◌ (agree_few n (graph_nodes h) f k rule_small graph_small P.first_bare P.second_bare P.first_into P.second_into)
       (once_few n (graph_nodes h) f k rule_small graph_small P.first_bare P.second_bare P.first_into P.second_into ∙ ap (λ i. one_to_one i (joined n f k)) (sym (graph_nodes_lem g h)))
 
-  pub combine_clash : {y : Merged} → Merges stays f k (Err y) → Answer None
-  combine_clash merges = none_made (merge_not H R r q m₁ m₂ (agree n f k) (joined n f k) (sym (fits merges)))
+  -- of two that make no map nothing else is asked
+  pub combine_clash : false ≡ (agree 8 f k && one_to_one 64 (joined 8 f k)) → Answer None
+  combine_clash test = none_made (merge_not H R r q m₁ m₂ (agree n f k) (joined n f k) (sym (fits test)))
 
   module _ {x : Merged} (merges : Merges stays f k (Ok x)) where
     module _ {m : ℕ} (u : m ≡ m₁ ∪ m₂) (small : m < 2 ^ 64) {lost : Bool} (is : lost ≡ loses_one w m x.dropped) where
       passed : (agree n f k ≡ true) × (one_to_one H.nodes (joined n f k) ≡ true)
-      passed = and_true (agree n f k) (one_to_one H.nodes (joined n f k)) (sym (fits merges))
+      passed = and_true (agree n f k) (one_to_one H.nodes (joined n f k)) (sym (fits merges.test))
 
       lost_is : lost ≡ not (none_lost n stays w m f k)
       lost_is =
@@ -336,7 +337,7 @@ module _ {g h w : List ℕ} {r q stays m₁ m₂ : ℕ} {sure : Bool} {f k : Lis
               none = tt;
               one = record {
                 map = restrict R q (joined n f k);
-                item = whole ∙ all_pass H R r q m₁ m₂ (agree n f k) (joined n f k) (sym d ∙ apart) (sym (fits merges)) (sym cover ∙ p);
+                item = whole ∙ all_pass H R r q m₁ m₂ (agree n f k) (joined n f k) (sym d ∙ apart) (sym (fits merges.test)) (sym cover ∙ p);
                 places =
                     places
                     ∙ merges.parts.kept

@@ -11,7 +11,7 @@ pub merge-requires : goal.merge-requires
 merge-requires c = (first_plain c.requires, second_plain c.requires)
 
 pub returns-in-Err : goal.returns-in-Err
-returns-in-Err c = combine_clash c.requires (rw c.in-Err.is at c.merge.ensures)
+returns-in-Err c = combine_clash c.requires (rw c.in-Err.is at c.merge.ensures.test)
 
 pub returns-then-loses : goal.returns-then-loses
 returns-then-loses c = combine_lost c.requires (rw c.in-Ok.is at c.merge.ensures)
